@@ -1,0 +1,68 @@
+ghost use Rattle.std.specs.Prelude.{◌≤◌, ◌^◌};
+
+use crate::key::Key;
+use crate::laws::keys_are_ordered;
+use crate::meter::Meter;
+use crate::pick::Pick;
+use pf_weight::base::Base;
+use pf_weight::weight::Weight;
+use std::process::Abort;
+
+fn key(rt: &impl Abort, task: u32, cost: u64, period: u64, i: u32) -> Key
+    requires first { 1 ≤ i }
+    requires last { i ≤ 2 ^ 24 }
+    requires task_some { 1 ≤ task }
+    requires task_within { task ≤ 4095 }
+{
+    let base = Base::new(462).expect(rt, "a base");
+    let weight = Weight::new(base, cost, period).expect(rt, "a weight");
+    Key::of(weight, 0, i, task)
+}
+
+#[test]
+fn six_keys_in_order(rt: HostRuntime) {
+    let a = key(&rt, 1, 3, 7, 1);
+    let b = key(&rt, 2, 8, 11, 2);
+    let c = key(&rt, 3, 2, 3, 1);
+    let e = key(&rt, 4, 1, 2, 1);
+    let f = key(&rt, 5, 2, 3, 1);
+    let g = key(&rt, 6, 2, 3, 2);
+    let mut meter = Meter::new();
+    let order = [c, f, e, b, a, g];
+    let order = &order[..];
+    for (place, x) in order.iter().enumerate() {
+        for (other, y) in order.iter().enumerate() {
+            assert_eq!(rt; meter.before(x, y), place < other);
+        }
+    }
+    assert_eq!(rt; meter.compared(), 36);
+}
+
+#[test]
+fn a_meter_counts(rt: HostRuntime) {
+    let a = key(&rt, 1, 3, 7, 1);
+    let c = key(&rt, 3, 2, 3, 1);
+    let f = key(&rt, 5, 2, 3, 1);
+    let g = key(&rt, 6, 2, 3, 2);
+    let mut meter = Meter::new();
+    assert!(rt; meter.before(&c, &f));
+    assert!(rt; !meter.before(&f, &c));
+    assert!(rt; !meter.before(&c, &c));
+    assert!(rt; meter.before(&a, &g));
+    assert_eq!(rt; meter.compared(), 4);
+    assert_eq!(rt; meter.slots(), 0);
+    meter.slot();
+    assert_eq!(rt; meter.slots(), 1);
+    assert_eq!(rt; meter.compared(), 4);
+}
+
+#[test]
+fn a_key_tells_its_subtask(rt: HostRuntime) {
+    keys_are_ordered();
+    let key = key(&rt, 2, 8, 11, 3);
+    let pick = Pick {
+        task: key.task(),
+        sub: key.sub(),
+    };
+    assert_eq!(rt; pick, Pick { task: 2, sub: 3 });
+}

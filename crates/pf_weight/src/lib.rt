@@ -1,0 +1,9 @@
+//! Weights of periodic tasks: a cost and a period over a common base. Its one contract: a weight is made exactly
+//! where its cost is 1 to its period and its period divides the base, and its parts are what it was made of.
+#![tactic(auto)]
+
+pub mod base;
+pub mod fault;
+#[cfg(test)]
+mod tests;
+pub mod weight;

@@ -1,0 +1,3 @@
+pub use Rattle.pf_weight.specs.Share
+pub mod Window
+pub mod Group
