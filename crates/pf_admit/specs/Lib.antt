@@ -1,0 +1,5 @@
+pub use Rattle.pf_weight.specs.Share
+pub use Rattle.pf_window.specs.Window
+pub use Rattle.pf_window.specs.Group
+pub mod Member
+pub mod Admission
