@@ -1,0 +1,4 @@
+pub mod Examples
+pub mod Filling
+pub mod Seats
+pub mod Seated

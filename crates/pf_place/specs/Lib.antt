@@ -1,0 +1,3 @@
+pub mod Occupancy
+pub mod Seating
+pub mod RunRows

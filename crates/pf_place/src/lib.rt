@@ -1,0 +1,9 @@
+//! Which processor runs which pick of a slot. Its one contract: a row is placed by the definition of occupancy, and
+//! rows are a list.
+#![tactic(auto)]
+
+pub mod row;
+pub mod rows;
+mod seating;
+#[cfg(test)]
+mod tests;

@@ -1,0 +1,92 @@
+ghost use Rattle.std.specs.Prelude.{◌≡◌, ◌≤◌, [], length, IfOk};
+ghost use Rattle.std.specs.List.Sorted.{IsPermutation};
+ghost use Rattle.pf_place.specs.Occupancy.{sitter, sitters, NoTaskTwice, row_of, idle_row};
+
+use crate::seating::seat_in_use;
+use pf_order::pick::Pick;
+use std::alloc::{AllocError, Global};
+use std::marker::Model;
+
+/// Who runs where in one slot: a place for each processor, numbered from 0, that holds a pick or is idle.
+#[derive(Debug, Drop)]
+pub struct Row {
+    places: Vec<Option<Pick>>,
+}
+
+impl Model for Row {
+    ghost use Rattle.std.specs.Prelude.{List, Option};
+    ghost use Rattle.pf_order.specs.declared.pick.Pick.{Pick};
+
+    ghost Value = { List (Option Pick) };
+
+    ghost view = { λ row. row.places.items };
+}
+
+impl Row {
+    /// The row of m idle processors. It stands before slot 0.
+    pub fn idle(alloc: Global, m: u32) -> Result<Self, AllocError>
+        ensures row { IfOk result (λ row. row ≡ idle_row m) }
+        ensures empty { IfOk result (λ row. sitters row ≡ []) }
+    {
+        let places = vec![in alloc; None; m as usize]?;
+        Ok(Row { places })
+    }
+
+    /// The row of a slot in which `picks` run on the processors below `count`, where `before` is the row of the
+    /// slot before. A task that ran there keeps its processor where that is in use; the other picks, in order, take
+    /// the lowest free ones in use.
+    pub fn place(
+        alloc: Global,
+        m: u32,
+        count: u32,
+        before: &Row,
+        picks: &[Pick],
+    ) -> Result<Self, AllocError>
+        requires in_use { count ≤ m }
+        requires places { length before.now ≡ m }
+        requires few { length picks.now ≤ count }
+        requires picks { NoTaskTwice picks.now }
+        requires before { NoTaskTwice (sitters before.now) }
+        ensures row { IfOk result (λ row. row ≡ row_of m count before.now picks.now) }
+        ensures long { IfOk result (λ row. length row ≡ m) }
+
+        // Each pick sits on one place, and nobody else sits; so the next row can be placed from this one.
+        ensures seated { IfOk result (λ row. IsPermutation picks.now (sitters row)) }
+        ensures once { IfOk result (λ row. NoTaskTwice (sitters row)) }
+    {
+        let earlier = &before.places[..count as usize];
+        let mut places = seat_in_use(alloc, earlier, picks)?;
+        places.resize(m as usize, None)?;
+        Ok(Row { places })
+    }
+
+    /// How many processors the row has, busy or idle.
+    pub fn processors(&self) -> usize
+        ensures { result ≡ length self.now }
+    {
+        self.places.len()
+    }
+
+    /// The pick that runs on the processor; none where it is idle or the row has no such processor.
+    pub fn get(&self, processor: u32) -> Option<Pick>
+        ensures { result ≡ sitter self.now processor }
+    {
+        *self.places.get(processor as usize)?
+    }
+
+    /// Takes over another row of as many places; it takes no memory.
+    pub fn assign(&mut self, other: &Row)
+        requires { length self.old ≡ length other.now }
+        ensures { self.new ≡ other.now }
+    {
+        self.places.copy_from_slice(&other.places);
+    }
+
+    /// An equal row.
+    pub fn copy(&self) -> Result<Self, AllocError>
+        ensures { IfOk result (λ row. row ≡ self.now) }
+    {
+        let places = self.places.clone()?;
+        Ok(Row { places })
+    }
+}
