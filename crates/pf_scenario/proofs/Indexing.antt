@@ -1,0 +1,286 @@
+-- What an index keeps when an event is put among its own or taken out.
+use Rattle.std.proofs.Common.{◌≡◌, ◌≢◌, ℕ, zero, suc, ◌+◌, ◌<◌, ◌≤◌, Bool, true, false, not, cond, ◌&&◌, ◌||◌, List, [], ◌∷◌, ◌++◌, length, take, drop, get_or, eqb, refl, sym, ap, ◌∙◌, subst, arith, inl, inr, ◌⊎◌, if◌then◌else◌}
+use Rattle.std.specs.Prelude.{◌==◌, slice_index}
+use Rattle.std.specs.List.{All, AllPairs, filter, list_any, remove, insert}
+use Rattle.std.specs.Cmp.{IsTotalOrder, nat_cmp_total}
+use Rattle.std.specs.declared.cmp.Ordering.TheVariants.{Less, Equal, Greater}
+use Rattle.std.specs.Ordering.{is_lt}
+use Rattle.std.proofs.Math.Seq.{split_at}
+use Rattle.std.proofs.lemmas.Cmp.{then_total, on_total, tied_itself, nat_eq_equiv}
+use Rattle.std.proofs.lemmas.Bool.{cases_Bool, cases_lt, cond-true, cond-false, false≢true, false_from_ne_true, eqb-false, eqb-true, eq-eqb, ne_eqb, not_from_false, and_right}
+use Rattle.std.proofs.lemmas.Bool.Decides.{nat_tests}
+use Rattle.std.proofs.lemmas.List.{take-append-drop, get_or_past}
+use Rattle.std.proofs.lemmas.List.Elements.{All-nil, All-cons, All-head, All-tail, All-weaker, All-filter, All-append}
+use Rattle.std.proofs.lemmas.List.Folds.{list_any_none}
+use Rattle.pf_scenario.proofs.Lists.{Pairs, Pairs-from_all, AllPairs-from_pairs, Pairs_middle, Pairs_without, Pairs_before, Pairs_after, All_left, All_right, All_middle, All_without, All_at, none_passes, filter_middle}
+use Rattle.pf_scenario.proofs.Scenarios.{join_alike_back, leave_alike_back}
+use Rattle.pf_scenario.proofs.Sorting.{IsInOrder, IsInOrder-put}
+use Rattle.pf_scenario.specs.Event.{slot_of, kind_of, task_of, run_cmp}
+use Rattle.pf_scenario.specs.Scenario.{without}
+use Rattle.pf_scenario.specs.Edit.{join_alike, leave_alike}
+use Rattle.pf_scenario.specs.TimeOrder.{put, time_cmp, put_in_time}
+use Rattle.pf_scenario.specs.Index.{is_join_of, is_leave_of, number_of, AreApart, IsInTime, IsIndexed, IsNew, HasRoom, Notes}
+use Rattle.pf_scenario.specs.declared.event.Event.{Event}
+use Rattle.pf_scenario.specs.declared.event.Event.TheVariants.{Join, Leave, Delay, Limit}
+use Rattle.pf_scenario.specs.declared.event.Numbered.{Numbered}
+
+-- the order in time is an order, and ties only equal numbers
+pub run_cmp_total : IsTotalOrder run_cmp
+unfolding run_cmp
+run_cmp_total =
+    then_total (on_total (λ (x : Numbered). kind_of x.event) nat_cmp_total)
+    (then_total (on_total (λ (x : Numbered). task_of x.event) nat_cmp_total) (on_total (λ (x : Numbered). x.id) nat_cmp_total))
+
+pub time_cmp_total : IsTotalOrder time_cmp
+unfolding time_cmp
+time_cmp_total = then_total (on_total (λ (x : Numbered). slot_of x.event) nat_cmp_total) run_cmp_total
+
+pub time_differs : (x y : Numbered) → (x.id == y.id) ≡ false → time_cmp x y ≢ Equal
+unfolding time_cmp run_cmp
+time_differs x y differ tie = grind (arith, nat_tests)
+
+-- apart either way round
+pub apart_back : (x y : Numbered) → AreApart x y → AreApart y x
+apart_back x y h = record {
+  numbers = nat_eq_equiv.symm y.id x.id ∙ h.numbers;
+  joins = join_alike_back y.event x.event ∙ h.joins;
+  leaves = leave_alike_back y.event x.event ∙ h.leaves;
+}
+
+-- the number of an event amid others
+pub number_of-none : (p : Event → Bool) (xs : List Numbered) → All (λ x. p x.event ≡ false) xs → number_of p xs ≡ 0
+number_of-none p [] h = refl
+number_of-none p (x ∷ xs) h =
+    cond-false (p x.event) _ _ (All-head (λ x. p x.event ≡ false) x xs h) ∙ number_of-none p xs (All-tail (λ x. p x.event ≡ false) x xs h)
+
+pub number_of-other : (p : Event → Bool) (front : List Numbered) (x : Numbered) (back : List Numbered) → p x.event ≡ false → number_of p (front ++ x ∷ back) ≡ number_of p (front ++ back)
+number_of-other p [] x back h = cond-false (p x.event) _ _ h
+number_of-other p (y ∷ front) x back h = ap (λ n. cond (p y.event) y.id n) (number_of-other p front x back h)
+
+pub number_of-here : (p : Event → Bool) (front : List Numbered) (x : Numbered) (back : List Numbered) → p x.event ≡ true → All (λ y. p y.event ≡ false) front → number_of p (front ++ x ∷ back) ≡ x.id
+number_of-here p [] x back h none = cond-true (p x.event) _ _ h
+number_of-here p (y ∷ front) x back h none =
+    cond-false (p y.event) _ _ (All-head (λ y. p y.event ≡ false) y front none) ∙ number_of-here p front x back h (All-tail (λ y. p y.event ≡ false) y front none)
+
+-- a test that an event passes at most once among others
+abbrev pub Excludes : (Event → Bool) → Numbered → Numbered → Type 0
+Excludes p x y = p x.event ≡ true → p y.event ≡ false
+
+pub join_excludes : (t : ℕ) (x y : Numbered) → AreApart x y → Excludes (is_join_of t) x y
+join_excludes t x y h = join_of t x.event y.event h.joins
+  where
+    join_of : (t : ℕ) (x y : Event) → join_alike x y ≡ false → is_join_of t x ≡ true → is_join_of t y ≡ false
+    join_of t (Join slot task cost period early) (Join slot' task' cost' period' early') h e = grind (arith, nat_tests)
+    join_of t (Join slot task cost period early) (Leave slot' task') h e = refl
+    join_of t (Join slot task cost period early) (Delay slot' task' by) h e = refl
+    join_of t (Join slot task cost period early) (Limit slot' count) h e = refl
+    join_of t (Leave slot task) y h e = absurd (false≢true e)
+    join_of t (Delay slot task by) y h e = absurd (false≢true e)
+    join_of t (Limit slot count) y h e = absurd (false≢true e)
+
+pub leave_excludes : (t : ℕ) (x y : Numbered) → AreApart x y → Excludes (is_leave_of t) x y
+leave_excludes t x y h = leave_of t x.event y.event h.leaves
+  where
+    leave_of : (t : ℕ) (x y : Event) → leave_alike x y ≡ false → is_leave_of t x ≡ true → is_leave_of t y ≡ false
+    leave_of t (Leave slot task) (Leave slot' task') h e = grind (arith, nat_tests)
+    leave_of t (Leave slot task) (Join slot' task' cost period early) h e = refl
+    leave_of t (Leave slot task) (Delay slot' task' by) h e = refl
+    leave_of t (Leave slot task) (Limit slot' count) h e = refl
+    leave_of t (Join slot task cost period early) y h e = absurd (false≢true e)
+    leave_of t (Delay slot task by) y h e = absurd (false≢true e)
+    leave_of t (Limit slot count) y h e = absurd (false≢true e)
+
+-- whether an event of another number passes the test
+pub beside : (p : Event → Bool) (id : ℕ) (xs : List Numbered) → All (λ x. 1 ≤ x.id) xs → Pairs (Excludes p) xs → list_any (λ x. p x.event) (without id xs) ≡ (not (number_of p xs == 0) && not (number_of p xs == id))
+beside p id [] given once = refl
+beside p id (x ∷ xs) given once =
+    let some = All-head (λ x. 1 ≤ x.id) x xs given in
+    let not_zero : (x.id == 0) ≡ false = ne_eqb x.id 0 (λ e. omega arith) in
+    elim (cases_Bool (p x.event)) [
+      | inl passes ↦
+          let none = All-weaker (Excludes p x) (λ y. p y.event ≡ false) (λ y h. h passes) xs once.0 in
+          elim (cases_Bool (x.id == id)) [
+            | inl same ↦ rw (passes, same, not_zero) (list_any_none (λ y. p y.event) (without id xs) (All-filter (λ y. not (y.id == id)) (λ y. p y.event ≡ false) xs none))
+            | inr other ↦ rw (passes, other, not_zero) (ap (λ b. b || list_any (λ y. p y.event) (without id xs)) passes)
+          ]
+      | inr fails ↦
+          let rest = beside p id xs (All-tail (λ x. 1 ≤ x.id) x xs given) once.1 in
+          elim (cases_Bool (x.id == id)) [
+            | inl same ↦ rw (fails, same) rest
+            | inr other ↦ rw (fails, other) (ap (λ b. b || list_any (λ y. p y.event) (without id xs)) fails ∙ rest)
+          ]
+    ]
+
+-- the test of one kind of event is the test of its task
+pub joins_alike : (slot task cost period early : ℕ) (xs : List Numbered) → list_any (λ x. join_alike x.event (Join slot task cost period early)) xs ≡ list_any (λ x. is_join_of task x.event) xs
+joins_alike slot task cost period early [] = refl
+joins_alike slot task cost period early (x ∷ xs) =
+    ap (λ b. b || list_any (λ x. join_alike x.event (Join slot task cost period early)) xs) (one x.event) ∙ ap (λ b. is_join_of task x.event || b) (joins_alike slot task cost period early xs)
+  where
+    one : (e : Event) → join_alike e (Join slot task cost period early) ≡ is_join_of task e
+    one (Join a b c d e) = refl
+    one (Leave a b) = refl
+    one (Delay a b c) = refl
+    one (Limit a b) = refl
+
+pub leaves_alike : (slot task : ℕ) (xs : List Numbered) → list_any (λ x. leave_alike x.event (Leave slot task)) xs ≡ list_any (λ x. is_leave_of task x.event) xs
+leaves_alike slot task [] = refl
+leaves_alike slot task (x ∷ xs) =
+    ap (λ b. b || list_any (λ x. leave_alike x.event (Leave slot task)) xs) (one x.event) ∙ ap (λ b. is_leave_of task x.event || b) (leaves_alike slot task xs)
+  where
+    one : (e : Event) → leave_alike e (Leave slot task) ≡ is_leave_of task e
+    one (Join a b c d e) = refl
+    one (Leave a b) = refl
+    one (Delay a b c) = refl
+    one (Limit a b) = refl
+
+-- a table after a note of an event that is put amid others, and after it is taken out
+put_note : (p : ℕ → Event → Bool) (old new : List ℕ) (front : List Numbered) (x : Numbered) (back : List Numbered) → ((t : ℕ) (y : Numbered) → AreApart y x → Excludes (p t) x y) → All (λ y. AreApart y x) (front ++ back) → ((t : ℕ) → slice_index old t ≡ number_of (p t) (front ++ back)) → Notes p old new x.event x.id → (t : ℕ) → slice_index new t ≡ number_of (p t) (front ++ x ∷ back)
+put_note p old new front x back excludes apart was notes t =
+    notes t ∙ elim (cases_Bool (p t x.event)) [
+      | inl here ↦
+          let none = All-weaker (λ y. AreApart y x) (λ y. p t y.event ≡ false) (λ y h. excludes t y h here) (front ++ back) apart in
+          cond-true (p t x.event) _ _ here ∙ sym (number_of-here (p t) front x back here (All_left (λ y. p t y.event ≡ false) front back none))
+      | inr not_here ↦ cond-false (p t x.event) _ _ not_here ∙ was t ∙ sym (number_of-other (p t) front x back not_here)
+    ]
+
+take_note : (p : ℕ → Event → Bool) (old new : List ℕ) (front : List Numbered) (x : Numbered) (back : List Numbered) → ((t : ℕ) (y : Numbered) → AreApart y x → Excludes (p t) x y) → All (λ y. AreApart y x) (front ++ back) → ((t : ℕ) → slice_index old t ≡ number_of (p t) (front ++ x ∷ back)) → Notes p old new x.event 0 → (t : ℕ) → slice_index new t ≡ number_of (p t) (front ++ back)
+take_note p old new front x back excludes apart was notes t =
+    notes t ∙ elim (cases_Bool (p t x.event)) [
+      | inl here ↦
+          let none = All-weaker (λ y. AreApart y x) (λ y. p t y.event ≡ false) (λ y h. excludes t y h here) (front ++ back) apart in
+          cond-true (p t x.event) _ _ here ∙ sym (number_of-none (p t) (front ++ back) none)
+      | inr not_here ↦ cond-false (p t x.event) _ _ not_here ∙ was t ∙ number_of-other (p t) front x back not_here
+    ]
+
+pub in_order : (xs : List Numbered) → IsInTime xs → IsInOrder time_cmp xs
+in_order xs h = Pairs-from_all (λ x y. is_lt (time_cmp y x) ≡ false) xs h
+
+pub in_time : (xs : List Numbered) → IsInOrder time_cmp xs → IsInTime xs
+in_time xs h = AllPairs-from_pairs (λ x y. is_lt (time_cmp y x) ≡ false) xs h
+
+-- all the events about one are apart from it
+pub around_apart : (front : List Numbered) (x : Numbered) (back : List Numbered) → Pairs AreApart (front ++ x ∷ back) → All (λ y. AreApart y x) (front ++ back)
+around_apart front x back h =
+    All-append (λ y. AreApart y x) front back (Pairs_before AreApart front x back h) (All-weaker (AreApart x) (λ y. AreApart y x) (λ y a. apart_back x y a) back (Pairs_after AreApart front x back h))
+
+-- the index with an event put at i
+pub indexed_put : (order : List Numbered) (joins leaves joins' leaves' : List ℕ) (x : Numbered) (i : ℕ) → IsIndexed order joins leaves → IsNew x order → insert order i x ≡ put_in_time x order → Notes is_join_of joins joins' x.event x.id → Notes is_leave_of leaves leaves' x.event x.id → IsIndexed (insert order i x) joins' leaves'
+indexed_put order joins leaves joins' leaves' x i h new e note_join note_leave =
+    let whole = take-append-drop i order in
+    let apart' = subst (All (λ y. AreApart y x)) (sym whole) new.apart in
+    record {
+      in_time = rw e (in_time (put_in_time x order) (IsInOrder-put time_cmp_total x order (in_order order h.in_time)));
+      apart = AllPairs-from_pairs AreApart _ (Pairs_middle AreApart (take i order) x (drop i order) (subst (Pairs AreApart) (sym whole) (Pairs-from_all AreApart order h.apart)) (All_left (λ y. AreApart y x) (take i order) (drop i order) apart') (All-weaker (λ y. AreApart y x) (AreApart x) (λ y a. apart_back y x a) (drop i order) (All_right (λ y. AreApart y x) (take i order) (drop i order) apart')));
+      given = All_middle (λ y. 1 ≤ y.id) (take i order) x (drop i order) (subst (All (λ y. 1 ≤ y.id)) (sym whole) h.given) new.given;
+      joined = put_note is_join_of joins joins' (take i order) x (drop i order) (λ t y a. join_excludes t x y (apart_back y x a)) apart' (λ t. h.joined t ∙ ap (number_of (is_join_of t)) (sym whole)) note_join;
+      left = put_note is_leave_of leaves leaves' (take i order) x (drop i order) (λ t y a. leave_excludes t x y (apart_back y x a)) apart' (λ t. h.left t ∙ ap (number_of (is_leave_of t)) (sym whole)) note_leave;
+    }
+
+-- the index without the event at i
+pub indexed_taken : (order : List Numbered) (joins leaves joins' leaves' : List ℕ) (x : Numbered) (i : ℕ) → IsIndexed order joins leaves → order ≡ take i order ++ x ∷ drop (suc i) order → Notes is_join_of joins joins' x.event 0 → Notes is_leave_of leaves leaves' x.event 0 → IsIndexed (remove order i) joins' leaves'
+indexed_taken order joins leaves joins' leaves' x i h e note_join note_leave =
+    let all = subst (Pairs AreApart) e (Pairs-from_all AreApart order h.apart) in
+    let apart' = around_apart (take i order) x (drop (suc i) order) all in
+    record {
+      in_time = in_time _ (Pairs_without (λ x y. is_lt (time_cmp y x) ≡ false) (take i order) x (drop (suc i) order) (subst (IsInOrder time_cmp) e (in_order order h.in_time)));
+      apart = AllPairs-from_pairs AreApart _ (Pairs_without AreApart (take i order) x (drop (suc i) order) all);
+      given = All_without (λ y. 1 ≤ y.id) (take i order) x (drop (suc i) order) (subst (All (λ y. 1 ≤ y.id)) e h.given);
+      joined = take_note is_join_of joins joins' (take i order) x (drop (suc i) order) (λ t y a. join_excludes t x y (apart_back y x a)) apart' (λ t. h.joined t ∙ ap (number_of (is_join_of t)) e) note_join;
+      left = take_note is_leave_of leaves leaves' (take i order) x (drop (suc i) order) (λ t y a. leave_excludes t x y (apart_back y x a)) apart' (λ t. h.left t ∙ ap (number_of (is_leave_of t)) e) note_leave;
+    }
+
+-- tables with more places
+pub indexed_grown : (order : List Numbered) (joins leaves joins' leaves' : List ℕ) → IsIndexed order joins leaves → ((t : ℕ) → slice_index joins' t ≡ slice_index joins t) → ((t : ℕ) → slice_index leaves' t ≡ slice_index leaves t) → IsIndexed order joins' leaves'
+indexed_grown order joins leaves joins' leaves' h same_joins same_leaves = record {
+  in_time = h.in_time;
+  apart = h.apart;
+  given = h.given;
+  joined = λ t. same_joins t ∙ h.joined t;
+  left = λ t. same_leaves t ∙ h.left t;
+}
+
+-- the tables have a place for the task of an event that is held
+pub room_held : (order : List Numbered) (joins leaves : List ℕ) (x : Numbered) (i : ℕ) → IsIndexed order joins leaves → order ≡ take i order ++ x ∷ drop (suc i) order → HasRoom joins leaves x.event
+room_held order joins leaves x i h e =
+    let all = subst (Pairs AreApart) e (Pairs-from_all AreApart order h.apart) in
+    let before = Pairs_before AreApart (take i order) x (drop (suc i) order) all in
+    let some = All_at (λ y. 1 ≤ y.id) (take i order) x (drop (suc i) order) (subst (All (λ y. 1 ≤ y.id)) e h.given) in
+    record {
+      join_place = λ t here.
+          let none = All-weaker (λ y. AreApart y x) (λ y. is_join_of t y.event ≡ false) (λ y a. join_excludes t x y (apart_back y x a) here) (take i order) before in
+          let number = h.joined t ∙ ap (number_of (is_join_of t)) e ∙ number_of-here (is_join_of t) (take i order) x (drop (suc i) order) here none in
+          within joins t x.id number some;
+      leave_place = λ t here.
+          let none = All-weaker (λ y. AreApart y x) (λ y. is_leave_of t y.event ≡ false) (λ y a. leave_excludes t x y (apart_back y x a) here) (take i order) before in
+          let number = h.left t ∙ ap (number_of (is_leave_of t)) e ∙ number_of-here (is_leave_of t) (take i order) x (drop (suc i) order) here none in
+          within leaves t x.id number some;
+    }
+  where
+    within : (table : List ℕ) (t n : ℕ) → slice_index table t ≡ n → 1 ≤ n → t + 1 ≤ length table
+    within table t n e some =
+        elim (cases_lt t (length table)) [
+          | inl low ↦ omega arith
+          | inr past ↦ let zero = get_or_past table t 0 past in absurd (omega arith)
+        ]
+
+-- what the tables tell of the events of other numbers
+joins_exclude : (t : ℕ) (order : List Numbered) → Pairs AreApart order → Pairs (Excludes (is_join_of t)) order
+joins_exclude t [] h = tt
+joins_exclude t (x ∷ xs) h = (All-weaker (AreApart x) (Excludes (is_join_of t) x) (λ y a. join_excludes t x y a) xs h.0, joins_exclude t xs h.1)
+
+leaves_exclude : (t : ℕ) (order : List Numbered) → Pairs AreApart order → Pairs (Excludes (is_leave_of t)) order
+leaves_exclude t [] h = tt
+leaves_exclude t (x ∷ xs) h = (All-weaker (AreApart x) (Excludes (is_leave_of t) x) (λ y a. leave_excludes t x y a) xs h.0, leaves_exclude t xs h.1)
+
+pub joins_beside : (order : List Numbered) (joins leaves : List ℕ) (id slot task cost period early n : ℕ) → IsIndexed order joins leaves → n ≡ slice_index joins task → list_any (λ x. join_alike x.event (Join slot task cost period early)) (without id order) ≡ (not (n == 0) && not (n == id))
+joins_beside order joins leaves id slot task cost period early n h e =
+    joins_alike slot task cost period early (without id order)
+    ∙ beside (is_join_of task) id order h.given (joins_exclude task order (Pairs-from_all AreApart order h.apart))
+    ∙ ap (λ n. not (n == 0) && not (n == id)) (sym (e ∙ h.joined task))
+
+pub leaves_beside : (order : List Numbered) (joins leaves : List ℕ) (id slot task n : ℕ) → IsIndexed order joins leaves → n ≡ slice_index leaves task → list_any (λ x. leave_alike x.event (Leave slot task)) (without id order) ≡ (not (n == 0) && not (n == id))
+leaves_beside order joins leaves id slot task n h e =
+    leaves_alike slot task (without id order)
+    ∙ beside (is_leave_of task) id order h.given (leaves_exclude task order (Pairs-from_all AreApart order h.apart))
+    ∙ ap (λ n. not (n == 0) && not (n == id)) (sym (e ∙ h.left task))
+
+-- no event is alike to one of another kind
+no_join : (x event : Event) → ((t : ℕ) → is_join_of t event ≡ false) → join_alike x event ≡ false
+no_join (Join slot task cost period early) (Join slot' task' cost' period' early') none = absurd (false≢true (sym (none task') ∙ eq-eqb task' task' refl))
+no_join (Join slot task cost period early) (Leave slot' task') none = refl
+no_join (Join slot task cost period early) (Delay slot' task' by) none = refl
+no_join (Join slot task cost period early) (Limit slot' count) none = refl
+no_join (Leave slot task) event none = refl
+no_join (Delay slot task by) event none = refl
+no_join (Limit slot count) event none = refl
+
+no_leave : (x event : Event) → ((t : ℕ) → is_leave_of t event ≡ false) → leave_alike x event ≡ false
+no_leave (Leave slot task) (Leave slot' task') none = absurd (false≢true (sym (none task') ∙ eq-eqb task' task' refl))
+no_leave (Leave slot task) (Join slot' task' cost period early) none = refl
+no_leave (Leave slot task) (Delay slot' task' by) none = refl
+no_leave (Leave slot task) (Limit slot' count) none = refl
+no_leave (Join slot task cost period early) event none = refl
+no_leave (Delay slot task by) event none = refl
+no_leave (Limit slot count) event none = refl
+
+pub none_joins : (event : Event) (xs : List Numbered) → ((t : ℕ) → is_join_of t event ≡ false) → list_any (λ x. join_alike x.event event) xs ≡ false
+none_joins event xs none = list_any_none (λ x. join_alike x.event event) xs (λ k d low. no_join (get_or xs k d).event event none)
+
+pub none_leaves : (event : Event) (xs : List Numbered) → ((t : ℕ) → is_leave_of t event ≡ false) → list_any (λ x. leave_alike x.event event) xs ≡ false
+none_leaves event xs none = list_any_none (λ x. leave_alike x.event event) xs (λ k d low. no_leave (get_or xs k d).event event none)
+
+-- an event of one of three kinds that are no join, or no leave
+pub is_no_join : (event : Event) (t : ℕ) → ((slot : ℕ) × (task : ℕ) × (event ≡ Leave slot task)) ⊎ (((slot : ℕ) × (task : ℕ) × (by : ℕ) × (event ≡ Delay slot task by)) ⊎ ((slot : ℕ) × (count : ℕ) × (event ≡ Limit slot count))) → is_join_of t event ≡ false
+is_no_join event t (inl (slot, task, e)) = ap (is_join_of t) e
+is_no_join event t (inr (inl (slot, task, by, e))) = ap (is_join_of t) e
+is_no_join event t (inr (inr (slot, count, e))) = ap (is_join_of t) e
+
+pub is_no_leave : (event : Event) (t : ℕ) → ((slot : ℕ) × (task : ℕ) × (cost : ℕ) × (period : ℕ) × (early : ℕ) × (event ≡ Join slot task cost period early)) ⊎ (((slot : ℕ) × (task : ℕ) × (by : ℕ) × (event ≡ Delay slot task by)) ⊎ ((slot : ℕ) × (count : ℕ) × (event ≡ Limit slot count))) → is_leave_of t event ≡ false
+is_no_leave event t (inl (slot, task, cost, period, early, e)) = ap (is_leave_of t) e
+is_no_leave event t (inr (inl (slot, task, by, e))) = ap (is_leave_of t) e
+is_no_leave event t (inr (inr (slot, count, e))) = ap (is_leave_of t) e
+
+-- a list about its element at i
+pub split_here : (order : List Numbered) (i : ℕ) (x : Numbered) → i < length order → get_or order i x ≡ x → order ≡ take i order ++ x ∷ drop (suc i) order
+split_here order i x low here = split_at order i x low ∙ ap (λ z. take i order ++ z ∷ drop (suc i) order) here

@@ -1,0 +1,156 @@
+-- What a scenario's representation keeps at each change.
+use Rattle.std.proofs.Common.{◌≡◌, ℕ, suc, ◌+◌, ◌<◌, ◌≤◌, Bool, true, false, not, Option, Some, None, List, [], ◌∷◌, ◌++◌, length, take, drop, set, get_or, eqb, refl, sym, ap, ◌∙◌, subst, arith, inl, inr}
+use Rattle.std.specs.Prelude.{◌==◌}
+use Rattle.std.specs.List.{All, AllPairs, Contains, remove, list_any, filter}
+use Rattle.std.specs.declared.cmp.Ordering.{Ordering}
+use Rattle.std.specs.Ordering.{is_lt}
+use Rattle.std.proofs.Math.Nat.{le_trans}
+use Rattle.std.proofs.lemmas.Bool.{cases_Bool, ne_eqb, leb-true, and_parts}
+use Rattle.std.proofs.lemmas.List.{append-nil, set_split}
+use Rattle.std.proofs.lemmas.List.Elements.{All-nil}
+use Rattle.pf_scenario.proofs.Lists.{Pairs, Pairs-from_all, Pairs_before, All_at}
+use Rattle.pf_scenario.proofs.Scenarios.{or_else_none, unless_none, without_held, changes_keep_scenarios, numbers_rise}
+use Rattle.pf_scenario.proofs.Places.{replaced_at, without_at}
+use Rattle.pf_scenario.proofs.Sorting.{put_low, put_high, All-sorted_by}
+use Rattle.pf_scenario.proofs.Indexing.{around_apart, split_here}
+use Rattle.pf_scenario.proofs.Timeline.{in_time_middle, in_time_without, beside_in_time, events_of-in_time}
+use Rattle.pf_scenario.specs.System.{System}
+use Rattle.pf_scenario.specs.Event.{task_of, is_of}
+use Rattle.pf_scenario.specs.Scenario.{Plan, numbered, without, changed, events_of}
+use Rattle.pf_scenario.specs.Edit.{IsScenario, IsEvent, edit_fault, join_alike, leave_alike}
+use Rattle.pf_scenario.specs.TimeOrder.{put, time_cmp, put_in_time, in_time_order}
+use Rattle.pf_scenario.specs.Index.{AreApart, IsNew}
+use Rattle.pf_scenario.specs.Kept.{IsPlace, IsKept}
+use Rattle.pf_scenario.specs.declared.event.Event.{Event}
+use Rattle.pf_scenario.specs.declared.event.Event.TheVariants.{Join, Leave, Delay, Limit}
+use Rattle.pf_scenario.specs.declared.event.Numbered.{Numbered}
+use Rattle.pf_scenario.specs.declared.change.Change.{Change}
+use Rattle.pf_scenario.specs.declared.change.Change.TheVariants.{Insert, Alter, Strike}
+
+-- an event within its limits has a task of at most 4,095
+task_within : (settings : System) (event : Event) → IsEvent settings event → task_of event ≤ 4095
+task_within settings (Join slot task cost period early) h = leb-true _ _ ((and_parts _ _ (unless_none _ _ ((or_else_none _ _ ((or_else_none _ _ h).1)).0))).1)
+task_within settings (Leave slot task) h = leb-true _ _ ((and_parts _ _ (unless_none _ _ ((or_else_none _ _ ((or_else_none _ _ h).1)).0))).1)
+task_within settings (Delay slot task by) h = leb-true _ _ ((and_parts _ _ (unless_none _ _ ((or_else_none _ _ ((or_else_none _ _ h).1)).0))).1)
+task_within settings (Limit slot count) h = omega arith
+
+-- the events of a scenario are apart
+events_apart : (s : Plan) → IsScenario s → AllPairs AreApart s.events
+events_apart s h i j d below low = record {
+  numbers = ne_eqb _ _ (λ e. let rises = h.rising i j d below low in omega arith);
+  joins = h.joins_once i j d below low;
+  leaves = h.leaves_once i j d below low;
+}
+
+Contains-put : {X : Type 0} (R : X → X → Ordering) (x : X) (ys : List X) → Contains (put R x ys) x
+Contains-put R x [] = (0, omega arith, refl)
+Contains-put {X} R x (y ∷ ys) =
+    let P : List X → Type 0 = λ zs. Contains zs x in
+    elim (cases_Bool (is_lt (R x y))) [
+      | inl low ↦ subst P (sym (put_low R x y ys low)) (0, omega arith, refl)
+      | inr high ↦ let rest = Contains-put R x ys in subst P (sym (put_high R x y ys high)) (suc rest.0, omega arith, rest.2)
+    ]
+
+-- one event of a scenario amid the others
+pub record IsAmid (front : List Numbered) (x : Numbered) (back : List Numbered) : Type 0 where
+  pub in_time : in_time_order (front ++ x ∷ back) ≡ put_in_time x (in_time_order (front ++ back))
+  pub held : Contains (in_time_order (front ++ x ∷ back)) x
+  pub new : IsNew x (in_time_order (front ++ back))
+
+pub amid : (s : Plan) (front : List Numbered) (x : Numbered) (back : List Numbered) → s.events ≡ front ++ x ∷ back → IsScenario s → IsAmid front x back
+amid s front x back e h =
+    let all = subst (Pairs AreApart) e (Pairs-from_all AreApart s.events (events_apart s h)) in
+    let put_is = in_time_middle front x back (Pairs_before AreApart front x back all) in
+    let some = All_at (λ y. (1 ≤ y.id) × (y.id < s.next)) front x back (subst (All (λ y. (1 ≤ y.id) × (y.id < s.next))) e h.given) in
+    let limits = All_at (λ y. IsEvent s.settings y.event) front x back (subst (All (λ y. IsEvent s.settings y.event)) e h.limits) in
+    record {
+      in_time = put_is;
+      held = subst (λ zs. Contains zs x) (sym put_is) (Contains-put time_cmp x (in_time_order (front ++ back)));
+      new = record {
+        given = some.0;
+        task = task_within s.settings x.event limits;
+        apart = All-sorted_by (λ y. AreApart y x) time_cmp (front ++ back) (around_apart front x back all);
+      };
+    }
+
+-- what a change that is not refused leaves is a scenario, and its next number is at least 1
+changed_scenario : (s v : Plan) (index : List Numbered) (c : Change) → s ≡ v → IsKept s index → edit_fault v c ≡ None → IsScenario (changed s c)
+changed_scenario s v index c e h none = changes_keep_scenarios s c h.scenario h.next_some (rw e none)
+
+changed_some : (s : Plan) (index : List Numbered) (c : Change) → IsKept s index → 1 ≤ (changed s c).next
+changed_some s index c h = le_trans h.next_some (numbers_rise s c)
+
+-- an insert: its event is new to the index, and is put there
+pub insert_new : (s v : Plan) (index : List Numbered) (event : Event) → s ≡ v → IsKept s index → edit_fault v (Insert event) ≡ None → IsNew (numbered s.next event) index
+insert_new s v index event e h none =
+    let here = amid (changed s (Insert event)) s.events (numbered s.next event) [] refl (changed_scenario s v index (Insert event) e h none) in
+    subst (IsNew (numbered s.next event)) (ap in_time_order (append-nil s.events) ∙ sym h.indexed) here.new
+
+pub insert_kept : (s v : Plan) (index : List Numbered) (event : Event) → s ≡ v → IsKept s index → edit_fault v (Insert event) ≡ None → IsKept (changed s (Insert event)) (put_in_time (numbered s.next event) index)
+insert_kept s v index event e h none =
+    let kept = changed_scenario s v index (Insert event) e h none in
+    let here = amid (changed s (Insert event)) s.events (numbered s.next event) [] refl kept in
+    record {
+      scenario = kept;
+      next_some = changed_some s index (Insert event) h;
+      indexed = ap (put_in_time (numbered s.next event)) (h.indexed ∙ sym (ap in_time_order (append-nil s.events))) ∙ sym here.in_time;
+    }
+
+-- the event at a place is held by the index; without it the index is of the events around that place
+pub held_there : (s : Plan) (index : List Numbered) (i : ℕ) (x : Numbered) → IsKept s index → i < length s.events → get_or s.events i x ≡ x → Contains index x
+held_there s index i x h low is =
+    let e = split_here s.events i x low is in
+    subst (λ zs. Contains zs x) (ap in_time_order (sym e) ∙ sym h.indexed) (amid s (take i s.events) x (drop (suc i) s.events) e h.scenario).held
+
+index_without : (s : Plan) (index : List Numbered) (i : ℕ) (x : Numbered) → IsKept s index → i < length s.events → get_or s.events i x ≡ x → without x.id index ≡ in_time_order (take i s.events ++ drop (suc i) s.events)
+index_without s index i x h low is =
+    ap (without x.id) h.indexed
+    ∙ in_time_without x.id s.events
+    ∙ ap in_time_order (without_held s.events (take i s.events) x (drop (suc i) s.events) x.id h.scenario.rising (split_here s.events i x low is) refl)
+
+-- an alter: the event takes the place of the old one
+altered_events : (s : Plan) (index : List Numbered) (id i : ℕ) (event : Event) → IsKept s index → IsPlace s.events id i → (changed s (Alter id event)).events ≡ take i s.events ++ numbered id event ∷ drop (suc i) s.events
+altered_events s index id i event h place =
+    replaced_at s.events id i event h.scenario.rising place ∙ set_split s.events i (numbered id event) place.within
+
+pub alter_new : (s v : Plan) (index : List Numbered) (id i : ℕ) (event : Event) (x : Numbered) → s ≡ v → IsKept s index → edit_fault v (Alter id event) ≡ None → IsPlace s.events id i → get_or s.events i x ≡ x → IsNew (numbered id event) (without x.id index)
+alter_new s v index id i event x e h none place is =
+    let here = amid (changed s (Alter id event)) (take i s.events) (numbered id event) (drop (suc i) s.events) (altered_events s index id i event h place) (changed_scenario s v index (Alter id event) e h none) in
+    subst (IsNew (numbered id event)) (sym (index_without s index i x h place.within is)) here.new
+
+pub alter_kept : (s v : Plan) (index : List Numbered) (id i : ℕ) (event : Event) (x : Numbered) → s ≡ v → IsKept s index → edit_fault v (Alter id event) ≡ None → IsPlace s.events id i → get_or s.events i x ≡ x → IsKept (record s { events = set s.events i (numbered id event) }) (put_in_time (numbered id event) (without x.id index))
+alter_kept s v index id i event x e h none place is =
+    let kept = changed_scenario s v index (Alter id event) e h none in
+    let split = altered_events s index id i event h place in
+    let here = amid (changed s (Alter id event)) (take i s.events) (numbered id event) (drop (suc i) s.events) split kept in
+    record {
+      scenario = subst (λ events. IsScenario (record s { events = events })) (replaced_at s.events id i event h.scenario.rising place) kept;
+      next_some = h.next_some;
+      indexed = ap (put_in_time (numbered id event)) (index_without s index i x h place.within is) ∙ sym here.in_time ∙ ap in_time_order (sym (set_split s.events i (numbered id event) place.within));
+    }
+
+pub alter_is : (s v : Plan) (index : List Numbered) (id i : ℕ) (event : Event) → s ≡ v → IsKept s index → IsPlace s.events id i → record s { events = set s.events i (numbered id event) } ≡ changed v (Alter id event)
+alter_is s v index id i event e h place =
+    ap (λ events. record s { events = events }) (sym (replaced_at s.events id i event h.scenario.rising place)) ∙ ap (λ s. changed s (Alter id event)) e
+
+-- a strike: the event is taken out
+pub strike_kept : (s v : Plan) (index : List Numbered) (id i : ℕ) (x : Numbered) → s ≡ v → IsKept s index → edit_fault v (Strike id) ≡ None → IsPlace s.events id i → get_or s.events i x ≡ x → IsKept (record s { events = remove s.events i }) (without x.id index)
+strike_kept s v index id i x e h none place is = record {
+  scenario = subst (λ events. IsScenario (record s { events = events })) (without_at s.events id i h.scenario.rising place) (changed_scenario s v index (Strike id) e h none);
+  next_some = h.next_some;
+  indexed = index_without s index i x h place.within is;
+}
+
+pub strike_is : (s v : Plan) (index : List Numbered) (id i : ℕ) → s ≡ v → IsKept s index → IsPlace s.events id i → record s { events = remove s.events i } ≡ changed v (Strike id)
+strike_is s v index id i e h place =
+    ap (λ events. record s { events = events }) (sym (without_at s.events id i h.scenario.rising place)) ∙ ap (λ s. changed s (Strike id)) e
+
+-- what the index tells of the scenario
+pub joins_told : (s : Plan) (index : List Numbered) (id : ℕ) (event : Event) → IsKept s index → list_any (λ x. join_alike x.event event) (without id index) ≡ list_any (λ x. join_alike x.event event) (without id s.events)
+joins_told s index id event h = ap (λ zs. list_any (λ x. join_alike x.event event) (without id zs)) h.indexed ∙ beside_in_time (λ x. join_alike x.event event) id s.events
+
+pub leaves_told : (s : Plan) (index : List Numbered) (id : ℕ) (event : Event) → IsKept s index → list_any (λ x. leave_alike x.event event) (without id index) ≡ list_any (λ x. leave_alike x.event event) (without id s.events)
+leaves_told s index id event h = ap (λ zs. list_any (λ x. leave_alike x.event event) (without id zs)) h.indexed ∙ beside_in_time (λ x. leave_alike x.event event) id s.events
+
+pub slot_told : (s : Plan) (index : List Numbered) (t : ℕ) → IsKept s index → filter (is_of t) index ≡ events_of s t
+slot_told s index t h = ap (filter (is_of t)) h.indexed ∙ events_of-in_time s t

@@ -1,0 +1,48 @@
+-- Events, and the order in which a run takes them.
+use Rattle.std.specs.Prelude.{ℕ, Bool, ◌==◌, List, [], ◌∷◌, cond}
+use Rattle.std.specs.declared.cmp.Ordering.{Ordering}
+use Rattle.std.specs.Ordering.{nat_cmp, on, then_cmp, is_lt}
+use Rattle.pf_scenario.specs.declared.event.Event.{Event}
+use Rattle.pf_scenario.specs.declared.event.Event.TheVariants.{Join, Leave, Delay, Limit}
+use Rattle.pf_scenario.specs.declared.event.Numbered.{Numbered}
+
+-- the slot of an event
+abbrev pub slot_of : Event → ℕ
+slot_of (Join slot task cost period early) = slot
+slot_of (Leave slot task) = slot
+slot_of (Delay slot task by) = slot
+slot_of (Limit slot count) = slot
+
+-- in a slot limits come first, then leaves, then joins, then delays
+abbrev pub kind_of : Event → ℕ
+kind_of (Limit slot count) = 0
+kind_of (Leave slot task) = 1
+kind_of (Join slot task cost period early) = 2
+kind_of (Delay slot task by) = 3
+
+-- the task of an event; a limit has none
+abbrev pub task_of : Event → ℕ
+task_of (Join slot task cost period early) = task
+task_of (Leave slot task) = task
+task_of (Delay slot task by) = task
+task_of (Limit slot count) = 0
+
+-- the event is of slot t
+abbrev pub is_of : ℕ → Numbered → Bool
+is_of t x = slot_of x.event == t
+
+-- the order of a slot's events: by kind, then by task, then by number
+unfoldable pub run_cmp : Numbered → Numbered → Ordering
+run_cmp =
+    then_cmp (on (λ x. kind_of x.event) nat_cmp)
+    (then_cmp (on (λ x. task_of x.event) nat_cmp) (on (λ x. x.id) nat_cmp))
+
+-- x in its place among events in run order
+abbrev pub placed : Numbered → List Numbered → List Numbered
+placed x [] = x ∷ []
+placed x (y ∷ ys) = cond (is_lt (run_cmp x y)) (x ∷ y ∷ ys) (y ∷ placed x ys)
+
+-- these events in run order
+abbrev pub in_run_order : List Numbered → List Numbered
+in_run_order [] = []
+in_run_order (x ∷ xs) = placed x (in_run_order xs)

@@ -1,0 +1,9 @@
+pub use Rattle.pf_weight.specs.Share
+pub mod System
+pub mod Event
+pub mod Scenario
+pub mod Edit
+pub mod Laws
+pub mod TimeOrder
+pub mod Index
+pub mod Kept

@@ -1,0 +1,79 @@
+ghost use Rattle.std.specs.Prelude.{◌≡◌, []};
+ghost use Rattle.std.specs.Result.{result_err};
+ghost use Rattle.pf_scenario.specs.Event.{slot_of};
+ghost use Rattle.pf_scenario.specs.Edit.{event_fault, is_within, unless};
+
+use crate::event::Event;
+use crate::fault::EditFault;
+use crate::settings::Settings;
+use pf_weight::weight::Weight;
+
+/// The greatest task number.
+const LAST_TASK: u64 = 4095;
+
+/// The most slots that a subtask may run before its release.
+const MOST_EARLY: u64 = 1 << 20;
+
+/// The most slots of a delay.
+const LONGEST_DELAY: u64 = 1 << 20;
+
+/// The slot of an event.
+pub fn slot_of(event: &Event) -> u64
+    ensures { result ≡ slot_of event.now }
+{
+    match *event {
+        Event::Join { slot, .. }
+        | Event::Leave { slot, .. }
+        | Event::Delay { slot, .. }
+        | Event::Limit { slot, .. } => slot,
+    }
+}
+
+/// Refused where the task is not 1 to 4,095.
+fn check_task(task: u64) -> Result<(), EditFault>
+    ensures { result_err result ≡ unless (is_within 4095 task) EditFault.TaskOutOfRange }
+{
+    if task == 0 || task > LAST_TASK {
+        return Err(EditFault::TaskOutOfRange);
+    }
+    Ok(())
+}
+
+/// Why an event is out of its limits, if it is: the first test that fails, in the order of `EditFault`.
+pub fn check_limits(settings: Settings, event: &Event) -> Result<(), EditFault>
+    ensures { result_err result ≡ event_fault settings [] event.now }
+{
+    if slot_of(event) >= settings.horizon() {
+        return Err(EditFault::SlotOutOfRange);
+    }
+    match *event {
+        Event::Join {
+            task,
+            cost,
+            period,
+            early,
+            ..
+        } => {
+            check_task(task)?;
+            if early > MOST_EARLY {
+                return Err(EditFault::EarlyOutOfRange);
+            }
+            Weight::new(settings.base(), cost, period).map_err(EditFault::BadWeight)?;
+            Ok(())
+        }
+        Event::Leave { task, .. } => check_task(task),
+        Event::Delay { task, by, .. } => {
+            check_task(task)?;
+            if by == 0 || by > LONGEST_DELAY {
+                return Err(EditFault::DelayOutOfRange);
+            }
+            Ok(())
+        }
+        Event::Limit { count, .. } => {
+            if count == 0 || count > u64::from(settings.processors()) {
+                return Err(EditFault::CountOutOfRange);
+            }
+            Ok(())
+        }
+    }
+}

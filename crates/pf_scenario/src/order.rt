@@ -1,0 +1,85 @@
+ghost use Rattle.std.specs.Prelude.{◌≡◌, ◌<◌, ◌≤◌, length, slice_index_or, slice_range, filter, AllPairs, Contains};
+ghost use Rattle.std.specs.List.{insert, remove};
+ghost use Rattle.std.specs.Ordering.{is_lt};
+ghost use Rattle.pf_scenario.specs.Event.{is_of, kind_of, task_of};
+ghost use Rattle.pf_scenario.specs.Scenario.{without};
+ghost use Rattle.pf_scenario.specs.TimeOrder.{time_cmp, put_in_time};
+ghost use Rattle.pf_scenario.specs.Index.{AreApart, IsInTime};
+
+use crate::event::{Event, Numbered};
+use crate::limits::slot_of;
+
+/// In a slot limits come first, then leaves, then joins, then delays.
+fn kind_of(event: &Event) -> u8
+    ensures { result ≡ kind_of event.now }
+{
+    match *event {
+        Event::Limit { .. } => 0,
+        Event::Leave { .. } => 1,
+        Event::Join { .. } => 2,
+        Event::Delay { .. } => 3,
+    }
+}
+
+/// The task of an event; a limit has none.
+fn task_of(event: &Event) -> u64
+    ensures { result ≡ task_of event.now }
+{
+    match *event {
+        Event::Join { task, .. } | Event::Leave { task, .. } | Event::Delay { task, .. } => task,
+        Event::Limit { .. } => 0,
+    }
+}
+
+/// Whether x stands before y: by slot, and in a slot by kind, then by task, then by number.
+#[tactic(auto, unfolding(crate::specs::TimeOrder::time_cmp, crate::specs::Event::run_cmp))]
+fn is_before(x: &Numbered, y: &Numbered) -> bool
+    ensures { result ≡ is_lt (time_cmp x.now y.now) }
+{
+    let slots = (slot_of(&x.event), slot_of(&y.event));
+    if slots.0 != slots.1 {
+        return slots.0 < slots.1;
+    }
+    let kinds = (kind_of(&x.event), kind_of(&y.event));
+    if kinds.0 != kinds.1 {
+        return kinds.0 < kinds.1;
+    }
+    let tasks = (task_of(&x.event), task_of(&y.event));
+    if tasks.0 != tasks.1 {
+        return tasks.0 < tasks.1;
+    }
+    x.id < y.id
+}
+
+/// Where the event is to be put among events in time order.
+pub fn place_for(order: &[Numbered], x: &Numbered) -> usize
+    requires { IsInTime order.now }
+    ensures within { result ≤ length order.now }
+    ensures put { insert order.now result x.now ≡ put_in_time x.now order.now }
+{
+    order.partition_point(|y| !is_before(x, y))
+}
+
+/// Where the event stands among events in time order.
+pub fn place_held(order: &[Numbered], x: &Numbered) -> usize
+    requires in_time { IsInTime order.now }
+    requires apart { AllPairs AreApart order.now }
+    requires held { Contains order.now x.now }
+    ensures within { result < length order.now }
+    ensures value { slice_index_or order.now result x.now ≡ x.now }
+    ensures taken { remove order.now result ≡ without x.now.id order.now }
+{
+    order.partition_point(|y| is_before(y, x))
+}
+
+/// The places of the events of slot t: from the first to before the second.
+pub fn slot_places(order: &[Numbered], t: u64) -> (usize, usize)
+    requires { IsInTime order.now }
+    ensures ordered { result.0 ≤ result.1 }
+    ensures within { result.1 ≤ length order.now }
+    ensures slot { slice_range order.now result.0 result.1 ≡ filter (is_of t) order.now }
+{
+    let low = order.partition_point(|x| slot_of(&x.event) < t);
+    let high = order.partition_point(|x| slot_of(&x.event) <= t);
+    (low, high)
+}

@@ -1,0 +1,275 @@
+ghost use Rattle.std.specs.Prelude.{◌≡◌, ◌≤◌, ◌↔◌, Option, Some, None, IfOk, OnOk, OnErr, Err};
+ghost use Rattle.std.specs.List.{list_any};
+ghost use Rattle.std.specs.Result.{result_err};
+ghost use Rattle.pf_scenario.specs.Scenario.{Plan, opening, is_held, without, changed, concerned, held_slot, touched_slot, events_of};
+ghost use Rattle.pf_scenario.specs.Edit.{IsScenario, event_fault, edit_fault, unless, join_alike, leave_alike};
+ghost use Rattle.pf_scenario.specs.declared.fault.EditFault.{EditFault as AFault};
+ghost use Rattle.pf_scenario.specs.declared.change.Change.TheVariants.{Insert, Alter, Strike};
+ghost use Rattle.pf_scenario.specs.declared.apply_fault.ApplyFault.TheVariants.{Refused};
+
+use crate::apply_fault::ApplyFault;
+use crate::change::Change;
+use crate::event::{Event, Numbered};
+use crate::fault::EditFault;
+use crate::index::Index;
+use crate::limits::{check_limits, slot_of};
+use crate::numbers::place_of;
+use crate::settings::Settings;
+use std::alloc::{AllocError, Global};
+use std::marker::Model;
+
+/// The most events that a scenario holds.
+const MOST_EVENTS: usize = 65535;
+
+/// The last event number that is given.
+const LAST_NUMBER: u64 = 1_048_575;
+
+/// What is planned: settings, and the events held, each with its number.
+#[derive(Debug, Drop)]
+pub struct Scenario {
+    settings: Settings,
+    events: Vec<Numbered>,
+    index: Index,
+    next: u64,
+}
+
+impl Model for Scenario {
+    ghost use Rattle.pf_scenario.specs.Scenario.{Plan};
+    ghost use Rattle.pf_scenario.specs.Kept.{IsKept};
+
+    ghost Value = { Plan };
+
+    ghost view = { λ s. record { settings = s.settings; events = s.events.items; next = s.next } };
+
+    ghost invariant = { λ s. IsKept (record { settings = s.settings; events = s.events.items; next = s.next }) s.index };
+}
+
+impl Scenario {
+    /// The scenario with no events. The first event gets the number 1.
+    pub fn new(alloc: Global, settings: Settings) -> Self
+        ensures value { result ≡ opening settings }
+        ensures scenario { IsScenario result }
+    {
+        let _ = settings.horizon();
+        Scenario {
+            settings,
+            events: Vec::new(alloc),
+            index: Index::new(alloc),
+            next: 1,
+        }
+    }
+
+    /// Why the change is refused, if it is: the first test that fails, in the order of `EditFault`.
+    pub fn check(&self, change: &Change) -> Result<(), EditFault>
+        ensures value { result_err result ≡ edit_fault self.now change.now }
+        ensures scenario { IsScenario self.now }
+    {
+        match *change {
+            Change::Insert(event) => {
+                self.check_new(&event)?;
+                if self.events.len() >= MOST_EVENTS {
+                    return Err(EditFault::TooManyEvents);
+                }
+                if self.next > LAST_NUMBER {
+                    return Err(EditFault::NumbersSpent);
+                }
+                Ok(())
+            }
+            Change::Alter(id, event) => {
+                self.check_held(id)?;
+                self.check_event(id, &event)
+            }
+            Change::Strike(id) => self.check_held(id),
+        }
+    }
+
+    /// Refused where no event has this number.
+    fn check_held(&self, id: u64) -> Result<(), EditFault>
+        ensures { result_err result ≡ unless (is_held self.now.events id) EditFault.EventNotFound }
+    {
+        match place_of(&self.events, id) {
+            Some(_) => Ok(()),
+            None => Err(EditFault::EventNotFound),
+        }
+    }
+
+    /// Why a new event is refused.
+    fn check_new(&self, event: &Event) -> Result<(), EditFault>
+        ensures { result_err result ≡ event_fault self.now.settings self.now.events event.now }
+    {
+        let _ = &self.events;
+        self.check_event(0, event)
+    }
+
+    /// Why the event is refused beside the events of other numbers than this one.
+    fn check_event(&self, id: u64, event: &Event) -> Result<(), EditFault>
+        ensures { result_err result ≡ event_fault self.now.settings (without id self.now.events) event.now }
+    {
+        check_limits(self.settings, event)?;
+        if self.joins_beside(id, event) {
+            return Err(EditFault::JoinTwice);
+        }
+        if self.leaves_beside(id, event) {
+            return Err(EditFault::LeaveTwice);
+        }
+        Ok(())
+    }
+
+    /// Whether an event of another number than this one joins the task that the event joins.
+    fn joins_beside(&self, id: u64, event: &Event) -> bool
+        ensures { result ≡ list_any (λ x. join_alike x.event event.now) (without id self.now.events) }
+    {
+        self.index.joins_beside(id, event)
+    }
+
+    /// Whether an event of another number than this one leaves the task that the event leaves.
+    fn leaves_beside(&self, id: u64, event: &Event) -> bool
+        ensures { result ≡ list_any (λ x. leave_alike x.event event.now) (without id self.now.events) }
+    {
+        self.index.leaves_beside(id, event)
+    }
+
+    /// Makes the change and gives the number of the event that it concerns. After an `Err` the scenario is as before.
+    pub fn apply(&mut self, change: Change) -> Result<u64, ApplyFault>
+        ensures ok { IfOk result (λ id. (id ≡ concerned self.old change) × (self.new ≡ changed self.old change)) }
+
+        // It is refused just where `check` refuses it, and then no memory was asked for.
+        ensures refused { (f : AFault) → (edit_fault self.old change ≡ Some f) ↔ (result ≡ Err (Refused f)) }
+        ensures err { OnErr result (self.new ≡ self.old) }
+        ensures scenario { IsScenario self.new }
+    {
+        if let Err(fault) = self.check(&change) {
+            return Err(ApplyFault::Refused(fault));
+        }
+        match change {
+            Change::Insert(event) => Ok(self.insert(event)?),
+            Change::Alter(id, event) => {
+                self.alter(id, event)?;
+                Ok(id)
+            }
+            Change::Strike(id) => {
+                self.strike(id);
+                Ok(id)
+            }
+        }
+    }
+
+    fn insert(&mut self, event: Event) -> Result<u64, AllocError>
+        requires { edit_fault self.old (Insert event) ≡ None }
+        ensures ok { IfOk result (λ id. (id ≡ self.old.next) × (self.new ≡ changed self.old (Insert event))) }
+        ensures err { OnErr result (self.new ≡ self.old) }
+        ensures scenario { IsScenario self.new }
+    {
+        let x = Numbered {
+            id: self.next,
+            event,
+        };
+        self.events.reserve(1)?;
+        self.index.put(x)?;
+        match self.events.push(x) {
+            Ok(()) => {}
+            Err(_) => unreachable!(),
+        }
+        self.next += 1;
+        Ok(x.id)
+    }
+
+    fn alter(&mut self, id: u64, event: Event) -> Result<(), AllocError>
+        requires { edit_fault self.old (Alter id event) ≡ None }
+        ensures ok { OnOk result (self.new ≡ changed self.old (Alter id event)) }
+        ensures err { OnErr result (self.new ≡ self.old) }
+        ensures scenario { IsScenario self.new }
+    {
+        let Some(i) = place_of(&self.events, id) else {
+            unreachable!()
+        };
+        let x = Numbered { id, event };
+        let was = self.events[i];
+        self.index.replace(was, x)?;
+        self.events[i] = x;
+        Ok(())
+    }
+
+    fn strike(&mut self, id: u64)
+        requires { edit_fault self.old (Strike id) ≡ None }
+        ensures value { self.new ≡ changed self.old (Strike id) }
+        ensures scenario { IsScenario self.new }
+    {
+        let Some(i) = place_of(&self.events, id) else {
+            unreachable!()
+        };
+        let was = self.events.remove(i);
+        self.index.take_out(was);
+    }
+
+    /// The least slot that the change touches: for an alter the lower of the old slot and the new. `None` where no
+    /// event has the number.
+    pub fn first_slot(&self, change: &Change) -> Option<u64>
+        ensures { result ≡ touched_slot self.now change.now }
+    {
+        match *change {
+            Change::Insert(event) => Some(slot_of(&event)),
+            Change::Alter(id, event) => {
+                let old = self.held_slot(id)?;
+                Some(old.min(slot_of(&event)))
+            }
+            Change::Strike(id) => self.held_slot(id),
+        }
+    }
+
+    /// The slot of the event of this number, where it is held.
+    fn held_slot(&self, id: u64) -> Option<u64>
+        ensures { result ≡ held_slot self.now.events id }
+    {
+        let i = place_of(&self.events, id)?;
+        Some(slot_of(&self.events[i].event))
+    }
+
+    /// The events, by number.
+    pub fn events(&self) -> &[Numbered]
+        ensures value { result.now ≡ self.now.events }
+        ensures scenario { IsScenario self.now }
+    {
+        self.events.as_slice()
+    }
+
+    /// The events of slot t, in the order in which a run takes them.
+    pub fn slot_events(&self, t: u64) -> Result<Vec<Numbered>, AllocError>
+        ensures value { IfOk result (λ v. v.items ≡ events_of self.now t) }
+        ensures scenario { IsScenario self.now }
+    {
+        self.index.of_slot(t)
+    }
+
+    /// The number that the next new event gets, 1 to 1,048,576; the last is never given.
+    pub fn next_number(&self) -> u64
+        ensures value { result ≡ self.now.next }
+        ensures some { 1 ≤ result }
+        ensures scenario { IsScenario self.now }
+    {
+        self.next
+    }
+
+    /// What the scenario is set in.
+    pub fn settings(&self) -> Settings
+        ensures value { result ≡ self.now.settings }
+        ensures scenario { IsScenario self.now }
+    {
+        self.settings
+    }
+
+    /// An equal scenario.
+    pub fn copy(&self) -> Result<Self, AllocError>
+        ensures value { IfOk result (λ s. s ≡ self.now) }
+        ensures scenario { IsScenario self.now }
+    {
+        let events = Vec::from_slice(*self.events.allocator(), &self.events)?;
+        let index = self.index.copy()?;
+        Ok(Scenario {
+            settings: self.settings,
+            events,
+            index,
+            next: self.next,
+        })
+    }
+}
