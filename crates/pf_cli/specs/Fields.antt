@@ -1,0 +1,27 @@
+-- The fields of a record, counted from 0: numbers and words.
+use Rattle.std.specs.Prelude.{ℕ, Bool, ◌==◌, ◌&&◌, ◌||◌, nat_lt, if◌then◌else◌, List, [], length, slice_index_or, Option, Some, None}
+use Rattle.std.specs.Str.{all_ascii_digits, bytes_eq}
+use Rattle.std.specs.Str.Parse.{digits_value}
+
+-- the field at a place, with no byte past the last one
+abbrev pub field : List (List ℕ) → ℕ → List ℕ
+field fields place = slice_index_or fields place []
+
+-- the number that a field is: 1 to 15 ASCII digits and nothing else
+unfoldable pub number_of : List ℕ → Option ℕ
+number_of bytes =
+    if (length bytes == 0) || nat_lt 15 (length bytes) then None
+    else if all_ascii_digits bytes then Some (digits_value 10 bytes)
+    else None
+
+-- the number of the field at a place
+abbrev pub number : List (List ℕ) → ℕ → Option ℕ
+number fields place = number_of (field fields place)
+
+-- whether the field at a place is this word, byte for byte
+unfoldable pub is_word : List (List ℕ) → ℕ → List ℕ → Bool
+is_word fields place word = bytes_eq (field fields place) word
+
+-- whether the fields are so many, the first of them this word
+abbrev pub is_of : List (List ℕ) → List ℕ → ℕ → Bool
+is_of fields word count = (length fields == count) && is_word fields 0 word

@@ -1,0 +1,6 @@
+pub mod Counted
+pub mod Failing
+pub mod Fields
+pub mod Lines
+pub mod Reading
+pub mod Script
