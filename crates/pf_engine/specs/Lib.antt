@@ -19,5 +19,12 @@ pub mod Run
 pub mod Computed
 pub mod Laws
 pub mod Fits
-pub mod Examples
+pub mod Kept
+pub mod Taking
+pub mod Roll
+pub mod Entries
+pub mod Choice
+pub mod Keeping
+pub mod Rooms
 pub mod RunRows
+pub mod Examples

@@ -2,5 +2,12 @@
 //! run, and then fits the longer run.
 #![tactic(auto)]
 
+mod choice;
 pub mod denied;
+pub mod engine;
+mod entry;
 pub mod laws;
+pub mod outcome;
+mod room;
+mod roster;
+mod state;

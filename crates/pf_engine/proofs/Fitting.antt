@@ -1,0 +1,106 @@
+-- An engine that fits a scenario and a run of it gives the next slot, and then fits the longer run.
+use Rattle.std.proofs.Common.{◌≡◌, ℕ, ◌+◌, ◌≤◌, List, [], ◌∷◌, ◌++◌, length, refl, sym, ap, ap₂, ◌∙◌, subst, subst₂, arith, ⊎_elim}
+use Rattle.std.proofs.lemmas.Bool.{cases_lt}
+use Rattle.std.proofs.lemmas.List.{take-append-le, take_at, get_or_append_left, get_or_push}
+use Rattle.std.proofs.lemmas.List.Elements.{All-nil}
+use Rattle.pf_order.specs.First.{AreFirst}
+use Rattle.pf_scenario.specs.Event.{slot_of}
+use Rattle.pf_scenario.specs.Scenario.{Plan, events_of}
+use Rattle.pf_scenario.specs.Edit.{IsScenario}
+use Rattle.pf_scenario.specs.declared.event.Numbered.{Numbered}
+use Rattle.pf_engine.specs.Record.{Slot, denials_of, in_force}
+use Rattle.pf_engine.specs.Inside.{ready, count_of}
+use Rattle.pf_engine.specs.Run.{standing, ArePicks, IsNextSlot, IsRun}
+use Rattle.pf_engine.specs.Computed.{after_events}
+use Rattle.pf_engine.specs.Fits.{Kept, kept_after, Fits, Taken, TakesSlot}
+use Rattle.pf_engine.specs.Kept.{ready_keys, after_picks}
+use Rattle.pf_engine.specs.Taking.{Advances}
+use Rattle.pf_engine.proofs.Judged.{along_run, length_snoc, next_from_equation, next_from_one_by_one}
+use Rattle.pf_engine.proofs.Steps.{IsPoint}
+use Rattle.pf_engine.proofs.Events.{AreTaken, kept_taken}
+use Rattle.pf_engine.proofs.Picks.{AreNext, kept_picked}
+use Rattle.pf_engine.proofs.Ready.{ready_same, next_chosen, point_picked}
+use Rattle.pf_engine.proofs.Plans.{slots_of_events, joins_at}
+
+-- the point that a run leads to
+point_none : (s : Plan) → IsPoint [] (standing s [] 0)
+unfolding in_force
+point_none s = record {
+  past = All-nil (λ x. slot_of x.event ≤ 0);
+  fresh = λ task none. record { stays = refl; undelayed = λ q i. refl; idle = refl };
+}
+
+events_taken : (s : Plan) (r : List Slot) → IsScenario s → IsPoint r (standing s r (length r)) →
+    AreTaken s.settings r (standing s r (length r)) (events_of s (length r))
+events_taken s r scenario point =
+    kept_taken s.settings r (standing s r (length r)) (events_of s (length r)) (slots_of_events s (length r))
+    (joins_at s (denials_of r) (length r) scenario) point
+
+point_more : (s : Plan) → IsScenario s → (r : List Slot) (slot : Slot) → IsRun s (length r) r → IsNextSlot s r slot →
+    IsPoint r (standing s r (length r)) → IsPoint (r ++ slot ∷ []) (standing s (r ++ slot ∷ []) (length (r ++ slot ∷ [])))
+point_more s scenario r slot run next point =
+    let stands = (next_from_equation s r slot scenario run next.denials).stands in
+    let picks = subst (λ xs. ArePicks s r xs slot.picks) stands next.picks in
+    let taken = events_taken s r scenario point in
+    let after = point_picked s.settings.base _ r slot _ picks.chosen picks.are_first picks.subtasks taken.point in
+    subst (IsPoint (r ++ slot ∷ []))
+    (sym stands ∙ ap (λ t. standing s (r ++ slot ∷ []) t) (sym (length_snoc r slot))) after
+
+pub point_of_run : (s : Plan) → IsScenario s → (n : ℕ) (r : List Slot) → IsRun s n r → IsPoint r (standing s r (length r))
+point_of_run s scenario = along_run s (λ r. IsPoint r (standing s r (length r))) (point_none s) (point_more s scenario)
+
+-- a run and its next slot
+pub run_push : (s : Plan) (r : List Slot) (slot : Slot) → IsRun s (length r) r → IsNextSlot s r slot →
+    IsRun s (length (r ++ slot ∷ [])) (r ++ slot ∷ [])
+run_push s r slot run next = record {
+  slots = refl;
+  each = λ t d below. ⊎_elim
+      (λ before. subst₂ (IsNextSlot s) (sym (take-append-le t r (slot ∷ []) (omega arith)))
+      (sym (get_or_append_left r (slot ∷ []) d t before)) (run.each t d before))
+      (λ last.
+      let at : length r ≡ t = omega (arith, length_snoc r slot) in
+      subst₂ (IsNextSlot s) (sym (take_at r (slot ∷ []) t at)) (sym (get_or_push r slot d t at)) next)
+      (cases_lt t (length r));
+}
+
+-- the slot that an engine gives
+takes_kept : (s : Plan) (r : List Slot) (o : Taken) (e' : Kept) → IsScenario s → IsRun s (length r) r →
+    Advances (kept_after s.settings r (standing s r (length r))) (events_of s (length r)) o e' → TakesSlot s r o e'
+unfolding kept_after
+takes_kept s r o e' scenario run advances =
+    let xs = standing s r (length r) in
+    let ys = events_of s (length r) in
+    let taken = events_taken s r scenario (point_of_run s scenario (length r) r run) in
+    let after = after_events s.settings r xs ys in
+    let chosen = advances.chosen in
+    let first : AreFirst (count_of s.settings.processors after) (ready s.settings.base r after) chosen =
+    subst (λ keys. AreFirst (count_of s.settings.processors after) keys chosen) (ready_same s.settings r after)
+    (subst (λ e. AreFirst e.count (ready_keys e) chosen) taken.kept advances.are_first) in
+    let denials = next_from_one_by_one s r o.slot scenario run (advances.denials ∙ taken.denied) in
+    let next : IsNextSlot s r o.slot = record {
+      denials = denials.equation;
+      picks = subst (λ at. ArePicks s r at o.slot.picks) (sym denials.stands)
+          (record { chosen = chosen; are_first = first; subtasks = advances.picks });
+    } in
+    let now : length r + 1 ≡ length (r ++ o.slot ∷ []) = omega (arith, length_snoc r o.slot) in
+    let point = taken.point in
+    let stands : after ≡ standing s (r ++ o.slot ∷ []) (length (r ++ o.slot ∷ [])) =
+    sym denials.stands ∙ ap (λ t. standing s (r ++ o.slot ∷ []) t) (sym (length_snoc r o.slot)) in
+    let of_next = subst (AreNext r) (sym advances.picks) (next_chosen s.settings.base (count_of s.settings.processors after) r after chosen first) in
+    record {
+      next = next;
+      count = advances.count ∙ ap (λ (e : Kept). e.count) taken.kept
+          ∙ ap (count_of s.settings.processors) (stands ∙ ap (λ t. standing s (r ++ o.slot ∷ []) t) (sym now));
+      fits = record {
+        is_run = run_push s r o.slot run next;
+        keeps = advances.after
+            ∙ ap₂ after_picks taken.kept (sym advances.picks)
+            ∙ kept_picked s.settings r o.slot after of_next point.past
+            ∙ ap (kept_after s.settings (r ++ o.slot ∷ [])) stands;
+      };
+    }
+
+pub fits_slot : (s : Plan) (r : List Slot) (e : Kept) (events : List Numbered) (o : Taken) (e' : Kept) → IsScenario s →
+    Fits s r e → events ≡ events_of s (length r) → Advances e events o e' → TakesSlot s r o e'
+fits_slot s r e events o e' scenario fits same advances =
+    takes_kept s r o e' scenario fits.is_run (subst₂ (λ k ys. Advances k ys o e') fits.keeps same advances)

@@ -1,0 +1,129 @@
+ghost use Rattle.std.specs.Prelude.{◌≡◌, ◌+◌, ◌≤◌, List, [], length, IfOk, OnOk, OnErr};
+ghost use Rattle.pf_order.specs.Counts.{one_more};
+ghost use Rattle.pf_scenario.specs.Scenario.{Plan, events_of};
+ghost use Rattle.pf_scenario.specs.Edit.{IsScenario};
+ghost use Rattle.pf_engine.specs.Record.{Slot};
+ghost use Rattle.pf_engine.specs.Fits.{Kept, kept_after, Fits, CanTake, TakesSlot};
+
+use crate::outcome::Outcome;
+use crate::room::Room;
+use crate::state::State;
+use pf_order::meter::Meter;
+use pf_scenario::event::Numbered;
+use pf_scenario::settings::Settings;
+use std::alloc::{AllocError, Global};
+use std::marker::Model;
+
+/// What goes on from slot to slot: the tasks inside and what is known of them, so that no past slot is looked at
+/// again. It fits a scenario and a run of it where what it keeps is what they give.
+#[derive(Drop)]
+pub struct Engine {
+    state: State,
+}
+
+impl Model for Engine {
+    ghost use Rattle.pf_engine.specs.Fits.{Kept};
+
+    ghost Value = { Kept };
+
+    ghost use Rattle.pf_engine.specs.Keeping.{kept_of};
+
+    ghost view = { λ e. kept_of e.state };
+}
+
+impl Engine {
+    /// An engine before any slot: it fits each scenario with these settings and the empty run.
+    pub fn new(alloc: Global, settings: Settings) -> Result<Self, AllocError>
+        ensures value { IfOk result (λ e. e ≡ kept_after settings [] []) }
+        ensures fits { IfOk result (λ e. (s : Plan) → s.settings ≡ settings → Fits s [] e) }
+    {
+        Ok(Engine {
+            state: State::new(alloc, settings)?,
+        })
+    }
+
+    /// The settings of its scenarios.
+    pub fn settings(&self) -> Settings
+        ensures { result ≡ self.now.settings }
+    {
+        self.state.settings
+    }
+
+    /// The number of slots that it took, which is the slot that comes next.
+    pub fn now(&self) -> u64
+        ensures { result ≡ self.now.now }
+    {
+        self.state.slots
+    }
+
+    /// An engine that keeps the same.
+    pub fn copy(&self) -> Result<Self, AllocError>
+        ensures { IfOk result (λ e. e ≡ self.now) }
+    {
+        Ok(Engine {
+            state: self.state.copy()?,
+        })
+    }
+
+    /// Takes the next slot, with its events in run order, and counts one slot: of each scenario and run that the
+    /// engine fits, the outcome is the next slot, and the engine then fits the longer run. Where memory is wanted
+    /// for it, the engine stays as it was.
+    pub fn slot(&mut self, meter: &mut Meter, events: &[Numbered]) -> Result<Outcome, AllocError>
+        requires { CanTake self.old events.now }
+        ensures slot { (s : Plan) → (r : List Slot) → IsScenario s → Fits s r self.old
+            → events.now ≡ events_of s (length r) → IfOk result (λ o. TakesSlot s r o self.new) }
+        ensures err { OnErr result (self.new ≡ self.old) }
+        ensures counted { OnOk result (meter.new.slots ≡ one_more meter.old.slots) }
+        ensures not_counted { OnErr result (meter.new ≡ meter.old) }
+    {
+        let room = self.state.prepare(events.len())?;
+        meter.slot();
+        Ok(self.state.advance(meter, events, room))
+    }
+}
+
+#[cfg(test)]
+mod tests {
+    use super::*;
+    use pf_order::pick::Pick;
+    use pf_scenario::event::Event;
+    use std::test::Fail;
+
+    fn join(task: u64) -> Numbered
+        ensures { result ≡ record { id = task; event = Event.Join 0 task 2 3 0 } }
+    {
+        Numbered {
+            id: task,
+            event: Event::Join {
+                slot: 0,
+                task,
+                cost: 2,
+                period: 3,
+                early: 0,
+            },
+        }
+    }
+
+    #[test]
+    fn three_tasks_on_two_processors(rt: HostRuntime) -> Result<(), Fail> {
+        let joins = [join(1), join(2), join(3)];
+        let mut meter = Meter::new();
+        let mut engine = Engine::new(rt.alloc(), Settings::new(2, 3, 6)?)?;
+        let first = engine.slot(&mut meter, &joins)?;
+        let mut copy = engine.copy()?;
+        let second = engine.slot(&mut meter, &[])?;
+        let again = copy.slot(&mut meter, &[])?;
+
+        let in_first = [Pick { task: 1, sub: 1 }, Pick { task: 2, sub: 1 }];
+        let in_second = [Pick { task: 3, sub: 1 }, Pick { task: 1, sub: 2 }];
+        assert_eq!(rt; first.picks(), in_first.as_slice());
+        assert_eq!(rt; second.picks(), in_second.as_slice());
+        assert_eq!(rt; again.picks(), in_second.as_slice());
+        assert!(rt; first.denials().is_empty());
+        assert_eq!(rt; first.count(), 2);
+        assert_eq!(rt; engine.now(), 2);
+        assert_eq!(rt; engine.settings(), Settings::new(2, 3, 6)?);
+        assert_eq!(rt; meter.slots(), 3);
+        Ok(())
+    }
+}

@@ -1,0 +1,10 @@
+use pf_admit::member::Member;
+
+/// A task inside, with its number.
+#[derive(Clone, Copy)]
+pub struct Entry {
+    /// 1 to 4,095.
+    pub task: u64,
+    /// What is known of it.
+    pub member: Member,
+}

@@ -1,0 +1,29 @@
+ghost use Rattle.std.specs.Prelude.{◌≡◌, ◌≤◌, [], IfOk, vec_capacity};
+
+use crate::denied::Denied;
+use pf_order::key::Key;
+use pf_order::pick::Pick;
+use std::alloc::{AllocError, Global};
+
+/// The memory of a slot, which is taken before anything changes.
+#[derive(Drop)]
+pub struct Room {
+    pub denials: Vec<Denied>,
+    pub keys: Vec<Key>,
+    pub picks: Vec<Pick>,
+}
+
+impl Room {
+    ghost use Rattle.pf_engine.specs.Rooms.{HasRoom};
+
+    /// Room for this many denials, keys and picks.
+    pub fn new(alloc: Global, denials: usize, keys: usize, picks: usize) -> Result<Self, AllocError>
+        ensures { IfOk result (HasRoom denials keys picks) }
+    {
+        Ok(Room {
+            denials: Vec::with_capacity(alloc, denials)?,
+            keys: Vec::with_capacity(alloc, keys)?,
+            picks: Vec::with_capacity(alloc, picks)?,
+        })
+    }
+}

@@ -1,0 +1,256 @@
+ghost use Rattle.std.specs.Prelude.{◌≡◌, ◌+◌, ◌^◌, ◌<◌, ◌≤◌, ◌++◌, [], IfOk, OnOk, All, length, map, vec_len, vec_capacity};
+ghost use Rattle.std.specs.Result.{result_err};
+ghost use Rattle.pf_admit.specs.Member.{IsMember};
+ghost use Rattle.pf_engine.specs.Inside.{eligible_from};
+ghost use Rattle.pf_engine.specs.Run.{pick_of};
+ghost use Rattle.pf_engine.specs.Fits.{kept_after};
+ghost use Rattle.pf_engine.specs.Kept.{denial_at, after_event, judged, denials_in, ready_keys, after_picks};
+ghost use Rattle.pf_engine.specs.Taking.{IsBounded, CanJudge, Advances};
+
+use crate::choice::choose;
+use crate::denied::Denied;
+use crate::entry::Entry;
+use crate::outcome::Outcome;
+use crate::room::Room;
+use crate::roster::Roster;
+use pf_admit::denial::Denial;
+use pf_admit::member::Member;
+use pf_admit::rules::{may_delay, may_join, may_leave};
+use pf_order::key::Key;
+use pf_order::meter::Meter;
+use pf_order::pick::Pick;
+use pf_scenario::event::{Event, Numbered};
+use pf_scenario::settings::Settings;
+use pf_weight::weight::Weight;
+use pf_window::release;
+use std::alloc::{AllocError, Global};
+
+/// What an engine keeps.
+#[derive(Drop)]
+pub struct State {
+    pub settings: Settings,
+    /// The number of slots that were taken.
+    pub slots: u64,
+    /// The tasks inside.
+    pub tasks: Roster,
+    /// The sum of their units.
+    pub load: u64,
+    /// How many processors are in use.
+    pub count: u32,
+}
+
+impl State {
+    ghost use Rattle.pf_engine.specs.Keeping.{kept_of, CanJudgeOne};
+    ghost use Rattle.pf_engine.specs.Rooms.{HasRoom};
+
+    /// Before any slot.
+    #[tactic(auto, unfolding(crate::specs::Fits::kept_after, crate::specs::Inside::inside, crate::specs::Inside::load_of, crate::specs::Inside::count_of))]
+    pub fn new(alloc: Global, settings: Settings) -> Result<Self, AllocError>
+        ensures { IfOk result (λ s. kept_of s ≡ kept_after settings [] []) }
+    {
+        Ok(State {
+            settings,
+            slots: 0,
+            tasks: Roster::new(alloc)?,
+            load: 0,
+            count: settings.processors(),
+        })
+    }
+
+    /// The same state.
+    pub fn copy(&self) -> Result<Self, AllocError>
+        ensures { IfOk result (λ s. kept_of s ≡ kept_of self.now) }
+    {
+        Ok(State {
+            settings: self.settings,
+            slots: self.slots,
+            tasks: self.tasks.copy()?,
+            load: self.load,
+            count: self.count,
+        })
+    }
+
+    /// Makes room for a slot of this many events. What is kept stays as it was.
+    pub fn prepare(&mut self, events: usize) -> Result<Room, AllocError>
+        requires few { length self.old.tasks.tasks + events < 2 ^ 64 }
+        ensures same { kept_of self.new ≡ kept_of self.old }
+        ensures spare { OnOk result (events ≤ self.new.tasks.spare) }
+        ensures room { IfOk result (HasRoom events (length self.old.tasks.tasks + events) self.old.settings.processors) }
+    {
+        let keys = self.tasks.len() + events;
+        let picks = self.settings.processors() as usize;
+        let room = Room::new(self.tasks.allocator(), events, keys, picks)?;
+        self.tasks.reserve(events)?;
+        Ok(room)
+    }
+
+    /// Takes a slot of these events.
+    pub fn advance(&mut self, meter: &mut Meter, events: &[Numbered], room: Room) -> Outcome
+        requires can { CanJudge (kept_of self.old) events.now }
+        requires spare { length events.now ≤ self.old.tasks.spare }
+        requires room { HasRoom (length events.now) (length self.old.tasks.tasks + length events.now) self.old.settings.processors room }
+        ensures advances { Advances (kept_of self.old) events.now result (kept_of self.new) }
+        ensures slots { meter.new.slots ≡ meter.old.slots }
+    {
+        let Room {
+            mut denials,
+            mut keys,
+            mut picks,
+        } = room;
+        self.take_events(events, &mut denials);
+        self.ready(&mut keys);
+        choose(meter, &mut keys, self.count as usize);
+        self.run(&keys, &mut picks);
+        Outcome {
+            picks,
+            denials,
+            count: self.count,
+        }
+    }
+
+    /// Takes one event.
+    fn take_event(&mut self, event: Event) -> Result<(), Denial>
+        requires can { CanJudgeOne (kept_of self.old) event }
+        requires room { 1 ≤ self.old.tasks.spare }
+        ensures denial { result_err result ≡ denial_at (kept_of self.old) event }
+        ensures state { kept_of self.new ≡ after_event (kept_of self.old) event }
+        ensures spare { self.old.tasks.spare ≤ self.new.tasks.spare + 1 }
+    {
+        match event {
+            Event::Join {
+                slot,
+                task,
+                cost,
+                period,
+                early,
+            } => self.join(slot, task, cost, period, early),
+            Event::Leave { slot, task } => self.leave(slot, task),
+            Event::Delay { slot, task, by } => self.delay(slot, task, by),
+            Event::Limit { count, .. } => {
+                self.count = count as u32;
+                Ok(())
+            }
+        }
+    }
+
+    fn join(
+        &mut self,
+        slot: u64,
+        task: u64,
+        cost: u64,
+        period: u64,
+        early: u64,
+    ) -> Result<(), Denial>
+        requires can { CanJudgeOne (kept_of self.old) (Event.Join slot task cost period early) }
+        requires room { 1 ≤ self.old.tasks.spare }
+        ensures denial { result_err result ≡ denial_at (kept_of self.old) (Event.Join slot task cost period early) }
+        ensures state { kept_of self.new ≡ after_event (kept_of self.old) (Event.Join slot task cost period early) }
+        ensures spare { self.old.tasks.spare ≤ self.new.tasks.spare + 1 }
+    {
+        let Ok(weight) = Weight::new(self.settings.base(), cost, period) else {
+            unreachable!()
+        };
+        may_join(self.load, weight.units(), self.settings.cap())?;
+        self.load += weight.units();
+        self.tasks.push(
+            task,
+            Member {
+                weight,
+                joined: slot,
+                early,
+                done: 0,
+                shift: slot,
+                last: slot,
+            },
+        );
+        Ok(())
+    }
+
+    fn leave(&mut self, slot: u64, task: u64) -> Result<(), Denial>
+        requires { CanJudgeOne (kept_of self.old) (Event.Leave slot task) }
+        ensures denial { result_err result ≡ denial_at (kept_of self.old) (Event.Leave slot task) }
+        ensures state { kept_of self.new ≡ after_event (kept_of self.old) (Event.Leave slot task) }
+        ensures spare { self.old.tasks.spare ≤ self.new.tasks.spare }
+    {
+        let member = self.tasks.get(task).copied();
+        may_leave(slot, member.as_ref())?;
+        if let Some(member) = member {
+            self.load -= member.weight.units();
+        }
+        self.tasks.remove(task);
+        Ok(())
+    }
+
+    fn delay(&mut self, slot: u64, task: u64, by: u64) -> Result<(), Denial>
+        requires { CanJudgeOne (kept_of self.old) (Event.Delay slot task by) }
+        ensures denial { result_err result ≡ denial_at (kept_of self.old) (Event.Delay slot task by) }
+        ensures state { kept_of self.new ≡ after_event (kept_of self.old) (Event.Delay slot task by) }
+        ensures spare { self.old.tasks.spare ≤ self.new.tasks.spare }
+    {
+        may_delay(slot, self.tasks.get(task))?;
+        self.tasks.delay(task, by);
+        Ok(())
+    }
+
+    /// Takes the events of a slot and adds those that are denied.
+    fn take_events(&mut self, events: &[Numbered], denials: &mut Vec<Denied>)
+        requires can { CanJudge (kept_of self.old) events.now }
+        requires spare { length events.now ≤ self.old.tasks.spare }
+        requires room { vec_len denials.old + length events.now ≤ vec_capacity denials.old }
+        ensures state { kept_of self.new ≡ judged (kept_of self.old) events.now }
+        ensures denials { denials.new.items ≡ denials.old.items ++ denials_in (kept_of self.old) events.now }
+    {
+        for x in events {
+            if let Err(denial) = self.take_event(x.event) {
+                denials.push_reserved(Denied {
+                    slot: self.slots,
+                    id: x.id,
+                    denial,
+                });
+            }
+        }
+    }
+
+    /// Adds the keys of the subtasks that may run.
+    fn ready(&self, keys: &mut Vec<Key>)
+        requires below { self.now.slots < 2 ^ 22 }
+        requires tasks { All (IsBounded self.now.slots 0) self.now.tasks.tasks }
+        requires room { vec_len keys.old + length self.now.tasks.tasks ≤ vec_capacity keys.old }
+        ensures { keys.new.items ≡ keys.old.items ++ ready_keys (kept_of self.now) }
+    {
+        for place in 0..self.tasks.len() {
+            let Entry { task, member } = self.tasks.at(place);
+            if eligible_from(&member) <= self.slots {
+                let sub = member.done as u32 + 1;
+                keys.push_reserved(Key::of(member.weight, member.shift, sub, task as u32));
+            }
+        }
+    }
+
+    /// Runs these subtasks in the slot, and adds them.
+    fn run(&mut self, keys: &[Key], picks: &mut Vec<Pick>)
+        requires below { self.old.slots < 2 ^ 22 }
+        requires room { vec_len picks.old + length keys.now ≤ vec_capacity picks.old }
+        ensures state { kept_of self.new ≡ after_picks (kept_of self.old) (map pick_of keys.now) }
+        ensures picks { picks.new.items ≡ picks.old.items ++ map pick_of keys.now }
+    {
+        for key in keys {
+            let pick = Pick {
+                task: key.task(),
+                sub: key.sub(),
+            };
+            self.tasks.run(u64::from(pick.task), u64::from(pick.sub));
+            picks.push_reserved(pick);
+        }
+        self.slots += 1;
+    }
+}
+
+/// The first slot in which a member's next subtask may run.
+fn eligible_from(member: &Member) -> u64
+    requires { IsMember member.now }
+    ensures { result ≡ eligible_from member.now }
+{
+    let next = release(member.weight, member.done as u32 + 1) + member.shift;
+    member.joined.max(next.saturating_sub(member.early))
+}
