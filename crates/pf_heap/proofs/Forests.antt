@@ -1,0 +1,108 @@
+-- Forests without memory: the order of their keys, and their weights.
+use Rattle.std.proofs.Common.{◌≡◌, ◌≢◌, ℕ, ◌+◌, ◌^◌, ◌≤◌, true, false, ◌⊎◌, inl, inr, refl, sym, ap, ◌∙◌, arith}
+use Rattle.std.proofs.lemmas.Nat.{pow-add}
+use Rattle.std.proofs.Math.Pow.{pow_mono}
+use Rattle.std.proofs.lemmas.Cmp.{upto, tied_itself}
+use Rattle.std.specs.declared.cmp.Ordering.{Ordering}
+use Rattle.std.specs.declared.cmp.Ordering.TheVariants.{Less, Equal, Greater}
+use Rattle.std.specs.Ordering.{is_lt, is_gt, ordering_reverse}
+use Rattle.pf_order.specs.Priority.{Priority, precedes, priority_cmp}
+use Rattle.pf_order.proofs.Order.{priority_cmp_total}
+use Rattle.pf_heap.specs.Forest.{Forest, none, tree, weigh, same, size, IsBelow, AllBelow, Falls, Rises, IsTreeOrNone}
+
+-- ---- numbers
+
+pub same-self : (i : ℕ) → same i i ≡ 1
+unfolding same
+same-self i = omega arith
+
+pub same-other : (i j : ℕ) → i ≢ j → same i j ≡ 0
+unfolding same
+same-other i j differ = omega arith
+
+pub equal_from_same : (i j : ℕ) → 1 ≤ same i j → i ≡ j
+unfolding same
+equal_from_same i j h = omega arith
+
+pub same-le : (i j : ℕ) → same i j ≤ 1
+unfolding same
+same-le i j = omega arith
+
+pub double : (r s : ℕ) → s ≡ r + 1 → 2 ^ s ≡ 2 ^ r + 2 ^ r
+double r s e = rw e (omega (arith, pow-add 2 r 1))
+
+-- ---- the order
+
+reversed : (o : Ordering) → is_gt (ordering_reverse o) ≡ is_lt o
+reversed Less = refl
+reversed Equal = refl
+reversed Greater = refl
+
+turned : (p k : Priority) → is_gt (priority_cmp p k) ≡ precedes k p
+turned p k = ap is_gt (priority_cmp_total.antisymm p k) ∙ reversed (priority_cmp k p)
+
+pub below-trans : (p q k : Priority) → IsBelow p q → IsBelow q k → IsBelow p k
+below-trans p q k upper lower =
+    sym (turned p k) ∙ upto priority_cmp_total p q k (turned p q ∙ upper) (turned q k ∙ lower)
+
+pub below-itself : (p : Priority) → IsBelow p p
+below-itself p = ap is_lt (tied_itself priority_cmp_total p)
+
+not_both : (o : Ordering) → is_lt o ≡ true → is_lt (ordering_reverse o) ≡ false
+not_both Less e = refl
+not_both Equal e = refl
+not_both Greater e = cc
+
+-- what precedes is above
+pub below_from_precedes : (p k : Priority) → precedes p k ≡ true → IsBelow p k
+below_from_precedes p k e = ap is_lt (priority_cmp_total.antisymm k p) ∙ not_both (priority_cmp p k) e
+
+pub all_below-trans : (p q : Priority) (f : Forest) → IsBelow p q → AllBelow q f → AllBelow p f
+all_below-trans p q none h a = tt
+all_below-trans p q (tree at key rank kids rest) h a =
+    (below-trans p q key h a.0, all_below-trans p q kids h a.1, all_below-trans p q rest h a.2)
+
+pub all_below_from_falls : (p : Priority) (r : ℕ) (f : Forest) → Falls p r f → AllBelow p f
+all_below_from_falls p r none h = tt
+all_below_from_falls p r (tree at key rank kids rest) h =
+    (h.1, all_below-trans p key kids h.1 (all_below_from_falls key rank kids h.2), all_below_from_falls p rank rest h.3)
+
+-- ---- sizes
+
+-- children of rank r and their parent are 2^r nodes
+pub size_from_falls : (p : Priority) (r : ℕ) (f : Forest) → Falls p r f → size f + 1 ≡ 2 ^ r
+size_from_falls p r none h = rw h (omega arith)
+size_from_falls p r (tree at key rank kids rest) h =
+    omega (arith, double rank r h.0, size_from_falls key rank kids h.2, size_from_falls p rank rest h.3)
+
+pub size_from_rises : (r : ℕ) (f : Forest) → Rises r f → (f ≡ none) ⊎ (2 ^ r ≤ size f)
+size_from_rises r none h = inl refl
+size_from_rises r (tree at key rank kids rest) h =
+    inr (omega (arith, pow_mono h.0, size_from_falls key rank kids h.1))
+
+pub size_from_tree : (r : ℕ) (f : Forest) → IsTreeOrNone r f → (f ≡ none) ⊎ (size f ≡ 2 ^ r)
+size_from_tree r none h = inl refl
+size_from_tree r (tree at key rank kids none) h =
+    let p : 2 ^ rank ≡ 2 ^ r = ap (λ x. 2 ^ x) h.0 in
+    inr (omega (arith, size_from_falls key rank kids h.1))
+size_from_tree r (tree at key rank kids (tree at' key' rank' kids' rest')) h = absurd h
+
+-- ---- weights
+
+pub weigh-ext : (v w : ℕ → Priority → ℕ) (f : Forest) → ((at : ℕ) (key : Priority) → v at key ≡ w at key) → weigh v f ≡ weigh w f
+weigh-ext v w none e = refl
+weigh-ext v w (tree at key rank kids rest) e =
+    omega (arith, e at key, weigh-ext v w kids e, weigh-ext v w rest e)
+
+pub weigh-add : (u v w : ℕ → Priority → ℕ) (f : Forest) → ((at : ℕ) (key : Priority) → w at key ≡ u at key + v at key) → weigh w f ≡ weigh u f + weigh v f
+weigh-add u v w none e = refl
+weigh-add u v w (tree at key rank kids rest) e =
+    omega (arith, e at key, weigh-add u v w kids e, weigh-add u v w rest e)
+
+pub weigh-zero : (w : ℕ → Priority → ℕ) (f : Forest) → ((at : ℕ) (key : Priority) → w at key ≡ 0) → weigh w f ≡ 0
+weigh-zero w none e = refl
+weigh-zero w (tree at key rank kids rest) e = omega (arith, e at key, weigh-zero w kids e, weigh-zero w rest e)
+
+pub weigh-le : (v w : ℕ → Priority → ℕ) (f : Forest) → ((at : ℕ) (key : Priority) → v at key ≤ w at key) → weigh v f ≤ weigh w f
+weigh-le v w none e = omega arith
+weigh-le v w (tree at key rank kids rest) e = omega (arith, e at key, weigh-le v w kids e, weigh-le v w rest e)

@@ -1,0 +1,15 @@
+pub mod Forests
+pub mod Standing
+pub mod Steps
+pub mod Weights
+pub mod Digits
+pub mod Sums
+pub mod Pops
+pub mod Views
+pub mod Sets
+pub mod Lists
+pub mod Whole
+pub mod Changes
+pub mod Lower
+pub mod Climb
+pub mod Removal

@@ -1,0 +1,445 @@
+-- Taking a root out of a heap.
+use Rattle.std.proofs.Common.{◌≡◌, ◌≢◌, ℕ, zero, suc, ◌+◌, ◌-◌, ◌^◌, ◌<◌, ◌≤◌, ◌⊎◌, inl, inr, List, ◌∷◌, length, refl, sym, ap, ◌∙◌, subst, arith, get_or-set_same, ⊎_elim}
+use Rattle.std.proofs.Math.ListN.{length-set}
+use Rattle.std.proofs.Math.Pow.{pow_mono}
+use Rattle.std.proofs.lemmas.Nat.{pow_pos}
+use Rattle.std.proofs.lemmas.Bool.{cases_lt}
+use Rattle.pf_order.specs.Priority.{Priority, precedes}
+use Rattle.pf_order.specs.Counts.{Counts}
+use Rattle.pf_heap.specs.declared.node.Node.{Node}
+use Rattle.pf_heap.specs.Forest.{Forest, none, tree, nowhere, head, weigh, same, one_each, at_place, size, IsBelow, AllBelow, Falls, Rises, Sinks, HasRoot}
+use Rattle.pf_heap.specs.Memory.{no_node, node_at, Stands, Part, root, Parts, relinked}
+use Rattle.pf_heap.specs.Steps.{CanTurn, IsTurned, HasTwoHeaps, IsMerged}
+use Rattle.pf_heap.specs.Pops.{roots, IsEarlier, IsSeeking, IsLeastRoot, HasHeapAndRoot, IsParting, IsParted, released, CanPop, IsPopped}
+use Rattle.pf_heap.proofs.Forests.{same-self, double, size_from_falls, size_from_rises, below-trans, below-itself, below_from_precedes, all_below-trans, all_below_from_falls}
+use Rattle.pf_heap.proofs.Standing.{stands-set, stand_all-set, cut_parts}
+use Rattle.pf_heap.proofs.Steps.{sinks_more}
+use Rattle.pf_heap.proofs.Weights.{sizes-le-length}
+use Rattle.pf_heap.proofs.Sums.{rises_less, turn_parts}
+
+-- ---- roots
+
+-- what holds of ranks from r + d on holds from r on
+from_lower : (d n r k : ℕ) → 2 ^ (n + (d + r)) ≤ k + 2 ^ (d + r) → 2 ^ (n + r) ≤ k + 2 ^ r
+from_lower zero n r k h =
+    let e : 0 + r ≡ r = omega arith in
+    omega (arith, h, ap (λ x. 2 ^ (n + x)) e, ap (λ x. 2 ^ x) e)
+from_lower (suc d) n r k h =
+    let e : suc d + r ≡ (d + r) + 1 = omega arith in
+    let f : n + (suc d + r) ≡ (n + (d + r)) + 1 = omega arith in
+    from_lower d n r k (omega (arith, h, double (d + r) (suc d + r) e, double (n + (d + r)) (n + (suc d + r)) f))
+
+-- distinct ranks: few roots
+roots_of_rises : (r : ℕ) (f : Forest) → Rises r f → 2 ^ (roots f + r) ≤ size f + 2 ^ r
+roots_of_rises r none h = omega (arith, ap (λ x. 2 ^ x) (let e : 0 + r ≡ r = omega arith in e))
+roots_of_rises r (tree at key rank kids rest) h =
+    let e : (rank - r) + r ≡ rank = omega (arith, h.0) in
+    let n : ℕ = 1 + roots rest in
+    let f : n + ((rank - r) + r) ≡ roots rest + (rank + 1) = omega (arith, h.0) in
+    from_lower (rank - r) n r (size (tree at key rank kids rest))
+    (omega (
+      arith,
+      roots_of_rises (rank + 1) rest h.2,
+      double rank (rank + 1) refl,
+      size_from_falls key rank kids h.1,
+      ap (λ x. 2 ^ x) f,
+      ap (λ x. 2 ^ x) e,
+    ))
+
+-- a heap of k keys has no more roots than k has digits
+pub roots_paid : (f : Forest) → Rises 0 f → (n : ℕ) → roots f ≡ n + 1 → 2 ^ n ≤ size f
+roots_paid f h n e =
+    let p : 2 ^ (roots f + 0) ≡ 2 ^ (n + 1) = ap (λ x. 2 ^ x) (let s : roots f + 0 ≡ n + 1 = omega arith in s) in
+    omega (arith, roots_of_rises 0 f h, double n (n + 1) refl, p, pow_pos n)
+
+pub root_used : (i : ℕ) (k : Priority) (r : ℕ) (g f : Forest) → HasRoot i k r g f → 1 ≤ weigh (at_place i) f
+root_used i k r g none h = absurd h
+root_used i k r g (tree at key rank kids rest) h =
+    ⊎_elim
+    (λ e. omega (arith, same-self i, ap (λ x. same i x) e.0))
+    (λ m. omega (arith, root_used i k r g rest m))
+    h
+
+-- what memory has of a root
+pub record IsRootNode (nodes : List Node) (i : ℕ) (k : Priority) (r : ℕ) (g : Forest) : Type 0 where
+  pub within : i < length nodes
+  pub key_is : (node_at nodes i).key ≡ k
+  pub rank_is : (node_at nodes i).rank ≡ r
+  pub child_is : (node_at nodes i).child ≡ head g
+
+pub root_stands : (nodes : List Node) (up i : ℕ) (k : Priority) (r : ℕ) (g f : Forest) → Stands nodes up f → HasRoot i k r g f → IsRootNode nodes i k r g
+root_stands nodes up i k r g none s h = absurd h
+root_stands nodes up i k r g (tree at key rank kids rest) s h =
+    ⊎_elim
+    (λ e. record {
+      within = omega (arith, s.0, e.0);
+      key_is = ap (λ x. (node_at nodes x).key) (sym e.0) ∙ ap (λ (n : Node). n.key) s.1 ∙ e.1;
+      rank_is = ap (λ x. (node_at nodes x).rank) (sym e.0) ∙ ap (λ (n : Node). n.rank) s.1 ∙ e.2;
+      child_is = ap (λ x. (node_at nodes x).child) (sym e.0) ∙ ap (λ (n : Node). n.child) s.1 ∙ ap head e.3;
+    })
+    (λ m. root_stands nodes up i k r g rest s.3 m)
+    h
+
+pub root_weighs : (w : ℕ → Priority → ℕ) (i : ℕ) (k : Priority) (r : ℕ) (g f : Forest) → HasRoot i k r g f → w i k ≤ weigh w f
+root_weighs w i k r g none h = absurd h
+root_weighs w i k r g (tree at key rank kids rest) h =
+    ⊎_elim
+    (λ e. let p : w at key ≡ w i k = λ j. w (e.0 j) (e.1 j) in omega (arith, p))
+    (λ m. omega (arith, root_weighs w i k r g rest m))
+    h
+
+-- ---- the first key
+
+pub seek_begun : (nodes : List Node) (link next : ℕ) (counts : Counts) (heap : Forest) (others : List Part) →
+    link ≡ head heap → link ≢ nowhere → Rises 0 heap → Parts nodes (root heap ∷ others) → next ≡ (node_at nodes link).sibling →
+    IsSeeking nodes heap link next 0 counts counts
+seek_begun nodes link next counts none others is some rises parts next_is = absurd (some is)
+seek_begun nodes link next counts (tree at key rank kids rest) others is some rises parts next_is =
+    let s = parts.stand.0 in
+    record {
+      rest = rest;
+      rest_is = next_is ∙ ap (λ z. (node_at nodes z).sibling) is ∙ ap (λ (n : Node). n.sibling) s.1;
+      stands = s.3;
+      rises = rises_less (rank + 1) 0 rest (omega arith) rises.2;
+      smaller = omega arith;
+      key = key;
+      rank = rank;
+      kids = kids;
+      has = inl (sym is, refl, refl, refl);
+      into = λ i k r f h. inr h;
+      closes = λ p below all. (below, all_below-trans p key kids below (all_below_from_falls key rank kids rises.1), all);
+      compared = omega arith;
+      slots = refl;
+    }
+
+module _ (nodes : List Node) (heap : Forest) (best result link next steps : ℕ) (before between after : Counts)
+    (somewhere : link ≢ nowhere) (next_is : next ≡ (node_at nodes link).sibling)
+    (stands_all : Stands nodes nowhere heap)
+    (earlier : IsEarlier nodes best link result) (compared_one : after.compared ≤ between.compared + 1) (slots_same : after.slots ≡ between.slots) where
+  seek_by : (rest : Forest) (key : Priority) (rank : ℕ) (kids : Forest) → link ≡ head rest → Stands nodes nowhere rest → Rises steps rest → size rest ≤ size heap →
+      HasRoot best key rank kids heap →
+      ((i : ℕ) (k : Priority) (r : ℕ) (f : Forest) → HasRoot i k r f rest → HasRoot i k r f heap) →
+      ((p : Priority) → IsBelow p key → AllBelow p rest → AllBelow p heap) →
+      between.compared + (roots rest + 1) ≤ before.compared + roots heap → between.slots ≡ before.slots →
+      IsSeeking nodes heap result next (steps + 1) before after
+  seek_by none key rank kids is s rises smaller has into closes compared slots = absurd (somewhere is)
+  seek_by (tree at k r f rest) key rank kids is s rises smaller has into closes compared slots =
+      let best_node = root_stands nodes nowhere best key rank kids heap stands_all has in
+      let link_key : (node_at nodes link).key ≡ k = ap (λ z. (node_at nodes z).key) is ∙ ap (λ (n : Node). n.key) s.1 in
+      let test : precedes (node_at nodes link).key (node_at nodes best).key ≡ precedes k key = λ j. precedes (link_key j) (best_node.key_is j) in
+      let next_at : next ≡ head rest = next_is ∙ ap (λ z. (node_at nodes z).sibling) is ∙ ap (λ (n : Node). n.sibling) s.1 in
+      let later : Rises (steps + 1) rest = rises_less (r + 1) (steps + 1) rest (omega (arith, rises.0)) rises.2 in
+      ⊎_elim
+      (λ h. record {
+        rest = rest;
+        rest_is = next_at;
+        stands = s.3;
+        rises = later;
+        smaller = omega (arith, smaller);
+        key = key;
+        rank = rank;
+        kids = kids;
+        has = subst (λ z. HasRoot z key rank kids heap) (sym h.0) has;
+        into = λ i k' r' f' m. into i k' r' f' (inr m);
+        closes = λ p below all.
+            let here = below-trans p key k below (sym test ∙ h.1) in
+            closes p below (here, all_below-trans p k f here (all_below_from_falls k r f rises.1), all);
+        compared = omega (arith, compared, compared_one);
+        slots = slots_same ∙ slots;
+      })
+      (λ h. record {
+        rest = rest;
+        rest_is = next_at;
+        stands = s.3;
+        rises = later;
+        smaller = omega (arith, smaller);
+        key = k;
+        rank = r;
+        kids = f;
+        has = subst (λ z. HasRoot z k r f heap) (sym (h.0 ∙ is)) (into at k r f (inl (refl, refl, refl, refl)));
+        into = λ i k' r' f' m. into i k' r' f' (inr m);
+        closes = λ p below all.
+            closes p (below-trans p k key below (below_from_precedes k key (sym test ∙ h.1)))
+            (below, all_below-trans p k f below (all_below_from_falls k r f rises.1), all);
+        compared = omega (arith, compared, compared_one);
+        slots = slots_same ∙ slots;
+      })
+      earlier
+
+  pub seek_step : IsSeeking nodes heap best link steps before between → IsSeeking nodes heap result next (steps + 1) before after
+  seek_step t = seek_by t.rest t.key t.rank t.kids t.rest_is t.stands t.rises t.smaller t.has t.into t.closes t.compared t.slots
+
+pub seek_done : (nodes : List Node) (heap : Forest) (best rest_link steps : ℕ) (before after : Counts) (t : IsSeeking nodes heap best rest_link steps before after) →
+    t.rest ≡ none → IsLeastRoot heap best before after
+seek_done nodes heap best rest_link steps before after t done = record {
+  key = t.key;
+  rank = t.rank;
+  kids = t.kids;
+  has = t.has;
+  least = t.closes t.key (below-itself t.key) (subst (λ f. AllBelow t.key f) (sym done) tt);
+  compared = omega (arith, t.compared);
+  slots = t.slots;
+}
+
+pub seek_ended : (nodes : List Node) (heap : Forest) (others : List Part) (best rest_link : ℕ) (before after : Counts) → length nodes < 2 ^ 32 → Parts nodes (root heap ∷ others) →
+    (t : IsSeeking nodes heap best rest_link 32 before after) → t.rest ≡ none
+seek_ended nodes heap others best rest_link before after small parts t =
+    ⊎_elim (λ h. h) (λ h. absurd (omega (arith, t.smaller, sizes-le-length nodes (root heap ∷ others) parts))) (size_from_rises 32 t.rest t.rises)
+
+-- ---- cutting a root out
+
+-- the first tree of a list goes in front of another list
+push_on_second : (nodes : List Node) (at : ℕ) (key : Priority) (rank : ℕ) (kids rest front : Forest) (ps : List Part) →
+    Parts nodes (root (tree at key rank kids rest) ∷ root front ∷ ps) →
+    Parts (relinked nodes at (head front)) (root rest ∷ root (tree at key rank kids front) ∷ ps)
+push_on_second nodes at key rank kids rest front ps parts = turn_parts nodes nowhere at key rank kids rest front ps parts
+
+-- the first tree of a list stands alone
+cut_to_third : (nodes : List Node) (at : ℕ) (key : Priority) (rank : ℕ) (kids rest stay : Forest) (ps : List Part) →
+    Parts nodes (root (tree at key rank kids rest) ∷ root stay ∷ root none ∷ ps) →
+    Parts (relinked nodes at nowhere) (root rest ∷ root stay ∷ root (tree at key rank kids none) ∷ ps)
+cut_to_third nodes at key rank kids rest stay ps parts =
+    let p = cut_parts nodes nowhere at key rank kids rest (root stay ∷ root none ∷ ps) parts in
+    let s = p.stand in
+    record { stand = (s.1.0, (s.1.1.0, (s.0, s.1.1.1.1))); once = λ i. omega (arith, p.once i) }
+
+pub part_begun : (nodes : List Node) (link at : ℕ) (can : HasHeapAndRoot nodes link at) → IsParting nodes can.heap can.others at can.key can.rank can.kids link nowhere 0
+part_begun nodes link at can = record {
+  rest = can.heap;
+  stay = none;
+  alone = none;
+  rest_is = can.heap_is;
+  stay_is = refl;
+  alone_is = inl (refl, can.has);
+  bound = 0;
+  low = omega arith;
+  rises = can.rises;
+  sinks = tt;
+  parts = record { stand = (can.parts.stand.0, (tt, (tt, can.parts.stand.1))); once = λ i. omega (arith, can.parts.once i) };
+  kept = λ w. omega arith;
+}
+
+module _ (old new : List Node) (heap : Forest) (others : List Part) (at : ℕ) (key : Priority) (rank : ℕ) (kids : Forest) (link next stay_link result steps : ℕ)
+    (somewhere : link ≢ nowhere) (next_is : next ≡ (node_at old link).sibling)
+    (is_alone : link ≡ at → (new ≡ relinked old link nowhere) × (result ≡ stay_link))
+    (is_staying : link ≢ at → (new ≡ relinked old link stay_link) × (result ≡ link)) where
+  part_by : (rest stay alone : Forest) (bound : ℕ) → link ≡ head rest → stay_link ≡ head stay →
+      ((alone ≡ none) × HasRoot at key rank kids rest) ⊎ (alone ≡ tree at key rank kids none) →
+      steps ≤ bound → Rises bound rest → Sinks bound stay →
+      Parts old (root rest ∷ root stay ∷ root alone ∷ others) →
+      ((w : ℕ → Priority → ℕ) → weigh w rest + (weigh w stay + weigh w alone) ≡ weigh w heap) →
+      IsParting new heap others at key rank kids next result (steps + 1)
+  part_by none stay alone bound rest_is stay_is alone_is low rises sinks parts kept = absurd (somewhere rest_is)
+  part_by (tree i k r f rest) stay alone bound rest_is stay_is alone_is low rises sinks parts kept =
+      let s = parts.stand.0 in
+      let next_at : next ≡ head rest = next_is ∙ ap (λ z. (node_at old z).sibling) rest_is ∙ ap (λ (n : Node). n.sibling) s.1 in
+      let stays : link ≢ at → ((alone ≡ none) × HasRoot at key rank kids rest) ⊎ (alone ≡ tree at key rank kids none) →
+      IsParting new heap others at key rank kids next result (steps + 1) =
+      λ differ alone_now.
+      let w = is_staying differ in
+      record {
+        rest = rest;
+        stay = tree i k r f stay;
+        alone = alone;
+        rest_is = next_at;
+        stay_is = w.1 ∙ rest_is;
+        alone_is = alone_now;
+        bound = r + 1;
+        low = omega (arith, rises.0);
+        rises = rises.2;
+        sinks = (omega arith, rises.1, sinks_more bound r stay rises.0 sinks);
+        parts = subst (λ ns. Parts ns (root rest ∷ root (tree i k r f stay) ∷ root alone ∷ others)) (sym (w.0 ∙ (λ j. relinked old (rest_is j) (stay_is j))))
+            (push_on_second old i k r f rest stay (root alone ∷ others) parts);
+        kept = λ w. omega (arith, kept w);
+      } in
+      let stands_alone : link ≡ at → alone ≡ none → k ≡ key → r ≡ rank → f ≡ kids → IsParting new heap others at key rank kids next result (steps + 1) =
+      λ here nothing k_is r_is f_is.
+      let w = is_alone here in
+      let i_at : i ≡ at = sym rest_is ∙ here in
+      let p : Parts (relinked old i nowhere) (root rest ∷ root stay ∷ root (tree i k r f none) ∷ others) =
+      cut_to_third old i k r f rest stay others (subst (λ g. Parts old (root (tree i k r f rest) ∷ root stay ∷ root g ∷ others)) nothing parts) in
+      record {
+        rest = rest;
+        stay = stay;
+        alone = tree i k r f none;
+        rest_is = next_at;
+        stay_is = w.1 ∙ stay_is;
+        alone_is = inr (λ j. tree (i_at j) (k_is j) (r_is j) (f_is j) none);
+        bound = r + 1;
+        low = omega (arith, rises.0);
+        rises = rises.2;
+        sinks = sinks_more bound (r + 1) stay (omega (arith, rises.0)) sinks;
+        parts = subst (λ ns. Parts ns (root rest ∷ root stay ∷ root (tree i k r f none) ∷ others)) (sym (w.0 ∙ ap (λ z. relinked old z nowhere) rest_is)) p;
+        kept = λ w. omega (arith, kept w, ap (λ g. weigh w g) nothing);
+      } in
+      ⊎_elim
+      (λ h. ⊎_elim
+      (λ e. stands_alone (rest_is ∙ e.0) h.0 e.1 e.2 e.3)
+      (λ m. stays (λ e. absurd (omega (arith, parts.once i, same-self i, root_used at key rank kids rest m, ap (λ x. weigh (at_place x) rest) (sym rest_is ∙ e)))) (inl (h.0, m)))
+      h.1)
+      (λ h. stays (λ e. absurd (omega (arith, parts.once i, same-self i, ap (λ g. weigh (at_place i) g) h, ap (λ x. same i x) (sym rest_is ∙ e)))) (inr h))
+      alone_is
+
+  pub part_step : IsParting old heap others at key rank kids link stay_link steps → IsParting new heap others at key rank kids next result (steps + 1)
+  part_step t = part_by t.rest t.stay t.alone t.bound t.rest_is t.stay_is t.alone_is t.low t.rises t.sinks t.parts t.kept
+
+-- ranks are below 32
+sinks_bounded : (bound : ℕ) (f : Forest) → Sinks bound f → size f < 2 ^ 32 → Sinks 32 f
+sinks_bounded bound none h le = tt
+sinks_bounded bound (tree at key rank kids rest) h le =
+    (⊎_elim (λ lt. lt) (λ ge. absurd (omega (arith, pow_mono ge, le, size_from_falls key rank kids h.1))) (cases_lt rank 32), h.1, h.2)
+
+pub part_done : (nodes : List Node) (heap : Forest) (others : List Part) (at : ℕ) (key : Priority) (rank : ℕ) (kids : Forest) (rest_link stay_link steps : ℕ) →
+    length nodes < 2 ^ 32 → (t : IsParting nodes heap others at key rank kids rest_link stay_link steps) →
+    t.rest ≡ none → IsParted nodes heap others at key rank kids stay_link
+part_done nodes heap others at key rank kids rest_link stay_link steps small t done =
+    let all = sizes-le-length nodes (root t.rest ∷ root t.stay ∷ root t.alone ∷ others) t.parts in
+    let p : Parts nodes (root none ∷ root t.stay ∷ root t.alone ∷ others) = subst (λ f. Parts nodes (root f ∷ root t.stay ∷ root t.alone ∷ others)) done t.parts in
+    let no_root : (f : Forest) → f ≡ none → HasRoot at key rank kids f → t.alone ≡ tree at key rank kids none =
+    λ f e h. absurd (omega (arith, root_used at key rank kids f h, ap (λ g. weigh (at_place at) g) e)) in
+    let alone : t.alone ≡ tree at key rank kids none = ⊎_elim (λ h. no_root t.rest done h.1) (λ h. h) t.alone_is in
+    let q : Parts nodes (root none ∷ root t.stay ∷ root (tree at key rank kids none) ∷ others) = subst (λ f. Parts nodes (root none ∷ root t.stay ∷ root f ∷ others)) alone p in
+    record {
+      stay = t.stay;
+      stay_is = t.stay_is;
+      sinks = sinks_bounded t.bound t.stay t.sinks (omega (arith, all));
+      parts = record { stand = q.stand.1; once = λ i. omega (arith, q.once i) };
+      kept = λ w. omega (arith, t.kept w, ap (λ f. weigh w f) done, ap (λ f. weigh w f) alone);
+    }
+
+pub part_ended : (nodes : List Node) (heap : Forest) (others : List Part) (at : ℕ) (key : Priority) (rank : ℕ) (kids : Forest) (rest_link stay_link : ℕ) →
+    length nodes < 2 ^ 32 → (t : IsParting nodes heap others at key rank kids rest_link stay_link 32) → t.rest ≡ none
+part_ended nodes heap others at key rank kids rest_link stay_link small t =
+    ⊎_elim (λ h. h) (λ h. absurd (omega (arith, pow_mono t.low, sizes-le-length nodes (root t.rest ∷ root t.stay ∷ root t.alone ∷ others) t.parts))) (size_from_rises t.bound t.rest t.rises)
+
+-- ---- a root is out of its heap and free
+
+pub root_falls : (r i : ℕ) (k : Priority) (rk : ℕ) (g f : Forest) → Rises r f → HasRoot i k rk g f → Falls k rk g
+root_falls r i k rk g none rises h = absurd h
+root_falls r i k rk g (tree at key rank kids rest) rises h =
+    ⊎_elim
+    (λ e. let P : (j : Priority) (n : ℕ) (x : Forest) → Type 0 = λ j n x. Falls j n x in
+    subst (λ x. Falls k rk x) e.3 (subst (λ n. Falls k n kids) e.2 (subst (λ j. Falls j rank kids) e.1 rises.1)))
+    (λ m. root_falls (rank + 1) i k rk g rest rises.2 m)
+    h
+
+sinks_from_falls : (p : Priority) (r : ℕ) (f : Forest) → Falls p r f → Sinks r f
+sinks_from_falls p r none h = tt
+sinks_from_falls p r (tree at key rank kids rest) h = (omega (arith, h.0), h.2, sinks_from_falls p rank rest h.3)
+
+release_parts : (nodes : List Node) (at : ℕ) (key : Priority) (rank : ℕ) (kids stay spares : Forest) (ps : List Part) →
+    Parts nodes (root stay ∷ root (tree at key rank kids none) ∷ root spares ∷ ps) →
+    Parts (released nodes at (head spares)) (root stay ∷ (at, kids) ∷ root (tree at key 0 none spares) ∷ ps)
+release_parts nodes at key rank kids stay spares ps parts =
+    let s = parts.stand.1.0 in
+    let v : Node = record (node_at nodes at) { parent = nowhere; child = nowhere; sibling = head spares; rank = 0 } in
+    let o = parts.once at in
+    let e = same-self at in
+    record {
+      stand = (
+        stands-set nodes at v nowhere stay (omega (arith, o)) parts.stand.0,
+        (
+          stands-set nodes at v at kids (omega (arith, o)) s.2,
+          (
+            (
+              omega (arith, s.0, length-set nodes at v),
+              get_or-set_same nodes at v no_node s.0 ∙ ap (λ (n : Node). record n { parent = nowhere; child = nowhere; sibling = head spares; rank = 0 }) s.1,
+              tt,
+              stands-set nodes at v nowhere spares (omega (arith, o)) parts.stand.1.1.0,
+            ),
+            stand_all-set nodes at v ps (omega (arith, o)) parts.stand.1.1.1,
+          ),
+        ),
+      );
+      once = λ i. omega (arith, parts.once i);
+    }
+
+abbrev pub heap_and_root : {nodes : List Node} {link at free : ℕ} → CanPop nodes link at free → HasHeapAndRoot nodes link at
+heap_and_root can = record {
+  heap = can.heap;
+  others = root can.spares ∷ can.others;
+  key = can.key;
+  rank = can.rank;
+  kids = can.kids;
+  heap_is = can.heap_is;
+  has = can.has;
+  rises = can.rises;
+  small = can.small;
+  parts = can.parts;
+}
+
+module _ {old mid : List Node} {link at free stay : ℕ} (can : CanPop old link at free)
+    (d : IsParted mid can.heap (root can.spares ∷ can.others) at can.key can.rank can.kids stay) where
+  pub alone_node : IsRootNode mid at can.key can.rank can.kids
+  alone_node =
+      let here : HasRoot at can.key can.rank can.kids (tree at can.key can.rank can.kids none) = inl (refl, refl, refl, refl) in
+      root_stands mid nowhere at can.key can.rank can.kids (tree at can.key can.rank can.kids none) d.parts.stand.1.0 here
+
+  kids_fall : Falls can.key can.rank can.kids
+  kids_fall = root_falls 0 at can.key can.rank can.kids can.heap can.rises can.has
+
+  pub kids_sink : length mid < 2 ^ 32 → Sinks 32 can.kids
+  kids_sink small =
+      sinks_bounded can.rank can.kids (sinks_from_falls can.key can.rank can.kids kids_fall)
+      (omega (arith, sizes-le-length mid _ d.parts))
+
+  module _ {freed : List Node} (written : freed ≡ released mid at free) (mid_small : length mid < 2 ^ 32) (freed_small : length freed < 2 ^ 32) where
+    pub freed_parts : Parts freed (root d.stay ∷ (at, can.kids) ∷ root (tree at can.key 0 none can.spares) ∷ can.others)
+    freed_parts =
+        subst (λ ns. Parts ns (root d.stay ∷ (at, can.kids) ∷ root (tree at can.key 0 none can.spares) ∷ can.others))
+        (sym (written ∙ ap (λ z. released mid at z) can.free_is))
+        (release_parts mid at can.key can.rank can.kids d.stay can.spares can.others d.parts)
+
+    abbrev pub stay_turns : CanTurn freed stay
+    stay_turns = record {
+      up = nowhere;
+      list = d.stay;
+      others = (at, can.kids) ∷ root (tree at can.key 0 none can.spares) ∷ can.others;
+      link_is = d.stay_is;
+      sinks = d.sinks;
+      small = freed_small;
+      parts = freed_parts;
+    }
+
+    module _ {next : List Node} {heap child : ℕ} (t : IsTurned next d.stay ((at, can.kids) ∷ root (tree at can.key 0 none can.spares) ∷ can.others) heap)
+        (child_is : child ≡ head can.kids) (next_small : length next < 2 ^ 32) where
+      abbrev pub kids_turn : CanTurn next child
+      kids_turn = record {
+        up = at;
+        list = can.kids;
+        others = root t.heap ∷ root (tree at can.key 0 none can.spares) ∷ can.others;
+        link_is = child_is;
+        sinks = kids_sink mid_small;
+        small = next_small;
+        parts = let s = t.parts.stand in record { stand = (s.1.0, (s.0, s.1.1)); once = λ i. omega (arith, t.parts.once i) };
+      }
+
+      module _ {last : List Node} {kids : ℕ} (u : IsTurned last can.kids (root t.heap ∷ root (tree at can.key 0 none can.spares) ∷ can.others) kids)
+          (last_small : length last < 2 ^ 32) where
+        abbrev pub two_heaps : HasTwoHeaps last heap kids
+        two_heaps = record {
+          first = t.heap;
+          second = u.heap;
+          others = root (tree at can.key 0 none can.spares) ∷ can.others;
+          first_is = t.heap_is;
+          second_is = u.heap_is;
+          first_rises = t.rises;
+          second_rises = u.rises;
+          small = last_small;
+          parts = let s = u.parts.stand in record { stand = (s.1.0, (s.0, s.1.1)); once = λ i. omega (arith, u.parts.once i) };
+        }
+
+        pub popped : {new : List Node} {result : ℕ} {before after : Counts} →
+            IsMerged new t.heap u.heap (root (tree at can.key 0 none can.spares) ∷ can.others) result before after →
+            IsPopped new can.heap can.spares can.others at can.key result before after
+        popped m = record {
+          heap = m.heap;
+          heap_is = m.heap_is;
+          rises = m.rises;
+          parts = m.parts;
+          kept = λ w. omega (arith, m.kept w, t.kept w, u.kept w, d.kept w);
+          made = m.made;
+          made_paid = ⊎_elim (λ h. inl h) (λ h. inr (omega (arith, t.kept one_each, u.kept one_each, d.kept one_each))) m.made_paid;
+          compared = m.compared;
+          slots = m.slots;
+        }

@@ -1,0 +1,38 @@
+-- The view is the forests' keys.
+use Rattle.std.proofs.Common.{◌≡◌, ℕ, zero, suc, ◌^◌, ◌<◌, ◌≤◌, false, cond, eqb, List, [], ◌∷◌, map, length, refl, ap, ◌∙◌, arith}
+use Rattle.std.proofs.lemmas.Bool.Decides.{nat_tests}
+use Rattle.pf_heap.specs.declared.node.Node.{Node}
+use Rattle.pf_heap.specs.Forest.{Forest, none, tree, nowhere, head, one_each, size}
+use Rattle.pf_heap.specs.Memory.{node_at, Stands, root, weigh_all, StandAll, Parts}
+use Rattle.pf_heap.specs.View.{keys, forest_from, lists_at}
+use Rattle.pf_heap.proofs.Weights.{sizes-le-length}
+
+no_link : (at : ℕ) → at < nowhere → eqb at nowhere ≡ false
+no_link at h = grind (arith, nat_tests)
+
+pub forest_from-head : (n : ℕ) (nodes : List Node) (up : ℕ) (f : Forest) → length nodes < 2 ^ 32 → size f ≤ n → Stands nodes up f → forest_from n nodes (head f) ≡ f
+forest_from-head zero nodes up none small le s = refl
+forest_from-head (suc n) nodes up none small le s = refl
+forest_from-head zero nodes up (tree at key rank kids rest) small le s = absurd (omega (arith, le))
+forest_from-head (suc n) nodes up (tree at key rank kids rest) small le s =
+    let some : eqb at nowhere ≡ false = no_link at (omega (arith, s.0)) in
+    let by_kids = forest_from-head n nodes at kids small (omega (arith, le)) s.2 in
+    let by_rest = forest_from-head n nodes up rest small (omega (arith, le)) s.3 in
+    ap (λ b. cond b none (tree at (node_at nodes at).key (node_at nodes at).rank (forest_from n nodes (node_at nodes at).child) (forest_from n nodes (node_at nodes at).sibling))) some
+    ∙ (λ i. tree at (s.1 i).key (s.1 i).rank (forest_from n nodes (s.1 i).child) (forest_from n nodes (s.1 i).sibling))
+    ∙ (λ i. tree at key rank (by_kids i) (by_rest i))
+
+all_from-head : (n : ℕ) (nodes : List Node) (heaps : List Forest) → length nodes < 2 ^ 32 → weigh_all one_each (map root heaps) ≤ n → StandAll nodes (map root heaps) →
+    map (λ link. keys (forest_from n nodes link)) (map head heaps) ≡ map keys heaps
+all_from-head n nodes [] small le s = refl
+all_from-head n nodes (f ∷ fs) small le s =
+    let one = forest_from-head n nodes nowhere f small (omega (arith, le)) s.0 in
+    let more = all_from-head n nodes fs small (omega (arith, le)) s.1 in
+    λ i. keys (one i) ∷ more i
+
+pub lists_at-heads : (nodes : List Node) (heads : List ℕ) (heaps : List Forest) → length nodes < 2 ^ 32 → heads ≡ map head heaps → Parts nodes (map root heaps) →
+    lists_at nodes heads ≡ map keys heaps
+unfolding lists_at
+lists_at-heads nodes heads heaps small heads_are parts =
+    ap (λ links. map (λ link. keys (forest_from (length nodes) nodes link)) links) heads_are
+    ∙ all_from-head (length nodes) nodes heaps small (sizes-le-length nodes (map root heaps) parts) parts.stand

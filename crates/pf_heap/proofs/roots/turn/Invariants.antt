@@ -1,0 +1,6 @@
+use Rattle.pf_heap.specs.Steps.{CanTurn, IsTurning}
+use Rattle.pf_heap.proofs.roots.turn.Given as goal
+
+abbrev pub invariant-loop-step : goal.invariant-loop-step
+invariant-loop-step l =
+    (can : CanTurn l.fn.nodes l.fn.link) → IsTurning l.nodes can.up can.list can.others l.rest l.turned l.step

@@ -1,0 +1,54 @@
+-- Heaps as contracts see them: a list of keys in the order is the set of its keys, since no two keys are equal.
+use Rattle.std.specs.Prelude.{◌≡◌, ◌≢◌, ℕ, ◌<◌, true, false, not, ◌==◌, List, length, slice_index_or, slice_set, refl}
+use Rattle.std.specs.Coded.{Coded, code_by, coded×, coded_list, coded_ℕ}
+use Rattle.std.specs.FinSet as set
+use Rattle.pf_order.specs.Priority.{Priority, precedes, key_cmp}
+
+-- keys in the order: `items` lists them, the first one first
+abbrev pub Keys : Type 0
+Keys = set.FinSet key_cmp
+
+-- k is one of the keys, and none precedes it
+abbrev pub IsFirst : Keys → Priority → Type 0
+IsFirst keys k = (set.contains keys k ≡ true) × ((q : Priority) → set.contains keys q ≡ true → precedes q k ≡ false)
+
+-- the keys of all tasks but this one
+abbrev pub without : Keys → ℕ → Keys
+without keys task = set.retain keys (λ k. not (k.task == task))
+
+-- none of the keys is of this task
+abbrev pub HasNone : Keys → ℕ → Type 0
+HasNone keys task = (q : Priority) → set.contains keys q ≡ true → q.task ≢ task
+
+-- the lists, and how many keys can be inserted before memory is wanted
+pub record Heaps : Type 0 where
+  pub lists : List Keys
+  pub spare : ℕ
+
+-- list h
+abbrev pub list_of : Heaps → ℕ → Keys
+list_of heaps h = slice_index_or heaps.lists h set.empty
+
+-- list h becomes these keys
+abbrev pub with_list : Heaps → ℕ → Keys → Heaps
+with_list heaps h keys = record heaps { lists = slice_set heaps.lists h keys }
+
+-- some list has a key of this task
+pub record IsHeld (lists : List Keys) (task : ℕ) : Type 0 where
+  pub list : ℕ
+  pub key : Priority
+  pub listed : list < length lists
+  pub has : set.contains (slice_index_or lists list set.empty) key ≡ true
+  pub of_task : key.task ≡ task
+
+abbrev pub priority_code : Coded Priority
+priority_code =
+    code_by (ℕ × (ℕ × (ℕ × (ℕ × ℕ)))) (coded× coded_ℕ (coded× coded_ℕ (coded× coded_ℕ (coded× coded_ℕ coded_ℕ))))
+    (λ k. (k.deadline, (k.bit, (k.group, (k.task, k.sub)))))
+    (λ p. record { deadline = p.0; bit = p.1.0; group = p.1.1.0; task = p.1.1.1.0; sub = p.1.1.1.1 })
+    (λ _. refl)
+
+abbrev pub heaps_code : Coded Heaps
+heaps_code =
+    code_by (List Keys × ℕ) (coded× (coded_list (set.code priority_code)) coded_ℕ) (λ h. (h.lists, h.spare))
+    (λ p. record { lists = p.0; spare = p.1 }) (λ _. refl)

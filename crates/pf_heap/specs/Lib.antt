@@ -1,0 +1,9 @@
+pub mod Forest
+pub mod Memory
+pub mod Steps
+pub mod Keys
+pub mod View
+pub mod Digits
+pub mod Pops
+pub mod Invariant
+pub mod Hoist

@@ -1,0 +1,60 @@
+-- Forests in an arena's nodes.
+use Rattle.std.specs.Prelude.{◌≡◌, ℕ, ◌+◌, ◌<◌, ◌≤◌, ◌⊎◌, true, false, List, [], ◌∷◌, length, slice_index_or, slice_set}
+use Rattle.pf_order.specs.Priority.{Priority, precedes}
+use Rattle.pf_heap.specs.declared.node.Node.{Node}
+use Rattle.pf_heap.specs.Forest.{Forest, none, tree, nowhere, head, weigh, at_place}
+
+-- a node that no list has
+abbrev pub no_node : Node
+no_node = record { key = record { deadline = 0; bit = 0; group = 0; task = 0; sub = 0 }; parent = 0; child = 0; sibling = 0; rank = 0 }
+
+abbrev pub node_at : List Node → ℕ → Node
+node_at nodes i = slice_index_or nodes i no_node
+
+-- the forest stands in these nodes, under the parent `up`
+abbrev pub Stands : List Node → ℕ → Forest → Type 0
+Stands nodes up none = Unit {0}
+Stands nodes up (tree at key rank kids rest) =
+    (at < length nodes)
+    × (node_at nodes at ≡ record { key = key; parent = up; child = head kids; sibling = head rest; rank = rank })
+    × Stands nodes at kids
+    × Stands nodes up rest
+
+-- a forest beside the parent of its roots
+abbrev pub Part : Type 0
+Part = ℕ × Forest
+
+-- a forest with no parent
+abbrev pub root : Forest → Part
+root f = (nowhere, f)
+
+abbrev pub weigh_all : (ℕ → Priority → ℕ) → List Part → ℕ
+weigh_all w [] = 0
+weigh_all w (p ∷ ps) = weigh w p.1 + weigh_all w ps
+
+abbrev pub StandAll : List Node → List Part → Type 0
+StandAll nodes [] = Unit {0}
+StandAll nodes (p ∷ ps) = Stands nodes p.0 p.1 × StandAll nodes ps
+
+-- these forests stand in the nodes, apart from one another
+pub record Parts (nodes : List Node) (ps : List Part) : Type 0 where
+  pub stand : StandAll nodes ps
+  pub once : (i : ℕ) → weigh_all (at_place i) ps ≤ 1
+
+-- the node is a root with this sibling
+abbrev pub relinked : List Node → ℕ → ℕ → List Node
+relinked nodes at to = slice_set nodes at (record (node_at nodes at) { parent = nowhere; sibling = to })
+
+-- the root `below` is the first child of the root `above`, whose rank is one greater
+abbrev pub linked : List Node → ℕ → ℕ → List Node
+linked nodes above below =
+    slice_set
+    (slice_set nodes below (record (node_at nodes below) { parent = above; sibling = (node_at nodes above).child }))
+    above
+    (record (node_at nodes above) { child = below; rank = (node_at nodes above).rank + 1 })
+
+-- the root with the first of the two keys has the other as its first child; in a tie x stays above
+abbrev pub Joined : List Node → List Node → ℕ → ℕ → ℕ → Type 0
+Joined old new x y result =
+    ((result ≡ x) × (precedes (node_at old y).key (node_at old x).key ≡ false) × (new ≡ linked old x y))
+    ⊎ ((result ≡ y) × (precedes (node_at old y).key (node_at old x).key ≡ true) × (new ≡ linked old y x))

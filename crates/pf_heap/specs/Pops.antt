@@ -1,0 +1,126 @@
+-- What it takes to take a root out of a heap, and to get a node for a new key.
+use Rattle.std.specs.Prelude.{◌≡◌, ℕ, ◌+◌, ◌<◌, ◌≤◌, ◌^◌, ◌⊎◌, true, false, List, ◌∷◌, length, slice_set}
+use Rattle.pf_order.specs.Priority.{Priority, precedes}
+use Rattle.pf_order.specs.Counts.{Counts}
+use Rattle.pf_heap.specs.declared.node.Node.{Node}
+use Rattle.pf_heap.specs.Forest.{Forest, none, tree, nowhere, head, weigh, size, AllBelow, IsBelow, Rises, Sinks, HasRoot}
+use Rattle.pf_heap.specs.Memory.{node_at, Stands, Part, root, Parts}
+
+-- the number of roots
+abbrev pub roots : Forest → ℕ
+roots none = 0
+roots (tree at key rank kids rest) = 1 + roots rest
+
+-- the link is a heap's
+pub record HasHeap (nodes : List Node) (link : ℕ) : Type 0 where
+  pub heap : Forest
+  pub others : List Part
+  pub heap_is : link ≡ head heap
+  pub rises : Rises 0 heap
+  pub small : length nodes < 2 ^ 32
+  pub parts : Parts nodes (root heap ∷ others)
+
+-- the node whose key comes first; in a tie x
+abbrev pub IsEarlier : List Node → ℕ → ℕ → ℕ → Type 0
+IsEarlier nodes x y result =
+    ((result ≡ x) × (precedes (node_at nodes y).key (node_at nodes x).key ≡ false))
+    ⊎ ((result ≡ y) × (precedes (node_at nodes y).key (node_at nodes x).key ≡ true))
+
+-- the best of the roots that were seen: a key that isn't behind it nor behind those that are left is behind none
+pub record IsSeeking (nodes : List Node) (heap : Forest) (best rest_link steps : ℕ) (before after : Counts) : Type 0 where
+  pub rest : Forest
+  pub rest_is : rest_link ≡ head rest
+  pub stands : Stands nodes nowhere rest
+  pub rises : Rises steps rest
+  pub smaller : size rest ≤ size heap
+  pub key : Priority
+  pub rank : ℕ
+  pub kids : Forest
+  pub has : HasRoot best key rank kids heap
+  pub into : (i : ℕ) (k : Priority) (r : ℕ) (f : Forest) → HasRoot i k r f rest → HasRoot i k r f heap
+  pub closes : (p : Priority) → IsBelow p key → AllBelow p rest → AllBelow p heap
+  pub compared : after.compared + (roots rest + 1) ≤ before.compared + roots heap
+  pub slots : after.slots ≡ before.slots
+
+-- the root with the first key of the heap
+pub record IsLeastRoot (heap : Forest) (at : ℕ) (before after : Counts) : Type 0 where
+  pub key : Priority
+  pub rank : ℕ
+  pub kids : Forest
+  pub has : HasRoot at key rank kids heap
+  pub least : AllBelow key heap
+  pub compared : after.compared + 1 ≤ before.compared + roots heap
+  pub slots : after.slots ≡ before.slots
+
+-- the link is a heap's that has this root
+pub record HasHeapAndRoot (nodes : List Node) (link at : ℕ) : Type 0 where
+  pub heap : Forest
+  pub others : List Part
+  pub key : Priority
+  pub rank : ℕ
+  pub kids : Forest
+  pub heap_is : link ≡ head heap
+  pub has : HasRoot at key rank kids heap
+  pub rises : Rises 0 heap
+  pub small : length nodes < 2 ^ 32
+  pub parts : Parts nodes (root heap ∷ others)
+
+-- a heap's roots are being parted: those that are left, those that stay, and the one that stands alone
+pub record IsParting (nodes : List Node) (heap : Forest) (others : List Part) (at : ℕ) (key : Priority) (rank : ℕ) (kids : Forest) (rest_link stay_link steps : ℕ) : Type 0 where
+  pub rest : Forest
+  pub stay : Forest
+  pub alone : Forest
+  pub rest_is : rest_link ≡ head rest
+  pub stay_is : stay_link ≡ head stay
+  pub alone_is : ((alone ≡ none) × HasRoot at key rank kids rest) ⊎ (alone ≡ tree at key rank kids none)
+  pub bound : ℕ
+  pub low : steps ≤ bound
+  pub rises : Rises bound rest
+  pub sinks : Sinks bound stay
+  pub parts : Parts nodes (root rest ∷ root stay ∷ root alone ∷ others)
+  pub kept : (w : ℕ → Priority → ℕ) → weigh w rest + (weigh w stay + weigh w alone) ≡ weigh w heap
+
+-- the roots that stay, of falling ranks, beside the one that stands alone
+pub record IsParted (nodes : List Node) (heap : Forest) (others : List Part) (at : ℕ) (key : Priority) (rank : ℕ) (kids : Forest) (link : ℕ) : Type 0 where
+  pub stay : Forest
+  pub stay_is : link ≡ head stay
+  pub sinks : Sinks 32 stay
+  pub parts : Parts nodes (root stay ∷ root (tree at key rank kids none) ∷ others)
+  pub kept : (w : ℕ → Priority → ℕ) → weigh w stay + weigh w (tree at key rank kids none) ≡ weigh w heap
+
+-- the node is free and stands in front of the free ones
+abbrev pub released : List Node → ℕ → ℕ → List Node
+released nodes at free =
+    slice_set nodes at (record (node_at nodes at) { parent = nowhere; child = nowhere; sibling = free; rank = 0 })
+
+-- a list of nodes with no children
+abbrev pub IsChain : Forest → Type 0
+IsChain none = Unit {0}
+IsChain (tree at key rank kids rest) = (kids ≡ none) × (rank ≡ 0) × IsChain rest
+
+-- the links are a heap's with this root and the free nodes'
+pub record CanPop (nodes : List Node) (link at free : ℕ) : Type 0 where
+  pub heap : Forest
+  pub spares : Forest
+  pub others : List Part
+  pub key : Priority
+  pub rank : ℕ
+  pub kids : Forest
+  pub heap_is : link ≡ head heap
+  pub free_is : free ≡ head spares
+  pub has : HasRoot at key rank kids heap
+  pub rises : Rises 0 heap
+  pub small : length nodes < 2 ^ 32
+  pub parts : Parts nodes (root heap ∷ root spares ∷ others)
+
+-- the root is out of its heap and free
+pub record IsPopped (nodes : List Node) (old spares : Forest) (others : List Part) (at : ℕ) (key : Priority) (link : ℕ) (before after : Counts) : Type 0 where
+  pub heap : Forest
+  pub heap_is : link ≡ head heap
+  pub rises : Rises 0 heap
+  pub parts : Parts nodes (root heap ∷ root (tree at key 0 none spares) ∷ others)
+  pub kept : (w : ℕ → Priority → ℕ) → w at key + weigh w heap ≡ weigh w old
+  pub made : ℕ
+  pub made_paid : (made ≡ 0) ⊎ (2 ^ made ≤ size old)
+  pub compared : after.compared ≤ before.compared + made
+  pub slots : after.slots ≡ before.slots

@@ -1,0 +1,24 @@
+-- From nodes and links to lists of keys.
+use Rattle.std.specs.Prelude.{ℕ, zero, suc, ◌==◌, cond, List, map, length}
+use Rattle.std.specs.FinSet as set
+use Rattle.pf_heap.specs.declared.node.Node.{Node}
+use Rattle.pf_heap.specs.Forest.{Forest, none, tree, nowhere}
+use Rattle.pf_heap.specs.Memory.{node_at}
+use Rattle.pf_heap.specs.Keys.{Keys}
+
+-- a forest's keys
+abbrev pub keys : Forest → Keys
+keys none = set.empty
+keys (tree at key rank kids rest) = set.insert (set.union (keys kids) (keys rest)) key
+
+-- the forest behind a link, n links deep
+abbrev pub forest_from : ℕ → List Node → ℕ → Forest
+forest_from zero nodes link = none
+forest_from (suc n) nodes link =
+    cond (link == nowhere) none
+    (tree link (node_at nodes link).key (node_at nodes link).rank
+    (forest_from n nodes (node_at nodes link).child) (forest_from n nodes (node_at nodes link).sibling))
+
+-- the lists of heaps with these first nodes
+unfoldable pub lists_at : List Node → List ℕ → List Keys
+lists_at nodes heads = map (λ link. keys (forest_from (length nodes) nodes link)) heads

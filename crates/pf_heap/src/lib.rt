@@ -1,0 +1,13 @@
+//! Heaps of keys: many binomial heaps in one arena of nodes. Its one contract: the heaps are lists of keys in the
+//! order, and a number of spare places.
+#![tactic(auto)]
+
+mod adding;
+pub mod arena;
+mod hoisting;
+mod links;
+mod node;
+mod popping;
+mod roots;
+#[cfg(test)]
+mod tests;

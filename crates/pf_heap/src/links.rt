@@ -1,0 +1,89 @@
+ghost use Rattle.std.specs.Prelude.{◌≡◌, ◌+◌, ◌-◌, ◌<◌, ◌≤◌, ◌^◌, length};
+ghost use Rattle.pf_heap.specs.Memory.{node_at, relinked, linked, Joined};
+ghost use Rattle.pf_heap.specs.Pops.{IsEarlier, released};
+
+use crate::node::{NOWHERE, Node};
+use pf_order::meter::Meter;
+
+/// Makes the node a root with this sibling.
+pub(crate) fn relink(nodes: &mut [Node], at: u32, sibling: u32)
+    requires { at < length nodes.old }
+    ensures { nodes.new ≡ relinked nodes.old at sibling }
+{
+    let node = nodes[at as usize];
+    nodes[at as usize] = Node {
+        parent: NOWHERE,
+        sibling,
+        ..node
+    };
+}
+
+/// Makes the root `below` the first child of the root `above`.
+fn link(nodes: &mut [Node], above: u32, below: u32)
+    requires upper { above < length nodes.old }
+    requires lower { below < length nodes.old }
+    requires rank { (node_at nodes.old above).rank < 2 ^ 32 - 1 }
+    ensures { nodes.new ≡ linked nodes.old above below }
+{
+    let upper = nodes[above as usize];
+    let lower = nodes[below as usize];
+    nodes[below as usize] = Node {
+        parent: above,
+        sibling: upper.child,
+        ..lower
+    };
+    nodes[above as usize] = Node {
+        child: below,
+        rank: upper.rank + 1,
+        ..upper
+    };
+}
+
+/// Makes one tree of two roots, and returns its root. One comparison.
+pub(crate) fn join(nodes: &mut [Node], meter: &mut Meter, x: u32, y: u32) -> u32
+    requires first { x < length nodes.old }
+    requires second { y < length nodes.old }
+    requires first_rank { (node_at nodes.old x).rank < 2 ^ 32 - 1 }
+    requires second_rank { (node_at nodes.old y).rank < 2 ^ 32 - 1 }
+    ensures joined { Joined nodes.old nodes.new x y result }
+    ensures compared { meter.new.compared ≤ meter.old.compared + 1 }
+    ensures slots { meter.new.slots ≡ meter.old.slots }
+{
+    let first = nodes[x as usize].key;
+    let second = nodes[y as usize].key;
+    if meter.before(&second, &first) {
+        link(nodes, y, x);
+        y
+    } else {
+        link(nodes, x, y);
+        x
+    }
+}
+
+/// The node whose key comes first, x in a tie. One comparison.
+pub(crate) fn earlier(nodes: &[Node], meter: &mut Meter, x: u32, y: u32) -> u32
+    requires first { x < length nodes.now }
+    requires second { y < length nodes.now }
+    ensures earlier { IsEarlier nodes.now x y result }
+    ensures compared { meter.new.compared ≤ meter.old.compared + 1 }
+    ensures slots { meter.new.slots ≡ meter.old.slots }
+{
+    let first = nodes[x as usize].key;
+    let second = nodes[y as usize].key;
+    if meter.before(&second, &first) { y } else { x }
+}
+
+/// Puts a node that stands alone in front of the free ones.
+pub(crate) fn release(nodes: &mut [Node], at: u32, free: u32)
+    requires { at < length nodes.old }
+    ensures { nodes.new ≡ released nodes.old at free }
+{
+    let node = nodes[at as usize];
+    nodes[at as usize] = Node {
+        parent: NOWHERE,
+        child: NOWHERE,
+        sibling: free,
+        rank: 0,
+        ..node
+    };
+}
