@@ -1,0 +1,4 @@
+pub mod Rising
+pub mod Turns
+pub mod Grown
+pub mod Past

@@ -1,0 +1,14 @@
+pub use Rattle.pf_order.specs.Counts
+pub use Rattle.pf_scenario.specs.System
+pub use Rattle.pf_scenario.specs.Scenario
+pub use Rattle.pf_scenario.specs.Edit
+pub use Rattle.pf_place.specs.Occupancy
+pub use Rattle.pf_engine.specs.Record
+pub use Rattle.pf_engine.specs.Run
+pub use Rattle.pf_engine.specs.Computed
+pub use Rattle.pf_engine.specs.Fits
+pub use Rattle.pf_engine.specs.RunRows
+pub mod Seated
+pub mod Timeline
+pub mod Laws
+pub mod Counted

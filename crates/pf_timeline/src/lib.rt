@@ -1,0 +1,6 @@
+//! The kept run of a scenario. Its one contract: a timeline stands for the scenario's run.
+#![tactic(auto)]
+
+pub mod fault;
+pub mod laws;
+pub mod timeline;
