@@ -1,5 +1,6 @@
 pub mod Digits
 pub mod FieldExamples
+pub mod GrammarExamples
 pub mod Places
 pub mod Records
 pub mod ScriptExamples

@@ -2,12 +2,17 @@ ghost use Rattle.std.specs.Prelude.{◌≡◌};
 ghost use Rattle.pf_cli.specs.Counted.{write_failures};
 
 use crate::fields::{Fields, parse_number};
+use crate::grammar::{read_heading, read_line, read_opening};
+use crate::line::{Line, Opening};
 use crate::lines::{Lines, WriteFault};
 use crate::reading::{ReadingFault, read_script};
 use crate::script::Script;
 use crate::sink::{CountedWriter, Sink};
 use crate::source::{CountedReader, Source};
+use crate::version::Version;
 use csv::ByteRecord;
+use pf_scenario::change::Change;
+use pf_scenario::event::Event;
 use std::alloc::{AllocError, Global};
 use std::io;
 use std::io::{Read, Write};
@@ -230,6 +235,42 @@ fn fields_are_read_by_place(rt: HostRuntime) -> Result<(), Fail> {
     assert!(rt; fields.rest(4).is_empty());
     assert_eq!(rt; fields.rest(9).len(), 0);
     assert_eq!(rt; change.rest(1).field(0), b"".as_slice());
+    Ok(())
+}
+
+#[test]
+fn a_heading_is_read(rt: HostRuntime) -> Result<(), Fail> {
+    let row = ByteRecord::from_fields(rt.alloc(), &[b"pfair".as_slice(), b"2"])?;
+    assert!(rt; read_heading(&Fields::new(&row)));
+    assert!(rt; Version::Second.has_limits());
+    assert_eq!(rt; Version::Second.horizon(), 4_194_304);
+    assert_eq!(rt; Version::First.horizon(), 1_048_576);
+    Ok(())
+}
+
+#[test]
+fn an_opening_is_read(rt: HostRuntime) -> Result<(), Fail> {
+    let fields = [b"settings".as_slice(), b"2", b"3", b"6", b"4"];
+    let row = ByteRecord::from_fields(rt.alloc(), &fields)?;
+    let opening = Opening {
+        processors: 2,
+        base: 3,
+        cap: 6,
+        every: 4,
+    };
+    assert_eq!(rt; read_opening(&Fields::new(&row)), Some(opening));
+    Ok(())
+}
+
+#[test]
+fn a_line_is_read(rt: HostRuntime) -> Result<(), Fail> {
+    let fields = [b"strict".as_slice(), b"alter", b"3", b"leave", b"5", b"1"];
+    let row = ByteRecord::from_fields(rt.alloc(), &fields)?;
+    let line = Line::Edit {
+        change: Change::Alter(3, Event::Leave { slot: 5, task: 1 }),
+        strict: true,
+    };
+    assert_eq!(rt; read_line(&Fields::new(&row), Version::First), Some(line));
     Ok(())
 }
 

@@ -1,0 +1,28 @@
+use pf_scenario::change::Change;
+
+/// What a record behind the settings asks for.
+#[derive(Clone, Copy, Debug, PartialEq, Eq)]
+pub enum Line {
+    /// A change to the events.
+    Edit {
+        /// The change.
+        change: Change,
+        /// Whether it is refused where it would leave a denial.
+        strict: bool,
+    },
+    /// So many steps, 1 to the horizon.
+    Steps(u64),
+}
+
+/// The settings that a script opens with. Numbers are as they are written: none is tried against its limits.
+#[derive(Clone, Copy, Debug, PartialEq, Eq)]
+pub struct Opening {
+    /// The number of processors.
+    pub processors: u64,
+    /// The base of the weights.
+    pub base: u64,
+    /// The most load that joins may make, in 1/h.
+    pub cap: u64,
+    /// How many slots lie from one checkpoint to the next.
+    pub every: u64,
+}
