@@ -22,10 +22,7 @@ join_number e slot task cost period early can =
     (join_task e.settings slot task cost period early (first_limits e (record { id = 0; event = Join slot task cost period early }) [] can)).1
 
 same_number : (task n : ℕ) → n + cond (task == task) 1 0 ≤ 1 → n ≡ 0
-same_number task n once = joins_first_of task n once
-  where
-    joins_first_of : (task n : ℕ) → n + cond (task == task) 1 0 ≤ 1 → n ≡ 0
-    joins_first_of task n once = grind (arith, nat_tests)
+same_number task n once = grind (arith, nat_tests)
 
 pub join_absent : (e : Kept) (slot task cost period early : ℕ) → CanJudgeOne e (Join slot task cost period early) → member_in e.tasks task ≡ None
 join_absent e slot task cost period early can =

@@ -252,7 +252,7 @@ unchanged xs task f none =
     (λ k d within. not_changed ((get_or xs k d).task == task) f (get_or xs k d)
     (fails_before_first (has_number task) xs k d (omega (arith, not_at (has_number task) xs none)))))
 
-all_stay : (p : KeptTask → Bool) (xs : List KeptTask) → ((k : ℕ) (d : KeptTask) → k < length xs → p (get_or xs k d) ≡ false) → filter (λ x. not (p x)) xs ≡ xs
+all_stay : {A : Type 0} (p : A → Bool) (xs : List A) → ((k : ℕ) (d : A) → k < length xs → p (get_or xs k d) ≡ false) → filter (λ x. not (p x)) xs ≡ xs
 all_stay p [] none = refl
 all_stay p (x ∷ xs) none =
     ap (λ b. cond (not b) (x ∷ filter (λ y. not (p y)) xs) (filter (λ y. not (p y)) xs)) (none 0 x (omega arith))
@@ -269,13 +269,7 @@ one_out : {A : Type 0} (p : A → Bool) (xs : List A) (i : ℕ) (d : A) → i < 
 one_out p [] i d within here other = absurd (omega arith)
 one_out p (x ∷ xs) zero d within here other =
     ap (λ b. cond (not b) (x ∷ filter (λ y. not (p y)) xs) (filter (λ y. not (p y)) xs)) (here x)
-    ∙ rest p xs (λ k e inside. other (suc k) e (omega arith) (λ z. absurd (omega arith)))
-  where
-    rest : {A : Type 0} (p : A → Bool) (xs : List A) → ((k : ℕ) (e : A) → k < length xs → p (get_or xs k e) ≡ false) → filter (λ y. not (p y)) xs ≡ xs
-    rest p [] none = refl
-    rest p (x ∷ xs) none =
-        ap (λ b. cond (not b) (x ∷ filter (λ y. not (p y)) xs) (filter (λ y. not (p y)) xs)) (none 0 x (omega arith))
-        ∙ ap (λ ys. x ∷ ys) (rest p xs (λ k e within. none (suc k) e (omega arith)))
+    ∙ all_stay p xs (λ k e inside. other (suc k) e (omega arith) (λ z. absurd (omega arith)))
 one_out p (x ∷ xs) (suc i) d within here other =
     ap (λ b. cond (not b) (x ∷ filter (λ y. not (p y)) xs) (filter (λ y. not (p y)) xs)) (other 0 x (omega arith) (λ z. absurd (omega arith)))
     ∙ ap (λ ys. x ∷ ys) (one_out p xs i d (omega arith) here

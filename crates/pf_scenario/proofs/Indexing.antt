@@ -1,24 +1,24 @@
 -- What an index keeps when an event is put among its own or taken out.
-use Rattle.std.proofs.Common.{◌≡◌, ◌≢◌, ℕ, zero, suc, ◌+◌, ◌<◌, ◌≤◌, Bool, true, false, not, cond, ◌&&◌, ◌||◌, List, [], ◌∷◌, ◌++◌, length, take, drop, get_or, eqb, refl, sym, ap, ◌∙◌, subst, arith, inl, inr, ◌⊎◌, if◌then◌else◌}
+use Rattle.std.proofs.Common.{◌≡◌, ◌≢◌, ℕ, suc, ◌+◌, ◌<◌, ◌≤◌, Bool, true, false, not, cond, ◌&&◌, ◌||◌, List, [], ◌∷◌, ◌++◌, length, take, drop, get_or, refl, sym, ap, ◌∙◌, subst, arith, inl, inr, ◌⊎◌}
 use Rattle.std.specs.Prelude.{◌==◌, slice_index}
-use Rattle.std.specs.List.{All, AllPairs, filter, list_any, remove, insert}
+use Rattle.std.specs.List.{All, list_any, remove, insert}
 use Rattle.std.specs.Cmp.{IsTotalOrder, nat_cmp_total}
-use Rattle.std.specs.declared.cmp.Ordering.TheVariants.{Less, Equal, Greater}
+use Rattle.std.specs.declared.cmp.Ordering.TheVariants.{Equal}
 use Rattle.std.specs.Ordering.{is_lt}
 use Rattle.std.proofs.Math.Seq.{split_at}
-use Rattle.std.proofs.lemmas.Cmp.{then_total, on_total, tied_itself, nat_eq_equiv}
-use Rattle.std.proofs.lemmas.Bool.{cases_Bool, cases_lt, cond-true, cond-false, false≢true, false_from_ne_true, eqb-false, eqb-true, eq-eqb, ne_eqb, not_from_false, and_right}
+use Rattle.std.proofs.lemmas.Cmp.{then_total, on_total, nat_eq_equiv}
+use Rattle.std.proofs.lemmas.Bool.{cases_Bool, cases_lt, cond-true, cond-false, false≢true, eq-eqb, ne_eqb}
 use Rattle.std.proofs.lemmas.Bool.Decides.{nat_tests}
 use Rattle.std.proofs.lemmas.List.{take-append-drop, get_or_past}
-use Rattle.std.proofs.lemmas.List.Elements.{All-nil, All-cons, All-head, All-tail, All-weaker, All-filter, All-append}
+use Rattle.std.proofs.lemmas.List.Elements.{All-head, All-tail, All-weaker, All-filter, All-append}
 use Rattle.std.proofs.lemmas.List.Folds.{list_any_none}
-use Rattle.pf_scenario.proofs.Lists.{Pairs, Pairs-from_all, AllPairs-from_pairs, Pairs_middle, Pairs_without, Pairs_before, Pairs_after, All_left, All_right, All_middle, All_without, All_at, none_passes, filter_middle}
+use Rattle.pf_scenario.proofs.Lists.{Pairs, Pairs-from_all, AllPairs-from_pairs, Pairs_middle, Pairs_without, Pairs_before, Pairs_after, All_left, All_right, All_middle, All_without, All_at}
 use Rattle.pf_scenario.proofs.Scenarios.{join_alike_back, leave_alike_back}
 use Rattle.pf_scenario.proofs.Sorting.{IsInOrder, IsInOrder-put}
 use Rattle.pf_scenario.specs.Event.{slot_of, kind_of, task_of, run_cmp}
 use Rattle.pf_scenario.specs.Scenario.{without}
 use Rattle.pf_scenario.specs.Edit.{join_alike, leave_alike}
-use Rattle.pf_scenario.specs.TimeOrder.{put, time_cmp, put_in_time}
+use Rattle.pf_scenario.specs.TimeOrder.{time_cmp, put_in_time}
 use Rattle.pf_scenario.specs.Index.{is_join_of, is_leave_of, number_of, AreApart, IsInTime, IsIndexed, IsNew, HasRoom, Notes}
 use Rattle.pf_scenario.specs.declared.event.Event.{Event}
 use Rattle.pf_scenario.specs.declared.event.Event.TheVariants.{Join, Leave, Delay, Limit}

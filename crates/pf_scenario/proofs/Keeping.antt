@@ -1,13 +1,11 @@
 -- What a scenario's representation keeps at each change.
-use Rattle.std.proofs.Common.{◌≡◌, ℕ, suc, ◌+◌, ◌<◌, ◌≤◌, Bool, true, false, not, Option, Some, None, List, [], ◌∷◌, ◌++◌, length, take, drop, set, get_or, eqb, refl, sym, ap, ◌∙◌, subst, arith, inl, inr}
-use Rattle.std.specs.Prelude.{◌==◌}
+use Rattle.std.proofs.Common.{◌≡◌, ℕ, suc, ◌<◌, ◌≤◌, None, List, [], ◌∷◌, ◌++◌, length, take, drop, set, get_or, refl, sym, ap, ◌∙◌, subst, arith, inl, inr}
 use Rattle.std.specs.List.{All, AllPairs, Contains, remove, list_any, filter}
 use Rattle.std.specs.declared.cmp.Ordering.{Ordering}
 use Rattle.std.specs.Ordering.{is_lt}
 use Rattle.std.proofs.Math.Nat.{le_trans}
 use Rattle.std.proofs.lemmas.Bool.{cases_Bool, ne_eqb, leb-true, and_parts}
 use Rattle.std.proofs.lemmas.List.{append-nil, set_split}
-use Rattle.std.proofs.lemmas.List.Elements.{All-nil}
 use Rattle.pf_scenario.proofs.Lists.{Pairs, Pairs-from_all, Pairs_before, All_at}
 use Rattle.pf_scenario.proofs.Scenarios.{or_else_none, unless_none, without_held, changes_keep_scenarios, numbers_rise}
 use Rattle.pf_scenario.proofs.Places.{replaced_at, without_at}

@@ -1,10 +1,10 @@
 -- Lists with one element in the middle: what holds of each, and of every two.
-use Rattle.std.proofs.Common.{Option, Some, None, ◌≡◌, ℕ, suc, ◌+◌, ◌<◌, ◌≤◌, Bool, true, false, cond, not, List, [], ◌∷◌, ◌++◌, length, map, refl, sym, ap, ◌∙◌, arith, inl, inr}
+use Rattle.std.proofs.Common.{Some, None, ◌≡◌, suc, Bool, true, false, List, [], ◌∷◌, ◌++◌, map, refl, ap, arith, inl, inr}
 use Rattle.std.specs.List.{All, AllPairs, list_any, filter, find}
 use Rattle.std.proofs.lemmas.List.Elements.{All-nil, All-cons, All-head, All-tail, All-append, filter-append}
 use Rattle.std.proofs.lemmas.List.Kept.{AllPairs-cons}
 use Rattle.std.proofs.lemmas.List.{map-append}
-use Rattle.std.proofs.lemmas.Bool.{or_parts, or_cases, cases_Bool}
+use Rattle.std.proofs.lemmas.Bool.{or_parts, or_cases}
 
 -- what holds of each element of a list holds of each element of its parts
 pub All_left : {X : Type 0} (P : X → Type 0) (xs ys : List X) → All P (xs ++ ys) → All P xs

@@ -1,16 +1,15 @@
 -- The place of an event among events whose numbers rise, and what a change makes of them there.
-use Rattle.std.proofs.Common.{◌≡◌, ◌≢◌, ℕ, suc, ◌+◌, ◌<◌, ◌≤◌, Bool, true, false, not, cond, Option, Some, None, Result, Ok, Err, List, [], ◌∷◌, ◌++◌, length, map, take, drop, set, get_or, eqb, refl, sym, ap, ◌∙◌, arith, inl, inr, if◌then◌else◌, MatchOption}
+use Rattle.std.proofs.Common.{◌≡◌, ℕ, suc, ◌+◌, ◌<◌, ◌≤◌, true, false, not, Some, None, Result, Ok, Err, List, ◌∷◌, ◌++◌, length, map, take, drop, set, get_or, eqb, sym, ap, ◌∙◌, arith, inl, inr, if◌then◌else◌, MatchOption}
 use Rattle.std.specs.Prelude.{◌==◌}
-use Rattle.std.specs.List.{All, AllPairs, AllWithin, HoldsAt, list_any, filter, find, remove}
+use Rattle.std.specs.List.{All, AllPairs, find, remove}
 use Rattle.std.specs.List.Sorted.{IsBinarySearchResult, IsSearchInRange, IsSortedBy}
 use Rattle.std.specs.Ordering.{nat_cmp, is_lt}
 use Rattle.std.specs.Result.{result_ok}
 use Rattle.std.specs.Option.{option_map}
 use Rattle.std.specs.declared.cmp.Ordering.TheVariants.{Less, Equal, Greater}
 use Rattle.std.specs.Cmp.{nat_cmp_total}
-use Rattle.std.proofs.Math.Nat.{le_trans}
 use Rattle.std.proofs.Math.Seq.{split_at}
-use Rattle.std.proofs.lemmas.Bool.{not_from_false, eq-eqb, eqb-true, ne_eqb, cases_lt}
+use Rattle.std.proofs.lemmas.Bool.{not_from_false, eq-eqb, ne_eqb, cases_lt}
 use Rattle.std.proofs.lemmas.Bool.Decides.{nat_tests}
 use Rattle.std.proofs.lemmas.List.{set_split}
 use Rattle.std.proofs.lemmas.List.Elements.{All-weaker}
@@ -19,12 +18,9 @@ use Rattle.std.proofs.lemmas.List.Sorted.{searchable_from_sorted}
 use Rattle.pf_scenario.proofs.Lists.{find_middle, find_none, filter_all, Pairs-from_all, All_left}
 use Rattle.pf_scenario.proofs.Scenarios.{others_of, without_held, replaced_held}
 use Rattle.pf_scenario.specs.Event.{slot_of}
-use Rattle.pf_scenario.specs.Scenario.{Plan, numbered, is_held, without, changed, held_slot}
+use Rattle.pf_scenario.specs.Scenario.{numbered, is_held, without, held_slot}
 use Rattle.pf_scenario.specs.Kept.{IsPlace}
-use Rattle.pf_scenario.specs.Edit.{IsScenario, edit_fault}
 use Rattle.pf_scenario.specs.declared.event.Event.{Event}
-use Rattle.pf_scenario.specs.declared.change.Change.{Change}
-use Rattle.pf_scenario.specs.declared.change.Change.TheVariants.{Insert, Alter, Strike}
 use Rattle.pf_scenario.specs.declared.event.Event.TheVariants.{Leave}
 use Rattle.pf_scenario.specs.declared.event.Numbered.{Numbered}
 

@@ -1,23 +1,21 @@
 -- A change that is not refused makes a scenario of a scenario.
 use Rattle.std.proofs.Common.{◌≡◌, ℕ, ◌+◌, ◌<◌, ◌≤◌, Bool, true, false, not, Option, Some, None, List, [], ◌∷◌, ◌++◌, length, map, eqb, refl, sym, ap, ◌∙◌, subst, arith, if◌then◌else◌}
-use Rattle.std.specs.Prelude.{◌==◌, nat_lt, nat_le}
-use Rattle.std.specs.List.{All, AllPairs, list_any, filter}
-use Rattle.std.proofs.lemmas.List.Elements.{All-nil, All-cons, All-head, All-tail, All-append, All-weaker}
-use Rattle.std.proofs.lemmas.List.{append-nil, length-append, length-map}
-use Rattle.std.proofs.lemmas.Bool.{ltb-true, leb-true, eqb-true, eqb-false, eq-eqb, ne_eqb, not-true, cond-true, cond-false, not_from_false, cases_Bool}
-use Rattle.pf_scenario.proofs.Lists.{All_left, All_right, All_middle, All_without, All_at, Pairs, Pairs-from_all, AllPairs-from_pairs, Pairs_middle, Pairs_without, Pairs_before, Pairs_after, filter_middle, map_middle, none_passes, Found, found}
+use Rattle.std.specs.Prelude.{◌==◌}
+use Rattle.std.specs.List.{All, AllPairs, list_any}
+use Rattle.std.proofs.lemmas.List.Elements.{All-nil, All-append, All-weaker}
+use Rattle.std.proofs.lemmas.List.{append-nil, length-append}
+use Rattle.std.proofs.lemmas.Bool.{ltb-true, leb-true, eqb-true, eq-eqb, ne_eqb, not-true, cond-true, cond-false, not_from_false}
+use Rattle.pf_scenario.proofs.Lists.{All_left, All_right, All_middle, All_without, All_at, Pairs, Pairs-from_all, AllPairs-from_pairs, Pairs_middle, Pairs_without, Pairs_before, Pairs_after, filter_middle, map_middle, none_passes, found}
 use Rattle.pf_scenario.specs.System.{System, IsSystem}
-use Rattle.pf_scenario.specs.Event.{slot_of, task_of}
-use Rattle.pf_scenario.specs.Scenario.{Plan, opening, numbered, is_held, without, changed}
+use Rattle.pf_scenario.specs.Scenario.{Plan, numbered, is_held, without, changed}
 use Rattle.pf_scenario.specs.Edit.{or_else, unless, join_alike, leave_alike, event_fault, edit_fault, most_events, last_number, IsEvent, IsScenario}
 use Rattle.pf_scenario.specs.Laws.{ChangesKeepScenarios, NumbersRise, OpeningIsScenario}
 use Rattle.pf_scenario.specs.declared.event.Event.{Event}
 use Rattle.pf_scenario.specs.declared.event.Event.TheVariants.{Join, Leave, Delay, Limit}
 use Rattle.pf_scenario.specs.declared.event.Numbered.{Numbered}
-use Rattle.pf_scenario.specs.declared.change.Change.{Change}
 use Rattle.pf_scenario.specs.declared.change.Change.TheVariants.{Insert, Alter, Strike}
 use Rattle.pf_scenario.specs.declared.fault.EditFault.{EditFault}
-use Rattle.pf_scenario.specs.declared.fault.EditFault.TheVariants.{JoinTwice, LeaveTwice, TooManyEvents, NumbersSpent, EventNotFound}
+use Rattle.pf_scenario.specs.declared.fault.EditFault.TheVariants.{JoinTwice, LeaveTwice}
 use Rattle.std.proofs.lemmas.Cmp.{nat_eq_equiv}
 
 -- no fault of two tests is no fault of either

@@ -1,5 +1,5 @@
 -- Places in a list of events in time order.
-use Rattle.std.proofs.Common.{◌≡◌, ◌≢◌, ℕ, suc, ◌+◌, ◌-◌, ◌<◌, ◌≤◌, Bool, true, false, not, cond, List, [], ◌∷◌, ◌++◌, length, take, drop, get_or, eqb, ltb, leb, refl, sym, ap, ◌∙◌, subst, arith, inl, inr, ◌⊎◌, min}
+use Rattle.std.proofs.Common.{◌≡◌, ℕ, suc, ◌+◌, ◌-◌, ◌<◌, ◌≤◌, Bool, true, false, not, cond, List, [], ◌∷◌, ◌++◌, length, take, drop, get_or, refl, sym, ap, ◌∙◌, subst, arith, inl, inr}
 use Rattle.std.specs.Prelude.{◌==◌, nat_lt, nat_le, slice_range}
 use Rattle.std.specs.List.{All, AllPairs, AllWithin, Contains, filter, remove, insert}
 use Rattle.std.specs.List.Sorted.{IsPartitionedBy, IsPartitionPoint, IsNonDecreasingBy}
@@ -8,9 +8,8 @@ use Rattle.std.specs.declared.cmp.Ordering.TheVariants.{Less, Equal, Greater}
 use Rattle.std.specs.Ordering.{is_lt, ordering_reverse, ordering_then}
 use Rattle.std.proofs.Math.Seq.{split_at}
 use Rattle.std.proofs.lemmas.Cmp.{tied_itself}
-use Rattle.std.proofs.lemmas.Bool.{lt-ltb, cond-false, false≢true, false_from_ne_true, true_from_ne_false, not-true, not-false, not_from_false, cases_order, cases_lt, ltb-true, ltb-false, leb-true, leb-false, eq-eqb, ne_eqb}
-use Rattle.std.proofs.lemmas.Bool.Decides.{nat_tests}
-use Rattle.std.proofs.lemmas.List.{append-nil, take-append-drop, get_or-take, get_or-drop, length-take, length-drop, length-take-le}
+use Rattle.std.proofs.lemmas.Bool.{lt-ltb, cond-false, false≢true, false_from_ne_true, not-true, not-false, not_from_false, cases_order, cases_lt, ltb-true, ltb-false, leb-true, leb-false, eq-eqb, ne_eqb}
+use Rattle.std.proofs.lemmas.List.{append-nil, take-append-drop, get_or-take, get_or-drop, length-drop, length-take-le}
 use Rattle.std.proofs.lemmas.List.Edits.{split_between, get_or-between, length-between}
 use Rattle.std.proofs.lemmas.List.Elements.{All-weaker, All-head, All-tail, filter-append}
 use Rattle.pf_scenario.proofs.Lists.{Pairs, Pairs-from_all, filter_all, filter_middle}

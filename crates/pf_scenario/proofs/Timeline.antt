@@ -1,24 +1,19 @@
 -- The events of a scenario in time order, and what a change makes of them.
-use Rattle.std.proofs.Common.{◌≡◌, ◌≢◌, ℕ, suc, ◌+◌, ◌<◌, ◌≤◌, Bool, true, false, not, cond, List, [], ◌∷◌, ◌++◌, length, take, drop, set, get_or, eqb, refl, sym, ap, ◌∙◌, subst, arith}
+use Rattle.std.proofs.Common.{◌≡◌, ◌≢◌, ℕ, Bool, true, not, cond, List, [], ◌∷◌, ◌++◌, refl, sym, ap, ◌∙◌}
 use Rattle.std.specs.Prelude.{◌==◌}
-use Rattle.std.specs.List.{All, AllPairs, list_any, filter, remove, Contains}
-use Rattle.std.specs.declared.cmp.Ordering.{Ordering}
-use Rattle.std.specs.declared.cmp.Ordering.TheVariants.{Less, Equal, Greater}
+use Rattle.std.specs.List.{All, list_any, filter}
+use Rattle.std.specs.declared.cmp.Ordering.TheVariants.{Equal}
 use Rattle.std.specs.Ordering.{is_lt, ordering_then, nat_cmp}
-use Rattle.std.proofs.Math.Seq.{split_at}
 use Rattle.std.proofs.lemmas.Cmp.{tied_itself}
 use Rattle.std.specs.Cmp.{nat_cmp_total}
 use Rattle.std.proofs.lemmas.Bool.{eqb-true}
-use Rattle.std.proofs.lemmas.List.{append-nil, set_split}
-use Rattle.std.proofs.lemmas.List.Elements.{All-nil, All-head, All-tail, All-weaker, All-filter, filter_passes}
-use Rattle.pf_scenario.proofs.Lists.{Pairs, Pairs-from_all, Pairs_before, All_left}
+use Rattle.std.proofs.lemmas.List.Elements.{All-head, All-tail, All-weaker, filter_passes}
 use Rattle.pf_scenario.proofs.Sorting.{All-sorted_by, list_any-sorted_by, sorted_middle, filter-sorted_by, put_agree}
 use Rattle.pf_scenario.proofs.Indexing.{time_cmp_total, time_differs, apart_back}
 use Rattle.pf_scenario.specs.Event.{slot_of, is_of, run_cmp, placed, in_run_order}
-use Rattle.pf_scenario.specs.Scenario.{Plan, without, numbered, events_of}
-use Rattle.pf_scenario.specs.TimeOrder.{put, sorted_by, time_cmp, put_in_time, in_time_order}
+use Rattle.pf_scenario.specs.Scenario.{Plan, without, events_of}
+use Rattle.pf_scenario.specs.TimeOrder.{put, time_cmp, put_in_time, in_time_order}
 use Rattle.pf_scenario.specs.Index.{AreApart}
-use Rattle.pf_scenario.specs.declared.event.Event.{Event}
 use Rattle.pf_scenario.specs.declared.event.Numbered.{Numbered}
 
 -- an event put amid others that are apart from it

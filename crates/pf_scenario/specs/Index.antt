@@ -5,7 +5,7 @@ use Rattle.pf_scenario.specs.Event.{task_of}
 use Rattle.pf_scenario.specs.TimeOrder.{time_cmp}
 use Rattle.pf_scenario.specs.Edit.{join_alike, leave_alike}
 use Rattle.pf_scenario.specs.declared.event.Event.{Event}
-use Rattle.pf_scenario.specs.declared.event.Event.TheVariants.{Join, Leave, Delay, Limit}
+use Rattle.pf_scenario.specs.declared.event.Event.TheVariants.{Join, Leave}
 use Rattle.pf_scenario.specs.declared.event.Numbered.{Numbered}
 
 -- the event joins the task, or leaves it

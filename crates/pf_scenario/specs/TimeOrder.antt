@@ -1,5 +1,5 @@
 -- The order of all events of a scenario: slot by slot, and in a slot as a run takes them.
-use Rattle.std.specs.Prelude.{ℕ, List, [], ◌∷◌, cond}
+use Rattle.std.specs.Prelude.{List, [], ◌∷◌, cond}
 use Rattle.std.specs.declared.cmp.Ordering.{Ordering}
 use Rattle.std.specs.Ordering.{nat_cmp, on, then_cmp, is_lt}
 use Rattle.pf_scenario.specs.Event.{slot_of, run_cmp}

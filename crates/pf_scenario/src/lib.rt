@@ -14,3 +14,5 @@ mod order;
 pub mod scenario;
 pub mod settings;
 mod tables;
+#[cfg(test)]
+mod tests;

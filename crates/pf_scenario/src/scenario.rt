@@ -3,7 +3,8 @@ ghost use Rattle.std.specs.List.{list_any};
 ghost use Rattle.std.specs.Result.{result_err};
 ghost use Rattle.pf_scenario.specs.Scenario.{Plan, opening, is_held, without, changed, concerned, held_slot, touched_slot, events_of};
 ghost use Rattle.pf_scenario.specs.Edit.{IsScenario, event_fault, edit_fault, unless, join_alike, leave_alike};
-ghost use Rattle.pf_scenario.specs.declared.fault.EditFault.{EditFault as AFault};
+ghost use Rattle.pf_scenario.specs.declared.fault.EditFault.{EditFault};
+ghost use Rattle.pf_scenario.specs.declared.fault.EditFault.TheVariants.{EventNotFound};
 ghost use Rattle.pf_scenario.specs.declared.change.Change.TheVariants.{Insert, Alter, Strike};
 ghost use Rattle.pf_scenario.specs.declared.apply_fault.ApplyFault.TheVariants.{Refused};
 
@@ -50,6 +51,7 @@ impl Scenario {
         ensures value { result ≡ opening settings }
         ensures scenario { IsScenario result }
     {
+        // What settings keep is known from their calls alone.
         let _ = settings.horizon();
         Scenario {
             settings,
@@ -85,7 +87,7 @@ impl Scenario {
 
     /// Refused where no event has this number.
     fn check_held(&self, id: u64) -> Result<(), EditFault>
-        ensures { result_err result ≡ unless (is_held self.now.events id) EditFault.EventNotFound }
+        ensures { result_err result ≡ unless (is_held self.now.events id) EventNotFound }
     {
         match place_of(&self.events, id) {
             Some(_) => Ok(()),
@@ -97,6 +99,7 @@ impl Scenario {
     fn check_new(&self, event: &Event) -> Result<(), EditFault>
         ensures { result_err result ≡ event_fault self.now.settings self.now.events event.now }
     {
+        // No event has the number 0, which is known once a field is looked at.
         let _ = &self.events;
         self.check_event(0, event)
     }
@@ -133,8 +136,8 @@ impl Scenario {
     pub fn apply(&mut self, change: Change) -> Result<u64, ApplyFault>
         ensures ok { IfOk result (λ id. (id ≡ concerned self.old change) × (self.new ≡ changed self.old change)) }
 
-        // It is refused just where `check` refuses it, and then no memory was asked for.
-        ensures refused { (f : AFault) → (edit_fault self.old change ≡ Some f) ↔ (result ≡ Err (Refused f)) }
+        // It is refused just where `check` refuses it, also where memory is short.
+        ensures refused { (f : EditFault) → (edit_fault self.old change ≡ Some f) ↔ (result ≡ Err (Refused f)) }
         ensures err { OnErr result (self.new ≡ self.old) }
         ensures scenario { IsScenario self.new }
     {

@@ -3,4 +3,6 @@
 
 pub mod fault;
 pub mod laws;
+#[cfg(test)]
+mod tests;
 pub mod timeline;

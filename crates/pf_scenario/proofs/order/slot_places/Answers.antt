@@ -1,4 +1,4 @@
-use Rattle.std.proofs.Common.{ltb, leb, rules}
+use Rattle.std.proofs.Common.{rules}
 use Rattle.std.specs.Prelude.{nat_lt, nat_le}
 use Rattle.std.proofs.lemmas.List.Sorted.{IsPartitionPoint-from_clause, IsPartitionedBy-ltb, IsPartitionedBy-leb}
 use Rattle.pf_scenario.specs.Event.{slot_of}

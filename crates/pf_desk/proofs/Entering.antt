@@ -1,0 +1,178 @@
+-- What a desk keeps, from its opening on and through one entry more.
+use Rattle.std.proofs.Common.{◌≡◌, ℕ, ◌≤◌, Bool, true, false, if◌then◌else◌, IfSome, Some, None, List, [], ◌∷◌, ◌++◌, refl, sym, ap, ◌∙◌, subst, arith}
+use Rattle.std.specs.List.{slice_get}
+use Rattle.std.proofs.lemmas.List.{nil_from_length}
+use Rattle.pf_scenario.specs.System.{System}
+use Rattle.pf_scenario.specs.Scenario.{Plan, opening, changed, concerned, touched_slot}
+use Rattle.pf_scenario.specs.Edit.{IsScenario, edit_fault}
+use Rattle.pf_scenario.proofs.Scenarios.{changes_keep_scenarios}
+use Rattle.pf_scenario.specs.declared.change.Change.{Change}
+use Rattle.pf_engine.specs.Computed.{course_of}
+use Rattle.pf_engine.specs.RunRows.{rows_in, denials_in}
+use Rattle.pf_timeline.specs.Timeline.{KeptRun, StandsFor}
+use Rattle.pf_engine.specs.declared.denied.Denied.{Denied}
+use Rattle.pf_desk.specs.declared.command.Command.{Command}
+use Rattle.pf_desk.specs.declared.command.Command.TheVariants.{Edit}
+use Rattle.pf_desk.specs.declared.reply.Fault.{Fault}
+use Rattle.pf_desk.specs.declared.reply.Fault.TheVariants.{WouldDeny}
+use Rattle.pf_desk.specs.declared.reply.Reply.TheVariants.{Edited, Refused}
+use Rattle.pf_desk.specs.declared.entry.Entry.{Entry}
+use Rattle.pf_desk.specs.Machine.{State, opening_state, edit_reply, strict_reply, reply_to, state_after}
+use Rattle.pf_desk.specs.History.{IsLegal, last_state}
+use Rattle.pf_desk.specs.Desk.{IsDesk, Answers, entry_of}
+use Rattle.pf_desk.specs.Kept.{state_of, shown_by, IsKept}
+use Rattle.pf_desk.proofs.Histories.{legal_append, behind_append, settings_changed, settings_after, next_behind}
+use Rattle.pf_desk.proofs.Pasts.{slots_taken, length-rows_in, stands_alike}
+use Rattle.pf_desk.proofs.Changes.{events_rest}
+
+-- at the opening
+no_rows : (s : Plan) → IsScenario s → rows_in s 0 ≡ []
+no_rows s scenario = nil_from_length (rows_in s 0) (length-rows_in s 0 scenario)
+
+no_denials : (s : Plan) → denials_in s 0 ≡ []
+unfolding denials_in course_of
+no_denials s = refl
+
+pub opening_kept : (settings : System) (kept : KeptRun) → StandsFor (opening settings) 0 kept → IsKept (opening settings) kept []
+opening_kept settings kept stands =
+    let now = sym (slots_taken (opening settings) 0 kept stands) in
+    record {
+      stands = subst (λ n. StandsFor (opening settings) n kept) now stands;
+      legal = tt;
+      last = ap (λ n. record { plan = opening settings; now = n }) now;
+    }
+
+pub opening_shown : (settings : System) (kept : KeptRun) → StandsFor (opening settings) 0 kept →
+    shown_by (opening settings) kept [] ≡ record { state = opening_state settings; rows = []; denials = []; history = [] }
+opening_shown settings kept stands =
+    let now = slots_taken (opening settings) 0 kept stands in
+    let rows = stands.of_run.are_rows ∙ no_rows (opening settings) stands.of_run.scenario in
+    let denials = stands.of_run.are_denials ∙ no_denials (opening settings) in
+    λ i. record { state = record { plan = opening settings; now = now i }; rows = rows i; denials = denials i; history = [] }
+
+-- what is kept makes a desk
+pub is_desk : (plan : Plan) (kept : KeptRun) (es : List Entry) → IsKept plan kept es → IsDesk (shown_by plan kept es)
+is_desk plan kept es is = record { legal = is.legal; last = is.last; of_run = is.stands.of_run }
+
+-- one entry more, whose reply is the machine's, where the parts are then where the machine is
+pub record Enters (plan plan' : Plan) (kept kept' : KeptRun) (e : Entry) : Type 0 where
+  pub answer : e.reply ≡ reply_to (state_of plan kept) e.command
+  pub state : state_after (state_of plan kept) e.command e.reply ≡ state_of plan' kept'
+  pub stands : StandsFor plan' kept'.engine.now kept'
+
+pub kept_entered : (plan plan' : Plan) (kept kept' : KeptRun) (es : List Entry) (e : Entry) → IsKept plan kept es →
+    Enters plan plan' kept kept' e → IsKept plan' kept' (es ++ e ∷ [])
+kept_entered plan plan' kept kept' es e is enters =
+    let settings : plan.settings ≡ plan'.settings =
+    sym (settings_after (state_of plan kept) e.command e.reply) ∙ ap (λ st. st.plan.settings) enters.state in
+    let answer = enters.answer ∙ ap (λ st. reply_to st e.command) (sym is.last) in
+    let opened = opening_state plan.settings in
+    record {
+      stands = enters.stands;
+      legal = subst (λ system. IsLegal system (es ++ e ∷ [])) settings (legal_append opened es (e ∷ []) is.legal (answer, tt));
+      last = ap (λ system. last_state system (es ++ e ∷ [])) (sym settings)
+          ∙ behind_append opened es (e ∷ [])
+          ∙ ap (λ st. state_after st e.command e.reply) is.last
+          ∙ enters.state;
+    }
+
+-- numbers are given from 1 on
+pub some_next : (plan : Plan) (kept : KeptRun) (es : List Entry) → IsKept plan kept es → 1 ≤ plan.next
+some_next plan kept es is =
+    let some = next_behind (opening_state plan.settings) es (omega arith) in
+    omega (arith, some, ap (λ st. st.plan.next) is.last)
+
+-- Use: a refusal enters and leaves the parts.
+pub refused_kept : (plan : Plan) (kept : KeptRun) (es : List Entry) (caller : ℕ) (command : Command) (fault : Fault) →
+    IsKept plan kept es → reply_to (state_of plan kept) command ≡ Refused fault →
+    IsKept plan kept (es ++ entry_of caller command (Refused fault) ∷ [])
+refused_kept plan kept es caller command fault is answer =
+    kept_entered plan plan kept kept es (entry_of caller command (Refused fault)) is
+    (record { answer = sym answer; state = refl; stands = is.stands })
+
+-- the reply to an edit without a fault, by the first denial where it is strict
+edited_reply : (st : State) (change : Change) (strict : Bool) (denials : List Denied) → edit_fault st.plan change ≡ None →
+    denials ≡ denials_in (changed st.plan change) st.now → (if strict then slice_get denials 0 else None) ≡ None →
+    reply_to st (Edit change strict) ≡ Edited (concerned st.plan change)
+edited_reply st change true denials faultless are none =
+    ap (edit_reply st change true) faultless
+    ∙ ap (strict_reply st change) (ap (λ ds. slice_get ds 0) (sym are) ∙ none)
+edited_reply st change false denials faultless are none = ap (edit_reply st change false) faultless
+
+pub denied_reply : (st : State) (change : Change) (strict : Bool) (denials : List Denied) (d : Denied) → edit_fault st.plan change ≡ None →
+    denials ≡ denials_in (changed st.plan change) st.now → (if strict then slice_get denials 0 else None) ≡ Some d →
+    reply_to st (Edit change strict) ≡ Refused (WouldDeny d.id d.denial)
+denied_reply st change true denials d faultless are some =
+    ap (edit_reply st change true) faultless
+    ∙ ap (strict_reply st change) (ap (λ ds. slice_get ds 0) (sym are) ∙ some)
+denied_reply st change false denials d faultless are some = cc
+
+-- an edit that is made: the changed scenario, its kept run without an objection, and one entry more
+pub record Edits (plan plan' : Plan) (kept kept' : KeptRun) (es es' : List Entry) (caller : ℕ) (change : Change) (strict : Bool) (id : ℕ) : Type 0 where
+  pub is : IsKept plan kept es
+  pub faultless : edit_fault plan change ≡ None
+  pub plan_is : plan' ≡ changed plan change
+  pub id_is : id ≡ concerned plan change
+  pub entered : es' ≡ es ++ entry_of caller (Edit change strict) (Edited id) ∷ []
+  pub stands : StandsFor plan' kept.engine.now kept'
+  pub none : (if strict then slice_get kept'.denials 0 else None) ≡ None
+
+made_reply : (plan plan' : Plan) (kept kept' : KeptRun) (es es' : List Entry) (caller : ℕ) (change : Change) (strict : Bool) (id : ℕ) →
+    Edits plan plan' kept kept' es es' caller change strict id → Edited id ≡ reply_to (state_of plan kept) (Edit change strict)
+made_reply plan plan' kept kept' es es' caller change strict id edits =
+    ap (λ n. Edited n) edits.id_is
+    ∙ sym (edited_reply (state_of plan kept) change strict kept'.denials edits.faultless
+    (edits.stands.of_run.are_denials ∙ ap (λ s. denials_in s kept.engine.now) edits.plan_is) edits.none)
+
+made_state : (plan plan' : Plan) (kept kept' : KeptRun) (es es' : List Entry) (caller : ℕ) (change : Change) (strict : Bool) (id : ℕ) →
+    Edits plan plan' kept kept' es es' caller change strict id →
+    state_after (state_of plan kept) (Edit change strict) (Edited id) ≡ state_of plan' kept'
+made_state plan plan' kept kept' es es' caller change strict id edits =
+    let now = slots_taken plan' kept.engine.now kept' edits.stands in
+    λ i. record { plan = sym edits.plan_is i; now = sym now i }
+
+-- Use: what is kept then, and that the machine answers so.
+pub edited_kept : (plan plan' : Plan) (kept kept' : KeptRun) (es es' : List Entry) (caller : ℕ) (change : Change) (strict : Bool) (id : ℕ) →
+    Edits plan plan' kept kept' es es' caller change strict id → IsKept plan' kept' es'
+edited_kept plan plan' kept kept' es es' caller change strict id edits =
+    let now = slots_taken plan' kept.engine.now kept' edits.stands in
+    subst (IsKept plan' kept') (sym edits.entered)
+    (kept_entered plan plan' kept kept' es (entry_of caller (Edit change strict) (Edited id)) edits.is
+    (record {
+      answer = made_reply plan plan' kept kept' es es' caller change strict id edits;
+      state = made_state plan plan' kept kept' es es' caller change strict id edits;
+      stands = subst (λ n. StandsFor plan' n kept') (sym now) edits.stands;
+    }))
+
+pub edited_answers : (plan plan' : Plan) (kept kept' : KeptRun) (es es' : List Entry) (caller : ℕ) (change : Change) (strict : Bool) (id : ℕ) →
+    Edits plan plan' kept kept' es es' caller change strict id →
+    Answers caller (Edit change strict) (shown_by plan kept es) (Edited id) (shown_by plan' kept' es')
+edited_answers plan plan' kept kept' es es' caller change strict id edits = record {
+  answer = made_reply plan plan' kept kept' es es' caller change strict id edits;
+  entered = edits.entered;
+  state = sym (made_state plan plan' kept kept' es es' caller change strict id edits);
+}
+
+-- a change that touches no slot below now leaves what stands
+pub ahead_stands : (plan : Plan) (kept : KeptRun) (es : List Entry) (change : Change) → IsKept plan kept es →
+    edit_fault plan change ≡ None → IfSome (touched_slot plan change) (λ t. kept.engine.now ≤ t) →
+    StandsFor (changed plan change) kept.engine.now kept
+ahead_stands plan kept es change is faultless ahead =
+    let scenario = is.stands.of_run.scenario in
+    stands_alike kept.engine.now plan (changed plan change) kept
+    (record {
+      of_s = scenario;
+      of_q = changes_keep_scenarios plan change scenario (some_next plan kept es is) faultless;
+      settings = sym (settings_changed plan change);
+      events = events_rest plan change kept.engine.now scenario faultless ahead;
+    })
+    is.stands
+
+-- Use: a strict edit of slots not below now is refused with the first kept denial.
+pub ahead_denied : (plan : Plan) (kept : KeptRun) (es : List Entry) (change : Change) (strict : Bool) (d : Denied) → IsKept plan kept es →
+    edit_fault plan change ≡ None → IfSome (touched_slot plan change) (λ t. kept.engine.now ≤ t) →
+    (if strict then slice_get kept.denials 0 else None) ≡ Some d →
+    reply_to (state_of plan kept) (Edit change strict) ≡ Refused (WouldDeny d.id d.denial)
+ahead_denied plan kept es change strict d is faultless ahead some =
+    denied_reply (state_of plan kept) change strict kept.denials d faultless
+    (ahead_stands plan kept es change is faultless ahead).of_run.are_denials some

@@ -1,0 +1,6 @@
+pub mod Histories
+pub mod Changes
+pub mod Pasts
+pub mod Entering
+pub mod Stepping
+pub mod Batches

@@ -1,0 +1,91 @@
+-- A step: the next slot taken, and one entry more.
+use Rattle.std.proofs.Common.{◌≡◌, ◌≢◌, ℕ, ◌+◌, ◌==◌, Option, List, [], ◌∷◌, ◌++◌, length, refl, sym, ap, ap₂, ◌∙◌, subst}
+use Rattle.std.specs.List.{slice_index_or}
+use Rattle.std.proofs.lemmas.Bool.{cond-false, cond-true, ne_eqb, eq-eqb}
+use Rattle.pf_order.specs.declared.pick.Pick.{Pick}
+use Rattle.pf_scenario.specs.Scenario.{Plan}
+use Rattle.pf_engine.specs.declared.denied.Denied.{Denied}
+use Rattle.pf_engine.specs.RunRows.{AreOfRun}
+use Rattle.pf_timeline.specs.Timeline.{KeptRun, StandsFor}
+use Rattle.pf_desk.specs.declared.command.Command.TheVariants.{Step}
+use Rattle.pf_desk.specs.declared.reply.Fault.TheVariants.{AtHorizon}
+use Rattle.pf_desk.specs.declared.reply.Reply.TheVariants.{Stepped, Refused}
+use Rattle.pf_desk.specs.declared.entry.Entry.{Entry}
+use Rattle.pf_desk.specs.Machine.{State, row_at, reply_to, state_after}
+use Rattle.pf_desk.specs.Desk.{Answers, Seen, StandsForHistory, entry_of}
+use Rattle.pf_desk.specs.Kept.{state_of, shown_by, IsKept}
+use Rattle.pf_desk.proofs.Pasts.{slots_taken, rows_taken}
+use Rattle.pf_desk.proofs.Entering.{kept_entered}
+
+-- a slot that is taken: the kept run is one slot longer, the row is its last, and there is one entry more
+pub record Steps (plan : Plan) (kept kept' : KeptRun) (es es' : List Entry) (caller slot : ℕ) (row : List (Option Pick)) : Type 0 where
+  pub is : IsKept plan kept es
+  pub below : kept.engine.now ≢ plan.settings.horizon
+  pub stands : StandsFor plan (kept.engine.now + 1) kept'
+  pub slot_is : slot ≡ kept.engine.now
+  pub row_is : row ≡ slice_index_or kept'.rows slot []
+  pub entered : es' ≡ es ++ entry_of caller Step (Stepped slot row) ∷ []
+
+-- the machine's reply, on either side of the horizon
+pub reply_below : (st : State) → st.now ≢ st.plan.settings.horizon → reply_to st Step ≡ Stepped st.now (row_at st.plan st.now)
+reply_below st below = cond-false (st.now == st.plan.settings.horizon) _ _ (ne_eqb _ _ below)
+
+pub reply_at : (st : State) → st.now ≡ st.plan.settings.horizon → reply_to st Step ≡ Refused AtHorizon
+reply_at st at = cond-true (st.now == st.plan.settings.horizon) _ _ (eq-eqb _ _ at)
+
+step_reply_is : (plan : Plan) (kept kept' : KeptRun) (es es' : List Entry) (caller slot : ℕ) (row : List (Option Pick)) →
+    Steps plan kept kept' es es' caller slot row → Stepped slot row ≡ reply_to (state_of plan kept) Step
+step_reply_is plan kept kept' es es' caller slot row steps =
+    ap₂ (λ t places. Stepped t places) steps.slot_is
+    (steps.row_is ∙ ap₂ (λ rows t. slice_index_or rows t []) steps.stands.of_run.are_rows steps.slot_is)
+    ∙ sym (reply_below (state_of plan kept) steps.below)
+
+step_state_is : (plan : Plan) (kept kept' : KeptRun) (es es' : List Entry) (caller slot : ℕ) (row : List (Option Pick)) →
+    Steps plan kept kept' es es' caller slot row → state_after (state_of plan kept) Step (Stepped slot row) ≡ state_of plan kept'
+step_state_is plan kept kept' es es' caller slot row steps =
+    ap (λ n. record { plan = plan; now = n }) (sym (slots_taken plan (kept.engine.now + 1) kept' steps.stands))
+
+-- Use: what is kept then, and that the machine answers so.
+pub stepped_kept : (plan : Plan) (kept kept' : KeptRun) (es es' : List Entry) (caller slot : ℕ) (row : List (Option Pick)) →
+    Steps plan kept kept' es es' caller slot row → IsKept plan kept' es'
+stepped_kept plan kept kept' es es' caller slot row steps =
+    subst (IsKept plan kept') (sym steps.entered)
+    (kept_entered plan plan kept kept' es (entry_of caller Step (Stepped slot row)) steps.is
+    (record {
+      answer = step_reply_is plan kept kept' es es' caller slot row steps;
+      state = step_state_is plan kept kept' es es' caller slot row steps;
+      stands = subst (λ n. StandsFor plan n kept') (sym (slots_taken plan (kept.engine.now + 1) kept' steps.stands)) steps.stands;
+    }))
+
+pub stepped_answers : (plan : Plan) (kept kept' : KeptRun) (es es' : List Entry) (caller slot : ℕ) (row : List (Option Pick)) →
+    Steps plan kept kept' es es' caller slot row →
+    Answers caller Step (shown_by plan kept es) (Stepped slot row) (shown_by plan kept' es')
+stepped_answers plan kept kept' es es' caller slot row steps = record {
+  answer = step_reply_is plan kept kept' es es' caller slot row steps;
+  entered = steps.entered;
+  state = sym (step_state_is plan kept kept' es es' caller slot row steps);
+}
+
+-- What is kept is of the run over as many slots as there are rows.
+pub kept_of_run : (plan : Plan) (kept : KeptRun) (es : List Entry) → IsKept plan kept es →
+    AreOfRun plan (length kept.rows) kept.rows kept.denials
+kept_of_run plan kept es is =
+    subst (λ n. AreOfRun plan n kept.rows kept.denials) (sym (rows_taken plan kept.engine.now kept is.stands)) is.stands.of_run
+
+snapshot_stands : (plan : Plan) (kept : KeptRun) (es : List Entry) → IsKept plan kept es →
+    StandsForHistory es (record { version = length es; state = record { plan = plan; now = length kept.rows }; rows = kept.rows; denials = kept.denials })
+snapshot_stands plan kept es is = record {
+  legal = is.legal;
+  last = is.last ∙ ap (λ n. record { plan = plan; now = n }) (sym (rows_taken plan kept.engine.now kept is.stands));
+  version = refl;
+  of_run = kept_of_run plan kept es is;
+}
+
+pub seen_stands : (plan : Plan) (kept : KeptRun) (es : List Entry) (version : ℕ) (rows : List (List (Option Pick))) (denials : List Denied) (seen : Seen) →
+    IsKept plan kept es → version ≡ length es → rows ≡ kept.rows → denials ≡ kept.denials →
+    seen ≡ record { version = version; state = record { plan = plan; now = length rows }; rows = rows; denials = denials } →
+    StandsForHistory es seen
+seen_stands plan kept es version rows denials seen is entries of_rows of_denials shows =
+    let same : seen ≡ record { version = length es; state = record { plan = plan; now = length kept.rows }; rows = kept.rows; denials = kept.denials } =
+    shows ∙ (λ i. record { version = entries i; state = record { plan = plan; now = length (of_rows i) }; rows = of_rows i; denials = of_denials i }) in
+    subst (StandsForHistory es) (sym same) (snapshot_stands plan kept es is)

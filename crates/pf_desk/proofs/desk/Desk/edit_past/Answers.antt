@@ -1,0 +1,26 @@
+use Rattle.std.proofs.Common.{◌∙◌, sym}
+use Rattle.pf_desk.proofs.Entering.{Edits, is_desk, edited_kept, edited_answers}
+use Rattle.pf_desk.proofs.desk.Desk.edit_past.Goals as goal
+use Rattle.pf_desk.proofs.desk.Desk.edit_past.Goals.{After-push_reserved}
+
+edits : (c : After-push_reserved) →
+    Edits c.self.inside.scenario c.in_ok-candidate.candidate.scenario c.self.inside.timeline c.in_ok-candidate.candidate.timeline
+    c.self.inside.history.items c.push_reserved.new.self.items c.args.caller c.args.change c.args.strict c.in_ok-candidate.candidate.id
+edits c = record {
+  is = c.self.invariant;
+  faultless = rw (← c.self.view_is) at c.requires.faultless;
+  plan_is = c.in_ok-candidate.ensures.scenario;
+  id_is = c.in_ok-candidate.ensures.id;
+  entered = rw (c.push_reserved.ensures.items, c.in_ok-reserve.ensures.items);
+  stands = c.in_ok-candidate.ensures.stands;
+  none = rw (← c.denials.ensures) (sym c.objection.ensures ∙ c.in_default.is);
+}
+
+pub invariant_of-self-2 : goal.invariant_of-self-2
+invariant_of-self-2 c = edited_kept _ _ _ _ _ _ _ _ _ _ (edits c)
+
+pub returns-clause-ok : goal.returns-clause-ok
+returns-clause-ok c = rw (← c.self.view_is) (edited_answers _ _ _ _ _ _ _ _ _ _ (edits c))
+
+pub returns-clause-desk : goal.returns-clause-desk
+returns-clause-desk c = is_desk _ _ _ (invariant_of-self-2 c)

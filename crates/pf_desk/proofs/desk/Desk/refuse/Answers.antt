@@ -1,0 +1,11 @@
+use Rattle.pf_desk.proofs.Entering.{is_desk, refused_kept}
+use Rattle.pf_desk.proofs.desk.Desk.refuse.Goals as goal
+
+pub invariant_of-self-2 : goal.invariant_of-self-2
+invariant_of-self-2 c =
+    rw c.in_ok-push.ensures.items
+    (refused_kept c.self.inside.scenario c.self.inside.timeline c.self.inside.history.items c.args.caller c.args.command c.args.fault c.self.invariant
+    (rw (← c.self.view_is) at c.requires))
+
+pub returns-clause-desk : goal.returns-clause-desk
+returns-clause-desk c = is_desk _ _ _ (invariant_of-self-2 c)

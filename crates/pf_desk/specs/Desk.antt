@@ -1,0 +1,71 @@
+-- What a desk shows, and what always holds of it.
+use Rattle.std.specs.Prelude.{⊤, ◌≡◌, ◌⊎◌, ◌≤◌, ℕ, Option, IsSome, IfSome, List, [], ◌∷◌, ◌++◌, length, map, All}
+use Rattle.pf_order.specs.declared.pick.Pick.{Pick}
+use Rattle.pf_scenario.specs.Scenario.{touched_slot}
+use Rattle.pf_scenario.specs.Edit.{edit_fault}
+use Rattle.pf_engine.specs.declared.denied.Denied.{Denied}
+use Rattle.pf_engine.specs.RunRows.{AreOfRun}
+use Rattle.pf_desk.specs.declared.command.Command.{Command}
+use Rattle.pf_desk.specs.declared.command.Command.TheVariants.{Edit, Step}
+use Rattle.pf_desk.specs.declared.reply.Reply.{Reply}
+use Rattle.pf_desk.specs.declared.reply.Reply.TheVariants.{Refused}
+use Rattle.pf_desk.specs.declared.entry.Entry.{Entry}
+use Rattle.pf_desk.specs.Machine.{State, reply_to, state_after}
+use Rattle.pf_desk.specs.History.{IsLegalFrom, state_behind, IsLegal, last_state}
+
+-- a desk: its state, the rows and denials that it keeps, and its history
+pub record Shown : Type 0 where
+  pub state : State
+  pub rows : List (List (Option Pick))
+  pub denials : List Denied
+  pub history : List Entry
+
+-- the desk's promise: its history is legal and ends in its state, and its rows and denials are those of the run of
+-- its scenario from slot zero
+pub record IsDesk (d : Shown) : Type 0 where
+  pub legal : IsLegal d.state.plan.settings d.history
+  pub last : last_state d.state.plan.settings d.history ≡ d.state
+  pub of_run : AreOfRun d.state.plan d.state.now d.rows d.denials
+
+abbrev pub entry_of : ℕ → Command → Reply → Entry
+entry_of caller command reply = record { caller = caller; command = command; reply = reply }
+
+-- the desk answered a caller's command as the machine does, entered it, and is then where the machine is
+pub record Answers (caller : ℕ) (command : Command) (before : Shown) (reply : Reply) (after : Shown) : Type 0 where
+  pub answer : reply ≡ reply_to before.state command
+  pub entered : after.history ≡ before.history ++ entry_of caller command reply ∷ []
+  pub state : after.state ≡ state_after before.state command reply
+
+-- the desk answered a caller's commands one after another, each as the machine does, and entered them in order
+pub record AnswersAll (caller : ℕ) (commands : List Command) (before after : Shown) : Type 0 where
+  pub entries : List Entry
+  pub commands_in_order : map (λ e. e.command) entries ≡ commands
+  pub callers : All (λ e. e.caller ≡ caller) entries
+  pub answers : IsLegalFrom before.state entries
+  pub entered : after.history ≡ before.history ++ entries
+  pub state : after.state ≡ state_behind before.state entries
+
+-- a refused command leaves all but the history
+abbrev pub LeavesRest : Reply → Shown → Shown → Type 0
+LeavesRest (Refused fault) before after = after ≡ record before { history = after.history }
+LeavesRest reply before after = ⊤
+
+-- a command that counts no slot: a step at the horizon, an edit with a fault, an edit that touches no slot below now
+abbrev pub IsUncounted : State → Command → Type 0
+IsUncounted st Step = st.now ≡ st.plan.settings.horizon
+IsUncounted st (Edit change strict) =
+    IsSome (edit_fault st.plan change) ⊎ IfSome (touched_slot st.plan change) (λ t. st.now ≤ t)
+
+-- a snapshot: how many entries the history had, and what the desk showed then
+pub record Seen : Type 0 where
+  pub version : ℕ
+  pub state : State
+  pub rows : List (List (Option Pick))
+  pub denials : List Denied
+
+-- the snapshot stands for a history
+pub record StandsForHistory (history : List Entry) (seen : Seen) : Type 0 where
+  pub legal : IsLegal seen.state.plan.settings history
+  pub last : last_state seen.state.plan.settings history ≡ seen.state
+  pub version : seen.version ≡ length history
+  pub of_run : AreOfRun seen.state.plan seen.state.now seen.rows seen.denials

@@ -1,0 +1,17 @@
+pub use Rattle.pf_order.specs.Counts
+pub use Rattle.pf_scenario.specs.System
+pub use Rattle.pf_scenario.specs.Event
+pub use Rattle.pf_scenario.specs.Scenario
+pub use Rattle.pf_scenario.specs.Edit
+pub use Rattle.pf_place.specs.Occupancy
+pub use Rattle.pf_engine.specs.Record
+pub use Rattle.pf_engine.specs.Computed
+pub use Rattle.pf_engine.specs.Laws
+pub use Rattle.pf_engine.specs.RunRows
+pub use Rattle.pf_timeline.specs.Timeline
+pub use Rattle.pf_tally.specs.Lags
+pub use Rattle.pf_tally.specs.Misses
+pub mod Machine
+pub mod History
+pub mod Desk
+pub mod Kept

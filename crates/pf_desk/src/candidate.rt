@@ -1,0 +1,54 @@
+ghost use Rattle.std.specs.Prelude.{◌≡◌, ◌<◌, None, IfOk};
+ghost use Rattle.pf_scenario.specs.Scenario.{changed, concerned, touched_slot};
+ghost use Rattle.pf_scenario.specs.Edit.{edit_fault};
+ghost use Rattle.pf_timeline.specs.Timeline.{StandsFor};
+
+use pf_order::meter::Meter;
+use pf_scenario::apply_fault::ApplyFault;
+use pf_scenario::change::Change;
+use pf_scenario::scenario::Scenario;
+use pf_timeline::timeline::Timeline;
+use std::alloc::AllocError;
+
+/// A changed scenario with its run so far, made apart from the desk's.
+#[derive(Drop)]
+pub struct Candidate {
+    /// The number of the event that the change concerns.
+    pub id: u64,
+    /// The changed scenario.
+    pub scenario: Scenario,
+    /// Its run over as many slots.
+    pub timeline: Timeline,
+}
+
+impl Candidate {
+    /// The candidate of a change without a fault, whose least touched slot `from` is below now.
+    pub fn after(
+        meter: &mut Meter,
+        scenario: &Scenario,
+        timeline: &Timeline,
+        from: u64,
+        change: Change,
+    ) -> Result<Self, AllocError>
+        requires stands { StandsFor scenario.now timeline.now.engine.now timeline.now }
+        requires faultless { edit_fault scenario.now change ≡ None }
+        requires touched { touched_slot scenario.now change ≡ Some from }
+        requires below { from < timeline.now.engine.now }
+        ensures id { IfOk result (λ c. c.id ≡ concerned scenario.now change) }
+        ensures scenario { IfOk result (λ c. c.scenario ≡ changed scenario.now change) }
+        ensures stands { IfOk result (λ c. StandsFor c.scenario timeline.now.engine.now c.timeline) }
+    {
+        let mut changed = scenario.copy()?;
+        let id = match changed.apply(change) {
+            Ok(id) => id,
+            Err(ApplyFault::Refused(_)) => unreachable!(),
+            Err(ApplyFault::NoMemory) => return Err(AllocError),
+        };
+        let timeline = timeline.rewritten(meter, from, &changed)?;
+        Ok(Candidate {
+            id,
+            scenario: changed,
+            timeline,
+        })
+    }
+}

@@ -1,0 +1,379 @@
+ghost use Rattle.std.specs.Prelude.{ℕ, if◌then◌else◌, ◌≡◌, ◌⊎◌, ◌<◌, ◌≤◌, ◌+◌, ◌↔◌, [], length, take, None, IfOk, IfSome, OnOk, OnErr, Some, Err};
+ghost use Rattle.std.specs.List.{slice_get, slice_index_or};
+ghost use Rattle.pf_order.specs.Counts.{one_more};
+ghost use Rattle.pf_scenario.specs.Scenario.{touched_slot};
+ghost use Rattle.pf_scenario.specs.Edit.{edit_fault};
+ghost use Rattle.pf_engine.specs.Computed.{run_of};
+ghost use Rattle.pf_tally.specs.Lags.{lags_of};
+ghost use Rattle.pf_tally.specs.Misses.{misses_of};
+ghost use Rattle.pf_desk.specs.declared.fault.OpenFault.TheVariants.{BadSettings};
+ghost use Rattle.pf_desk.specs.declared.command.Command.TheVariants.{Edit, Step};
+ghost use Rattle.pf_desk.specs.declared.reply.Reply.TheVariants.{Refused};
+ghost use Rattle.pf_desk.specs.declared.reply.Fault.TheVariants.{WouldDeny};
+ghost use Rattle.pf_desk.specs.Machine.{opening_state, reply_to, IsStepped};
+ghost use Rattle.pf_desk.specs.Desk.{IsDesk, Answers, AnswersAll, LeavesRest, IsUncounted, StandsForHistory};
+
+use crate::candidate::Candidate;
+use crate::command::Command;
+use crate::entry::Entry;
+use crate::fault::OpenFault;
+use crate::reply::{Fault, Reply};
+use crate::snapshot::Snapshot;
+use pf_engine::denied::Denied;
+use pf_order::meter::Meter;
+use pf_place::row::Row;
+use pf_place::rows::Rows;
+use pf_scenario::apply_fault::ApplyFault;
+use pf_scenario::change::Change;
+use pf_scenario::scenario::Scenario;
+use pf_scenario::settings::Settings;
+use pf_tally::lag::Lag;
+use pf_tally::miss::Miss;
+use pf_tally::{lags, misses};
+use pf_timeline::fault::{NewFault, StepFault};
+use pf_timeline::timeline::Timeline;
+use std::alloc::{AllocError, Global};
+use std::marker::Model;
+
+/// The planner's desk: a scenario, its run so far, and the history of all commands.
+#[derive(Drop)]
+pub struct Desk {
+    scenario: Scenario,
+    timeline: Timeline,
+    history: Vec<Entry>,
+}
+
+impl Model for Desk {
+    ghost use Rattle.pf_desk.specs.Desk.{Shown};
+    ghost use Rattle.pf_desk.specs.Kept.{shown_by, IsKept};
+
+    ghost Value = { Shown };
+
+    ghost view = { λ d. shown_by d.scenario d.timeline d.history.items };
+
+    ghost invariant = { λ d. IsKept d.scenario d.timeline d.history.items };
+}
+
+impl Desk {
+    /// A desk with these settings, no event, no slot stepped and no history, which keeps a checkpoint at each `every`
+    /// slots (1 to 4,096).
+    pub fn open(alloc: Global, settings: Settings, every: u64) -> Result<Self, OpenFault>
+        ensures bad_settings { (result ≡ Err BadSettings) ↔ ((every ≡ 0) ⊎ (4096 < every)) }
+        ensures value { IfOk result
+            (λ d. d ≡ record { state = opening_state settings; rows = []; denials = []; history = [] }) }
+        ensures desk { IfOk result (λ d. IsDesk d) }
+    {
+        let timeline = match Timeline::new(alloc, settings, every) {
+            Ok(timeline) => timeline,
+            Err(NewFault::BadSettings) => return Err(OpenFault::BadSettings),
+            Err(NewFault::NoMemory) => return Err(OpenFault::NoMemory),
+        };
+        Ok(Desk {
+            scenario: Scenario::new(alloc, settings),
+            timeline,
+            history: Vec::new(alloc),
+        })
+    }
+
+    /// Answers the caller's command as the machine does, and enters it. After an `Err` the desk is as before.
+    pub fn apply(
+        &mut self,
+        meter: &mut Meter,
+        caller: u32,
+        command: Command,
+    ) -> Result<Reply, AllocError>
+        ensures ok { IfOk result (λ reply. Answers caller command self.old reply self.new) }
+        ensures err { OnErr result (self.new ≡ self.old) }
+        ensures desk { IsDesk self.new }
+        ensures refused { IfOk result (λ reply. LeavesRest reply self.old self.new) }
+
+        // A slot that was taken counts one.
+        ensures counted { IfOk result (λ reply. IsStepped reply → meter.new.slots ≡ one_more meter.old.slots) }
+        ensures uncounted { IsUncounted self.old.state command → meter.new ≡ meter.old }
+    {
+        match command {
+            Command::Edit { change, strict } => self.edit(meter, caller, change, strict),
+            Command::Step => self.step(meter, caller),
+        }
+    }
+
+    /// Answers the caller's commands one after another, up to the first want of memory.
+    pub fn apply_all(
+        &mut self,
+        meter: &mut Meter,
+        caller: u32,
+        commands: &[Command],
+    ) -> Result<(), AllocError>
+        ensures ok { OnOk result (AnswersAll caller commands.now self.old self.new) }
+        ensures err { OnErr result
+            ((k : ℕ) × (k < length commands.now) × AnswersAll caller (take k commands.now) self.old self.new) }
+        ensures desk { IsDesk self.new }
+    {
+        // A field is read, so that what holds of every desk is known also where there is no command.
+        let _ = &self.history;
+        for command in commands {
+            let _ = self.apply(meter, caller, *command)?;
+        }
+        Ok(())
+    }
+
+    /// What is planned.
+    pub fn scenario(&self) -> &Scenario
+        ensures { result.now ≡ self.now.state.plan }
+    {
+        &self.scenario
+    }
+
+    /// How many slots were stepped.
+    pub fn now(&self) -> u64
+        ensures value { result ≡ self.now.state.now }
+        ensures desk { IsDesk self.now }
+    {
+        self.timeline.now()
+    }
+
+    /// The rows of the slots below now.
+    pub fn schedule(&self) -> &Rows
+        ensures { result.now ≡ self.now.rows }
+    {
+        self.timeline.rows()
+    }
+
+    /// The denials of the slots below now, in run order.
+    pub fn denials(&self) -> &[Denied]
+        ensures { result.now ≡ self.now.denials }
+    {
+        self.timeline.denials()
+    }
+
+    /// All entries, in the order of the answers.
+    pub fn history(&self) -> &[Entry]
+        ensures value { result.now ≡ self.now.history }
+        ensures desk { IsDesk self.now }
+    {
+        self.history.as_slice()
+    }
+
+    /// How far each task inside is from its fair share, by task number.
+    pub fn lags(&self) -> Result<Vec<Lag>, AllocError>
+        ensures { IfOk result (λ v. v.items ≡ lags_of self.now.state.plan (run_of self.now.state.plan self.now.state.now)) }
+    {
+        lags::lags(
+            *self.history.allocator(),
+            &self.scenario,
+            self.timeline.rows(),
+            self.timeline.denials(),
+        )
+    }
+
+    /// The missed windows, by deadline, then by task number.
+    pub fn misses(&self) -> Result<Vec<Miss>, AllocError>
+        ensures { IfOk result (λ v. v.items ≡ misses_of self.now.state.plan (run_of self.now.state.plan self.now.state.now)) }
+    {
+        misses::misses(
+            *self.history.allocator(),
+            &self.scenario,
+            self.timeline.rows(),
+            self.timeline.denials(),
+        )
+    }
+
+    /// What the desk shows now.
+    pub fn snapshot(&self) -> Result<Snapshot, AllocError>
+        ensures { IfOk result (λ s. StandsForHistory self.now.history s) }
+    {
+        Snapshot::of(
+            *self.history.allocator(),
+            self.history.len() as u64,
+            &self.scenario,
+            self.timeline.rows(),
+            self.timeline.denials(),
+        )
+    }
+
+    /// Takes the next slot.
+    fn step(&mut self, meter: &mut Meter, caller: u32) -> Result<Reply, AllocError>
+        ensures ok { IfOk result (λ reply. Answers caller Step self.old reply self.new) }
+        ensures err { OnErr result (self.new ≡ self.old) }
+        ensures desk { IsDesk self.new }
+        ensures refused { IfOk result (λ reply. LeavesRest reply self.old self.new) }
+        ensures counted { IfOk result (λ reply. IsStepped reply → meter.new.slots ≡ one_more meter.old.slots) }
+        ensures uncounted { self.old.state.now ≡ self.old.state.plan.settings.horizon → meter.new ≡ meter.old }
+    {
+        if self.timeline.now() == self.scenario.settings().horizon() {
+            return self.refuse(caller, Command::Step, Fault::AtHorizon);
+        }
+        let alloc = *self.history.allocator();
+        let processors = self.scenario.settings().processors();
+        let mut row = Row::idle(alloc, processors)?;
+        let mut entered = Row::idle(alloc, processors)?;
+        self.history.reserve(1)?;
+        let slot = self.timeline.now();
+        match self.timeline.step(meter, &self.scenario) {
+            Ok(()) => {}
+            Err(StepFault::AtHorizon) => unreachable!(),
+            Err(StepFault::NoMemory) => return Err(AllocError),
+        }
+        fill(&mut row, self.timeline.rows(), slot);
+        fill(&mut entered, self.timeline.rows(), slot);
+        self.history.push_reserved(Entry {
+            caller,
+            command: Command::Step,
+            reply: Reply::Stepped { slot, row: entered },
+        });
+        Ok(Reply::Stepped { slot, row })
+    }
+
+    /// Makes a change.
+    fn edit(
+        &mut self,
+        meter: &mut Meter,
+        caller: u32,
+        change: Change,
+        strict: bool,
+    ) -> Result<Reply, AllocError>
+        ensures ok { IfOk result (λ reply. Answers caller (Edit change strict) self.old reply self.new) }
+        ensures err { OnErr result (self.new ≡ self.old) }
+        ensures desk { IsDesk self.new }
+        ensures refused { IfOk result (λ reply. LeavesRest reply self.old self.new) }
+        ensures edited { IfOk result (λ reply. ¬ IsStepped reply) }
+        ensures uncounted { IsUncounted self.old.state (Edit change strict) → meter.new ≡ meter.old }
+    {
+        if let Err(fault) = self.scenario.check(&change) {
+            let command = Command::Edit { change, strict };
+            return self.refuse(caller, command, Fault::BadEdit(fault));
+        }
+        match self.scenario.first_slot(&change) {
+            Some(from) if from < self.timeline.now() => self.edit_past(
+                meter, caller, from, change, strict,
+            ),
+            _ => self.edit_ahead(caller, change, strict),
+        }
+    }
+
+    /// Makes a change without a fault that touches no slot below now: the run so far stays.
+    fn edit_ahead(&mut self, caller: u32, change: Change, strict: bool) -> Result<Reply, AllocError>
+        requires faultless { edit_fault self.old.state.plan change ≡ None }
+        requires ahead { IfSome (touched_slot self.old.state.plan change) (λ t. self.old.state.now ≤ t) }
+        ensures ok { IfOk result (λ reply. Answers caller (Edit change strict) self.old reply self.new) }
+        ensures err { OnErr result (self.new ≡ self.old) }
+        ensures desk { IsDesk self.new }
+        ensures refused { IfOk result (λ reply. LeavesRest reply self.old self.new) }
+        ensures edited { IfOk result (λ reply. ¬ IsStepped reply) }
+    {
+        let command = Command::Edit { change, strict };
+        if let Some(denied) = objection(strict, self.timeline.denials()) {
+            return self.deny(caller, command, denied);
+        }
+        self.history.reserve(1)?;
+        let id = match self.scenario.apply(change) {
+            Ok(id) => id,
+            Err(ApplyFault::Refused(_)) => unreachable!(),
+            Err(ApplyFault::NoMemory) => return Err(AllocError),
+        };
+        self.history.push_reserved(Entry {
+            caller,
+            command,
+            reply: Reply::Edited { id },
+        });
+        Ok(Reply::Edited { id })
+    }
+
+    /// Makes a change without a fault whose least touched slot `from` is below now: the run so far is replayed apart.
+    fn edit_past(
+        &mut self,
+        meter: &mut Meter,
+        caller: u32,
+        from: u64,
+        change: Change,
+        strict: bool,
+    ) -> Result<Reply, AllocError>
+        requires faultless { edit_fault self.old.state.plan change ≡ None }
+        requires touched { touched_slot self.old.state.plan change ≡ Some from }
+        requires below { from < self.old.state.now }
+        ensures ok { IfOk result (λ reply. Answers caller (Edit change strict) self.old reply self.new) }
+        ensures err { OnErr result (self.new ≡ self.old) }
+        ensures desk { IsDesk self.new }
+        ensures refused { IfOk result (λ reply. LeavesRest reply self.old self.new) }
+        ensures edited { IfOk result (λ reply. ¬ IsStepped reply) }
+    {
+        let candidate = Candidate::after(meter, &self.scenario, &self.timeline, from, change)?;
+        let command = Command::Edit { change, strict };
+        if let Some(denied) = objection(strict, candidate.timeline.denials()) {
+            return self.deny(caller, command, denied);
+        }
+        self.history.reserve(1)?;
+        let Candidate {
+            id,
+            scenario,
+            timeline,
+        } = candidate;
+        self.scenario = scenario;
+        self.timeline = timeline;
+        self.history.push_reserved(Entry {
+            caller,
+            command,
+            reply: Reply::Edited { id },
+        });
+        Ok(Reply::Edited { id })
+    }
+
+    /// Refuses a strict edit after which this event would be the first denied.
+    fn deny(&mut self, caller: u32, command: Command, denied: Denied) -> Result<Reply, AllocError>
+        requires { reply_to self.old.state command ≡ Refused (WouldDeny denied.id denied.denial) }
+        ensures ok { IfOk result (λ reply. Answers caller command self.old reply self.new) }
+        ensures err { OnErr result (self.new ≡ self.old) }
+        ensures desk { IsDesk self.new }
+        ensures refused { IfOk result (λ reply. LeavesRest reply self.old self.new) }
+        ensures unstepped { IfOk result (λ reply. ¬ IsStepped reply) }
+    {
+        self.refuse(
+            caller,
+            command,
+            Fault::WouldDeny {
+                id: denied.id,
+                denial: denied.denial,
+            },
+        )
+    }
+
+    /// Refuses a command: nothing changes but the history.
+    fn refuse(&mut self, caller: u32, command: Command, fault: Fault) -> Result<Reply, AllocError>
+        requires { reply_to self.old.state command ≡ Refused fault }
+        ensures ok { IfOk result (λ reply. Answers caller command self.old reply self.new) }
+        ensures err { OnErr result (self.new ≡ self.old) }
+        ensures desk { IsDesk self.new }
+        ensures refused { IfOk result (λ reply. LeavesRest reply self.old self.new) }
+        ensures unstepped { IfOk result (λ reply. ¬ IsStepped reply) }
+    {
+        self.history.push(Entry {
+            caller,
+            command,
+            reply: Reply::Refused(fault),
+        })?;
+        Ok(Reply::Refused(fault))
+    }
+}
+
+/// The denial that a strict edit is refused for, where the run so far would have these: the first.
+fn objection(strict: bool, denials: &[Denied]) -> Option<Denied>
+    ensures { result ≡ (if strict then slice_get denials.now 0 else None) }
+{
+    if strict {
+        denials.first().copied()
+    } else {
+        None
+    }
+}
+
+/// Writes the row of a slot into a row of as many places; it takes no memory.
+fn fill(row: &mut Row, rows: &Rows, slot: u64)
+    requires within { slot < length rows.now }
+    requires places { length row.old ≡ length (slice_index_or rows.now slot []) }
+    ensures { row.new ≡ slice_index_or rows.now slot [] }
+{
+    match rows.get(slot) {
+        Some(taken) => row.assign(taken),
+        None => unreachable!(),
+    }
+}

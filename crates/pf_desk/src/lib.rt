@@ -1,0 +1,11 @@
+//! The planner's desk for one caller. Its one contract: after any list of commands its history is legal, and what it
+//! shows is the run from slot zero of the scenario as it now stands.
+#![tactic(auto)]
+
+mod candidate;
+pub mod command;
+pub mod desk;
+pub mod entry;
+pub mod fault;
+pub mod reply;
+pub mod snapshot;

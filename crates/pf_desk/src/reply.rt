@@ -1,0 +1,38 @@
+use pf_admit::denial::Denial;
+use pf_place::row::Row;
+use pf_scenario::fault::EditFault;
+
+/// Why a command was refused.
+#[derive(Clone, Copy, Debug, PartialEq, Eq)]
+pub enum Fault {
+    /// The change has a fault.
+    BadEdit(EditFault),
+    /// A step with now at the horizon.
+    AtHorizon,
+    /// A strict edit after which the run so far would have denials: the first in run order.
+    WouldDeny {
+        /// The number of the event that would be denied.
+        id: u64,
+        /// Why.
+        denial: Denial,
+    },
+}
+
+/// What a command is answered.
+#[derive(Debug, Drop)]
+pub enum Reply {
+    /// The change was made.
+    Edited {
+        /// The number of the event concerned.
+        id: u64,
+    },
+    /// The slot was taken.
+    Stepped {
+        /// The slot.
+        slot: u64,
+        /// Who runs where in it.
+        row: Row,
+    },
+    /// Nothing changed but the history.
+    Refused(Fault),
+}

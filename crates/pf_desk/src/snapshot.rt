@@ -1,0 +1,132 @@
+ghost use Rattle.std.specs.Prelude.{◌≡◌, length, IfOk};
+ghost use Rattle.std.specs.List.{slice_get};
+ghost use Rattle.std.specs.Option.{option_copied};
+ghost use Rattle.pf_engine.specs.Computed.{run_of};
+ghost use Rattle.pf_engine.specs.RunRows.{AreOfRun};
+ghost use Rattle.pf_tally.specs.Lags.{lags_of};
+ghost use Rattle.pf_tally.specs.Misses.{misses_of};
+
+use pf_engine::denied::Denied;
+use pf_place::row::Row;
+use pf_place::rows::Rows;
+use pf_scenario::event::Numbered;
+use pf_scenario::scenario::Scenario;
+use pf_scenario::settings::Settings;
+use pf_tally::lag::Lag;
+use pf_tally::miss::Miss;
+use pf_tally::{lags, misses};
+use std::alloc::{AllocError, Global};
+use std::marker::Model;
+
+/// What a desk showed at one point of its history.
+#[derive(Debug, Drop)]
+pub struct Snapshot {
+    version: u64,
+    scenario: Scenario,
+    rows: Rows,
+    denials: Vec<Denied>,
+}
+
+impl Model for Snapshot {
+    ghost use Rattle.std.specs.Prelude.{length};
+    ghost use Rattle.pf_engine.specs.RunRows.{AreOfRun};
+    ghost use Rattle.pf_desk.specs.Desk.{Seen};
+
+    ghost Value = { Seen };
+
+    ghost view = { λ s. record { version = s.version; state = record { plan = s.scenario; now = length s.rows }; rows = s.rows; denials = s.denials.items } };
+
+    ghost invariant = { λ s. AreOfRun s.scenario (length s.rows) s.rows s.denials.items };
+}
+
+impl Snapshot {
+    /// The snapshot of a history of `version` entries that ends in this scenario with these rows and denials.
+    pub(crate) fn of(
+        alloc: Global,
+        version: u64,
+        scenario: &Scenario,
+        rows: &Rows,
+        denials: &[Denied],
+    ) -> Result<Self, AllocError>
+        requires { AreOfRun scenario.now (length rows.now) rows.now denials.now }
+        ensures { IfOk result
+            (λ s. s ≡ record { version = version; state = record { plan = scenario.now; now = length rows.now }; rows = rows.now; denials = denials.now }) }
+    {
+        let scenario = scenario.copy()?;
+        let rows = rows.copy()?;
+        let denials = Vec::from_slice(alloc, denials)?;
+        Ok(Snapshot {
+            version,
+            scenario,
+            rows,
+            denials,
+        })
+    }
+
+    /// How many entries the history had.
+    pub fn version(&self) -> u64
+        ensures { result ≡ self.now.version }
+    {
+        self.version
+    }
+
+    /// How many slots were stepped.
+    pub fn now(&self) -> u64
+        ensures value { result ≡ self.now.state.now }
+        ensures of_run { AreOfRun self.now.state.plan self.now.state.now self.now.rows self.now.denials }
+    {
+        self.rows.len() as u64
+    }
+
+    /// What the scenario was set in.
+    pub fn settings(&self) -> Settings
+        ensures { result ≡ self.now.state.plan.settings }
+    {
+        self.scenario.settings()
+    }
+
+    /// The events held, by number.
+    pub fn events(&self) -> &[Numbered]
+        ensures { result.now ≡ self.now.state.plan.events }
+    {
+        self.scenario.events()
+    }
+
+    /// Who runs where in slot t; none where t is not below now.
+    pub fn row(&self, t: u64) -> Option<&Row>
+        ensures { option_copied result ≡ slice_get self.now.rows t }
+    {
+        self.rows.get(t)
+    }
+
+    /// The denials of the slots below now, in run order.
+    pub fn denials(&self) -> &[Denied]
+        ensures { result.now ≡ self.now.denials }
+    {
+        self.denials.as_slice()
+    }
+
+    /// How far each task inside is from its fair share, by task number.
+    pub fn lags(&self) -> Result<Vec<Lag>, AllocError>
+        ensures { IfOk result (λ v. v.items ≡ lags_of self.now.state.plan (run_of self.now.state.plan self.now.state.now)) }
+    {
+        lags::lags(
+            *self.denials.allocator(),
+            &self.scenario,
+            &self.rows,
+            &self.denials,
+        )
+    }
+
+    /// The missed windows, by deadline, then by task number.
+    pub fn misses(&self) -> Result<Vec<Miss>, AllocError>
+        ensures { IfOk result (λ v. v.items ≡ misses_of self.now.state.plan (run_of self.now.state.plan self.now.state.now)) }
+    {
+        misses::misses(
+            *self.denials.allocator(),
+            &self.scenario,
+            &self.rows,
+            &self.denials,
+        )
+    }
+}

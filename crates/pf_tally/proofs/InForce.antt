@@ -1,0 +1,155 @@
+-- The events in force: how they are found, and what is known of them.
+use Rattle.std.proofs.Common.{◌≡◌, ℕ, zero, suc, ◌+◌, ◌<◌, ◌≤◌, Bool, true, false, not, ◌||◌, ◌==◌, nat_lt, cond, Result, Ok, Err, List, [], ◌∷◌, ◌++◌, length, map, filter, get_or, count_by, All, AllPairs, ⊎_elim, refl, sym, ap, ap₂, ◌∙◌, arith}
+use Rattle.std.specs.List.{list_any}
+use Rattle.std.specs.List.Sorted.{IsNonDecreasing, IsBinarySearchResult}
+use Rattle.std.specs.Ordering.{nat_cmp, is_lt}
+use Rattle.std.specs.Result.{is_ok}
+use Rattle.std.proofs.lemmas.Bool.{cases_lt, eqb-true, ne_eqb, eq-eqb}
+use Rattle.std.proofs.lemmas.Bool.Decides.{nat_tests}
+use Rattle.std.proofs.lemmas.List.{length-append, get_or_default}
+use Rattle.std.proofs.lemmas.List.Elements.{All-filter, Contains-get_or, filter_agree, filter-append}
+use Rattle.std.proofs.lemmas.List.Folds.{list_any_at, list_any_none}
+use Rattle.std.proofs.lemmas.List.Kept.{AllPairs-filter}
+use Rattle.std.proofs.lemmas.List.Sums.{sum_by-cons, length-filter, count_by-le-length}
+use Rattle.std.proofs.lemmas.List.Sorted.{searched, list_any-IsPermutation}
+use Rattle.pf_scenario.specs.Event.{slot_of, is_of, run_cmp, placed, in_run_order}
+use Rattle.pf_scenario.specs.Scenario.{Plan, events_of, past}
+use Rattle.pf_scenario.specs.Edit.{IsScenario, most_events}
+use Rattle.pf_scenario.specs.declared.event.Numbered.{Numbered}
+use Rattle.pf_engine.specs.declared.denied.Denied.{Denied}
+use Rattle.pf_engine.specs.Record.{is_denied, in_force}
+use Rattle.pf_engine.proofs.Containing.{pairs_append, pairs_tail}
+use Rattle.pf_engine.proofs.Joins.{contains_events_of, past_below, joins_once_in_force}
+use Rattle.pf_tally.specs.Log.{RiseFrom, IsLog}
+use Rattle.pf_tally.specs.Standing.{AreNumbersOf}
+use Rattle.pf_tally.proofs.Turns.{in_force_limits}
+
+-- what a search among rising numbers says
+pub among_from_search : (numbers : List ℕ) (id : ℕ) (r : Result ℕ ℕ) → IsNonDecreasing numbers → IsBinarySearchResult (λ y. nat_cmp y id) numbers r →
+    is_ok r ≡ list_any (λ n. n == id) numbers
+among_from_search numbers id (Ok i) rising h =
+    let at = searched numbers id (Ok i) h (λ i j before within. rising i j 0 before within) in
+    sym (list_any_at (λ n. n == id) numbers i 0 at.0 (eq-eqb _ _ at.1))
+among_from_search numbers id (Err i) rising h =
+    let cut = searched numbers id (Err i) h (λ i j before within. rising i j 0 before within) in
+    sym (list_any_none (λ n. n == id) numbers (λ k d within. ne_eqb _ _ (λ e. ⊎_elim
+    (λ below. let low : get_or numbers k 0 < id = cut.1 k below in let same : get_or numbers k d ≡ get_or numbers k 0 = get_or_default numbers k d 0 within in omega arith)
+    (λ above. let high : id < get_or numbers k 0 = cut.2 k above within in let same : get_or numbers k d ≡ get_or numbers k 0 = get_or_default numbers k d 0 within in omega arith)
+    (cases_lt k i))))
+
+-- an event is denied where its number is among those of the denials
+denied_among : (denials : List Denied) (x : Numbered) → list_any (λ n. n == x.id) (map (λ (d : Denied). d.id) denials) ≡ is_denied denials x
+denied_among [] x = refl
+denied_among (d ∷ denials) x = ap (λ b. (d.id == x.id) || b) (denied_among denials x)
+
+pub kept_in_force : (denials : List Denied) (numbers : List ℕ) (xs : List Numbered) → AreNumbersOf denials numbers →
+    filter (λ x. not (list_any (λ n. n == x.id) numbers)) xs ≡ in_force denials xs
+unfolding in_force
+kept_in_force denials numbers xs are =
+    filter_agree (λ x. not (list_any (λ n. n == x.id) numbers)) (λ x. not (is_denied denials x))
+    (λ x. ap not (sym (list_any-IsPermutation (λ n. n == x.id) (map (λ (d : Denied). d.id) denials) numbers are.same) ∙ denied_among denials x)) xs
+
+pub in_force-append : (denials : List Denied) (xs ys : List Numbered) → in_force denials (xs ++ ys) ≡ in_force denials xs ++ in_force denials ys
+unfolding in_force
+in_force-append denials xs ys = filter-append (λ x. not (is_denied denials x)) xs ys
+
+pub in_force_none : (denials : List Denied) → in_force denials [] ≡ []
+unfolding in_force
+in_force_none denials = refl
+
+-- the events of the next slot
+pub standing_more : (s : Plan) (denials : List Denied) (numbers used : List ℕ) (t u : ℕ) (xs ys zs : List Numbered) → AreNumbersOf denials numbers → used ≡ numbers →
+    xs ≡ in_force denials (past s t) → ys ≡ events_of s t → u ≡ t + 1 →
+    zs ≡ xs ++ filter (λ x. not (list_any (λ n. n == x.id) used)) ys → zs ≡ in_force denials (past s u)
+standing_more s denials numbers used t u xs ys zs are same of_xs of_ys next is =
+    is ∙ ap₂ (λ a b. a ++ b) of_xs (ap (λ ns. filter (λ x. not (list_any (λ n. n == x.id) ns)) ys) same ∙ kept_in_force denials numbers ys are ∙ ap (in_force denials) of_ys)
+    ∙ sym (in_force-append denials (past s t) (events_of s t))
+    ∙ ap (λ n. in_force denials (past s n)) (let z : suc t ≡ u = omega arith in z)
+
+-- the events of a past rise by slot
+past_rises : (s : Plan) (t : ℕ) → AllPairs (λ x y. slot_of x.event ≤ slot_of y.event) (past s t)
+past_rises s zero = λ i j d before within. absurd (omega arith)
+past_rises s (suc t) =
+    pairs_append (λ x y. slot_of x.event ≤ slot_of y.event) (past s t) (events_of s t) (past_rises s t)
+    (λ i j d before within.
+    let of_i = contains_events_of s t (get_or (events_of s t) i d) (Contains-get_or (events_of s t) i d (omega arith)) in
+    let of_j = contains_events_of s t (get_or (events_of s t) j d) (Contains-get_or (events_of s t) j d within) in
+    omega (arith, eqb-true _ _ of_i.1, eqb-true _ _ of_j.1))
+    (λ x y early last.
+    let below : slot_of x.event < t = past_below s t x early in
+    let is : slot_of y.event ≡ t = eqb-true _ _ (contains_events_of s t y last).1 in
+    omega arith)
+
+rise_from_pairs : (u : ℕ) (xs : List Numbered) → AllPairs (λ x y. slot_of x.event ≤ slot_of y.event) xs → All (λ x. u ≤ slot_of x.event) xs → RiseFrom u xs
+rise_from_pairs u [] pairs low = tt
+rise_from_pairs u (x ∷ xs) pairs low = (
+  low 0 x (omega arith),
+  rise_from_pairs (slot_of x.event) xs (pairs_tail (λ x y. slot_of x.event ≤ slot_of y.event) x xs pairs)
+      (λ k d within. pairs 0 (suc k) d (omega arith) (omega arith)),
+)
+
+-- there are no more of them than events
+either_length : (b : Bool) (x y : Numbered) (ys zs : List Numbered) → length zs ≡ suc (length ys) →
+    length (cond b (x ∷ y ∷ ys) (y ∷ zs)) ≡ suc (length (y ∷ ys))
+either_length true x y ys zs e = refl
+either_length false x y ys zs e = ap suc e
+
+placed_length : (x : Numbered) (xs : List Numbered) → length (placed x xs) ≡ suc (length xs)
+placed_length x [] = refl
+placed_length x (y ∷ ys) = either_length (is_lt (run_cmp x y)) x y ys (placed x ys) (placed_length x ys)
+
+in_run_order_length : (xs : List Numbered) → length (in_run_order xs) ≡ length xs
+in_run_order_length [] = refl
+in_run_order_length (x ∷ xs) = placed_length x (in_run_order xs) ∙ ap suc (in_run_order_length xs)
+
+events_length : (s : Plan) (t : ℕ) → length (events_of s t) ≡ count_by (is_of t) s.events
+unfolding events_of
+events_length s t = in_run_order_length (filter (is_of t) s.events) ∙ length-filter (is_of t) s.events
+
+one_more_slot : (t : ℕ) (x : Numbered) → cond (nat_lt (slot_of x.event) t) 1 0 + cond (is_of t x) 1 0 ≡ cond {A = ℕ} (nat_lt (slot_of x.event) (suc t)) 1 0
+one_more_slot t x = grind (arith, nat_tests)
+
+slots_count : (t : ℕ) (xs : List Numbered) → count_by (λ x. nat_lt (slot_of x.event) t) xs + count_by (is_of t) xs ≡ count_by (λ x. nat_lt (slot_of x.event) (suc t)) xs
+slots_count t [] = refl
+slots_count t (x ∷ xs) = omega (
+  arith,
+  sum_by-cons (λ x. cond (nat_lt (slot_of x.event) t) 1 0) x xs,
+  sum_by-cons (λ x. cond (is_of t x) 1 0) x xs,
+  sum_by-cons (λ x. cond (nat_lt (slot_of x.event) (suc t)) 1 0) x xs,
+  one_more_slot t x,
+  slots_count t xs,
+)
+
+past_length : (s : Plan) (t : ℕ) → length (past s t) ≤ count_by (λ x. nat_lt (slot_of x.event) t) s.events
+past_length s zero = omega arith
+past_length s (suc t) = omega (arith, length-append (past s t) (events_of s t), past_length s t, events_length s t, slots_count t s.events)
+
+in_force_length : (denials : List Denied) (xs : List Numbered) → length (in_force denials xs) ≤ length xs
+unfolding in_force
+in_force_length denials xs = omega (arith, length-filter (λ x. not (is_denied denials x)) xs, count_by-le-length (λ x. not (is_denied denials x)) xs)
+
+in_force_below : (s : Plan) (n : ℕ) (denials : List Denied) → All (λ x. slot_of x.event < n) (in_force denials (past s n))
+unfolding in_force
+in_force_below s n denials =
+    All-filter (λ x. not (is_denied denials x)) (λ x. slot_of x.event < n) (past s n)
+    (λ k d within. past_below s n (get_or (past s n) k d) (Contains-get_or (past s n) k d within))
+
+in_force_rises : (s : Plan) (n : ℕ) (denials : List Denied) → RiseFrom 0 (in_force denials (past s n))
+unfolding in_force
+in_force_rises s n denials =
+    rise_from_pairs 0 (filter (λ x. not (is_denied denials x)) (past s n))
+    (AllPairs-filter (λ x y. slot_of x.event ≤ slot_of y.event) (λ x. not (is_denied denials x)) (past s n) (past_rises s n))
+    (λ k d within. omega arith)
+
+-- Use: what the events in force are.
+pub standing_is_log : (s : Plan) (n : ℕ) (denials : List Denied) → IsScenario s → n ≤ s.settings.horizon → IsLog s.settings n (in_force denials (past s n))
+standing_is_log s n denials scenario within = record {
+  settings = scenario.settings;
+  within = within;
+  rise = in_force_rises s n denials;
+  limits = in_force_limits s n denials scenario;
+  below = in_force_below s n denials;
+  few = let few : length s.events ≤ most_events = scenario.few in
+      omega (arith, in_force_length denials (past s n), past_length s n, count_by-le-length (λ x. nat_lt (slot_of x.event) n) s.events);
+  joins_once = joins_once_in_force s n denials scenario;
+}

@@ -1,0 +1,138 @@
+-- What is known of the tasks that the events of a log bring.
+use Rattle.std.proofs.Common.{◌≡◌, ℕ, ◌*◌, ◌/◌, ◌%◌, ◌^◌, ◌<◌, ◌≤◌, Bool, true, false, ◌==◌, ◌&&◌, nat_lt, nat_le, cond, Option, None, Some, List, length, get_or, filter_map, All, Contains, ⊎_elim, refl, ap, subst, arith}
+use Rattle.std.specs.Option.{option_map}
+use Rattle.std.proofs.Math.Nat.{mul-le-mul_right, mul-le-mul_left}
+use Rattle.std.proofs.lemmas.Bool.{leb-true, and_parts}
+use Rattle.std.proofs.lemmas.Bool.Decides.{nat_tests}
+use Rattle.std.proofs.lemmas.List.Elements.{All-contains}
+use Rattle.pf_weight.specs.Share.{IsShare, IsBase, share_of}
+use Rattle.pf_weight.specs.Weighed.{weight_fault}
+use Rattle.pf_weight.specs.declared.fault.WeightFault.{WeightFault}
+use Rattle.pf_scenario.specs.System.{System, IsSystem}
+use Rattle.pf_scenario.specs.Event.{slot_of}
+use Rattle.pf_scenario.specs.Edit.{IsEvent, or_else, unless}
+use Rattle.pf_scenario.specs.declared.fault.EditFault.{EditFault}
+use Rattle.pf_scenario.specs.declared.fault.EditFault.TheVariants.{SlotOutOfRange, TaskOutOfRange, EarlyOutOfRange, DelayOutOfRange, CountOutOfRange, BadWeight}
+use Rattle.pf_scenario.specs.declared.event.Event.{Event}
+use Rattle.pf_scenario.specs.declared.event.Event.TheVariants.{Join, Leave, Delay, Limit}
+use Rattle.pf_scenario.specs.declared.event.Numbered.{Numbered}
+use Rattle.std.specs.Prelude.{not}
+use Rattle.std.specs.List.Sorted.{IsNonDecreasing}
+use Rattle.std.proofs.lemmas.List.Sums.{count_by-le-length}
+use Rattle.pf_engine.specs.Record.{Slot, runs}
+use Rattle.pf_engine.specs.Inside.{Joined, joined_by, join_of, has_left, inside}
+use Rattle.pf_engine.proofs.Containing.{from_filter}
+use Rattle.pf_tally.specs.Log.{IsLog}
+use Rattle.pf_tally.specs.Held.{delayed, CanTally}
+use Rattle.pf_tally.specs.Quanta.{slots_of}
+use Rattle.pf_tally.proofs.Places.{places_rise, length_places}
+use Rattle.pf_tally.proofs.Subs.{from_filter_map}
+
+or_none : (f g : Option EditFault) → or_else f g ≡ None → (f ≡ None) × (g ≡ None)
+or_none None g is = (refl, is)
+or_none (Some f) g is = cc
+
+unless_none : (b : Bool) (f : EditFault) → unless b f ≡ None → b ≡ true
+unless_none true f is = refl
+unless_none false f is = cc
+
+-- of the tests that an event passes: its task's number, its delay and its weight
+parts_of : (a b c d e : Bool) (w : Option EditFault) →
+    or_else (unless a SlotOutOfRange) (or_else (unless b TaskOutOfRange) (or_else (unless c EarlyOutOfRange)
+    (or_else (unless d DelayOutOfRange) (or_else (unless e CountOutOfRange) (or_else w None))))) ≡ None →
+    (b ≡ true) × (d ≡ true) × (w ≡ None)
+parts_of a b c d e w is =
+    let rest = (or_none (unless a SlotOutOfRange) (or_else (unless b TaskOutOfRange) (or_else (unless c EarlyOutOfRange) (or_else (unless d DelayOutOfRange) (or_else (unless e CountOutOfRange) (or_else w None))))) is).1 in
+    let of_b = or_none (unless b TaskOutOfRange) (or_else (unless c EarlyOutOfRange) (or_else (unless d DelayOutOfRange) (or_else (unless e CountOutOfRange) (or_else w None)))) rest in
+    let of_c = or_none (unless c EarlyOutOfRange) (or_else (unless d DelayOutOfRange) (or_else (unless e CountOutOfRange) (or_else w None))) of_b.1 in
+    let of_d = or_none (unless d DelayOutOfRange) (or_else (unless e CountOutOfRange) (or_else w None)) of_c.1 in
+    let of_e = or_none (unless e CountOutOfRange) (or_else w None) of_d.1 in
+    (unless_none b TaskOutOfRange of_b.0, unless_none d DelayOutOfRange of_d.0, (or_none w None of_e.1).0)
+
+map_none : (f : WeightFault → EditFault) (o : Option WeightFault) → option_map f o ≡ None → o ≡ None
+map_none f None is = refl
+map_none f (Some x) is = cc
+
+weighed_parts : (base cost period : ℕ) → weight_fault base cost period ≡ None → (1 ≤ cost) × (cost ≤ period) × (base % period ≡ 0)
+weighed_parts base cost period is = (grind (arith, nat_tests), grind (arith, nat_tests), grind (arith, nat_tests))
+
+share_is : (base cost period : ℕ) → IsBase base → weight_fault base cost period ≡ None → IsShare (share_of base cost period)
+share_is base cost period of_base is =
+    let parts = weighed_parts base cost period is in
+    let some : 1 ≤ cost = parts.0 in
+    let within : cost ≤ period = parts.1 in
+    let whole : base % period ≡ 0 = parts.2 in
+    let all : period * (base / period) ≡ base = omega arith in
+    let low : 1 ≤ base = of_base.some in
+    let high : base ≤ 2 ^ 30 = of_base.within in
+    let q = base / period in
+    let most : cost * q ≤ period * q = mul-le-mul_right q within in
+    let least : 1 * q ≤ cost * q = mul-le-mul_right q some in
+    let q_some : 1 ≤ q = grind (arith, all, low) in
+    let short : period * 1 ≤ period * q = mul-le-mul_left period q_some in
+    record { some = some; within = within; short = omega arith; units_some = omega arith; units_within = omega arith }
+
+-- the parts of a join within its limits
+record IsJoin (base : ℕ) (event : Event) (j : Joined) : Type 0 where
+  pub some : 1 ≤ j.task
+  pub number : j.task ≤ 4095
+  pub share : IsShare j.weight
+  pub slot : j.slot ≡ slot_of event
+
+joined_is : (system : System) (event : Event) (j : Joined) → IsSystem system → IsEvent system event → joined_by system.base event ≡ Some j → IsJoin system.base event j
+joined_is system (Join slot task cost period early) j of_system within is =
+    let joined : Joined = record { task = task; slot = slot; weight = share_of system.base cost period; early = early } in
+    let same : joined ≡ j = cc in
+    let parts = parts_of (nat_lt slot system.horizon) (nat_le 1 task && nat_le task 4095) (nat_le early (2 ^ 20)) true true (option_map (λ f. BadWeight f) (weight_fault system.base cost period)) within in
+    let number = and_parts (nat_le 1 task) (nat_le task 4095) parts.0 in
+    let P : Joined → Type 0 = IsJoin system.base (Join slot task cost period early) in
+    subst P same (record {
+      some = leb-true 1 task number.0;
+      number = leb-true task 4095 number.1;
+      share = share_is system.base cost period of_system.limits.base (map_none (λ f. BadWeight f) (weight_fault system.base cost period) parts.2);
+      slot = refl;
+    })
+joined_is system (Leave slot task) j of_system within is = cc
+joined_is system (Delay slot task by) j of_system within is = cc
+joined_is system (Limit slot count) j of_system within is = cc
+
+delay_short : (system : System) (j : Joined) (event : Event) → IsEvent system event → delayed j event ≤ 2 ^ 20
+delay_short system j (Delay slot task by) within =
+    let parts = parts_of (nat_lt slot system.horizon) (nat_le 1 task && nat_le task 4095) true (nat_le 1 by && nat_le by (2 ^ 20)) true None within in
+    let short = leb-true by (2 ^ 20) (and_parts (nat_le 1 by) (nat_le by (2 ^ 20)) parts.1).1 in
+    one_or_none (task == j.task) short
+  where
+    one_or_none : (b : Bool) → by ≤ 2 ^ 20 → cond b by 0 ≤ 2 ^ 20
+    one_or_none true short = short
+    one_or_none false short = omega arith
+delay_short system j (Join slot task cost period early) within = omega arith
+delay_short system j (Leave slot task) within = omega arith
+delay_short system j (Limit slot count) within = omega arith
+
+horizon_within : (system : System) → IsSystem system → system.horizon ≤ 2 ^ 22
+horizon_within system of_system = ⊎_elim (λ near. omega (arith, near)) (λ wide. omega (arith, wide)) of_system.horizon
+
+-- Use: what is known of a task that joined.
+pub can_tally : (system : System) (n : ℕ) (xs : List Numbered) (j : Joined) (r : List Slot) (ran : List ℕ) → IsLog system n xs →
+    Contains (filter_map (join_of system.base) xs) j → length r ≡ n → slots_of r j.task ≡ ran → CanTally j ran xs n
+can_tally system n xs j r ran log at long of_ran =
+    let g = from_filter_map (join_of system.base) xs j at in
+    let join = joined_is system g.giver.event j log.settings (All-contains (λ x. IsEvent system x.event) xs g.giver log.limits g.stands) g.gives in
+    let before : slot_of g.giver.event < n = All-contains (λ x. slot_of x.event < n) xs g.giver log.below g.stands in
+    let most = horizon_within system log.settings in
+    let short : All (λ x. delayed j x.event ≤ 2 ^ 20) xs = λ k d within. delay_short system j (get_or xs k d).event (log.limits k d within) in
+    record {
+      number = join.number;
+      share = join.share;
+      joined = omega (arith, join.slot);
+      ran_rise = let P : List ℕ → Type 0 = IsNonDecreasing in subst P of_ran (places_rise (runs j.task) 0 r);
+      ran_within = omega (arith, ap length of_ran, length_places (runs j.task) 0 r, count_by-le-length (runs j.task) r);
+      within = omega (arith, log.within);
+      rise = log.rise;
+      delays = record { joined = omega (arith, join.slot, log.within); short = short; few = log.few };
+    }
+
+-- those inside have joined
+pub inside_joined : (base : ℕ) (xs : List Numbered) (j : Joined) → Contains (inside base xs) j → Contains (filter_map (join_of base) xs) j
+unfolding inside
+inside_joined base xs j at = (from_filter (λ j. not (has_left xs j.task)) (filter_map (join_of base) xs) j at).0

@@ -1,0 +1,220 @@
+-- The ledger of a run, and what it says of a task.
+use Rattle.std.proofs.Common.{◌≡◌, ℕ, ◌+◌, ◌<◌, ◌≤◌, ◌≢◌, false, ◌&&◌, nat_le, Option, Some, List, [], ◌∷◌, ◌++◌, length, take, map, get_or, filter_map, All, AllPairs, Contains, IsPermutation, refl, sym, ap, ap₂, ◌∙◌, subst, arith}
+use Rattle.std.proofs.lemmas.List.{map_more, take_all, take_more, get_or_default, flat_map_more}
+use Rattle.std.proofs.lemmas.List.Elements.{Contains-get_or}
+use Rattle.std.proofs.lemmas.List.Sorted.{IsPermutation-sym, Contains-permutation}
+use Rattle.std.specs.List.{flat_map}
+use Rattle.std.specs.List.Sorted.{IsSortedBy}
+use Rattle.std.specs.Ordering.{is_lt}
+use Rattle.std.proofs.lemmas.Bool.{eqb-false}
+use Rattle.pf_weight.specs.Share.{IsShare, share_of}
+use Rattle.pf_order.specs.declared.pick.Pick.{Pick}
+use Rattle.pf_scenario.specs.Scenario.{Plan, past}
+use Rattle.pf_scenario.specs.Edit.{IsScenario, join_alike}
+use Rattle.pf_scenario.specs.declared.event.Event.{Event}
+use Rattle.pf_scenario.specs.declared.event.Event.TheVariants.{Join}
+use Rattle.pf_scenario.specs.System.{System}
+use Rattle.pf_scenario.specs.declared.event.Numbered.{Numbered}
+use Rattle.pf_engine.specs.declared.denied.Denied.{Denied}
+use Rattle.pf_engine.specs.Record.{Slot, in_force}
+use Rattle.pf_engine.specs.Inside.{Joined, joined_by, join_of, inside}
+use Rattle.pf_engine.specs.Run.{standing}
+use Rattle.pf_engine.specs.Computed.{run_of}
+use Rattle.pf_engine.specs.RunRows.{AreOfRun, rows_in, denials_in}
+use Rattle.pf_engine.proofs.Runs.{computed_length}
+use Rattle.pf_tally.specs.Lags.{by_task, lag_of, lags_of}
+use Rattle.pf_engine.proofs.Containing.{pairs_filter_map}
+use Rattle.pf_tally.specs.Held.{CanTally, next_in, held_from}
+use Rattle.pf_tally.specs.Late.{late_misses, CanMiss}
+use Rattle.pf_tally.specs.Misses.{leaves_after, misses_of_task, miss_cmp, in_miss_order, misses_of}
+use Rattle.pf_tally.specs.declared.held.Held.{Held}
+use Rattle.pf_tally.specs.declared.miss.Miss.{Miss}
+use Rattle.pf_tally.specs.Ledger.{IsLedger}
+use Rattle.pf_tally.specs.Log.{IsLog}
+use Rattle.pf_tally.specs.Noted.{slots_at, IsRow, IsTableOf}
+use Rattle.pf_tally.specs.Quanta.{slots_of, slots_in}
+use Rattle.pf_tally.specs.declared.lag.Lag.{Lag}
+use Rattle.pf_tally.specs.declared.ledger.Ledger.{Ledger}
+use Rattle.pf_tally.proofs.InForce.{standing_is_log}
+use Rattle.pf_tally.proofs.Joined.{can_tally, inside_joined}
+use Rattle.pf_tally.proofs.Delays.{chain_from, held_chain, next_in_rises}
+use Rattle.pf_tally.proofs.Holding.{next_is}
+use Rattle.pf_tally.proofs.Missing.{misses_same, misses_sorted}
+use Rattle.pf_tally.proofs.Tallies.{by_task_keeps, all_small}
+use Rattle.pf_tally.proofs.Turns.{rows_of_run, slots_seated}
+
+pub rows_known : (s : Plan) (m : ℕ) (rows : List (List (Option Pick))) (denials : List Denied) → AreOfRun s (length rows) rows denials → m ≡ s.settings.processors → All (IsRow m) rows
+rows_known s m rows denials are is =
+    let P : List (List (Option Pick)) → Type 0 = All (IsRow m) in
+    let Q : ℕ → Type 0 = λ m. All (IsRow m) (rows_in s (length rows)) in
+    subst P (sym are.are_rows) (subst Q (sym is) (rows_of_run s (length rows) are.scenario))
+
+known_denials : (s : Plan) (n : ℕ) (denials : List Denied) → denials ≡ denials_in s n → in_force denials (past s n) ≡ standing s (run_of s n) n
+unfolding denials_in
+known_denials s n denials is = ap (λ ds. in_force ds (past s n)) is
+
+pub ledger_made : (s : Plan) (rows : List (List (Option Pick))) (denials : List Denied) (ledger : Ledger) → AreOfRun s (length rows) rows denials →
+    ledger.settings ≡ s.settings → ledger.now ≡ length rows → ledger.events.items ≡ in_force denials (past s (length rows)) → IsTableOf rows ledger.table.items →
+    IsLedger s (length rows) ledger
+ledger_made s rows denials ledger are settings now events table =
+    let n = length rows in
+    let P : List Numbered → Type 0 = IsLog s.settings n in
+    record {
+      scenario = are.scenario;
+      settings = settings;
+      now = now;
+      slots = computed_length s n are.scenario;
+      events = events ∙ known_denials s n denials are.are_denials;
+      log = subst P (sym events) (standing_is_log s n denials are.scenario are.within);
+      long = table.long;
+      table = λ task within. table.each task within ∙ ap (λ rows. slots_in rows task) are.are_rows ∙ slots_seated s n task are.scenario;
+    }
+
+-- what is known of a task of the ledger
+pub known_task : (s : Plan) (n : ℕ) (ledger : Ledger) (system : System) (now : ℕ) (j : Joined) (ran : List ℕ) → IsLedger s n ledger → system ≡ ledger.settings → now ≡ ledger.now →
+    Contains (filter_map (join_of system.base) ledger.events.items) j → ran ≡ slots_of (run_of s n) j.task → CanTally j ran ledger.events.items now
+known_task s n ledger system now j ran known of_system of_now at of_ran =
+    let same : system ≡ s.settings = of_system ∙ known.settings in
+    let e : n ≡ now = sym (of_now ∙ known.now) in
+    let P : ℕ → Type 0 = λ n. CanTally j ran ledger.events.items n in
+    let Q : System → Type 0 = λ system. Contains (filter_map (join_of system.base) ledger.events.items) j in
+    subst P e (can_tally s.settings n ledger.events.items j (run_of s n) ran known.log (subst Q same at) known.slots (sym of_ran))
+
+-- a task inside has joined
+pub inside_known : (base : ℕ) (xs : List Numbered) (tasks : List Joined) (k : ℕ) (d : Joined) → tasks ≡ by_task (inside base xs) → k < length tasks →
+    Contains (filter_map (join_of base) xs) (get_or tasks k d)
+inside_known base xs tasks k d is within =
+    let j = get_or tasks k d in
+    let P : List Joined → Type 0 = λ js. Contains js j in
+    inside_joined base xs j
+    (Contains-permutation (by_task (inside base xs)) (inside base xs) j (IsPermutation-sym (inside base xs) (by_task (inside base xs)) (by_task_keeps (inside base xs)))
+    (subst P is (Contains-get_or tasks k d within)))
+
+pub lags_known : (s : Plan) (n : ℕ) (ledger : Ledger) (lags : List Lag) (tasks : List Joined) (k : ℕ) → IsLedger s n ledger → tasks ≡ by_task (inside ledger.settings.base ledger.events.items) →
+    lags ≡ map (lag_of (run_of s n) ledger.events.items) (take k tasks) → length tasks ≤ k → lags ≡ lags_of s (run_of s n)
+unfolding lags_of
+lags_known s n ledger lags tasks k known of_tasks of_lags over =
+    of_lags ∙ ap (map (lag_of (run_of s n) ledger.events.items)) (take_all k tasks over ∙ of_tasks)
+    ∙ ap₂ (λ (xs : List Numbered) base. map (lag_of (run_of s n) xs) (by_task (inside base xs))) (known.events ∙ ap (standing s (run_of s n)) (sym known.slots)) (ap (λ settings. settings.base) known.settings)
+
+-- a step over the tasks inside
+module _ (s : Plan) (n : ℕ) (ledger : Ledger) (known : IsLedger s n ledger) (tasks : List Joined) (of_tasks : tasks ≡ by_task (inside ledger.settings.base ledger.events.items)) where
+  step_joined : (k : ℕ) (j : Joined) → k < length tasks → j ≡ get_or tasks k j → Contains (filter_map (join_of ledger.settings.base) ledger.events.items) j
+  step_joined k j within is =
+      let P : Joined → Type 0 = Contains (filter_map (join_of ledger.settings.base) ledger.events.items) in
+      subst P (sym is) (inside_known ledger.settings.base ledger.events.items tasks k j of_tasks within)
+
+  pub step_room : (k : ℕ) (j : Joined) (table : List (List ℕ)) → k < length tasks → j ≡ get_or tasks k j → table ≡ ledger.table.items → j.task < length table
+  step_room k j table within is of_table =
+      let can = known_task s n ledger ledger.settings ledger.now j (slots_of (run_of s n) j.task) known refl refl (step_joined k j within is) refl in
+      omega (arith, can.number, ap length of_table, known.long)
+
+  ran_is_slots : (task : ℕ) (ran : List ℕ) (table : List (List ℕ)) → table ≡ ledger.table.items → ran ≡ slots_at table task → task ≤ 4095 → ran ≡ slots_of (run_of s n) task
+  ran_is_slots task ran table of_table of_ran number = of_ran ∙ ap (λ table. slots_at table task) of_table ∙ known.table task (omega arith)
+
+  step_ran : (k : ℕ) (j : Joined) (ran : List ℕ) (table : List (List ℕ)) → k < length tasks → j ≡ get_or tasks k j → table ≡ ledger.table.items → ran ≡ slots_at table j.task →
+      ran ≡ slots_of (run_of s n) j.task
+  step_ran k j ran table within is of_table of_ran =
+      let can = known_task s n ledger ledger.settings ledger.now j (slots_of (run_of s n) j.task) known refl refl (step_joined k j within is) refl in
+      ran_is_slots j.task ran table of_table of_ran can.number
+
+  pub step_can : (k : ℕ) (j : Joined) (ran : List ℕ) (table : List (List ℕ)) (events : List Numbered) → k < length tasks → j ≡ get_or tasks k j → table ≡ ledger.table.items →
+      ran ≡ slots_at table j.task → events ≡ ledger.events.items → CanTally j ran events ledger.now
+  step_can k j ran table events within is of_table of_ran of_events =
+      let P : List Numbered → Type 0 = λ xs. CanTally j ran xs ledger.now in
+      subst P (sym of_events) (known_task s n ledger ledger.settings ledger.now j ran known refl refl (step_joined k j within is) (step_ran k j ran table within is of_table of_ran))
+
+  pub step_lag : (k : ℕ) (j : Joined) (ran : List ℕ) (table : List (List ℕ)) (events : List Numbered) (lag : Lag) (lags after : List Lag) → k < length tasks → j ≡ get_or tasks k j →
+      table ≡ ledger.table.items → ran ≡ slots_at table j.task → events ≡ ledger.events.items →
+      ((r : List Slot) → length r ≡ ledger.now → slots_of r j.task ≡ ran → lag ≡ lag_of r events j) →
+      after ≡ lags ++ lag ∷ [] → lags ≡ map (lag_of (run_of s n) ledger.events.items) (take k tasks) → after ≡ map (lag_of (run_of s n) ledger.events.items) (take (k + 1) tasks)
+  step_lag k j ran table events lag lags after within is of_table of_ran of_events of_lag push before =
+      let f = lag_of (run_of s n) ledger.events.items in
+      let this : lag ≡ f j = of_lag (run_of s n) (known.slots ∙ sym known.now) (sym (step_ran k j ran table within is of_table of_ran)) ∙ ap (λ xs. lag_of (run_of s n) xs j) of_events in
+      push ∙ ap₂ (λ xs y. xs ++ y ∷ []) before (this ∙ ap f is) ∙ sym (map_more f tasks k j within)
+
+-- The misses.
+joins_carry : (base : ℕ) (x y : Event) (a b : Joined) → joined_by base x ≡ Some a → joined_by base y ≡ Some b → join_alike x y ≡ false → a.task ≢ b.task
+joins_carry base (Join slot task cost period early) (Join slot' task' cost' period' early') a b is_a is_b apart same =
+    let first : Joined = record { task = task; slot = slot; weight = share_of base cost period; early = early } in
+    let second : Joined = record { task = task'; slot = slot'; weight = share_of base cost' period'; early = early' } in
+    let e : first ≡ a = cc in
+    let f : second ≡ b = cc in
+    eqb-false task task' apart (ap (λ j. j.task) e ∙ same ∙ sym (ap (λ j. j.task) f))
+joins_carry base (Join slot task cost period early) y a b is_a is_b apart same = cc
+joins_carry base x y a b is_a is_b apart same = cc
+
+pub can_miss : (j : Joined) (ran : List ℕ) (xs : List Numbered) (n : ℕ) (held : List Held) → CanTally j ran xs n → held ≡ held_from (next_in ran) j j.slot xs → CanMiss j held n
+can_miss j ran xs n held can is =
+    let P : List Held → Type 0 = λ held. CanMiss j held n in
+    subst P (sym is) (record {
+      number = can.number;
+      share = can.share;
+      joined = can.delays.joined;
+      within = can.within;
+      chain = chain_from 0 (next_in ran 0) j.slot (held_from (next_in ran) j j.slot xs) (omega arith) (held_chain (next_in ran) (next_in_rises ran) j 0 j.slot xs can.rise);
+      small = all_small j ran xs n can;
+    })
+
+pub task_noted : (j : Joined) (ran : List ℕ) (xs : List Numbered) (n last : ℕ) (held : List Held) (old new : List Miss) → held ≡ held_from (next_in ran) j j.slot xs →
+    ((t : ℕ) → nat_le t last ≡ (nat_le t n && leaves_after xs j t)) → new ≡ old ++ late_misses j ran held last n →
+    (s : Plan) → IsScenario s → length (run_of s n) ≡ n → ran ≡ slots_of (run_of s n) j.task → new ≡ old ++ misses_of_task (run_of s n) xs j
+task_noted j ran xs n last held old new of_held of_last is s scenario long of_ran =
+    let of_next = of_held ∙ ap (λ next. held_from next j j.slot xs) (next_is (run_of s n) j ran (sym of_ran)) in
+    is ∙ ap (λ ms. old ++ ms) (sym (misses_same s n scenario long xs j ran held last of_ran of_next of_last))
+
+-- a step over the tasks that joined
+module _ (s : Plan) (n : ℕ) (ledger : Ledger) (known : IsLedger s n ledger) (tasks : List Joined) (of_tasks : tasks ≡ filter_map (join_of ledger.settings.base) ledger.events.items) where
+  joined_at : (k : ℕ) (j : Joined) → k < length tasks → j ≡ get_or tasks k j → Contains (filter_map (join_of ledger.settings.base) ledger.events.items) j
+  joined_at k j within is =
+      let P : List Joined → Type 0 = λ js. Contains js j in
+      let Q : Joined → Type 0 = Contains tasks in
+      subst P of_tasks (subst Q (sym is) (Contains-get_or tasks k j within))
+
+  joined_can : (k : ℕ) (j : Joined) → k < length tasks → j ≡ get_or tasks k j → CanTally j (slots_of (run_of s n) j.task) ledger.events.items ledger.now
+  joined_can k j within is = known_task s n ledger ledger.settings ledger.now j (slots_of (run_of s n) j.task) known refl refl (joined_at k j within is) refl
+
+  pub miss_room : (k : ℕ) (j : Joined) (table : List (List ℕ)) → k < length tasks → j ≡ get_or tasks k j → table ≡ ledger.table.items → j.task < length table
+  miss_room k j table within is of_table = let can = joined_can k j within is in omega (arith, can.number, ap length of_table, known.long)
+
+  miss_ran : (k : ℕ) (j : Joined) (ran : List ℕ) (table : List (List ℕ)) → k < length tasks → j ≡ get_or tasks k j → table ≡ ledger.table.items → ran ≡ slots_at table j.task →
+      ran ≡ slots_of (run_of s n) j.task
+  miss_ran k j ran table within is of_table of_ran =
+      let can = joined_can k j within is in
+      of_ran ∙ ap (λ table. slots_at table j.task) of_table ∙ known.table j.task (omega (arith, can.number))
+
+  pub miss_can : (k : ℕ) (j : Joined) (ran : List ℕ) (table : List (List ℕ)) (events : List Numbered) → k < length tasks → j ≡ get_or tasks k j → table ≡ ledger.table.items →
+      ran ≡ slots_at table j.task → events ≡ ledger.events.items → CanTally j ran events ledger.now
+  miss_can k j ran table events within is of_table of_ran of_events =
+      let P : List Numbered → Type 0 = λ xs. CanTally j ran xs ledger.now in
+      subst P (sym of_events) (known_task s n ledger ledger.settings ledger.now j ran known refl refl (joined_at k j within is) (miss_ran k j ran table within is of_table of_ran))
+
+  pub miss_step : (k : ℕ) (j : Joined) (ran : List ℕ) (table : List (List ℕ)) (events : List Numbered) (misses after : List Miss) → k < length tasks → j ≡ get_or tasks k j →
+      table ≡ ledger.table.items → ran ≡ slots_at table j.task → events ≡ ledger.events.items →
+      ((s : Plan) → IsScenario s → length (run_of s ledger.now) ≡ ledger.now → ran ≡ slots_of (run_of s ledger.now) j.task → after ≡ misses ++ misses_of_task (run_of s ledger.now) events j) →
+      misses ≡ flat_map (misses_of_task (run_of s n) ledger.events.items) (take k tasks) → after ≡ flat_map (misses_of_task (run_of s n) ledger.events.items) (take (k + 1) tasks)
+  miss_step k j ran table events misses after within is of_table of_ran of_events of_misses before =
+      let f = misses_of_task (run_of s n) ledger.events.items in
+      let e : ledger.now ≡ n = known.now in
+      let this = of_misses s known.scenario (let P : ℕ → Type 0 = λ n. length (run_of s n) ≡ n in subst P (sym e) known.slots)
+      (miss_ran k j ran table within is of_table of_ran ∙ ap (λ n. slots_of (run_of s n) j.task) (sym e)) in
+      this ∙ ap₂ (λ n xs. misses ++ misses_of_task (run_of s n) xs j) e of_events
+      ∙ ap₂ (λ ms x. ms ++ f x) before is
+      ∙ flat_map_more f [] (take k tasks) (get_or tasks k j)
+      ∙ ap (flat_map f) (sym (take_more tasks k j within))
+
+  pub misses_known : (misses sorted : List Miss) (k : ℕ) → misses ≡ flat_map (misses_of_task (run_of s n) ledger.events.items) (take k tasks) → length tasks ≤ k →
+      IsPermutation misses sorted → IsSortedBy (λ x y. is_lt (miss_cmp x y)) sorted → sorted ≡ misses_of s (run_of s n)
+  unfolding misses_of
+  misses_known misses sorted k of_misses over same up =
+      let f = misses_of_task (run_of s n) ledger.events.items in
+      let e : misses ≡ flat_map f tasks = of_misses ∙ ap (flat_map f) (take_all k tasks over) in
+      let shares : All (λ j. IsShare j.weight) tasks = λ k d within. (joined_can k (get_or tasks k d) within (get_or_default tasks k d (get_or tasks k d) within)).share in
+      let Q : List Joined → Type 0 = λ js. AllPairs (λ a b. a.task ≢ b.task) js in
+      let differ = subst Q (sym of_tasks)
+      (pairs_filter_map (λ x y. join_alike x.event y.event ≡ false) (λ a b. a.task ≢ b.task) (join_of ledger.settings.base)
+      (λ x y a b is_a is_b apart. joins_carry ledger.settings.base x.event y.event a b is_a is_b apart) ledger.events.items known.log.joins_once) in
+      misses_sorted (run_of s n) ledger.events.items tasks misses sorted shares differ e same up
+      ∙ ap (λ js. in_miss_order (flat_map f js)) of_tasks
+      ∙ ap₂ (λ (xs : List Numbered) base. in_miss_order (flat_map (misses_of_task (run_of s n) xs) (filter_map (join_of base) xs)))
+      (known.events ∙ ap (standing s (run_of s n)) (sym known.slots)) (ap (λ settings. settings.base) known.settings)

@@ -1,0 +1,15 @@
+pub mod Examples
+pub mod Sorts
+pub mod Places
+pub mod Turns
+pub mod Subs
+pub mod Windows
+pub mod Delays
+pub mod Chains
+pub mod InForce
+pub mod Noting
+pub mod Holding
+pub mod Tallies
+pub mod Joined
+pub mod Ledgers
+pub mod Missing

@@ -1,0 +1,133 @@
+-- Each row is noted of the tasks that sit in it.
+use Rattle.std.proofs.Common.{◌≡◌, ◌≢◌, ℕ, zero, suc, ◌+◌, ◌-◌, ◌<◌, ◌≤◌, Bool, true, false, ◌||◌, ◌==◌, cond, Option, None, Some, List, [], ◌∷◌, ◌++◌, length, take, get_or, All, Contains, ⊎_elim, refl, sym, ap, ap₂, ◌∙◌, subst, arith}
+use Rattle.std.specs.List.{slice_get}
+use Rattle.std.specs.Option.{option_map_or}
+use Rattle.std.proofs.lemmas.Bool.{cases_eq, cases_lt, ne_eqb, eq-eqb, or_from}
+use Rattle.std.proofs.lemmas.List.{append-nil, length-set, length_push, get_or_append_left, get_or-append_right, get_or-set_same, get_or-set_other, take_all, take_more, length-take-le}
+use Rattle.std.proofs.lemmas.List.Folds.{list_any_more}
+use Rattle.pf_order.specs.declared.pick.Pick.{Pick}
+use Rattle.pf_place.specs.Occupancy.{sitter, sitters, is_seated, NoTaskTwice}
+use Rattle.pf_engine.proofs.Containing.{contains_head, contains_tail, pairs_head, pairs_tail}
+use Rattle.pf_tally.specs.Noted.{IsRow, slots_at, noted, AreNoted, IsEmptyTable, IsTableOf}
+use Rattle.pf_tally.proofs.Places.{places_push}
+
+-- who sits on a place sits on none before it
+sits_among : (row : List (Option Pick)) (p : ℕ) (pick : Pick) → p < length row → get_or row p None ≡ Some pick → Contains (sitters row) pick
+sits_among [] p pick within is = absurd (omega arith)
+sits_among (None ∷ row) zero pick within is = cc
+sits_among (Some q ∷ row) zero pick within is = let same : q ≡ pick = cc in subst (Contains (q ∷ sitters row)) same (contains_head q (sitters row))
+sits_among (None ∷ row) (suc p) pick within is = sits_among row p pick (omega arith) is
+sits_among (Some q ∷ row) (suc p) pick within is = contains_tail q (sitters row) pick (sits_among row p pick (omega arith) is)
+
+not_before : (row : List (Option Pick)) (p : ℕ) (pick : Pick) → NoTaskTwice (sitters row) → p < length row → get_or row p None ≡ Some pick →
+    is_seated (take p row) pick.task ≡ false
+not_before row zero pick once within is = refl
+not_before [] (suc p) pick once within is = refl
+not_before (None ∷ row) (suc p) pick once within is = not_before row p pick once (omega arith) is
+not_before (Some q ∷ row) (suc p) pick once within is =
+    or_from _ _
+    (ne_eqb q.task pick.task (pairs_head (λ p q. p.task ≢ q.task) q (sitters row) pick once (sits_among row p pick (omega arith) is)))
+    (not_before row p pick (pairs_tail (λ p q. p.task ≢ q.task) q (sitters row) once) (omega arith) is)
+
+pub none_noted : (table : List (List ℕ)) (row : List (Option Pick)) (t : ℕ) → AreNoted table table (take 0 row) t
+none_noted table row t = record { long = refl; each = λ task within. sym (append-nil (slots_at table task)) }
+
+seated_more : (row : List (Option Pick)) (p : ℕ) (o : Option Pick) (task : ℕ) → p < length row → get_or row p None ≡ o →
+    is_seated (take (p + 1) row) task ≡ (is_seated (take p row) task || option_map_or (λ q. q.task == task) o false)
+seated_more row p o task within is =
+    list_any_more (λ place. option_map_or (λ q. q.task == task) place false) row p None within
+    ∙ ap (λ o. is_seated (take p row) task || option_map_or (λ q. q.task == task) o false) is
+
+or_false : (b : Bool) → (b || false) ≡ b
+or_false true = refl
+or_false false = refl
+
+-- an idle place
+pub idle_noted : (old new : List (List ℕ)) (row : List (Option Pick)) (t p : ℕ) → p < length row → None ≡ sitter row p →
+    AreNoted old new (take p row) t → AreNoted old new (take (p + 1) row) t
+idle_noted old new row t p within is before = record {
+  long = before.long;
+  each = λ task inside. before.each task inside
+      ∙ ap (λ b. slots_at old task ++ cond b (t ∷ []) []) (sym (seated_more row p None task within (sym is) ∙ or_false (is_seated (take p row) task)));
+}
+
+-- a place with a pick
+pub pick_noted : (old new : List (List ℕ)) (row : List (Option Pick)) (t p : ℕ) (pick : Pick) (after : List (List ℕ)) → NoTaskTwice (sitters row) →
+    p < length row → Some pick ≡ sitter row p → AreNoted old new (take p row) t → after ≡ noted new pick.task t → AreNoted old after (take (p + 1) row) t
+pick_noted old new row t p pick after once within is before e =
+    let P : List (List ℕ) → Type 0 = λ table. AreNoted old table (take (p + 1) row) t in
+    subst P (sym e) (record {
+      long = length-set new pick.task (slots_at new pick.task ++ t ∷ []) ∙ before.long;
+      each = λ task inside. ⊎_elim
+          (λ same.
+          let at_task : pick.task < length new = omega (arith, before.long) in
+          let here : is_seated (take (p + 1) row) task ≡ true =
+          seated_more row p (Some pick) task within (sym is)
+          ∙ ap₂ (λ a b. a || b) (ap (is_seated (take p row)) (sym same) ∙ not_before row p pick once within (sym is)) (eq-eqb pick.task task same) in
+          let none : is_seated (take p row) task ≡ false = ap (is_seated (take p row)) (sym same) ∙ not_before row p pick once within (sym is) in
+          ap (slots_at (noted new pick.task t)) (sym same)
+          ∙ get_or-set_same new pick.task (slots_at new pick.task ++ t ∷ []) [] at_task
+          ∙ ap (λ k. slots_at new k ++ t ∷ []) same
+          ∙ ap (λ xs. xs ++ t ∷ []) (before.each task inside ∙ ap (λ b. slots_at old task ++ cond b (t ∷ []) []) none ∙ append-nil (slots_at old task))
+          ∙ ap (λ b. slots_at old task ++ cond b (t ∷ []) []) (sym here))
+          (λ differ.
+          get_or-set_other new pick.task task (slots_at new pick.task ++ t ∷ []) [] (λ e. differ (sym e))
+          ∙ before.each task inside
+          ∙ ap (λ b. slots_at old task ++ cond b (t ∷ []) [])
+          (sym (seated_more row p (Some pick) task within (sym is) ∙ ap (λ b. is_seated (take p row) task || b) (ne_eqb pick.task task differ) ∙ or_false (is_seated (take p row) task))))
+          (cases_eq pick.task task);
+    })
+
+pub all_noted : (old new : List (List ℕ)) (row : List (Option Pick)) (t p : ℕ) → length row ≤ p → AreNoted old new (take p row) t → AreNoted old new row t
+all_noted old new row t p over before = let P : List (Option Pick) → Type 0 = λ places. AreNoted old new places t in subst P (take_all p row over) before
+
+-- before any row, and after one more
+pub no_table : (rows : List (List (Option Pick))) (table : List (List ℕ)) → IsEmptyTable 4096 table → IsTableOf (take 0 rows) table
+no_table rows table empty = record { long = empty.long; each = λ task within. empty.each task }
+
+pub empty_none : (table : List (List ℕ)) → table ≡ [] → IsEmptyTable 0 table
+empty_none table is = let P : List (List ℕ) → Type 0 = IsEmptyTable 0 in subst P (sym is) (record { long = refl; each = λ task. refl })
+
+one_empty : (k : ℕ) → slots_at ([] ∷ []) k ≡ []
+one_empty zero = refl
+one_empty (suc k) = refl
+
+pub empty_more : (old new : List (List ℕ)) (slots : List ℕ) (n m : ℕ) → slots ≡ [] → new ≡ old ++ slots ∷ [] → m ≡ n + 1 → IsEmptyTable n old → IsEmptyTable m new
+empty_more old new slots n m none is next empty =
+    let P : List (List ℕ) → Type 0 = IsEmptyTable m in
+    subst P (sym (is ∙ ap (λ slots. old ++ slots ∷ []) none)) (record {
+      long = omega (arith, length_push old [], empty.long);
+      each = λ task. ⊎_elim
+          (λ below. get_or_append_left old ([] ∷ []) [] task below ∙ empty.each task)
+          (λ past. get_or-append_right old ([] ∷ []) (length old) task [] refl past ∙ one_empty (task - length old))
+          (cases_lt task (length old));
+    })
+
+pub table_more : (rows : List (List (Option Pick))) (old new : List (List ℕ)) (row : List (Option Pick)) (t : ℕ) → t < length rows → get_or rows t row ≡ row →
+    IsTableOf (take t rows) old → AreNoted old new row t → IsTableOf (take (t + 1) rows) new
+table_more rows old new row t within is table more =
+    let P : List (List (Option Pick)) → Type 0 = λ rows. IsTableOf rows new in
+    subst P (sym (take_more rows t row within ∙ ap (λ row. take t rows ++ row ∷ []) is)) (record {
+      long = more.long ∙ table.long;
+      each = λ task inside.
+          more.each task (omega (arith, table.long))
+          ∙ ap (λ slots. slots ++ cond (is_seated row task) (t ∷ []) []) (table.each task inside)
+          ∙ sym (places_push (λ row. is_seated row task) 0 t (take t rows) row (omega (arith, length-take-le t rows (let h : t ≤ length rows = omega arith in h))));
+    })
+
+pub all_table : (rows : List (List (Option Pick))) (table : List (List ℕ)) (t : ℕ) → length rows ≤ t → IsTableOf (take t rows) table → IsTableOf rows table
+all_table rows table t over is = let P : List (List (Option Pick)) → Type 0 = λ rows. IsTableOf rows table in subst P (take_all t rows over) is
+
+-- what a look-up gives
+pub got_at : {X : Type 0} (xs : List X) (t : ℕ) (x : X) → Some x ≡ slice_get xs t → get_or xs t x ≡ x
+got_at [] t x is = cc
+got_at (y ∷ xs) zero x is = cc
+got_at (y ∷ xs) (suc t) x is = got_at xs t x is
+
+pub got_none : {X : Type 0} (xs : List X) (t : ℕ) → t < length xs → None ≡ slice_get xs t → ⊥
+got_none [] t within is = absurd (omega arith)
+got_none (y ∷ xs) zero within is = cc
+got_none (y ∷ xs) (suc t) within is = got_none xs t (omega arith) is
+
+pub row_at : (m : ℕ) (rows : List (List (Option Pick))) (t : ℕ) (row : List (Option Pick)) → All (IsRow m) rows → t < length rows → get_or rows t row ≡ row → IsRow m row
+row_at m rows t row all within is = let P : List (Option Pick) → Type 0 = IsRow m in subst P is (all t row within)

@@ -1,0 +1,15 @@
+use Rattle.std.proofs.Common.{◌∙◌, ap}
+use Rattle.pf_scenario.specs.Scenario.{past}
+use Rattle.pf_engine.specs.Record.{in_force}
+use Rattle.pf_tally.proofs.Ledgers.{rows_known, ledger_made}
+use Rattle.pf_tally.proofs.ledger.make_ledger.Goals as goal
+
+pub quanta_by_task-requires : goal.quanta_by_task-requires
+quanta_by_task-requires c =
+    rows_known c.args.scenario.now _ c.args.rows.now c.args.denials.now c.requires
+    (c.processors.ensures.value ∙ ap (λ settings. settings.processors) c.settings-settings.ensures.value)
+
+pub returns : goal.returns
+returns c =
+    ledger_made c.args.scenario.now c.args.rows.now c.args.denials.now _ c.requires c.settings-settings.ensures.value c.len-now.ensures
+    (c.in_ok-events.ensures ∙ ap (λ n. in_force c.args.denials.now (past c.args.scenario.now n)) c.len-now.ensures) c.in_ok-table.ensures

@@ -1,0 +1,6 @@
+use Rattle.std.proofs.Common.{take}
+use Rattle.pf_tally.specs.Noted.{AreNoted}
+use Rattle.pf_tally.proofs.quanta.note_row.Given as goal
+
+abbrev pub invariant-loop-processor : goal.invariant-loop-processor
+invariant-loop-processor l = AreNoted l.initial.table.items l.table.items (take l.processor l.row) l.t

@@ -1,0 +1,21 @@
+-- What a tally of a scenario's run rests on.
+use Rattle.std.specs.Prelude.{◌≡◌, ℕ, ◌<◌, length}
+use Rattle.pf_scenario.specs.Scenario.{Plan}
+use Rattle.pf_scenario.specs.Edit.{IsScenario}
+use Rattle.pf_engine.specs.Run.{standing}
+use Rattle.pf_engine.specs.Computed.{run_of}
+use Rattle.pf_tally.specs.Log.{IsLog}
+use Rattle.pf_tally.specs.Noted.{slots_at}
+use Rattle.pf_tally.specs.Quanta.{slots_of}
+use Rattle.pf_tally.specs.declared.ledger.Ledger.{Ledger}
+
+-- the ledger is of the scenario's run over n slots
+pub record IsLedger (s : Plan) (n : ℕ) (ledger : Ledger) : Type 0 where
+  pub scenario : IsScenario s
+  pub settings : ledger.settings ≡ s.settings
+  pub now : ledger.now ≡ n
+  pub slots : length (run_of s n) ≡ n
+  pub events : ledger.events.items ≡ standing s (run_of s n) n
+  pub log : IsLog s.settings n ledger.events.items
+  pub long : length ledger.table.items ≡ 4096
+  pub table : (task : ℕ) → task < 4096 → slots_at ledger.table.items task ≡ slots_of (run_of s n) task

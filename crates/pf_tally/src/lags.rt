@@ -1,0 +1,85 @@
+ghost use Rattle.std.specs.Prelude.{◌≡◌, ◌^◌, ◌≤◌, pos, ◌*◌, ◌-ℤ◌, length, List, IfOk};
+ghost use Rattle.pf_engine.specs.Record.{Slot};
+ghost use Rattle.pf_engine.specs.Computed.{run_of};
+ghost use Rattle.pf_engine.specs.RunRows.{AreOfRun};
+ghost use Rattle.pf_tally.specs.Quanta.{slots_of};
+ghost use Rattle.pf_tally.specs.Held.{CanTally};
+ghost use Rattle.pf_tally.specs.Lags.{lag_of, lags_of};
+
+use crate::admitted::Admitted;
+use crate::clock::clock_at;
+use crate::held::held_delays;
+use crate::inside::tasks_inside;
+use crate::lag::Lag;
+use crate::ledger::{make_ledger, slots_ran};
+use pf_engine::denied::Denied;
+use pf_place::rows::Rows;
+use pf_scenario::event::Numbered;
+use pf_scenario::scenario::Scenario;
+use std::alloc::{AllocError, Global};
+
+/// The lag of a task of this clock that received so many quanta.
+fn lag_at(task: Admitted, clock: u64, received: u64) -> Lag
+    requires number { task.task ≤ 4095 }
+    requires clock { clock ≤ 2 ^ 22 }
+    requires received { received ≤ 2 ^ 22 }
+    ensures { result ≡ record {
+      task = task.task;
+      cost = task.weight.cost;
+      period = task.weight.period;
+      received = received;
+      scaled = pos (task.weight.cost * clock) -ℤ pos (task.weight.period * received);
+    } }
+{
+    let cost = task.weight.cost();
+    let period = task.weight.period();
+    let owed = cost * clock;
+    let had = period * received;
+    Lag {
+        task: task.task as u32,
+        cost,
+        period,
+        received,
+        scaled: owed as i64 - had as i64,
+    }
+}
+
+/// The lag of a task that ran in the slots `ran`, after `now` slots.
+fn lag_of_task(
+    alloc: Global,
+    task: Admitted,
+    ran: &[u64],
+    events: &[Numbered],
+    now: u64,
+) -> Result<Lag, AllocError>
+    requires { CanTally task ran.now events.now now }
+    ensures { (r : List Slot) → length r ≡ now → slots_of r task.task ≡ ran.now → IfOk result (λ lag. lag ≡ lag_of r events.now task) }
+{
+    let delays = held_delays(alloc, task, ran, events)?;
+    let clock = clock_at(task, &delays, now);
+    Ok(lag_at(task, clock, ran.len() as u64))
+}
+
+/// The lags of the tasks inside after the slots of these rows, by task number. The rows and the denials are those of
+/// the scenario's run.
+///
+/// Fails only where memory is refused.
+pub fn lags(
+    alloc: Global,
+    scenario: &Scenario,
+    rows: &Rows,
+    denials: &[Denied],
+) -> Result<Vec<Lag>, AllocError>
+    requires { AreOfRun scenario.now (length rows.now) rows.now denials.now }
+    ensures { IfOk result (λ v. v.items ≡ lags_of scenario.now (run_of scenario.now (length rows.now))) }
+{
+    let ledger = make_ledger(alloc, scenario, rows, denials)?;
+    let tasks = tasks_inside(alloc, ledger.settings, &ledger.events)?;
+    let mut lags = Vec::with_capacity(alloc, tasks.len())?;
+    for task in &tasks {
+        let ran = slots_ran(&ledger.table, *task);
+        let lag = lag_of_task(alloc, *task, ran, &ledger.events, ledger.now)?;
+        lags.push(lag)?;
+    }
+    Ok(lags)
+}
