@@ -9,3 +9,5 @@ pub mod entry;
 pub mod fault;
 pub mod reply;
 pub mod snapshot;
+#[cfg(test)]
+mod tests;
