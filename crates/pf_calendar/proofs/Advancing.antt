@@ -1,0 +1,243 @@
+-- The due lists are merged into the ready one.
+use Rattle.std.proofs.Common.{◌≡◌, ◌≢◌, ℕ, ◌+◌, ◌<◌, ◌≤◌, true, cond, eqb, ltb, leb, List, [], ◌∷◌, ◌++◌, map, length, get_or, take, drop, refl, sym, ap, ◌∙◌, subst, arith, ⊎_elim}
+use Rattle.std.specs.Prelude.{sum_by, All}
+use Rattle.std.proofs.lemmas.Bool.{cases_lt, cases_eq, le-leb, lt-leb, lt-ltb, le-ltb, ne_eqb, eq-eqb}
+use Rattle.std.proofs.lemmas.List.{take-map, drop-map, length-take-le, length-drop, length-append, get_or-take, get_or-drop, get_or_default, get_or-map, length-map}
+use Rattle.std.proofs.lemmas.List.Elements.{All-append, All-drop, All-take}
+use Rattle.std.proofs.lemmas.List.Sums.{sum_by-cons, sum_by-take-drop}
+use Rattle.std.specs.Ordering.{nat_cmp}
+use Rattle.std.specs.FinSet as fin
+use Rattle.std.specs.FinSet.{len-empty}
+use Rattle.std.specs.FinMap as finmap
+use Rattle.std.specs.FinMap.Entries.{is_sorted}
+use Rattle.pf_order.specs.Priority.{Priority, key_cmp}
+use Rattle.pf_heap.specs.Keys.{Keys, Heaps, list_of}
+use Rattle.pf_calendar.specs.declared.entry.Entry.{Entry}
+use Rattle.pf_calendar.specs.Queues.{all_of, until, later, due, count_of}
+use Rattle.pf_calendar.specs.Invariant.{lists_in, waiting_in, names_of, times, IsLaidOut}
+use Rattle.pf_calendar.specs.Steps.{MergesAll}
+use Rattle.pf_calendar.proofs.Naming.{no_entry, times-cons, times-append, times-take-drop, at_named, named_at, name_at, length-names, lists_same, length-lists, slot_at, one_of}
+use Rattle.pf_calendar.proofs.Sets.{has_none, union_cases, some_list, len-union-le}
+use Rattle.pf_calendar.proofs.Apart.{Has, apart_by}
+use Rattle.pf_calendar.proofs.Slots.{where_front, where_back}
+use Rattle.pf_calendar.proofs.Maps.{in_order, retained_in, entries_in}
+use Rattle.pf_calendar.proofs.Merging.{CanMergeAll}
+use Rattle.pf_calendar.proofs.Arranged.{ready_listed, entry_listed, entry_apart, once, split_names, unused_apart}
+use Rattle.pf_calendar.proofs.Whole.{seen, waiting_is, count_is, sum_counts}
+
+-- the first n entries are due at slot t, and no other
+pub record AreDue (es : List Entry) (t n : ℕ) : Type 0 where
+  pub within : n ≤ length es
+  pub front : (k : ℕ) (d : Entry) → k < n → (get_or es k d).slot ≤ t
+  pub back : (k : ℕ) (d : Entry) → n ≤ k → k < length es → t < (get_or es k d).slot
+
+names-take : (n : ℕ) (es : List Entry) → names_of (take n es) ≡ take n (names_of es)
+names-take n es = sym (take-map (λ e. e.heap) n es)
+
+names-drop : (n : ℕ) (es : List Entry) → names_of (drop n es) ≡ drop n (names_of es)
+names-drop n es = sym (drop-map (λ e. e.heap) n es)
+
+len-all_of-le : (lists : List Keys) → fin.len (all_of lists) ≤ sum_by fin.len lists
+len-all_of-le [] = omega (arith, len-empty key_cmp)
+len-all_of-le (l ∷ lists) = omega (arith, len-union-le l (all_of lists), len-all_of-le lists, sum_by-cons fin.len l lists)
+
+sum-named : (heaps : Heaps) (es : List Entry) → sum_by fin.len (map (list_of heaps) (names_of es)) ≡ sum_by (λ (e : Entry). fin.len (list_of heaps e.heap)) es
+sum-named heaps [] = refl
+sum-named heaps (e ∷ es) =
+    omega (arith, sum_by-cons fin.len (list_of heaps e.heap) (map (list_of heaps) (names_of es)), sum_by-cons (λ (x : Entry). fin.len (list_of heaps x.heap)) e es, sum-named heaps es)
+
+module _ {heaps : Heaps} {ready : ℕ} {es : List Entry} {unused : List ℕ} {held limit room unused_room : ℕ} (laid : IsLaidOut heaps ready es unused held limit room unused_room)
+    {t n : ℕ} (are_due : AreDue es t n) where
+  abbrev front : List Entry
+  front = take n es
+
+  abbrev back : List Entry
+  back = drop n es
+
+  long_front : length front ≡ n
+  long_front = length-take-le n es are_due.within
+
+  long_back : length back + n ≡ length es
+  long_back = omega (arith, length-drop n es, are_due.within)
+
+  split_times : (h : ℕ) → times h (names_of front) + times h (names_of back) ≡ times h (names_of es)
+  split_times h = omega (arith, ap (times h) (names-take n es), ap (times h) (names-drop n es), times-take-drop h (names_of es) n)
+
+  pub can_merge : CanMergeAll heaps ready front
+  can_merge = (
+    ready_listed laid,
+    (λ k d lt.
+        let short : k < n = omega (arith, lt, long_front) in
+        let within : k < length es = omega (arith, short, are_due.within) in
+        let is : get_or front k d ≡ get_or es k no_entry = get_or-take n es k d short ∙ get_or_default es k d no_entry within in (
+          subst (λ (e : Entry). e.heap < length heaps.lists) (sym is) (entry_listed laid k within),
+          λ e. entry_apart laid k within (sym (ap (λ (x : Entry). x.heap) is) ∙ e),
+        )),
+    λ h. omega (arith, once laid h, split_times h),
+  )
+
+  ready_unmerged : times ready (names_of front) ≡ 0
+  ready_unmerged = omega (arith, once laid ready, split_times ready, one_of ready ready refl)
+
+  back_at : (k : ℕ) → k < length back → get_or back k no_entry ≡ get_or es (n + k) no_entry
+  back_at k lt = get_or-drop n es k no_entry
+
+  back_unmerged : (k : ℕ) → k < length back → times (get_or back k no_entry).heap (names_of front) ≡ 0
+  back_unmerged k lt =
+      omega (
+        arith,
+        once laid (get_or back k no_entry).heap,
+        split_times (get_or back k no_entry).heap,
+        at_named (get_or back k no_entry).heap (names_of back) k (omega (arith, lt, length-names back)) (name_at back k),
+      )
+
+  back_apart : (k : ℕ) → k < length back → (get_or back k no_entry).heap ≢ ready
+  back_apart k lt e = entry_apart laid (n + k) (omega (arith, lt, long_back)) (sym (ap (λ (x : Entry). x.heap) (back_at k lt)) ∙ e)
+
+  -- ---- the lists by slot
+
+  slot_in : (k : ℕ) → k < length es → (get_or (lists_in heaps es) k (0, fin.empty)).0 ≡ (get_or es k no_entry).slot
+  slot_in k lt = slot_at heaps es k fin.empty lt
+
+  lists_front : lists_in heaps front ≡ take n (lists_in heaps es)
+  lists_front = sym (take-map (λ (e : Entry). (e.slot, list_of heaps e.heap)) n es)
+
+  lists_back : lists_in heaps back ≡ drop n (lists_in heaps es)
+  lists_back = sym (drop-map (λ (e : Entry). (e.slot, list_of heaps e.heap)) n es)
+
+  is_until : (in_order (lists_in heaps front) ≡ true) × (finmap.from_sorted {R = nat_cmp} (lists_in heaps front) ≡ until t (finmap.from_sorted (lists_in heaps es)))
+  is_until =
+      retained_in (lists_in heaps es) (lists_in heaps front) (λ s. leb s t) laid.rise
+      (where_front (λ s. leb s t) (lists_in heaps es) n (0, fin.empty) (omega (arith, are_due.within, length-lists heaps es))
+      (λ k lt. let w : k < length es = omega (arith, lt, are_due.within) in
+      le-leb (get_or (lists_in heaps es) k (0, fin.empty)).0 t (omega (arith, slot_in k w, are_due.front k no_entry lt)))
+      (λ k le lt. let w : k < length es = omega (arith, lt, length-lists heaps es) in
+      lt-leb (get_or (lists_in heaps es) k (0, fin.empty)).0 t (omega (arith, slot_in k w, are_due.back k no_entry le w)))
+      ∙ sym lists_front)
+
+  is_later : (in_order (lists_in heaps back) ≡ true) × (finmap.from_sorted {R = nat_cmp} (lists_in heaps back) ≡ later t (finmap.from_sorted (lists_in heaps es)))
+  is_later =
+      retained_in (lists_in heaps es) (lists_in heaps back) (λ s. ltb t s) laid.rise
+      (where_back (λ s. ltb t s) (lists_in heaps es) n (0, fin.empty) (omega (arith, are_due.within, length-lists heaps es))
+      (λ k lt. let w : k < length es = omega (arith, lt, are_due.within) in
+      le-ltb t (get_or (lists_in heaps es) k (0, fin.empty)).0 (omega (arith, slot_in k w, are_due.front k no_entry lt)))
+      (λ k le lt. let w : k < length es = omega (arith, lt, length-lists heaps es) in
+      lt-ltb t (get_or (lists_in heaps es) k (0, fin.empty)).0 (omega (arith, slot_in k w, are_due.back k no_entry le w)))
+      ∙ sym lists_back)
+
+  entries_until : finmap.entries (until t (waiting_in heaps es)) ≡ lists_in heaps front
+  entries_until =
+      ap (λ m. finmap.entries (until t m)) (waiting_is heaps es) ∙ ap finmap.entries (sym is_until.1) ∙ entries_in (lists_in heaps front) is_until.0
+
+  values_front : (l : List Entry) → map (λ e. e.1) (lists_in heaps l) ≡ map (list_of heaps) (names_of l)
+  values_front [] = refl
+  values_front (e ∷ l) = ap (λ x. list_of heaps e.heap ∷ x) (values_front l)
+
+  pub due_is : due t (waiting_in heaps es) ≡ all_of (map (list_of heaps) (names_of front))
+  due_is = ap (λ l. all_of (map (λ e. e.1) l)) entries_until ∙ ap all_of (values_front front)
+
+  pub merged_count : finmap.len (until t (waiting_in heaps es)) ≡ n
+  merged_count = finmap.len-entries (until t (waiting_in heaps es)) ∙ ap length entries_until ∙ length-lists heaps front ∙ long_front
+
+  pub merged_size : (m : ℕ) → fin.len (list_of heaps ready) + sum_by (λ (e : Entry). fin.len (list_of heaps e.heap)) front ≤ count_of (seen heaps ready es m)
+  merged_size m =
+      omega (arith, count_is laid m, sum_counts laid es laid.counted, sum_by-take-drop (λ (e : Entry). fin.len (list_of heaps e.heap)) es n)
+
+  -- ---- after the merges
+
+  module _ (heaps' : Heaps) (merges : MergesAll heaps heaps' ready (names_of front)) where
+    back_same : lists_in heaps' back ≡ lists_in heaps back
+    back_same = lists_same heaps heaps' back (λ k lt. merges.others (get_or back k no_entry).heap (back_apart k lt) (back_unmerged k lt))
+
+    pub advanced_seen : (m : ℕ) → seen heaps' ready back m ≡ record (seen heaps ready es m) {
+      ready = fin.union (list_of heaps ready) (due t (waiting_in heaps es));
+      waiting = later t (waiting_in heaps es);
+    }
+    advanced_seen m =
+        let here : list_of heaps' ready ≡ fin.union (list_of heaps ready) (due t (waiting_in heaps es)) =
+        merges.merged ∙ ap (fin.union (list_of heaps ready)) (sym due_is) in
+        let waits : waiting_in heaps' back ≡ later t (waiting_in heaps es) =
+        waiting_is heaps' back ∙ ap finmap.from_sorted back_same ∙ is_later.1 ∙ ap (later t) (sym (waiting_is heaps es)) in
+        λ i. record { ready = here i; waiting = waits i; spare = m }
+
+    abbrev goes : ℕ → ℕ
+    goes j = cond (eqb (times j (names_of front)) 0) j ready
+
+    goes_front : (j : ℕ) → 1 ≤ times j (names_of front) → goes j ≡ ready
+    goes_front j le = ap (λ b. cond b j ready) (ne_eqb (times j (names_of front)) 0 (λ e. omega (arith, le, e)))
+
+    goes_other : (j : ℕ) → times j (names_of front) ≡ 0 → goes j ≡ j
+    goes_other j e = ap (λ b. cond b j ready) (eq-eqb (times j (names_of front)) 0 e)
+
+    comes_from : (i : ℕ) (p : Priority) → Has heaps'.lists i p → (j : ℕ) × (Has heaps.lists j p) × (goes j ≡ i)
+    comes_from i p h =
+        ⊎_elim
+        (λ at_ready. ⊎_elim
+        (λ was. (ready, was, goes_other ready ready_unmerged ∙ sym at_ready))
+        (λ came.
+        let m = some_list (map (list_of heaps) (names_of front)) p came in
+        let lk : m.0 < length (names_of front) = omega (arith, m.1, length-map (names_of front) (list_of heaps)) in (
+          get_or (names_of front) m.0 0,
+          sym (ap (λ l. fin.contains l p) (get_or-map (list_of heaps) (names_of front) m.0 0 fin.empty lk)) ∙ m.2,
+          goes_front (get_or (names_of front) m.0 0) (at_named (get_or (names_of front) m.0 0) (names_of front) m.0 lk refl) ∙ sym at_ready,
+        ))
+        (union_cases (list_of heaps ready) (all_of (map (list_of heaps) (names_of front))) p
+        (sym (ap (λ j. fin.contains (list_of heaps' j) p) at_ready ∙ ap (λ l. fin.contains l p) merges.merged) ∙ h)))
+        (λ ne. ⊎_elim
+        (λ none.
+        let zero_times : times i (names_of front) ≡ 0 = omega (arith, none) in
+        (i, sym (ap (λ l. fin.contains l p) (merges.others i ne zero_times)) ∙ h, goes_other i zero_times))
+        (λ le.
+        let m = named_at i (names_of front) (omega (arith, le)) in
+        absurd (has_none p (sym (ap (λ l. fin.contains l p) (sym (ap (list_of heaps') m.2) ∙ merges.emptied m.0 0 m.1)) ∙ h)))
+        (cases_lt (times i (names_of front)) 1))
+        (cases_eq i ready)
+
+    pub advanced_laid : (unused' : List ℕ) → unused' ≡ unused ++ names_of front → IsLaidOut heaps' ready back unused' held limit room unused_room
+    advanced_laid unused' names =
+        let long_names : length unused' ≡ length unused + n = omega (arith, ap length names, length-append unused (names_of front), length-names front, long_front) in
+        let emptied : All (λ h. list_of heaps' h ≡ fin.empty) (unused ++ names_of front) =
+        All-append (λ h. list_of heaps' h ≡ fin.empty) unused (names_of front)
+        (λ k d lt. let is : get_or unused k d ≡ get_or unused k 0 = get_or_default unused k d 0 lt in
+        merges.others (get_or unused k d)
+        (λ e. unused_apart laid k ready lt (omega (arith, one_of ready ready refl)) (sym is ∙ e))
+        (omega (arith, once laid (get_or unused k d), split_times (get_or unused k d), at_named (get_or unused k d) unused k lt (sym is)))
+        ∙ laid.empty k d lt)
+        merges.emptied in
+        record {
+          rise = ap (is_sorted nat_cmp) back_same ∙ is_later.0;
+          named = λ h. omega (
+            arith,
+            ap (λ l. times h (ready ∷ (names_of back ++ l))) names,
+            times-cons h ready (names_of back ++ (unused ++ names_of front)),
+            times-append h (names_of back) (unused ++ names_of front),
+            times-append h unused (names_of front),
+            split_times h,
+            split_names laid h,
+            ap (λ m. cond {A = ℕ} (ltb h m) 1 0) merges.long,
+          );
+          many = omega (arith, laid.many, merges.long, long_names, long_back);
+          small = omega (arith, laid.small, long_names, long_back);
+          empty = subst (All (λ h. list_of heaps' h ≡ fin.empty)) (sym names) emptied;
+          counted = λ k d lt.
+              let is : get_or back k d ≡ get_or back k no_entry = get_or_default back k d no_entry lt in
+              subst (λ (e : Entry). e.count ≡ fin.len (list_of heaps' e.heap)) (sym is)
+              (All-drop (λ (e : Entry). e.count ≡ fin.len (list_of heaps e.heap)) n es laid.counted k no_entry lt
+              ∙ ap fin.len (sym (merges.others (get_or back k no_entry).heap (back_apart k lt) (back_unmerged k lt))));
+          apart = apart_by heaps.lists heaps'.lists goes comes_from laid.apart;
+          few = omega (
+            arith,
+            laid.few,
+            ap fin.len merges.merged,
+            len-union-le (list_of heaps ready) (all_of (map (list_of heaps) (names_of front))),
+            len-all_of-le (map (list_of heaps) (names_of front)),
+            sum-named heaps front,
+            sum_counts laid front (All-take (λ (e : Entry). e.count ≡ fin.len (list_of heaps e.heap)) n es laid.counted),
+            sum_by-take-drop (λ (e : Entry). e.count) es n,
+          );
+          within = laid.within;
+          enough = omega (arith, laid.enough, long_names, long_back);
+          spare = omega (arith, laid.spare, merges.spare);
+          room_is = omega (arith, laid.room_is, long_names, long_back);
+          unused_room_is = omega (arith, laid.unused_room_is, long_names, long_back);
+        }

@@ -1,0 +1,11 @@
+pub mod Slots
+pub mod Naming
+pub mod Apart
+pub mod Sets
+pub mod Merging
+pub mod Maps
+pub mod Arranged
+pub mod Whole
+pub mod Growing
+pub mod Advancing
+pub mod Leaving

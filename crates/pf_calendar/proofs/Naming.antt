@@ -1,0 +1,139 @@
+-- The names of heaps, and the lists that entries name.
+use Rattle.std.proofs.Common.{◌≡◌, ◌≢◌, ℕ, zero, suc, ◌+◌, ◌<◌, ◌≤◌, cond, eqb, List, [], ◌∷◌, ◌++◌, length, get_or, set, take, drop, refl, ap, arith, ⊎_elim}
+use Rattle.std.specs.Prelude.{insert, remove}
+use Rattle.std.proofs.lemmas.Bool.{cases_eq, ne_eqb, eq-eqb}
+use Rattle.std.proofs.lemmas.List.Sums.{sum_by-cons, sum_by-append, sum_by-take-drop}
+use Rattle.pf_heap.specs.Keys.{Keys, Heaps, list_of}
+use Rattle.pf_calendar.specs.declared.entry.Entry.{Entry}
+use Rattle.pf_calendar.specs.Invariant.{lists_in, names_of, times}
+
+-- an entry that isn't there
+abbrev pub no_entry : Entry
+no_entry = record { slot = 0; heap = 0; count = 0 }
+
+-- ---- times
+
+pub one_of : (h n : ℕ) → n ≡ h → cond {A = ℕ} (eqb n h) 1 0 ≡ 1
+one_of h n e = ap (λ b. cond b 1 0) (eq-eqb n h e)
+
+pub none_of : (h n : ℕ) → n ≢ h → cond {A = ℕ} (eqb n h) 1 0 ≡ 0
+none_of h n e = ap (λ b. cond b 1 0) (ne_eqb n h e)
+
+pub times-nil : (h : ℕ) → times h [] ≡ 0
+unfolding times
+times-nil h = refl
+
+pub times-cons : (h n : ℕ) (ns : List ℕ) → times h (n ∷ ns) ≡ cond (eqb n h) 1 0 + times h ns
+unfolding times
+times-cons h n ns = sum_by-cons (λ m. cond (eqb m h) 1 0) n ns
+
+pub times-append : (h : ℕ) (ns ms : List ℕ) → times h (ns ++ ms) ≡ times h ns + times h ms
+unfolding times
+times-append h ns ms = sum_by-append (λ n. cond (eqb n h) 1 0) ns ms
+
+pub times-take-drop : (h : ℕ) (ns : List ℕ) (k : ℕ) → times h (take k ns) + times h (drop k ns) ≡ times h ns
+unfolding times
+times-take-drop h ns k = sum_by-take-drop (λ n. cond (eqb n h) 1 0) ns k
+
+pub times-self : (h n : ℕ) (ns : List ℕ) → n ≡ h → 1 ≤ times h (n ∷ ns)
+times-self h n ns e = omega (arith, times-cons h n ns, one_of h n e)
+
+-- a heap that is named stands at some place
+pub named_at : (h : ℕ) (ns : List ℕ) → 1 ≤ times h ns → (k : ℕ) × (k < length ns) × (get_or ns k 0 ≡ h)
+named_at h [] le = absurd (omega (arith, le, times-nil h))
+named_at h (n ∷ ns) le =
+    ⊎_elim (λ e. (0, omega arith, e))
+    (λ ne. let m = named_at h ns (omega (arith, le, times-cons h n ns, none_of h n ne)) in (suc m.0, omega (arith, m.1), m.2))
+    (cases_eq n h)
+
+pub at_named : (h : ℕ) (ns : List ℕ) (k : ℕ) → k < length ns → get_or ns k 0 ≡ h → 1 ≤ times h ns
+at_named h [] k lt e = absurd (omega (arith, lt))
+at_named h (n ∷ ns) zero lt e = times-self h n ns e
+at_named h (n ∷ ns) (suc k) lt e = omega (arith, times-cons h n ns, at_named h ns k (omega (arith, lt)) e)
+
+-- a heap that is named once stands at one place
+pub one_place : (h : ℕ) (ns : List ℕ) (j k : ℕ) → times h ns ≤ 1 → j < length ns → k < length ns → get_or ns j 0 ≡ h → get_or ns k 0 ≡ h → j ≡ k
+one_place h [] j k once lj lk ej ek = absurd (omega (arith, lj))
+one_place h (n ∷ ns) zero zero once lj lk ej ek = refl
+one_place h (n ∷ ns) zero (suc k) once lj lk ej ek =
+    absurd (omega (arith, once, times-cons h n ns, one_of h n ej, at_named h ns k (omega (arith, lk)) ek))
+one_place h (n ∷ ns) (suc j) zero once lj lk ej ek =
+    absurd (omega (arith, once, times-cons h n ns, one_of h n ek, at_named h ns j (omega (arith, lj)) ej))
+one_place h (n ∷ ns) (suc j) (suc k) once lj lk ej ek =
+    ap suc (one_place h ns j k (omega (arith, once, times-cons h n ns)) (omega (arith, lj)) (omega (arith, lk)) ej ek)
+
+-- ---- names of entries
+
+pub length-names : (es : List Entry) → length (names_of es) ≡ length es
+length-names [] = refl
+length-names (e ∷ es) = ap suc (length-names es)
+
+pub name_at : (es : List Entry) (k : ℕ) → get_or (names_of es) k 0 ≡ (get_or es k no_entry).heap
+name_at [] k = refl
+name_at (e ∷ es) zero = refl
+name_at (e ∷ es) (suc k) = name_at es k
+
+pub times-insert : (h : ℕ) (es : List Entry) (at : ℕ) (e : Entry) → times h (names_of (insert es at e)) ≡ times h (names_of es) + cond (eqb e.heap h) 1 0
+times-insert h es zero e = omega (arith, times-cons h e.heap (names_of es))
+times-insert h [] (suc at) e = omega (arith, times-cons h e.heap [])
+times-insert h (d ∷ es) (suc at) e =
+    omega (arith, times-cons h d.heap (names_of (insert es at e)), times-cons h d.heap (names_of es), times-insert h es at e)
+
+pub times-remove : (h : ℕ) (es : List Entry) (at : ℕ) → at < length es → times h (names_of (remove es at)) + cond (eqb (get_or es at no_entry).heap h) 1 0 ≡ times h (names_of es)
+times-remove h [] at lt = absurd (omega (arith, lt))
+times-remove h (e ∷ es) zero lt = omega (arith, times-cons h e.heap (names_of es))
+times-remove h (e ∷ es) (suc at) lt =
+    omega (arith, times-cons h e.heap (names_of (remove es at)), times-cons h e.heap (names_of es), times-remove h es at (omega (arith, lt)))
+
+-- the same heap under another slot or count
+pub names-set : (es : List Entry) (at : ℕ) (e : Entry) → e.heap ≡ (get_or es at no_entry).heap → names_of (set es at e) ≡ names_of es
+names-set [] at e h = refl
+names-set (d ∷ es) zero e h = ap (λ n. n ∷ names_of es) h
+names-set (d ∷ es) (suc at) e h = ap (λ ns. d.heap ∷ ns) (names-set es at e h)
+
+-- ---- the lists that entries name
+
+-- their heaps have the same lists
+abbrev pub Agree : Heaps → Heaps → List Entry → Type 0
+Agree old new es = (k : ℕ) → k < length es → list_of new (get_or es k no_entry).heap ≡ list_of old (get_or es k no_entry).heap
+
+pub lists_same : (old new : Heaps) (es : List Entry) → Agree old new es → lists_in new es ≡ lists_in old es
+lists_same old new [] same = refl
+lists_same old new (e ∷ es) same =
+    λ i. (e.slot, same 0 (omega arith) i) ∷ lists_same old new es (λ k lt. same (suc k) (omega (arith, lt))) i
+
+-- all but one of them
+pub lists_set : (old new : Heaps) (es : List Entry) (at : ℕ) (e : Entry) (keys : Keys) → at < length es →
+    ((k : ℕ) → k < length es → k ≢ at → list_of new (get_or es k no_entry).heap ≡ list_of old (get_or es k no_entry).heap) →
+    list_of new e.heap ≡ keys → lists_in new (set es at e) ≡ set (lists_in old es) at (e.slot, keys)
+lists_set old new [] at e keys lt same is = absurd (omega (arith, lt))
+lists_set old new (d ∷ es) zero e keys lt same is =
+    λ i. (e.slot, is i) ∷ lists_same old new es (λ k h. same (suc k) (omega (arith, h)) (λ p. omega (arith, p))) i
+lists_set old new (d ∷ es) (suc at) e keys lt same is =
+    λ i. (d.slot, same 0 (omega arith) (λ p. omega (arith, p)) i)
+    ∷ lists_set old new es at e keys (omega (arith, lt)) (λ k h ne. same (suc k) (omega (arith, h)) (λ p. ne (omega (arith, p)))) is i
+
+pub lists-insert : (heaps : Heaps) (es : List Entry) (at : ℕ) (e : Entry) → lists_in heaps (insert es at e) ≡ insert (lists_in heaps es) at (e.slot, list_of heaps e.heap)
+lists-insert heaps es zero e = refl
+lists-insert heaps [] (suc at) e = refl
+lists-insert heaps (d ∷ es) (suc at) e = ap (λ l. (d.slot, list_of heaps d.heap) ∷ l) (lists-insert heaps es at e)
+
+pub lists-remove : (heaps : Heaps) (es : List Entry) (at : ℕ) → lists_in heaps (remove es at) ≡ remove (lists_in heaps es) at
+lists-remove heaps [] zero = refl
+lists-remove heaps [] (suc at) = refl
+lists-remove heaps (d ∷ es) zero = refl
+lists-remove heaps (d ∷ es) (suc at) = ap (λ l. (d.slot, list_of heaps d.heap) ∷ l) (lists-remove heaps es at)
+
+pub length-lists : (heaps : Heaps) (es : List Entry) → length (lists_in heaps es) ≡ length es
+length-lists heaps [] = refl
+length-lists heaps (e ∷ es) = ap suc (length-lists heaps es)
+
+pub slot_at : (heaps : Heaps) (es : List Entry) (k : ℕ) (keys : Keys) → k < length es → (get_or (lists_in heaps es) k (0, keys)).0 ≡ (get_or es k no_entry).slot
+slot_at heaps [] k keys lt = absurd (omega (arith, lt))
+slot_at heaps (e ∷ es) zero keys lt = refl
+slot_at heaps (e ∷ es) (suc k) keys lt = slot_at heaps es k keys (omega (arith, lt))
+
+pub list_at_place : (heaps : Heaps) (es : List Entry) (k : ℕ) (keys : Keys) → k < length es → (get_or (lists_in heaps es) k (0, keys)).1 ≡ list_of heaps (get_or es k no_entry).heap
+list_at_place heaps [] k keys lt = absurd (omega (arith, lt))
+list_at_place heaps (e ∷ es) zero keys lt = refl
+list_at_place heaps (e ∷ es) (suc k) keys lt = list_at_place heaps es k keys (omega (arith, lt))

@@ -1,0 +1,364 @@
+-- A calendar's operations, whole.
+use Rattle.std.proofs.Common.{◌≡◌, ◌≢◌, ℕ, zero, suc, ◌+◌, ◌-◌, ◌<◌, ◌≤◌, true, false, cond, eqb, ltb, ◌⊎◌, inl, inr, List, [], ◌∷◌, ◌++◌, length, get_or, set, take, drop, refl, sym, ap, ◌∙◌, subst, arith, ⊎_elim, None, Some}
+use Rattle.std.specs.Prelude.{insert, sum_by, All}
+use Rattle.std.proofs.lemmas.Bool.{cases_lt, cases_eq, false_from_ne_true}
+use Rattle.std.proofs.lemmas.Bool.Decides.{nat_tests}
+use Rattle.std.proofs.lemmas.List.{length-set, get_or-set_same, get_or-set_other, get_or_default, get_or_past, set_at, length-take-le, get_or_push, length_push, get_or_read}
+use Rattle.std.proofs.lemmas.List.Edits.{length-insert, get_or-insert_at}
+use Rattle.std.proofs.lemmas.List.Elements.{All-append, All-take, All-drop, All-cons, All-set}
+use Rattle.std.proofs.lemmas.List.Sums.{get_or-le-sum_by, sum_by-cons}
+use Rattle.std.specs.Ordering.{nat_cmp}
+use Rattle.std.specs.List.Sorted.{IsNonDecreasingBy}
+use Rattle.std.specs.FinSet as fin
+use Rattle.std.specs.FinSet.{len-empty}
+use Rattle.std.specs.FinMap as finmap
+use Rattle.pf_order.specs.Priority.{Priority, key_cmp}
+use Rattle.pf_heap.specs.Keys as keys
+use Rattle.pf_heap.specs.Keys.{Keys, Heaps, list_of, with_list}
+use Rattle.pf_calendar.specs.declared.entry.Entry.{Entry}
+use Rattle.pf_calendar.specs.Queues.{Queues, list_at, count_of, IsHeld}
+use Rattle.pf_calendar.specs.Invariant.{lists_in, waiting_in, AreApart, IsLaidOut, IsCalendar}
+use Rattle.pf_calendar.specs.Steps.{HasEntry, Opens}
+use Rattle.pf_calendar.proofs.Naming.{no_entry, times-cons, times-nil, lists_same, lists_set, lists-insert, length-lists, slot_at, list_at_place}
+use Rattle.pf_calendar.proofs.Sets.{has_none, insert_cases, remove_in, some_has, len-insert_new, len-remove_one}
+use Rattle.pf_calendar.proofs.Apart.{Has, apart_by, apart_but}
+use Rattle.pf_calendar.proofs.Slots.{rises, find_at}
+use Rattle.pf_calendar.proofs.Maps.{set_in, list_found, none_found, waits_from, sum_in, entries_in}
+use Rattle.pf_calendar.proofs.Arranged.{ready_listed, entry_listed, entry_apart, entries_apart, list_cases, entry_changed, ready_changed, entry_opened, opened_lists}
+
+-- what contracts see
+abbrev pub seen : Heaps → ℕ → List Entry → ℕ → Queues
+seen heaps ready es n = record { ready = list_of heaps ready; waiting = waiting_in heaps es; spare = n }
+
+pub waiting_is : (heaps : Heaps) (es : List Entry) → waiting_in heaps es ≡ finmap.from_sorted (lists_in heaps es)
+unfolding waiting_in
+waiting_is heaps es = refl
+
+-- ---- no task has two keys, after a change of one list
+
+has_listed : (lists : List Keys) (i : ℕ) (p : Priority) → Has lists i p → i < length lists
+has_listed lists i p h =
+    ⊎_elim (λ lt. lt) (λ le. absurd (has_none p (sym (ap (λ l. fin.contains l p) (get_or_past lists i fin.empty le)) ∙ h))) (cases_lt i (length lists))
+
+has_set : (lists : List Keys) (at : ℕ) (new : Keys) (i : ℕ) (p : Priority) → Has (set lists at new) i p → ((i ≡ at) × (fin.contains new p ≡ true)) ⊎ (Has lists i p)
+has_set lists at new i p h =
+    ⊎_elim
+    (λ e. let lt : at < length lists = omega (arith, has_listed (set lists at new) i p h, length-set lists at new, e) in
+    inl (e, sym (ap (λ j. fin.contains (get_or (set lists at new) j fin.empty) p) e ∙ ap (λ l. fin.contains l p) (get_or-set_same lists at new fin.empty lt)) ∙ h))
+    (λ ne. inr (sym (ap (λ l. fin.contains l p) (get_or-set_other lists at i new fin.empty ne)) ∙ h))
+    (cases_eq i at)
+
+pub apart_insert : (lists : List Keys) (at : ℕ) (key : Priority) → ¬ (keys.IsHeld lists key.task) → AreApart lists → AreApart (set lists at (fin.insert (get_or lists at fin.empty) key))
+apart_insert lists at key absent apart =
+    apart_but lists (set lists at (fin.insert (get_or lists at fin.empty) key)) at key
+    (λ i p h. ⊎_elim
+    (λ w. ⊎_elim (λ e. inr (w.0, e)) (λ was. inl (ap (λ j. fin.contains (get_or lists j fin.empty) p) w.0 ∙ was)) (insert_cases (get_or lists at fin.empty) key p w.1))
+    (λ was. inl was)
+    (has_set lists at (fin.insert (get_or lists at fin.empty) key) i p h))
+    (λ i p h e. absent (record { list = i; key = p; listed = has_listed lists i p h; has = h; of_task = e }))
+    apart
+
+pub apart_part : (lists : List Keys) (at : ℕ) (new : Keys) → ((p : Priority) → fin.contains new p ≡ true → Has lists at p) → AreApart lists → AreApart (set lists at new)
+apart_part lists at new part apart =
+    apart_by lists (set lists at new) (λ i. i)
+    (λ i p h. ⊎_elim
+    (λ w. (i, ap (λ j. fin.contains (get_or lists j fin.empty) p) w.0 ∙ part p w.1, refl))
+    (λ was. (i, was, refl))
+    (has_set lists at new i p h))
+    apart
+
+module _ {heaps : Heaps} {ready : ℕ} {es : List Entry} {unused : List ℕ} {held limit room unused_room : ℕ} (laid : IsLaidOut heaps ready es unused held limit room unused_room) where
+  -- how many keys are held
+  pub sum_counts : (l : List Entry) → All (λ e. e.count ≡ fin.len (list_of heaps e.heap)) l → sum_by (λ (e : Entry). fin.len (list_of heaps e.heap)) l ≡ sum_by (λ (e : Entry). e.count) l
+  sum_counts [] h = refl
+  sum_counts (e ∷ l) h =
+      omega (
+        arith,
+        sum_by-cons (λ (x : Entry). fin.len (list_of heaps x.heap)) e l,
+        sum_by-cons (λ (x : Entry). x.count) e l,
+        h 0 no_entry (omega arith),
+        sum_counts l (λ k d lt. h (suc k) d (omega (arith, lt))),
+      )
+
+  pub count_is : (n : ℕ) → count_of (seen heaps ready es n) ≡ fin.len (list_of heaps ready) + sum_by (λ (e : Entry). e.count) es
+  count_is n = ap (λ m. fin.len (list_of heaps ready) + m) (sum_in heaps es laid.rise ∙ sum_counts es laid.counted)
+
+  -- a task that isn't held has no key in a heap
+  pub absent_below : (n task : ℕ) → ¬ (IsHeld (seen heaps ready es n) task) → ¬ (keys.IsHeld heaps.lists task)
+  absent_below n task free w =
+      ⊎_elim
+      (λ e. free (record { key = w.key; has = inl (ap (λ i. fin.contains (list_of heaps i) w.key) e ∙ w.has); of_task = w.of_task }))
+      (⊎_elim
+      (λ m. free (record {
+        key = w.key;
+        has = inr (
+          (get_or (lists_in heaps es) m.0 (0, fin.empty)).0,
+          ap (λ x. fin.contains (list_at x (get_or (lists_in heaps es) m.0 (0, fin.empty)).0) w.key) (waiting_is heaps es)
+              ∙ waits_from (lists_in heaps es) m.0 w.key laid.rise (omega (arith, m.1, length-lists heaps es))
+              (ap (λ l. fin.contains l w.key) (list_at_place heaps es m.0 fin.empty m.1) ∙ ap (λ i. fin.contains (list_of heaps i) w.key) m.2 ∙ w.has),
+        );
+        of_task = w.of_task;
+      }))
+      (λ none. has_none w.key (sym (ap (λ l. fin.contains l w.key) none) ∙ w.has)))
+      (list_cases laid w.list w.listed)
+
+  -- ---- the first ready key is taken out
+
+  pub popped_laid : (heaps' : Heaps) (key : Priority) → fin.contains (list_of heaps ready) key ≡ true →
+      heaps' ≡ record (with_list heaps ready (fin.remove (list_of heaps ready) key)) { spare = heaps.spare + 1 } →
+      (1 ≤ held) × IsLaidOut heaps' ready es unused (held - 1) limit room unused_room
+  popped_laid heaps' key has is =
+      let some : 1 ≤ fin.len (list_of heaps ready) = some_has (list_of heaps ready) key has in
+      let less : fin.len (fin.remove (list_of heaps ready) key) ≡ fin.len (list_of heaps ready) - 1 = len-remove_one (list_of heaps ready) key has in (
+        omega (arith, some, laid.few),
+        ready_changed laid heaps' (fin.remove (list_of heaps ready) key) (held - 1) (ap (λ h. h.lists) is)
+            (subst AreApart (sym (ap (λ h. h.lists) is)) (apart_part heaps.lists ready (fin.remove (list_of heaps ready) key) (λ p h. remove_in (list_of heaps ready) key p h) laid.apart))
+            (omega (arith, some, less, laid.few)) (omega (arith, laid.within)) (omega (arith, some, laid.few, laid.spare, ap (λ h. h.spare) is)),
+      )
+
+  pub popped_seen : (heaps' : Heaps) (key : Priority) → fin.contains (list_of heaps ready) key ≡ true →
+      heaps' ≡ record (with_list heaps ready (fin.remove (list_of heaps ready) key)) { spare = heaps.spare + 1 } →
+      seen heaps' ready es (limit - (held - 1))
+      ≡ record (seen heaps ready es (limit - held)) { ready = fin.remove (list_of heaps ready) key; spare = (limit - held) + 1 }
+  popped_seen heaps' key has is =
+      let here : list_of heaps' ready ≡ fin.remove (list_of heaps ready) key =
+      ap (λ h. list_of h ready) is ∙ get_or-set_same heaps.lists ready (fin.remove (list_of heaps ready) key) fin.empty (ready_listed laid) in
+      let others : lists_in heaps' es ≡ lists_in heaps es = lists_same heaps heaps' es (λ k lk.
+      ap (λ h. list_of h (get_or es k no_entry).heap) is ∙ get_or-set_other heaps.lists ready (get_or es k no_entry).heap (fin.remove (list_of heaps ready) key) fin.empty (entry_apart laid k lk)) in
+      let waits : waiting_in heaps' es ≡ waiting_in heaps es = waiting_is heaps' es ∙ ap finmap.from_sorted others ∙ sym (waiting_is heaps es) in
+      let places : limit - (held - 1) ≡ (limit - held) + 1 = omega (arith, some_has (list_of heaps ready) key has, laid.few, laid.within) in
+      λ i. record { ready = here i; waiting = waits i; spare = places i }
+
+-- ---- a calendar that holds nothing
+
+pub new_calendar : (heaps : Heaps) (ready : ℕ) (es : List Entry) (unused : List ℕ) (room unused_room : ℕ) → heaps.lists ≡ fin.empty ∷ [] → ready ≡ 0 → es ≡ [] → unused ≡ [] →
+    IsCalendar heaps ready es unused 0 0 room unused_room
+new_calendar heaps ready es unused room unused_room lists first no_entries no_names =
+    subst (λ (r : ℕ). IsCalendar heaps r es unused 0 0 room unused_room) (sym first)
+    (subst (λ (l : List Entry). IsCalendar heaps 0 l unused 0 0 room unused_room) (sym no_entries)
+    (subst (λ (l : List ℕ). IsCalendar heaps 0 [] l 0 0 room unused_room) (sym no_names)
+    (record {
+      laid = record {
+        rise = refl;
+        named = λ h. times-cons h 0 [] ∙ ap (λ n. cond {A = ℕ} (eqb 0 h) 1 0 + n) (times-nil h) ∙ one_name h ∙ ap (λ l. cond {A = ℕ} (ltb h (length l)) 1 0) (sym lists);
+        many = ap length lists;
+        small = omega arith;
+        empty = λ k d lt. absurd (omega (arith, lt));
+        counted = λ k d lt. absurd (omega (arith, lt));
+        apart = subst AreApart (sym lists) (λ i j p q hp hq same. absurd (has_none p (sym (ap (λ l. fin.contains l p) (all_empty i)) ∙ hp)));
+        few = omega (arith, ap (λ l. fin.len (get_or l 0 fin.empty)) lists, len-empty key_cmp);
+        within = omega arith;
+        enough = omega arith;
+        spare = omega arith;
+        room_is = omega arith;
+        unused_room_is = omega arith;
+      };
+      some = λ k d lt. absurd (omega (arith, lt));
+    }))) where
+      one_name : (h : ℕ) → cond {A = ℕ} (eqb 0 h) 1 0 + 0 ≡ cond {A = ℕ} (ltb h 1) 1 0
+      one_name h = grind (arith, nat_tests)
+
+      all_empty : (i : ℕ) → get_or {A = Keys} (fin.empty ∷ []) i fin.empty ≡ fin.empty
+      all_empty zero = refl
+      all_empty (suc i) = refl
+
+pub new_seen : (heaps : Heaps) (ready : ℕ) (es : List Entry) → heaps.lists ≡ fin.empty ∷ [] → ready ≡ 0 → es ≡ [] →
+    seen heaps ready es 0 ≡ record { ready = fin.empty; waiting = finmap.empty; spare = 0 }
+new_seen heaps ready es lists first no_entries =
+    let here : list_of heaps ready ≡ fin.empty = ap (list_of heaps) first ∙ ap (λ l. get_or l 0 fin.empty) lists in
+    let waits : waiting_in heaps es ≡ finmap.empty =
+    ap (waiting_in heaps) no_entries ∙ waiting_is heaps [] ∙ finmap.empty_of_len (finmap.from_sorted []) (finmap.len-entries (finmap.from_sorted []) ∙ ap length (entries_in [] refl)) in
+    λ i. record { ready = here i; waiting = waits i; spare = 0 }
+
+-- ---- a key is put
+
+module _ {heaps : Heaps} {ready : ℕ} {es : List Entry} {unused : List ℕ} {held limit room unused_room : ℕ} (laid : IsLaidOut heaps ready es unused held limit room unused_room)
+    {es1 : List Entry} {left : List ℕ} {slot at : ℕ} (opens : Opens es es1 unused left slot at) where
+  abbrev Fresh : ℕ → Type 0
+  Fresh h = (¬ (HasEntry es slot at)) × (unused ≡ left ++ h ∷ []) × (es1 ≡ insert es at (record { slot = slot; heap = h; count = 0 }))
+
+  pub opened : IsLaidOut heaps ready es1 left held limit room unused_room
+  opened =
+      ⊎_elim
+      (λ w. subst (λ (l : List Entry). IsLaidOut heaps ready l left held limit room unused_room) (sym w.1)
+      (subst (λ (l : List ℕ). IsLaidOut heaps ready es l held limit room unused_room) (sym w.2) laid))
+      (λ w. subst (λ (l : List Entry). IsLaidOut heaps ready l left held limit room unused_room) (sym w.3) (entry_opened laid left w.0 slot at w.2 opens.place w.1))
+      opens.ways
+
+  pub opened_within : at < length es1
+  opened_within =
+      ⊎_elim (λ w. omega (arith, w.0.0, ap length w.1))
+      (λ w. omega (arith, opens.place.within, ap length w.3, length-insert es at (record { slot = slot; heap = w.0; count = 0 }) opens.place.within))
+      opens.ways
+
+  entry_is : (h : ℕ) → es1 ≡ insert es at (record { slot = slot; heap = h; count = 0 }) → get_or es1 at no_entry ≡ record { slot = slot; heap = h; count = 0 }
+  entry_is h is = ap (λ l. get_or l at no_entry) is ∙ get_or-insert_at es at (record { slot = slot; heap = h; count = 0 }) no_entry opens.place.within
+
+  pub opened_slot : (get_or es1 at no_entry).slot ≡ slot
+  opened_slot =
+      ⊎_elim (λ w. ap (λ l. (get_or l at no_entry).slot) w.1 ∙ w.0.1 no_entry) (λ w. ap (λ (e : Entry). e.slot) (entry_is w.0 w.3)) opens.ways
+
+  fresh_empty : (h : ℕ) → unused ≡ left ++ h ∷ [] → list_of heaps h ≡ fin.empty
+  fresh_empty h is =
+      ap (list_of heaps) (sym (ap (λ l. get_or l (length left) 0) is ∙ get_or_push left h 0 (length left) refl))
+      ∙ laid.empty (length left) 0 (omega (arith, ap length is, length_push left h))
+
+  slots_differ : ¬ (HasEntry es slot at) → (k : ℕ) → k < length (lists_in heaps es) → (get_or (lists_in heaps es) k (0, fin.empty)).0 ≢ slot
+  slots_differ fresh k lt e =
+      let lk : k < length es = omega (arith, lt, length-lists heaps es) in
+      ⊎_elim
+      (λ below. absurd (omega (arith, opens.place.before k no_entry below, slot_at heaps es k fin.empty lk, e)))
+      (λ le. ⊎_elim
+      (λ above. absurd (omega (
+        arith,
+        opens.place.after at no_entry (omega arith) (omega (arith, above, lk)),
+        rises (lists_in heaps es) at k (0, fin.empty) laid.rise above lt,
+        slot_at heaps es at fin.empty (omega (arith, above, lk)),
+        e,
+      )))
+      (λ le2. fresh (
+        omega (arith, le, le2, lk),
+        λ d.
+            ap (λ j. (get_or es j d).slot) (let s : at ≡ k = omega (arith, le, le2) in s)
+            ∙ ap (λ (x : Entry). x.slot) (get_or_default es k d no_entry lk) ∙ sym (slot_at heaps es k fin.empty lk) ∙ e,
+      ))
+      (cases_lt at k))
+      (cases_lt k at)
+
+  -- the list of the entry is that of the slot
+  pub opened_list : list_of heaps (get_or es1 at no_entry).heap ≡ list_at (waiting_in heaps es) slot
+  opened_list =
+      ⊎_elim
+      (λ w. let lt : at < length (lists_in heaps es) = omega (arith, w.0.0, length-lists heaps es) in
+      ap (λ l. list_of heaps (get_or l at no_entry).heap) w.1
+      ∙ sym (list_at_place heaps es at fin.empty w.0.0)
+      ∙ sym (list_found (lists_in heaps es) (get_or (lists_in heaps es) at (0, fin.empty)).0 (Some (get_or (lists_in heaps es) at (0, fin.empty)).1) laid.rise
+      (find_at (lists_in heaps es) at (0, fin.empty) laid.rise lt))
+      ∙ ap (list_at (finmap.from_sorted (lists_in heaps es))) (slot_at heaps es at fin.empty w.0.0 ∙ w.0.1 no_entry)
+      ∙ ap (λ x. list_at x slot) (sym (waiting_is heaps es)))
+      (λ w. ap (λ (e : Entry). list_of heaps e.heap) (entry_is w.0 w.3) ∙ fresh_empty w.0 w.2
+      ∙ sym (list_found (lists_in heaps es) slot None laid.rise (none_found (lists_in heaps es) slot (slots_differ w.1)))
+      ∙ ap (λ x. list_at x slot) (sym (waiting_is heaps es)))
+      opens.ways
+
+  -- a new list at the entry is a new list of the slot
+  pub opened_map : (new : Keys) → finmap.from_sorted {R = nat_cmp} (set (lists_in heaps es1) at (slot, new)) ≡ finmap.insert (waiting_in heaps es) slot new
+  opened_map new =
+      ⊎_elim
+      (λ w. ap (λ l. finmap.from_sorted (set (lists_in heaps l) at (slot, new))) w.1
+      ∙ (set_in (lists_in heaps es) at slot new laid.rise (omega (arith, w.0.0, length-lists heaps es)) (slot_at heaps es at fin.empty w.0.0 ∙ w.0.1 no_entry)).1
+      ∙ ap (λ x. finmap.insert x slot new) (sym (waiting_is heaps es)))
+      (λ w. ap (λ l. finmap.from_sorted (set (lists_in heaps l) at (slot, new))) w.3
+      ∙ ap (λ l. finmap.from_sorted (set l at (slot, new))) (lists-insert heaps es at (record { slot = slot; heap = w.0; count = 0 }))
+      ∙ ap finmap.from_sorted (set_at (take at (lists_in heaps es)) (slot, list_of heaps w.0) (drop at (lists_in heaps es)) (slot, new) at
+      (length-take-le at (lists_in heaps es) (omega (arith, opens.place.within, length-lists heaps es))))
+      ∙ (opened_lists laid new slot at opens.place w.1).1
+      ∙ ap (λ x. finmap.insert x slot new) (sym (waiting_is heaps es)))
+      opens.ways
+
+  pub opened_size : fin.len (list_of heaps (get_or es1 at no_entry).heap) ≤ sum_by (λ (e : Entry). e.count) es
+  opened_size =
+      ⊎_elim
+      (λ w. omega (
+        arith,
+        ap (λ l. fin.len (list_of heaps (get_or l at no_entry).heap)) w.1,
+        laid.counted at no_entry w.0.0,
+        get_or-le-sum_by (λ (e : Entry). e.count) es at no_entry w.0.0,
+      ))
+      (λ w. omega (arith, ap (λ (e : Entry). fin.len (list_of heaps e.heap)) (entry_is w.0 w.3), ap fin.len (fresh_empty w.0 w.2), len-empty key_cmp))
+      opens.ways
+
+  pub opened_some : (e : Entry) → 1 ≤ e.count → All (λ e. 1 ≤ e.count) es → All (λ e. 1 ≤ e.count) (set es1 at e)
+  opened_some e some all =
+      ⊎_elim
+      (λ w. subst (λ (l : List Entry). All (λ e. 1 ≤ e.count) (set l at e)) (sym w.1) (All-set (λ (e : Entry). 1 ≤ e.count) es at e some all))
+      (λ w. subst (All (λ (e : Entry). 1 ≤ e.count))
+      (sym (ap (λ l. set l at e) w.3 ∙ set_at (take at es) (record { slot = slot; heap = w.0; count = 0 }) (drop at es) e at (length-take-le at es opens.place.within)))
+      (All-append (λ (e : Entry). 1 ≤ e.count) (take at es) (e ∷ drop at es) (All-take (λ (e : Entry). 1 ≤ e.count) at es all)
+      (All-cons (λ (e : Entry). 1 ≤ e.count) e (drop at es) some (All-drop (λ (e : Entry). 1 ≤ e.count) at es all))))
+      opens.ways
+
+  abbrev pub PutInto : Heaps → Priority → Type 0
+  PutInto heaps' key =
+      heaps' ≡ record (with_list heaps (get_or es1 at no_entry).heap (fin.insert (list_of heaps (get_or es1 at no_entry).heap) key)) { spare = heaps.spare - 1 }
+
+  pub put_laid : (heaps' : Heaps) (key : Priority) → ¬ (keys.IsHeld heaps.lists key.task) → held < limit → PutInto heaps' key →
+      IsLaidOut heaps' ready (set es1 at (record (get_or es1 at no_entry) { count = (get_or es1 at no_entry).count + 1 })) left (held + 1) limit room unused_room
+  put_laid heaps' key absent free is =
+      let e = get_or es1 at no_entry in
+      let new = fin.insert (list_of heaps e.heap) key in
+      let h_in : e.heap < length heaps.lists = entry_listed opened at opened_within in
+      let none : fin.contains (list_of heaps e.heap) key ≡ false =
+      false_from_ne_true (fin.contains (list_of heaps e.heap) key) (λ h. absent (record { list = e.heap; key = key; listed = h_in; has = h; of_task = refl })) in
+      entry_changed opened heaps' at new (e.count + 1) (held + 1) opened_within (ap (λ h. h.lists) is)
+      (omega (arith, len-insert_new (list_of heaps e.heap) key none, opened.counted at no_entry opened_within))
+      (subst AreApart (sym (ap (λ h. h.lists) is)) (apart_insert heaps.lists e.heap key absent laid.apart))
+      (omega arith) (omega (arith, free)) (omega (arith, free, laid.spare, ap (λ h. h.spare) is))
+
+  pub put_seen : (heaps' : Heaps) (key : Priority) → ¬ (keys.IsHeld heaps.lists key.task) → held < limit → PutInto heaps' key →
+      seen heaps' ready (set es1 at (record (get_or es1 at no_entry) { count = (get_or es1 at no_entry).count + 1 })) (limit - (held + 1))
+      ≡ record (seen heaps ready es (limit - held)) {
+        waiting = finmap.insert (waiting_in heaps es) slot (fin.insert (list_at (waiting_in heaps es) slot) key);
+        spare = (limit - held) - 1;
+      }
+  put_seen heaps' key absent free is =
+      let e = get_or es1 at no_entry in
+      let new = fin.insert (list_of heaps e.heap) key in
+      let e' : Entry = record e { count = e.count + 1 } in
+      let h_in : e.heap < length heaps.lists = entry_listed opened at opened_within in
+      let here : list_of heaps' ready ≡ list_of heaps ready =
+      ap (λ h. list_of h ready) is ∙ get_or-set_other heaps.lists e.heap ready new fin.empty (λ i. entry_apart opened at opened_within (sym i)) in
+      let lists : lists_in heaps' (set es1 at e') ≡ set (lists_in heaps es1) at (e.slot, new) =
+      lists_set heaps heaps' es1 at e' new opened_within
+      (λ k lk ne. ap (λ h. list_of h (get_or es1 k no_entry).heap) is
+      ∙ get_or-set_other heaps.lists e.heap (get_or es1 k no_entry).heap new fin.empty (entries_apart opened at k opened_within lk ne))
+      (ap (λ h. list_of h e.heap) is ∙ get_or-set_same heaps.lists e.heap new fin.empty h_in) in
+      let waits : waiting_in heaps' (set es1 at e') ≡ finmap.insert (waiting_in heaps es) slot (fin.insert (list_at (waiting_in heaps es) slot) key) =
+      waiting_is heaps' (set es1 at e') ∙ ap finmap.from_sorted lists ∙ ap (λ s. finmap.from_sorted (set (lists_in heaps es1) at (s, new))) opened_slot
+      ∙ opened_map new ∙ ap (λ l. finmap.insert (waiting_in heaps es) slot (fin.insert l key)) opened_list in
+      let places : limit - (held + 1) ≡ (limit - held) - 1 = omega (arith, free) in
+      λ i. record { ready = here i; waiting = waits i; spare = places i }
+
+each_one : (es : List Entry) → All (λ e. 1 ≤ e.count) es → length es ≤ sum_by (λ (e : Entry). e.count) es
+each_one [] h = omega arith
+each_one (e ∷ es) h =
+    omega (arith, sum_by-cons (λ (x : Entry). x.count) e es, h 0 no_entry (omega arith), each_one es (λ k d lt. h (suc k) d (omega (arith, lt))))
+
+-- where a key can be put there is an unused heap
+pub has_unused : {heaps : Heaps} {ready : ℕ} {es : List Entry} {unused : List ℕ} {held limit room unused_room : ℕ} → IsCalendar heaps ready es unused held limit room unused_room →
+    held < limit → 1 ≤ length unused
+has_unused {es = es} cal free = omega (arith, free, each_one es cal.some, cal.laid.few, cal.laid.enough)
+
+pub slots_rise : {heaps : Heaps} {ready : ℕ} {es : List Entry} {unused : List ℕ} {held limit room unused_room : ℕ} → IsLaidOut heaps ready es unused held limit room unused_room →
+    IsNonDecreasingBy (λ (e : Entry). e.slot) es
+slots_rise {heaps} {es = es} laid i j d le lt =
+    let li : i < length es = omega (arith, le, lt) in
+    let here : (get_or es i d).slot ≡ (get_or (lists_in heaps es) i (0, fin.empty)).0 = ap (λ (x : Entry). x.slot) (get_or_default es i d no_entry li) ∙ sym (slot_at heaps es i fin.empty li) in
+    let there : (get_or es j d).slot ≡ (get_or (lists_in heaps es) j (0, fin.empty)).0 = ap (λ (x : Entry). x.slot) (get_or_default es j d no_entry lt) ∙ sym (slot_at heaps es j fin.empty lt) in
+    ⊎_elim
+    (λ below. omega (arith, here, there, rises (lists_in heaps es) i j (0, fin.empty) laid.rise below (omega (arith, lt, length-lists heaps es))))
+    (λ ge. omega (arith, ap (λ k. (get_or es k d).slot) (let s : i ≡ j = omega (arith, le, ge) in s)))
+    (cases_lt i j)
+
+-- the entry as the code writes it
+pub entry_written : (es : List Entry) (at : ℕ) (e f : Entry) → at < length es → e ≡ get_or es at e → f ≡ get_or es at f → (n : ℕ → ℕ) →
+    set es at (record { slot = f.slot; heap = f.heap; count = n e.count }) ≡ set es at (record (get_or es at no_entry) { count = n (get_or es at no_entry).count })
+entry_written es at e f lt read_e read_f n =
+    let p : e ≡ get_or es at no_entry = get_or_read es at e lt read_e no_entry in
+    let q : f ≡ get_or es at no_entry = get_or_read es at f lt read_f no_entry in
+    λ i. set es at (record { slot = (q i).slot; heap = (q i).heap; count = n (p i).count })
+
+-- under the room that its Vecs have now
+pub with_room : {heaps : Heaps} {ready : ℕ} {es : List Entry} {unused : List ℕ} {held limit : ℕ} (room unused_room room' unused_room' : ℕ) → room' ≡ room → unused_room' ≡ unused_room →
+    IsCalendar heaps ready es unused held limit room unused_room → IsCalendar heaps ready es unused held limit room' unused_room'
+with_room {heaps} {ready} {es} {unused} {held} {limit} room unused_room room' unused_room' e f cal =
+    subst (λ (n : ℕ). IsCalendar heaps ready es unused held limit n unused_room') (sym e)
+    (subst (λ (n : ℕ). IsCalendar heaps ready es unused held limit room n) (sym f) cal)
+
+-- what an insert says, at the entry as it is read
+pub put_into : (heaps heaps' : Heaps) (es : List Entry) (at : ℕ) (e : Entry) (key : Priority) → at < length es → e ≡ get_or es at e →
+    heaps' ≡ record (with_list heaps e.heap (fin.insert (list_of heaps e.heap) key)) { spare = heaps.spare - 1 } →
+    heaps' ≡ record (with_list heaps (get_or es at no_entry).heap (fin.insert (list_of heaps (get_or es at no_entry).heap) key)) { spare = heaps.spare - 1 }
+put_into heaps heaps' es at e key lt read is =
+    let p : e ≡ get_or es at no_entry = get_or_read es at e lt read no_entry in
+    is ∙ (λ i. record (with_list heaps (p i).heap (fin.insert (list_of heaps (p i).heap) key)) { spare = heaps.spare - 1 })

@@ -1,0 +1,98 @@
+use Rattle.std.proofs.Common.{◌≡◌, ◌+◌, ◌-◌, ◌<◌, List, length, get_or, inl, sym, ap, ◌∙◌, subst, arith}
+use Rattle.std.specs.Prelude.{All}
+use Rattle.std.specs.FinSet as set
+use Rattle.std.proofs.lemmas.List.{get_or_default}
+use Rattle.pf_heap.specs.Keys.{Heaps, list_of, HasNone}
+use Rattle.pf_calendar.specs.declared.entry.Entry.{Entry}
+use Rattle.pf_calendar.specs.Queues.{Queues, IsHeld, TakesOut}
+use Rattle.pf_calendar.specs.Steps.{RemovesAt}
+use Rattle.pf_calendar.proofs.Naming.{no_entry}
+use Rattle.pf_calendar.proofs.Arranged.{ready_listed, entry_listed}
+use Rattle.pf_calendar.proofs.Whole.{popped_laid, popped_seen, seen, with_room}
+use Rattle.pf_calendar.proofs.Leaving.{ready_removed, not_held, some_held, discounted_calendar, takes_out}
+use Rattle.pf_calendar.proofs.calendar.Calendar.take_out.Goals as goal
+
+pub remove-requires : goal.remove-requires
+remove-requires c = ready_listed c.self.invariant.laid
+
+pub overflow_sub-self : goal.overflow_sub-self
+overflow_sub-self c =
+    let r = c.in-Some.ensures.removed in
+    (popped_laid c.self.invariant.laid c.remove.new.self c.in-Some.key r.0 (ready_removed c.self.invariant.laid c.remove.new.self c.args.task c.in-Some.key r.1 r.0 r.2)).0
+
+pub invariant_of-self : goal.invariant_of-self
+invariant_of-self c =
+    let r = c.in-Some.ensures.removed in
+    record {
+      laid = (popped_laid c.self.invariant.laid c.remove.new.self c.in-Some.key r.0 (ready_removed c.self.invariant.laid c.remove.new.self c.args.task c.in-Some.key r.1 r.0 r.2)).1;
+      some = c.self.invariant.some;
+    }
+
+pub returns-in-Some-clause-taken : goal.returns-in-Some-clause-taken
+returns-in-Some-clause-taken c =
+    let r = c.in-Some.ensures.removed in (
+      r.1,
+      inl (
+        ap (λ (q : Queues). set.contains q.ready c.in-Some.key) (sym c.self.view_is) ∙ r.0,
+        popped_seen c.self.invariant.laid c.remove.new.self c.in-Some.key r.0 (ready_removed c.self.invariant.laid c.remove.new.self c.args.task c.in-Some.key r.1 r.0 r.2)
+            ∙ ap (λ (q : Queues). record q { ready = set.remove q.ready c.in-Some.key; spare = q.spare + 1 }) c.self.view_is,
+      ),
+    )
+
+pub remove_waiting-requires : goal.remove_waiting-requires
+remove_waiting-requires c = λ k d lt.
+    let within : k < length c.self.inside.waiting.items = omega (arith, lt, ap length c.deref.ensures.value) in
+    let is : get_or c.deref.result.now k d ≡ get_or c.self.inside.waiting.items k no_entry =
+    ap (λ l. get_or l k d) c.deref.ensures.value ∙ get_or_default c.self.inside.waiting.items k d no_entry within in
+    subst (λ (h : Heaps). (get_or c.deref.result.now k d).heap < length h.lists) (sym c.in_default.ensures.removed.1)
+    (subst (λ (e : Entry). e.heap < length c.self.inside.heaps.lists) (sym is) (entry_listed c.self.invariant.laid k within))
+
+pub returns-in_default-remove_waiting-clause-taken : goal.returns-in_default-remove_waiting-clause-taken
+returns-in_default-remove_waiting-clause-taken c =
+    let heaps = c.self.inside.heaps in
+    let es = c.self.inside.waiting.items in
+    let same : c.remove_waiting.new.heaps ≡ heaps = c.in_default-remove_waiting.ensures.removed.0 ∙ c.in_default.ensures.removed.1 in
+    let none : All (λ (e : Entry). HasNone (list_of heaps e.heap) c.args.task) es =
+    subst (λ (h : Heaps). All (λ (e : Entry). HasNone (list_of h e.heap) c.args.task) es) c.in_default.ensures.removed.1
+    (subst (λ (l : List Entry). All (λ (e : Entry). HasNone (list_of c.remove.new.self e.heap) c.args.task) l) c.deref.ensures.value c.in_default-remove_waiting.ensures.removed.1) in (
+      subst (λ (q : Queues). ¬ (IsHeld q c.args.task)) c.self.view_is
+          (not_held c.self.invariant.laid (c.self.inside.limit - c.self.inside.held) c.args.task c.in_default.ensures.removed.0 none),
+      ap (λ h. seen h c.self.inside.ready es (c.self.inside.limit - c.self.inside.held)) same ∙ c.self.view_is,
+    )
+
+pub overflow_sub-self-2 : goal.overflow_sub-self-2
+overflow_sub-self-2 c =
+    let heaps = c.self.inside.heaps in
+    let es = c.self.inside.waiting.items in
+    let removes : RemovesAt heaps c.remove_waiting.new.heaps es c.args.task c.in-Some-remove_waiting.found.0 c.in-Some-remove_waiting.found.1 =
+    subst (λ (h : Heaps). RemovesAt h c.remove_waiting.new.heaps es c.args.task c.in-Some-remove_waiting.found.0 c.in-Some-remove_waiting.found.1) c.in_default.ensures.removed.1
+    (subst (λ (l : List Entry). RemovesAt c.remove.new.self c.remove_waiting.new.heaps l c.args.task c.in-Some-remove_waiting.found.0 c.in-Some-remove_waiting.found.1) c.deref.ensures.value
+    c.in-Some-remove_waiting.ensures.removed) in
+    some_held c.self.invariant.laid c.remove_waiting.new.heaps c.args.task c.in-Some-remove_waiting.found.0 c.in-Some-remove_waiting.found.1 removes
+
+pub invariant_of-self-2 : goal.invariant_of-self-2
+invariant_of-self-2 c =
+    let heaps = c.self.inside.heaps in
+    let es = c.self.inside.waiting.items in
+    let removes : RemovesAt heaps c.remove_waiting.new.heaps es c.args.task c.in-Some-remove_waiting.found.0 c.in-Some-remove_waiting.found.1 =
+    subst (λ (h : Heaps). RemovesAt h c.remove_waiting.new.heaps es c.args.task c.in-Some-remove_waiting.found.0 c.in-Some-remove_waiting.found.1) c.in_default.ensures.removed.1
+    (subst (λ (l : List Entry). RemovesAt c.remove.new.self c.remove_waiting.new.heaps l c.args.task c.in-Some-remove_waiting.found.0 c.in-Some-remove_waiting.found.1) c.deref.ensures.value
+    c.in-Some-remove_waiting.ensures.removed) in
+    with_room _ _ _ _ c.discount.ensures.capacity c.discount.ensures.unused_capacity
+    (discounted_calendar c.self.invariant.laid c.remove_waiting.new.heaps c.args.task c.in-Some-remove_waiting.found.0 c.in-Some-remove_waiting.found.1 removes
+    c.discount.new.entries.items c.discount.new.unused.items c.self.invariant.some c.discount.ensures.discounted)
+
+pub returns-clause-taken : goal.returns-clause-taken
+returns-clause-taken c =
+    let heaps = c.self.inside.heaps in
+    let es = c.self.inside.waiting.items in
+    let removes : RemovesAt heaps c.remove_waiting.new.heaps es c.args.task c.in-Some-remove_waiting.found.0 c.in-Some-remove_waiting.found.1 =
+    subst (λ (h : Heaps). RemovesAt h c.remove_waiting.new.heaps es c.args.task c.in-Some-remove_waiting.found.0 c.in-Some-remove_waiting.found.1) c.in_default.ensures.removed.1
+    (subst (λ (l : List Entry). RemovesAt c.remove.new.self c.remove_waiting.new.heaps l c.args.task c.in-Some-remove_waiting.found.0 c.in-Some-remove_waiting.found.1) c.deref.ensures.value
+    c.in-Some-remove_waiting.ensures.removed) in (
+      removes.of_task,
+      subst (λ (q : Queues). TakesOut q (seen c.remove_waiting.new.heaps c.self.inside.ready c.discount.new.entries.items (c.self.inside.limit - (c.self.inside.held - 1)))
+          c.in-Some-remove_waiting.found.1) c.self.view_is
+          (takes_out c.self.invariant.laid c.remove_waiting.new.heaps c.args.task c.in-Some-remove_waiting.found.0 c.in-Some-remove_waiting.found.1 removes
+          c.discount.new.entries.items c.discount.new.unused.items c.discount.ensures.discounted),
+    )

@@ -1,0 +1,22 @@
+use Rattle.std.proofs.Common.{◌≡◌, ◌+◌, ◌*◌, ◌≤◌, ◌++◌, vec_len, take, drop}
+use Rattle.std.specs.Prelude.{sum_by}
+use Rattle.std.specs.Vec.{vec_capacity}
+use Rattle.std.specs.FinSet as set
+use Rattle.pf_heap.specs.Keys.{list_of}
+use Rattle.pf_heap.specs.Digits.{digits}
+use Rattle.pf_calendar.specs.Invariant.{names_of}
+use Rattle.pf_calendar.specs.Steps.{MergesAll}
+use Rattle.pf_calendar.proofs.merge.merge_all.Given as goal
+
+abbrev pub invariant-loop-entry : goal.invariant-loop-entry
+invariant-loop-entry l = record {
+  merges : MergesAll l.initial.heaps l.heaps l.into (names_of (take l.entry-index l.entries));
+  aside : l.aside.items ≡ l.initial.aside.items ++ names_of (take l.entry-index l.entries);
+  long : vec_len l.aside ≡ vec_len l.initial.aside + l.entry-index;
+  capacity : vec_capacity l.aside ≡ vec_capacity l.initial.aside;
+  shrinks : set.len (list_of l.heaps l.into) + sum_by (λ e. set.len (list_of l.initial.heaps e.heap)) (drop l.entry-index l.entries)
+      ≤ set.len (list_of l.initial.heaps l.into) + sum_by (λ e. set.len (list_of l.initial.heaps e.heap)) l.entries;
+  compared : l.meter.compared ≤ l.initial.meter.compared
+      + l.entry-index * digits (set.len (list_of l.initial.heaps l.into) + sum_by (λ e. set.len (list_of l.initial.heaps e.heap)) l.entries);
+  slots : l.meter.slots ≡ l.initial.meter.slots;
+}

@@ -1,0 +1,53 @@
+-- What holds of every calendar.
+use Rattle.std.specs.Prelude.{◌≡◌, ℕ, ◌+◌, ◌-◌, ◌≤◌, ◌^◌, ◌==◌, true, List, ◌∷◌, ◌++◌, map, length, All, if◌then◌else◌, nat_lt, count_by, sum_by, slice_index_or}
+use Rattle.std.specs.Ordering.{nat_cmp}
+use Rattle.std.specs.FinSet as set
+use Rattle.std.specs.FinMap as fin
+use Rattle.pf_order.specs.Priority.{Priority}
+use Rattle.pf_heap.specs.Keys.{Keys, Heaps, list_of}
+use Rattle.pf_calendar.specs.declared.entry.Entry.{Entry}
+use Rattle.pf_calendar.specs.Queues.{Waiting}
+
+-- the lists of the entries, with their slots
+abbrev pub lists_in : Heaps → List Entry → List (ℕ × Keys)
+lists_in heaps entries = map (λ e. (e.slot, list_of heaps e.heap)) entries
+
+-- the entries as a map from slot to list
+unfoldable pub waiting_in : Heaps → List Entry → Waiting
+waiting_in heaps entries = fin.from_sorted (lists_in heaps entries)
+
+-- the heaps that the entries name
+abbrev pub names_of : List Entry → List ℕ
+names_of entries = map (λ e. e.heap) entries
+
+-- how often a heap is named
+unfoldable pub times : ℕ → List ℕ → ℕ
+times h names = count_by (λ n. n == h) names
+
+-- no task has two keys: keys of one task are one key, in one list
+abbrev pub AreApart : List Keys → Type 0
+AreApart lists = (i j : ℕ) (p q : Priority) →
+    set.contains (slice_index_or lists i set.empty) p ≡ true → set.contains (slice_index_or lists j set.empty) q ≡ true
+    → p.task ≡ q.task → (i ≡ j) × (p ≡ q)
+
+-- each heap has one name: it is the ready one, or an entry's, or it is unused and then empty; the slots of the entries
+-- rise; each entry counts its keys; and there are heaps, and room for their names, for the keys held and the spare ones
+pub record IsLaidOut (heaps : Heaps) (ready : ℕ) (entries : List Entry) (unused : List ℕ) (held limit room unused_room : ℕ) : Type 0 where
+  pub rise : fin.is_sorted nat_cmp (lists_in heaps entries) ≡ true
+  pub named : (h : ℕ) → times h (ready ∷ (names_of entries ++ unused)) ≡ (if nat_lt h (length heaps.lists) then 1 else 0)
+  pub many : length heaps.lists ≡ length entries + length unused + 1
+  pub small : length entries + length unused ≤ 2 ^ 32 - 3
+  pub empty : All (λ h. list_of heaps h ≡ set.empty) unused
+  pub counted : All (λ e. e.count ≡ set.len (list_of heaps e.heap)) entries
+  pub apart : AreApart heaps.lists
+  pub few : set.len (list_of heaps ready) + sum_by (λ e. e.count) entries ≤ held
+  pub within : held ≤ limit
+  pub enough : limit ≤ length entries + length unused
+  pub spare : limit ≤ held + heaps.spare
+  pub room_is : length entries + length unused ≤ room
+  pub unused_room_is : length entries + length unused ≤ unused_room
+
+-- and no entry's list is empty
+pub record IsCalendar (heaps : Heaps) (ready : ℕ) (entries : List Entry) (unused : List ℕ) (held limit room unused_room : ℕ) : Type 0 where
+  pub laid : IsLaidOut heaps ready entries unused held limit room unused_room
+  pub some : All (λ e. 1 ≤ e.count) entries

@@ -1,0 +1,198 @@
+ghost use Rattle.std.specs.Prelude.{◌≡◌, ◌≢◌, ℕ, ◌+◌, ◌-◌, ◌*◌, ◌<◌, ◌≤◌, ◌^◌, length, All, IsTrue, IfOk, OnOk, OnErr, MatchOption, vec_len};
+ghost use Rattle.std.specs.Vec.{vec_capacity};
+ghost use Rattle.std.specs.Ordering.{nat_cmp};
+ghost use Rattle.std.specs.FinSet as set;
+ghost use Rattle.std.specs.FinMap as map;
+ghost use Rattle.pf_heap.specs.Keys.{IsFirst};
+ghost use Rattle.pf_heap.specs.Digits.{digits};
+ghost use Rattle.pf_calendar.specs.Queues.{list_at, until, later, due, count_of, IsHeld, TakesOut};
+
+use crate::entry::Entry;
+use crate::merge::merge_all;
+use crate::names::{add_heaps, open};
+use crate::taking::{discount, remove_waiting};
+use pf_heap::arena::{Arena, HeapId};
+use pf_order::key::Key;
+use pf_order::meter::Meter;
+use std::alloc::{AllocError, Global};
+use std::marker::Model;
+
+/// So many heaps can be named beside the ready one.
+const NAMES: usize = u32::MAX as usize - 2;
+
+/// Keys that wait for their slots, and keys that are ready. A task is held at most once.
+#[derive(Drop)]
+pub struct Calendar {
+    heaps: Arena,
+    ready: HeapId,
+    /// By rising slots.
+    waiting: Vec<Entry>,
+    /// Empty heaps.
+    unused: Vec<HeapId>,
+    /// How many keys are held.
+    held: usize,
+    /// So many keys can be held before memory is wanted.
+    limit: usize,
+}
+
+impl Model for Calendar {
+    ghost use Rattle.std.specs.Prelude.{◌-◌};
+    ghost use Rattle.std.specs.Vec.{vec_capacity};
+    ghost use Rattle.pf_calendar.specs.Queues.{Queues, queues_code};
+
+    ghost Value = { Queues };
+
+    ghost coded = { queues_code };
+
+    ghost use Rattle.pf_heap.specs.Keys.{list_of};
+    ghost use Rattle.pf_calendar.specs.Invariant.{waiting_in, IsCalendar};
+
+    ghost view = { λ c. record { ready = list_of c.heaps c.ready; waiting = waiting_in c.heaps c.waiting.items; spare = c.limit - c.held } };
+
+    ghost invariant = { λ c. IsCalendar c.heaps c.ready c.waiting.items c.unused.items c.held c.limit (vec_capacity c.waiting) (vec_capacity c.unused) };
+}
+
+impl Calendar {
+    /// A calendar that holds nothing.
+    ///
+    /// # Errors
+    ///
+    /// Where memory is refused.
+    pub fn new(alloc: Global) -> Result<Self, AllocError>
+        ensures { IfOk result (λ c. c ≡ record { ready = set.empty; waiting = map.empty; spare = 0 }) }
+    {
+        let mut heaps = Arena::new(alloc)?;
+        let ready = heaps.new_heap()?;
+        Ok(Self {
+            heaps,
+            ready,
+            waiting: Vec::new(alloc),
+            unused: Vec::new(alloc),
+            held: 0,
+            limit: 0,
+        })
+    }
+
+    /// Makes room for at least n more keys.
+    ///
+    /// # Errors
+    ///
+    /// Where memory is refused, or n is more than heaps can be named: all is as before.
+    pub fn reserve(&mut self, n: usize) -> Result<(), AllocError>
+        ensures ready { self.new.ready ≡ self.old.ready }
+        ensures waiting { self.new.waiting ≡ self.old.waiting }
+        ensures grows { self.old.spare ≤ self.new.spare }
+        ensures ok { OnOk result (n ≤ self.new.spare) }
+        ensures err { OnErr result (self.new ≡ self.old) }
+    {
+        if n <= self.limit - self.held {
+            return Ok(());
+        }
+        if n > NAMES - self.held {
+            return Err(AllocError);
+        }
+        let limit = self.held + n;
+        let more = limit.saturating_sub(self.waiting.len() + self.unused.len());
+        self.heaps.reserve(n)?;
+        self.waiting.reserve(self.unused.len() + more)?;
+        self.unused.reserve(self.waiting.len() + more)?;
+        add_heaps(&mut self.heaps, &mut self.unused, more)?;
+        self.limit = limit;
+        Ok(())
+    }
+
+    /// Adds the key to the list that waits for the slot.
+    pub fn put(&mut self, meter: &mut Meter, slot: u64, key: Key)
+        requires room { 1 ≤ self.old.spare }
+        requires absent { ¬ IsHeld self.old key.task }
+        ensures put { self.new ≡ record self.old {
+          waiting = map.insert self.old.waiting slot (set.insert (list_at self.old.waiting slot) key);
+          spare = self.old.spare - 1;
+        } }
+        ensures comparisons { meter.new.compared ≤ meter.old.compared + digits (count_of self.old + 1) }
+        ensures slots { meter.new.slots ≡ meter.old.slots }
+    {
+        let at = open(&mut self.waiting, &mut self.unused, slot);
+        let entry = self.waiting[at];
+        self.heaps.insert(meter, entry.heap, key);
+        self.waiting[at].count = entry.count + 1;
+        self.held += 1;
+    }
+
+    /// Merges every list for a slot up to t into the ready list.
+    pub fn advance(&mut self, meter: &mut Meter, t: u64)
+        ensures advanced { self.new ≡ record self.old {
+          ready = set.union self.old.ready (due t self.old.waiting);
+          waiting = later t self.old.waiting;
+        } }
+        ensures comparisons { meter.new.compared
+            ≤ meter.old.compared + map.len (until t self.old.waiting) * digits (count_of self.old) }
+        ensures slots { meter.new.slots ≡ meter.old.slots }
+    {
+        let due = self.waiting.partition_point(|entry| entry.slot <= t);
+        merge_all(
+            &mut self.heaps,
+            meter,
+            self.ready,
+            &self.waiting[..due],
+            &mut self.unused,
+        );
+        drop(self.waiting.drain(..due));
+    }
+
+    /// Takes the first ready key out.
+    pub fn pop_ready(&mut self, meter: &mut Meter) -> Option<Key>
+        ensures popped { MatchOption result ((self.old.ready ≡ set.empty) × (self.new ≡ self.old))
+            (λ k. IsFirst self.old.ready k
+            × (self.new ≡ record self.old { ready = set.remove self.old.ready k; spare = self.old.spare + 1 })) }
+        ensures comparisons { meter.new.compared ≤ meter.old.compared + 2 * digits (count_of self.old) }
+        ensures slots { meter.new.slots ≡ meter.old.slots }
+    {
+        let key = self.heaps.pop(meter, self.ready)?;
+        self.held -= 1;
+        Some(key)
+    }
+
+    /// Takes the key of this task out, wherever it is. A waiting list that becomes empty is gone.
+    pub fn take_out(&mut self, meter: &mut Meter, task: u32) -> Option<Key>
+        ensures taken { MatchOption result ((¬ IsHeld self.old task) × (self.new ≡ self.old))
+            (λ k. (k.task ≡ task) × TakesOut self.old self.new k) }
+        ensures slots { meter.new.slots ≡ meter.old.slots }
+    {
+        if let Some(key) = self.heaps.remove(meter, self.ready, task) {
+            self.held -= 1;
+            return Some(key);
+        }
+        let Some(found) = remove_waiting(&mut self.heaps, meter, &self.waiting, task) else {
+            return None;
+        };
+        let (at, key) = found;
+        discount(&mut self.waiting, &mut self.unused, at);
+        self.held -= 1;
+        Some(key)
+    }
+
+    /// A calendar with the same lists and no room.
+    ///
+    /// # Errors
+    ///
+    /// Where memory is refused.
+    pub fn copy(&self) -> Result<Self, AllocError>
+        ensures { IfOk result (λ c. c ≡ record self.now { spare = 0 }) }
+    {
+        let alloc = *self.waiting.allocator();
+        let heaps = self.heaps.copy()?;
+        let mut waiting = Vec::from_slice(alloc, &self.waiting)?;
+        let mut unused = Vec::from_slice(alloc, &self.unused)?;
+        waiting.reserve(self.unused.len())?;
+        unused.reserve(self.waiting.len())?;
+        Ok(Self {
+            heaps,
+            ready: self.ready,
+            waiting,
+            unused,
+            held: self.held,
+            limit: self.held,
+        })
+    }
+}
