@@ -1,5 +1,5 @@
 -- What a desk keeps, from its opening on and through one entry more.
-use Rattle.std.proofs.Common.{◌≡◌, ℕ, ◌≤◌, Bool, true, false, if◌then◌else◌, IfSome, Some, None, List, [], ◌∷◌, ◌++◌, refl, sym, ap, ◌∙◌, subst, arith}
+use Rattle.std.proofs.Common.{◌≡◌, ℕ, ◌≤◌, Bool, true, false, if◌then◌else◌, IfSome, Some, None, List, [], ◌∷◌, ◌++◌, refl, sym, ap, ◌∙◌, subst}
 use Rattle.std.specs.List.{slice_get}
 use Rattle.std.proofs.lemmas.List.{nil_from_length}
 use Rattle.pf_scenario.specs.System.{System}
@@ -21,7 +21,7 @@ use Rattle.pf_desk.specs.Machine.{State, opening_state, edit_reply, strict_reply
 use Rattle.pf_desk.specs.History.{IsLegal, last_state}
 use Rattle.pf_desk.specs.Desk.{IsDesk, Answers, entry_of}
 use Rattle.pf_desk.specs.Kept.{state_of, shown_by, IsKept}
-use Rattle.pf_desk.proofs.Histories.{legal_append, behind_append, settings_changed, settings_after, next_behind}
+use Rattle.pf_desk.proofs.Histories.{legal_append, behind_append, settings_changed, settings_after}
 use Rattle.pf_desk.proofs.Pasts.{slots_taken, length-rows_in, stands_alike}
 use Rattle.pf_desk.proofs.Changes.{events_rest}
 
@@ -75,12 +75,6 @@ kept_entered plan plan' kept kept' es e is enters =
           ∙ ap (λ st. state_after st e.command e.reply) is.last
           ∙ enters.state;
     }
-
--- numbers are given from 1 on
-pub some_next : (plan : Plan) (kept : KeptRun) (es : List Entry) → IsKept plan kept es → 1 ≤ plan.next
-some_next plan kept es is =
-    let some = next_behind (opening_state plan.settings) es (omega arith) in
-    omega (arith, some, ap (λ st. st.plan.next) is.last)
 
 -- Use: a refusal enters and leaves the parts.
 pub refused_kept : (plan : Plan) (kept : KeptRun) (es : List Entry) (caller : ℕ) (command : Command) (fault : Fault) →
@@ -162,7 +156,7 @@ ahead_stands plan kept es change is faultless ahead =
     stands_alike kept.engine.now plan (changed plan change) kept
     (record {
       of_s = scenario;
-      of_q = changes_keep_scenarios plan change scenario (some_next plan kept es is) faultless;
+      of_q = changes_keep_scenarios plan change scenario faultless;
       settings = sym (settings_changed plan change);
       events = events_rest plan change kept.engine.now scenario faultless ahead;
     })

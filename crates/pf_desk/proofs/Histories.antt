@@ -1,9 +1,8 @@
 -- Histories with more entries.
-use Rattle.std.proofs.Common.{◌≡◌, ◌≤◌, List, [], ◌∷◌, ◌++◌, refl, ◌∙◌, arith}
+use Rattle.std.proofs.Common.{◌≡◌, List, [], ◌∷◌, ◌++◌, refl, ◌∙◌}
 use Rattle.pf_scenario.specs.Scenario.{Plan, changed}
 use Rattle.pf_scenario.specs.declared.change.Change.{Change}
 use Rattle.pf_scenario.specs.declared.change.Change.TheVariants.{Insert, Alter, Strike}
-use Rattle.pf_scenario.proofs.Scenarios.{numbers_rise}
 use Rattle.pf_desk.specs.declared.command.Command.{Command}
 use Rattle.pf_desk.specs.declared.command.Command.TheVariants.{Edit, Step}
 use Rattle.pf_desk.specs.declared.reply.Reply.{Reply}
@@ -37,15 +36,3 @@ settings_after st (Edit change strict) (Stepped slot row) = settings_changed st.
 pub settings_behind : (st : State) (es : List Entry) → (state_behind st es).plan.settings ≡ st.plan.settings
 settings_behind st [] = refl
 settings_behind st (e ∷ es) = settings_behind (state_after st e.command e.reply) es ∙ settings_after st e.command e.reply
-
--- the next number stays at least 1
-next_after : (st : State) (c : Command) (r : Reply) → 1 ≤ st.plan.next → 1 ≤ (state_after st c r).plan.next
-next_after st c (Refused fault) some = some
-next_after st Step (Edited id) some = some
-next_after st Step (Stepped slot row) some = some
-next_after st (Edit change strict) (Edited id) some = omega (arith, numbers_rise st.plan change)
-next_after st (Edit change strict) (Stepped slot row) some = omega (arith, numbers_rise st.plan change)
-
-pub next_behind : (st : State) (es : List Entry) → 1 ≤ st.plan.next → 1 ≤ (state_behind st es).plan.next
-next_behind st [] some = some
-next_behind st (e ∷ es) some = next_behind (state_after st e.command e.reply) es (next_after st e.command e.reply some)

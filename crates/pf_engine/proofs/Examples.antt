@@ -30,7 +30,8 @@ tests_of s =
     leb 1 s.settings.processors ∷ leb s.settings.processors 64 ∷ leb 1 s.settings.base ∷ leb s.settings.base (2 ^ 30)
     ∷ leb 1 s.settings.cap ∷ leb s.settings.cap (2 ^ 44)
     ∷ pairs_pass (λ x y. ltb x.id y.id) s.events
-    ∷ list_all (λ x. leb 1 x.id) s.events ∷ list_all (λ x. ltb x.id s.next) s.events ∷ leb s.next (last_number + 1)
+    ∷ list_all (λ x. leb 1 x.id) s.events ∷ list_all (λ x. ltb x.id s.next) s.events
+    ∷ leb 1 s.next ∷ leb s.next (last_number + 1)
     ∷ pairs_pass (λ x y. not (join_alike x.event y.event)) s.events
     ∷ pairs_pass (λ x y. not (leave_alike x.event y.event)) s.events
     ∷ list_all (λ x. is_none (event_fault s.settings [] x.event)) s.events
@@ -53,7 +54,7 @@ none_from_test (Some fault) none = cc
 
 scenario_from_test : (s : Plan) → s.settings.horizon ≡ near_horizon → passes s ≡ true → IsScenario s
 scenario_from_test s near all =
-    let each : (k : ℕ) → k < 14 → get_or (tests_of s) k true ≡ true =
+    let each : (k : ℕ) → k < 15 → get_or (tests_of s) k true ≡ true =
     λ k within. AllPass-from_list_all (λ b. b) (tests_of s) all k true within in
     record {
       settings = record {
@@ -72,14 +73,15 @@ scenario_from_test s near all =
         leb-true _ _ (AllPass-from_list_all (λ x. leb 1 x.id) s.events (each 7 (omega arith)) k d within),
         ltb-true _ _ (AllPass-from_list_all (λ x. ltb x.id s.next) s.events (each 8 (omega arith)) k d within),
       );
-      next_within = leb-true _ _ (each 9 (omega arith));
+      next_some = leb-true _ _ (each 9 (omega arith));
+      next_within = leb-true _ _ (each 10 (omega arith));
       joins_once = λ i j d before within. not-true _
-          (pairs_from_test (λ x y. not (join_alike x.event y.event)) s.events (each 10 (omega arith)) i j d before within);
+          (pairs_from_test (λ x y. not (join_alike x.event y.event)) s.events (each 11 (omega arith)) i j d before within);
       leaves_once = λ i j d before within. not-true _
-          (pairs_from_test (λ x y. not (leave_alike x.event y.event)) s.events (each 11 (omega arith)) i j d before within);
+          (pairs_from_test (λ x y. not (leave_alike x.event y.event)) s.events (each 12 (omega arith)) i j d before within);
       limits = λ k d within. none_from_test _
-          (AllPass-from_list_all (λ x. is_none (event_fault s.settings [] x.event)) s.events (each 12 (omega arith)) k d within);
-      few = leb-true _ _ (each 13 (omega arith));
+          (AllPass-from_list_all (λ x. is_none (event_fault s.settings [] x.event)) s.events (each 13 (omega arith)) k d within);
+      few = leb-true _ _ (each 14 (omega arith));
     }
 
 by_computing : (s : Plan) (n : ℕ) (r : List Slot) → s.settings.horizon ≡ near_horizon → passes s ≡ true → run_of s n ≡ r → IsRun s n r

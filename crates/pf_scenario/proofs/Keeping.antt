@@ -3,11 +3,10 @@ use Rattle.std.proofs.Common.{◌≡◌, ℕ, suc, ◌<◌, ◌≤◌, None, Lis
 use Rattle.std.specs.List.{All, AllPairs, Contains, remove, list_any, filter}
 use Rattle.std.specs.declared.cmp.Ordering.{Ordering}
 use Rattle.std.specs.Ordering.{is_lt}
-use Rattle.std.proofs.Math.Nat.{le_trans}
 use Rattle.std.proofs.lemmas.Bool.{cases_Bool, ne_eqb, leb-true, and_parts}
 use Rattle.std.proofs.lemmas.List.{append-nil, set_split}
 use Rattle.pf_scenario.proofs.Lists.{Pairs, Pairs-from_all, Pairs_before, All_at}
-use Rattle.pf_scenario.proofs.Scenarios.{or_else_none, unless_none, without_held, changes_keep_scenarios, numbers_rise}
+use Rattle.pf_scenario.proofs.Scenarios.{or_else_none, unless_none, without_held, changes_keep_scenarios}
 use Rattle.pf_scenario.proofs.Places.{replaced_at, without_at}
 use Rattle.pf_scenario.proofs.Sorting.{put_low, put_high, All-sorted_by}
 use Rattle.pf_scenario.proofs.Indexing.{around_apart, split_here}
@@ -71,12 +70,9 @@ amid s front x back e h =
       };
     }
 
--- what a change that is not refused leaves is a scenario, and its next number is at least 1
+-- what a change that is not refused leaves is a scenario
 changed_scenario : (s v : Plan) (index : List Numbered) (c : Change) → s ≡ v → IsKept s index → edit_fault v c ≡ None → IsScenario (changed s c)
-changed_scenario s v index c e h none = changes_keep_scenarios s c h.scenario h.next_some (rw e none)
-
-changed_some : (s : Plan) (index : List Numbered) (c : Change) → IsKept s index → 1 ≤ (changed s c).next
-changed_some s index c h = le_trans h.next_some (numbers_rise s c)
+changed_scenario s v index c e h none = changes_keep_scenarios s c h.scenario (rw e none)
 
 -- an insert: its event is new to the index, and is put there
 pub insert_new : (s v : Plan) (index : List Numbered) (event : Event) → s ≡ v → IsKept s index → edit_fault v (Insert event) ≡ None → IsNew (numbered s.next event) index
@@ -90,7 +86,6 @@ insert_kept s v index event e h none =
     let here = amid (changed s (Insert event)) s.events (numbered s.next event) [] refl kept in
     record {
       scenario = kept;
-      next_some = changed_some s index (Insert event) h;
       indexed = ap (put_in_time (numbered s.next event)) (h.indexed ∙ sym (ap in_time_order (append-nil s.events))) ∙ sym here.in_time;
     }
 
@@ -123,7 +118,6 @@ alter_kept s v index id i event x e h none place is =
     let here = amid (changed s (Alter id event)) (take i s.events) (numbered id event) (drop (suc i) s.events) split kept in
     record {
       scenario = subst (λ events. IsScenario (record s { events = events })) (replaced_at s.events id i event h.scenario.rising place) kept;
-      next_some = h.next_some;
       indexed = ap (put_in_time (numbered id event)) (index_without s index i x h place.within is) ∙ sym here.in_time ∙ ap in_time_order (sym (set_split s.events i (numbered id event) place.within));
     }
 
@@ -135,7 +129,6 @@ alter_is s v index id i event e h place =
 pub strike_kept : (s v : Plan) (index : List Numbered) (id i : ℕ) (x : Numbered) → s ≡ v → IsKept s index → edit_fault v (Strike id) ≡ None → IsPlace s.events id i → get_or s.events i x ≡ x → IsKept (record s { events = remove s.events i }) (without x.id index)
 strike_kept s v index id i x e h none place is = record {
   scenario = subst (λ events. IsScenario (record s { events = events })) (without_at s.events id i h.scenario.rising place) (changed_scenario s v index (Strike id) e h none);
-  next_some = h.next_some;
   indexed = index_without s index i x h place.within is;
 }
 

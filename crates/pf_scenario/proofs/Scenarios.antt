@@ -124,8 +124,8 @@ around_one s front x back e h =
     }
 
 -- with an event in the middle that is free, and whose number stands between those around it
-pub IsScenario-middle : (settings : System) (next : ℕ) (front : List Numbered) (x : Numbered) (back : List Numbered) → IsSystem settings → next ≤ last_number + 1 → length (front ++ x ∷ back) ≤ most_events → Around settings next front back → IsFree settings (front ++ back) x.event → All (λ y. y.id < x.id) front → All (λ y. x.id < y.id) back → (1 ≤ x.id) × (x.id < next) → IsScenario (record { settings = settings; events = front ++ x ∷ back; next = next })
-IsScenario-middle settings next front x back system below few around free before after given =
+pub IsScenario-middle : (settings : System) (next : ℕ) (front : List Numbered) (x : Numbered) (back : List Numbered) → IsSystem settings → 1 ≤ next → next ≤ last_number + 1 → length (front ++ x ∷ back) ≤ most_events → Around settings next front back → IsFree settings (front ++ back) x.event → All (λ y. y.id < x.id) front → All (λ y. x.id < y.id) back → (1 ≤ x.id) × (x.id < next) → IsScenario (record { settings = settings; events = front ++ x ∷ back; next = next })
+IsScenario-middle settings next front x back system some below few around free before after given =
     let J : Numbered → Numbered → Type 0 = λ x y. join_alike x.event y.event ≡ false in
     let L : Numbered → Numbered → Type 0 = λ x y. leave_alike x.event y.event ≡ false in
     let joins_after = All-weaker (λ y. J y x) (J x) (λ y h. join_alike_back x.event y.event ∙ h) back (All_right (λ y. J y x) front back free.joins) in
@@ -134,6 +134,7 @@ IsScenario-middle settings next front x back system below few around free before
       settings = system;
       rising = AllPairs-from_pairs (λ x y. x.id < y.id) _ (Pairs_middle (λ x y. x.id < y.id) front x back around.rising before after);
       given = All_middle (λ y. (1 ≤ y.id) × (y.id < next)) front x back around.given given;
+      next_some = some;
       next_within = below;
       joins_once = AllPairs-from_pairs J _ (Pairs_middle J front x back around.joins_once (All_left (λ y. J y x) front back free.joins) joins_after);
       leaves_once = AllPairs-from_pairs L _ (Pairs_middle L front x back around.leaves_once (All_left (λ y. L y x) front back free.leaves) leaves_after);
@@ -142,12 +143,13 @@ IsScenario-middle settings next front x back system below few around free before
     }
 
 -- with nothing in the middle
-pub IsScenario-without : (settings : System) (next : ℕ) (front back : List Numbered) → IsSystem settings → next ≤ last_number + 1 → length (front ++ back) ≤ most_events → Around settings next front back → IsScenario (record { settings = settings; events = front ++ back; next = next })
-IsScenario-without settings next front back system below few around =
+pub IsScenario-without : (settings : System) (next : ℕ) (front back : List Numbered) → IsSystem settings → 1 ≤ next → next ≤ last_number + 1 → length (front ++ back) ≤ most_events → Around settings next front back → IsScenario (record { settings = settings; events = front ++ back; next = next })
+IsScenario-without settings next front back system some below few around =
     record {
       settings = system;
       rising = AllPairs-from_pairs (λ x y. x.id < y.id) _ around.rising;
       given = around.given;
+      next_some = some;
       next_within = below;
       joins_once = AllPairs-from_pairs (λ x y. join_alike x.event y.event ≡ false) _ around.joins_once;
       leaves_once = AllPairs-from_pairs (λ x y. leave_alike x.event y.event ≡ false) _ around.leaves_once;
@@ -196,8 +198,9 @@ length_without : (front : List Numbered) (x : Numbered) (back : List Numbered) �
 length_without front x back = simp length-append (omega arith)
 
 -- an event more, an event in the place of another, and an event less
-inserted_after : (s : Plan) (event : Event) → IsScenario s → 1 ≤ s.next → IsFree s.settings s.events event → length s.events < most_events → s.next ≤ last_number → IsScenario (changed s (Insert event))
-inserted_after s event h some free few more =
+inserted_after : (s : Plan) (event : Event) → IsScenario s → IsFree s.settings s.events event → length s.events < most_events → s.next ≤ last_number → IsScenario (changed s (Insert event))
+inserted_after s event h free few more =
+    let some = h.next_some in
     let around = around_nothing s h in
     let later : Around s.settings (s.next + 1) s.events [] = record {
       rising = around.rising;
@@ -207,27 +210,27 @@ inserted_after s event h some free few more =
       limits = around.limits;
     } in
     let free' = rw (← append-nil s.events) at free in
-    IsScenario-middle s.settings (s.next + 1) s.events (numbered s.next event) [] h.settings (omega arith) (simp length-append (omega arith)) later free' (All-weaker (λ x. (1 ≤ x.id) × (x.id < s.next)) (λ x. x.id < s.next) (λ x g. g.1) s.events h.given) (All-nil (λ x. s.next < x.id)) (some, omega arith)
+    IsScenario-middle s.settings (s.next + 1) s.events (numbered s.next event) [] h.settings (omega arith) (omega arith) (simp length-append (omega arith)) later free' (All-weaker (λ x. (1 ≤ x.id) × (x.id < s.next)) (λ x. x.id < s.next) (λ x g. g.1) s.events h.given) (All-nil (λ x. s.next < x.id)) (some, omega arith)
 
 altered_at : (s : Plan) (front : List Numbered) (x : Numbered) (back : List Numbered) (event : Event) → s.events ≡ front ++ x ∷ back → IsScenario s → IsFree s.settings (front ++ back) event → IsScenario (record s { events = front ++ numbered x.id event ∷ back })
 altered_at s front x back event is h free =
     let rising = rw is at (Pairs-from_all (λ x y. x.id < y.id) s.events h.rising) in
     let few = rw is at h.few in
     let given = All_at (λ x. (1 ≤ x.id) × (x.id < s.next)) front x back (rw is at h.given) in
-    IsScenario-middle s.settings s.next front (numbered x.id event) back h.settings h.next_within (rw (length_middle front (numbered x.id event) x back) few) (around_one s front x back is h) free (Pairs_before (λ x y. x.id < y.id) front x back rising) (Pairs_after (λ x y. x.id < y.id) front x back rising) given
+    IsScenario-middle s.settings s.next front (numbered x.id event) back h.settings h.next_some h.next_within (rw (length_middle front (numbered x.id event) x back) few) (around_one s front x back is h) free (Pairs_before (λ x y. x.id < y.id) front x back rising) (Pairs_after (λ x y. x.id < y.id) front x back rising) given
 
 struck_at : (s : Plan) (front : List Numbered) (x : Numbered) (back : List Numbered) → s.events ≡ front ++ x ∷ back → IsScenario s → IsScenario (record s { events = front ++ back })
 struck_at s front x back is h =
     let few = rw is at h.few in
     let less = length_without front x back in
-    IsScenario-without s.settings s.next front back h.settings h.next_within (omega arith) (around_one s front x back is h)
+    IsScenario-without s.settings s.next front back h.settings h.next_some h.next_within (omega arith) (around_one s front x back is h)
 
 -- the three changes
-inserted : (s : Plan) (event : Event) → IsScenario s → 1 ≤ s.next → edit_fault s (Insert event) ≡ None → IsScenario (changed s (Insert event))
-inserted s event h some none =
+inserted : (s : Plan) (event : Event) → IsScenario s → edit_fault s (Insert event) ≡ None → IsScenario (changed s (Insert event))
+inserted s event h none =
     let parts = or_else_none _ _ none in
     let room = or_else_none _ _ parts.1 in
-    inserted_after s event h some (IsFree-from_none s.settings s.events event parts.0) (ltb-true _ _ (unless_none _ _ room.0)) (leb-true _ _ (unless_none _ _ room.1))
+    inserted_after s event h (IsFree-from_none s.settings s.events event parts.0) (ltb-true _ _ (unless_none _ _ room.0)) (leb-true _ _ (unless_none _ _ room.1))
 
 altered : (s : Plan) (front : List Numbered) (x : Numbered) (back : List Numbered) (event : Event) → s.events ≡ front ++ x ∷ back → IsScenario s → event_fault s.settings (without x.id s.events) event ≡ None → IsScenario (changed s (Alter x.id event))
 altered s front x back event is h none =
@@ -241,13 +244,13 @@ struck s front x back is h =
     rw e1 (struck_at s front x back is h)
 
 pub changes_keep_scenarios : ChangesKeepScenarios
-changes_keep_scenarios s (Insert event) h some none = inserted s event h some none
-changes_keep_scenarios s (Alter id event) h some none =
+changes_keep_scenarios s (Insert event) h none = inserted s event h none
+changes_keep_scenarios s (Alter id event) h none =
     let parts = or_else_none _ _ none in
     let here = held s id (unless_none _ _ parts.0) in
     let P : ℕ → Type 0 = λ n. event_fault s.settings (without n s.events) event ≡ None → IsScenario (changed s (Alter n event)) in
     subst P here.number (altered s here.front here.at here.back event here.is h) parts.1
-changes_keep_scenarios s (Strike id) h some none =
+changes_keep_scenarios s (Strike id) h none =
     let here = held s id (unless_none _ _ none) in
     let P : ℕ → Type 0 = λ n. IsScenario (changed s (Strike n)) in
     subst P here.number (struck s here.front here.at here.back here.is h)
@@ -263,6 +266,7 @@ opening_is_scenario settings h =
       settings = h;
       rising = λ i j d below low. absurd (omega arith);
       given = All-nil (λ x. (1 ≤ x.id) × (x.id < 1));
+      next_some = omega arith;
       next_within = omega arith;
       joins_once = λ i j d below low. absurd (omega arith);
       leaves_once = λ i j d below low. absurd (omega arith);

@@ -91,12 +91,13 @@ edit_fault s (Strike id) = unless (is_held s.events id) EventNotFound
 abbrev pub IsEvent : System → Event → Type 0
 IsEvent settings event = event_fault settings [] event ≡ None
 
--- what holds of every scenario: the numbers rise and are below the next one, no task joins twice or leaves twice,
--- each event is within its limits, and there are at most 65,535
+-- what holds of every scenario: numbers are given from 1 on, those of the events rise and are below the next one, no
+-- task joins twice or leaves twice, each event is within its limits, and there are at most 65,535
 pub record IsScenario (s : Plan) : Type 0 where
   pub settings : IsSystem s.settings
   pub rising : AllPairs (λ x y. x.id < y.id) s.events
   pub given : All (λ x. (1 ≤ x.id) × (x.id < s.next)) s.events
+  pub next_some : 1 ≤ s.next
   pub next_within : s.next ≤ last_number + 1
   pub joins_once : AllPairs (λ x y. join_alike x.event y.event ≡ false) s.events
   pub leaves_once : AllPairs (λ x y. leave_alike x.event y.event ≡ false) s.events

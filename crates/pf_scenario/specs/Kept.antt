@@ -1,5 +1,5 @@
 -- What a scenario's representation keeps, and the places of its events.
-use Rattle.std.specs.Prelude.{◌≡◌, ℕ, ◌<◌, ◌≤◌, List, length}
+use Rattle.std.specs.Prelude.{◌≡◌, ℕ, ◌<◌, List, length}
 use Rattle.std.specs.List.{HoldsAt}
 use Rattle.pf_scenario.specs.Scenario.{Plan}
 use Rattle.pf_scenario.specs.Edit.{IsScenario}
@@ -11,8 +11,7 @@ pub record IsPlace (events : List Numbered) (id i : ℕ) : Type 0 where
   pub within : i < length events
   pub number : HoldsAt (λ x. x.id ≡ id) events i
 
--- a scenario whose next number is at least 1, beside the index of its events
+-- a scenario, beside the index of its events
 pub record IsKept (s : Plan) (index : List Numbered) : Type 0 where
   pub scenario : IsScenario s
-  pub next_some : 1 ≤ s.next
   pub indexed : index ≡ in_time_order s.events

@@ -5,10 +5,10 @@ use Rattle.pf_scenario.specs.Scenario.{Plan, opening, changed}
 use Rattle.pf_scenario.specs.Edit.{IsScenario, edit_fault}
 use Rattle.pf_scenario.specs.declared.change.Change.{Change}
 
--- a change that is not refused makes a scenario of a scenario; numbers are given from 1 on
+-- a change that is not refused makes a scenario of a scenario
 abbrev pub ChangesKeepScenarios : Type 0
 ChangesKeepScenarios =
-    (s : Plan) (c : Change) → IsScenario s → 1 ≤ s.next → edit_fault s c ≡ None → IsScenario (changed s c)
+    (s : Plan) (c : Change) → IsScenario s → edit_fault s c ≡ None → IsScenario (changed s c)
 
 -- no change lowers the next number
 abbrev pub NumbersRise : Type 0

@@ -1,4 +1,6 @@
-//! The worked examples, the limits, and what is left after memory was refused.
+//! The worked examples and the limits.
+
+mod growths;
 
 use crate::apply_fault::ApplyFault;
 use crate::change::Change;
@@ -7,7 +9,7 @@ use crate::fault::{BadSettings, EditFault};
 use crate::scenario::Scenario;
 use crate::settings::Settings;
 use pf_weight::fault::WeightFault;
-use std::alloc::Global;
+use std::alloc::{AllocError, Global};
 use std::process::Abort;
 use std::test::Fail;
 
@@ -41,64 +43,107 @@ fn refused(fault: EditFault) -> Result<u64, ApplyFault> {
     Err(ApplyFault::Refused(fault))
 }
 
+/// Makes each change in turn, which answers as is said beside it.
+fn answers(rt: &impl Abort, s: &mut Scenario, cases: &[(Change, Result<u64, ApplyFault>)]) {
+    for (change, answer) in cases {
+        assert_eq!(rt; s.apply(*change), *answer);
+    }
+}
+
+/// Tries to insert each event, which is refused as is said beside it.
+fn refusals(rt: &impl Abort, s: &mut Scenario, cases: &[(Event, EditFault)]) {
+    for (event, fault) in cases {
+        assert_eq!(rt; s.apply(Change::Insert(*event)), refused(*fault));
+    }
+}
+
+/// Whether settings of each of these processors, bases and caps are refused.
+fn are_bad(cases: &[(u64, u64, u64)]) -> bool {
+    for (m, h, cap) in cases {
+        if Settings::new(*m, *h, *cap).is_ok() || Settings::wide(*m, *h, *cap).is_ok() {
+            return false;
+        }
+    }
+    true
+}
+
 #[test]
-fn settings_within_their_limits(rt: HostRuntime) {
-    for (m, h, cap) in [
+fn settings_out_of_their_limits(rt: HostRuntime) {
+    let cases = [
         (0, 1, 1),
         (65, 1, 1),
         (1, 0, 1),
         (1, 1_073_741_825, 1),
         (1, 1, 0),
         (1, 1, 17_592_186_044_417),
-    ] {
-        assert_eq!(rt; Settings::new(m, h, cap), Err(BadSettings));
-        assert_eq!(rt; Settings::wide(m, h, cap), Err(BadSettings));
-    }
-    let settings = Settings::new(64, 1_073_741_824, 17_592_186_044_416).expect(&rt, "greatest");
-    assert_eq!(rt; settings.processors(), 64);
-    assert_eq!(rt; settings.base().get(), 1_073_741_824);
-    assert_eq!(rt; settings.cap(), 17_592_186_044_416);
-    assert_eq!(rt; settings.horizon(), 1_048_576);
+    ];
+    assert!(rt; are_bad(&cases));
+    assert_eq!(rt; Settings::new(0, 1, 1), Err(BadSettings));
+}
+
+/// The processors, the base, the cap and the horizon.
+fn parts(settings: Settings) -> (u32, u64, u64, u64) {
+    (
+        settings.processors(),
+        settings.base().get(),
+        settings.cap(),
+        settings.horizon(),
+    )
+}
+
+#[test]
+fn settings_at_their_limits(rt: HostRuntime) -> Result<(), Fail> {
+    let (h, cap) = (1_073_741_824, 17_592_186_044_416);
+    let near = parts(Settings::new(64, h, cap)?);
+    assert_eq!(rt; near, (64, h, cap, 1_048_576));
+    let wide = parts(Settings::wide(64, h, cap)?);
+    assert_eq!(rt; wide, (64, h, cap, 4_194_304));
+    Ok(())
 }
 
 #[test]
 fn every_static_refusal(rt: HostRuntime) -> Result<(), Fail> {
     let mut s = Scenario::new(rt.alloc(), Settings::new(1, 6, 6)?);
-    for (event, fault) in [
+    let (none, above, beside) = (
+        EditFault::BadWeight(WeightFault::ZeroCost),
+        EditFault::BadWeight(WeightFault::CostAbovePeriod),
+        EditFault::BadWeight(WeightFault::PeriodNotInBase),
+    );
+    let cases = [
         (join(1_048_576, 0, 1, 2, 0), EditFault::SlotOutOfRange),
         (join(0, 0, 1, 2, 0), EditFault::TaskOutOfRange),
         (join(0, 4096, 1, 2, 0), EditFault::TaskOutOfRange),
         (join(0, 1, 0, 2, 1_048_577), EditFault::EarlyOutOfRange),
         (delay(0, 1, 0), EditFault::DelayOutOfRange),
         (delay(0, 1, 1_048_577), EditFault::DelayOutOfRange),
-        (
-            join(0, 1, 0, 2, 0),
-            EditFault::BadWeight(WeightFault::ZeroCost),
-        ),
-        (
-            join(0, 1, 3, 2, 0),
-            EditFault::BadWeight(WeightFault::CostAbovePeriod),
-        ),
-        (
-            join(0, 1, 1, 4, 0),
-            EditFault::BadWeight(WeightFault::PeriodNotInBase),
-        ),
-    ] {
-        assert_eq!(rt; s.apply(Change::Insert(event)), refused(fault));
-    }
-    let joined = refused(EditFault::JoinTwice);
-    let left = refused(EditFault::LeaveTwice);
-    let missing = refused(EditFault::EventNotFound);
-    for (change, answer) in [
+        (join(0, 1, 0, 2, 0), none),
+        (join(0, 1, 3, 2, 0), above),
+        (join(0, 1, 1, 4, 0), beside),
+    ];
+    refusals(&rt, &mut s, &cases);
+    assert_eq!(rt; s.next_number(), 1);
+    Ok(())
+}
+
+#[test]
+fn refusals_beside_other_events(rt: HostRuntime) -> Result<(), Fail> {
+    let mut s = Scenario::new(rt.alloc(), Settings::new(1, 6, 6)?);
+    let late = Change::Alter(9, join(1_048_576, 0, 1, 1, 0));
+    let cases = [
         (Change::Insert(join(0, 4095, 1, 6, 1_048_576)), Ok(1)),
-        (Change::Insert(join(9, 4095, 1, 6, 0)), joined),
+        (
+            Change::Insert(join(9, 4095, 1, 6, 0)),
+            refused(EditFault::JoinTwice),
+        ),
         (Change::Insert(leave(3, 4095)), Ok(2)),
-        (Change::Insert(leave(4, 4095)), left),
+        (
+            Change::Insert(leave(4, 4095)),
+            refused(EditFault::LeaveTwice),
+        ),
         (Change::Alter(2, leave(5, 4095)), Ok(2)),
-        (Change::Alter(9, join(1_048_576, 0, 1, 1, 0)), missing),
-    ] {
-        assert_eq!(rt; s.apply(change), answer);
-    }
+        (late, refused(EditFault::EventNotFound)),
+    ];
+    answers(&rt, &mut s, &cases);
     assert_eq!(rt; s.next_number(), 3);
     Ok(())
 }
@@ -106,29 +151,27 @@ fn every_static_refusal(rt: HostRuntime) -> Result<(), Fail> {
 #[test]
 fn counts_of_limits(rt: HostRuntime) -> Result<(), Fail> {
     let mut s = Scenario::new(rt.alloc(), Settings::new(2, 1, 2)?);
-    for (event, fault) in [
+    let cases = [
         (limit(0, 0), EditFault::CountOutOfRange),
         (limit(0, 3), EditFault::CountOutOfRange),
         (limit(1_048_576, 0), EditFault::SlotOutOfRange),
-    ] {
-        assert_eq!(rt; s.apply(Change::Insert(event)), refused(fault));
-    }
+    ];
+    refusals(&rt, &mut s, &cases);
     Ok(())
 }
 
+// The lesser number is altered last, and the greater still comes later in the slot.
 #[test]
 fn two_limits_of_one_slot(rt: HostRuntime) -> Result<(), Fail> {
     let mut s = Scenario::new(rt.alloc(), Settings::new(2, 1, 2)?);
-    // The lesser number is altered last, and the greater still comes later in the slot.
-    for change in [
-        Change::Insert(join(0, 1, 1, 1, 0)),
-        Change::Insert(limit(0, 1)),
-        Change::Insert(limit(0, 2)),
-        Change::Alter(3, limit(0, 1)),
-        Change::Alter(2, limit(0, 2)),
-    ] {
-        s.apply(change)?;
-    }
+    let cases = [
+        (Change::Insert(join(0, 1, 1, 1, 0)), Ok(1)),
+        (Change::Insert(limit(0, 1)), Ok(2)),
+        (Change::Insert(limit(0, 2)), Ok(3)),
+        (Change::Alter(3, limit(0, 1)), Ok(3)),
+        (Change::Alter(2, limit(0, 2)), Ok(2)),
+    ];
+    answers(&rt, &mut s, &cases);
     let slot = [
         numbered(2, limit(0, 2)),
         numbered(3, limit(0, 1)),
@@ -143,16 +186,15 @@ fn numbers_are_never_given_twice(rt: HostRuntime) -> Result<(), Fail> {
     let mut s = Scenario::new(rt.alloc(), Settings::new(1, 1, 1)?);
     let event = join(5, 1, 1, 1, 0);
     let missing = refused(EditFault::EventNotFound);
-    for (change, answer) in [
+    let cases = [
         (Change::Strike(7), missing),
         (Change::Insert(event), Ok(1)),
         (Change::Strike(1), Ok(1)),
         (Change::Alter(1, leave(5, 1)), missing),
         (Change::Strike(1), missing),
         (Change::Insert(event), Ok(2)),
-    ] {
-        assert_eq!(rt; s.apply(change), answer);
-    }
+    ];
+    answers(&rt, &mut s, &cases);
     assert_eq!(rt; s.events(), [numbered(2, event)].as_slice());
     Ok(())
 }
@@ -166,35 +208,44 @@ fn small_events() -> [Numbered; 3] {
     ]
 }
 
+fn insert_all(s: &mut Scenario, events: &[Numbered]) -> Result<(), ApplyFault> {
+    for x in events {
+        s.apply(Change::Insert(x.event))?;
+    }
+    Ok(())
+}
+
 /// The scenario of these three events, if there is memory.
 fn small(alloc: Global) -> Result<Scenario, Fail> {
     let mut s = Scenario::new(alloc, Settings::new(1, 6, 6)?);
-    for x in small_events() {
-        s.apply(Change::Insert(x.event))?;
-    }
+    insert_all(&mut s, &small_events())?;
     Ok(s)
 }
 
 #[test]
 fn slots_of_a_small_scenario(rt: HostRuntime) -> Result<(), Fail> {
     let s = small(rt.alloc())?;
-    let events = small_events();
-    assert_eq!(rt; s.events(), events.as_slice());
-    assert_eq!(rt; s.slot_events(2)?.as_slice(), &events[1..]);
-    assert_eq!(rt; s.slot_events(3)?.len(), 0);
+    let slot = s.slot_events(2)?;
+    let wanted = [
+        numbered(2, join(2, 1, 1, 6, 0)),
+        numbered(3, delay(2, 1, 4)),
+    ];
+    assert_eq!(rt; slot.as_slice(), wanted.as_slice());
+    let next = s.slot_events(3)?;
+    assert!(rt; next.is_empty());
     Ok(())
 }
 
 #[test]
 fn first_slots(rt: HostRuntime) -> Result<(), Fail> {
     let s = small(rt.alloc())?;
-    for (change, slot) in [
+    for (change, slot) in &[
         (Change::Insert(leave(7, 2)), Some(7)),
         (Change::Alter(1, leave(4, 1)), Some(4)),
         (Change::Alter(2, join(11, 1, 1, 6, 0)), Some(2)),
         (Change::Strike(8), None),
     ] {
-        assert_eq!(rt; s.first_slot(&change), slot);
+        assert_eq!(rt; s.first_slot(change), *slot);
     }
     Ok(())
 }
@@ -214,166 +265,122 @@ fn copies(rt: HostRuntime) -> Result<(), Fail> {
 #[test]
 fn wide_settings(rt: HostRuntime) -> Result<(), Fail> {
     let mut s = Scenario::new(rt.alloc(), Settings::wide(1, 6, 6)?);
-    assert_eq!(rt; s.settings().horizon(), 4_194_304);
-    assert_eq!(rt; s.apply(Change::Insert(join(1_048_576, 1, 1, 6, 0))), Ok(1));
     let late = Change::Insert(delay(4_194_304, 1, 1));
-    assert_eq!(rt; s.apply(late), refused(EditFault::SlotOutOfRange));
-    assert_eq!(rt; s.apply(Change::Insert(delay(4_194_303, 1, 1))), Ok(2));
+    let cases = [
+        (Change::Insert(join(1_048_576, 1, 1, 6, 0)), Ok(1)),
+        (late, refused(EditFault::SlotOutOfRange)),
+        (Change::Insert(delay(4_194_303, 1, 1)), Ok(2)),
+    ];
+    answers(&rt, &mut s, &cases);
     Ok(())
 }
 
-// Each event goes before all others, the costliest way round.
-#[test]
-fn room_for_events(rt: HostRuntime) -> Result<(), Fail> {
-    let mut s = Scenario::new(rt.alloc(), Settings::new(1, 6, 6)?);
+/// Inserts a delay for each of the slots below 65,535, from the last on: each goes before all others, the costliest
+/// way round.
+fn fill(s: &mut Scenario) -> Result<(), ApplyFault> {
     for slot in (0..65_535u64).rev() {
         s.apply(Change::Insert(delay(slot, 1, 1)))?;
     }
+    Ok(())
+}
+
+fn room_for_events(rt: &impl Abort, s: &mut Scenario) -> Result<(), Fail> {
+    fill(s)?;
     assert_eq!(rt; s.events().len(), 65_535);
     let more = Change::Insert(delay(0, 1, 1));
-    assert_eq!(rt; s.apply(more), refused(EditFault::TooManyEvents));
-    for _ in 0..500_000 {
-        assert_eq!(rt; s.check(&more), Err(EditFault::TooManyEvents));
-    }
-    assert_eq!(rt; s.apply(Change::Strike(7)), Ok(7));
-    assert_eq!(rt; s.apply(more), Ok(65_536));
-    let first = [
-        numbered(65_535, delay(0, 1, 1)),
-        numbered(65_536, delay(0, 1, 1)),
+    let cases = [
+        (more, refused(EditFault::TooManyEvents)),
+        (Change::Strike(7), Ok(7)),
+        (more, Ok(65_536)),
     ];
-    assert_eq!(rt; s.slot_events(0)?.as_slice(), first.as_slice());
+    answers(rt, s, &cases);
     Ok(())
+}
+
+/// Whether an insert and then a strike answers each of the numbers from 1 to 1,048,575.
+fn gives_each_number(s: &mut Scenario, event: Event) -> bool {
+    for id in 1..1_048_576u64 {
+        if s.apply(Change::Insert(event)) != Ok(id) || s.apply(Change::Strike(id)) != Ok(id) {
+            return false;
+        }
+    }
+    true
+}
+
+fn room_for_numbers(rt: &impl Abort, s: &mut Scenario) {
+    let event = join(0, 1, 1, 6, 0);
+    assert!(rt; gives_each_number(s, event));
+    let more = s.apply(Change::Insert(event));
+    assert_eq!(rt; more, refused(EditFault::NumbersSpent));
+    assert_eq!(rt; s.next_number(), 1_048_576);
+}
+
+#[test]
+fn room_for_events_and_numbers(rt: HostRuntime) -> Result<(), Fail> {
+    let settings = Settings::new(1, 6, 6)?;
+    let mut full = Scenario::new(rt.alloc(), settings);
+    room_for_events(&rt, &mut full)?;
+    let mut spent = Scenario::new(rt.alloc(), settings);
+    room_for_numbers(&rt, &mut spent);
+    Ok(())
+}
+
+/// Inserts 57,344 delays.
+fn delay_much(s: &mut Scenario) -> Result<(), ApplyFault> {
+    for slot in 0..57_344u64 {
+        s.apply(Change::Insert(delay(slot, 1, 1)))?;
+    }
+    Ok(())
+}
+
+/// Inserts a join and a leave of each task.
+fn join_all(s: &mut Scenario) -> Result<(), ApplyFault> {
+    for task in 1..4096u64 {
+        s.apply(Change::Insert(join(task, task, 1, 6, 0)))?;
+        s.apply(Change::Insert(leave(task, task)))?;
+    }
+    Ok(())
+}
+
+/// Whether 500,000 more joins, and as many delays altered to leaves, would each be refused for its task.
+fn refuses_twice(s: &Scenario) -> bool {
+    for i in 0..500_000u64 {
+        let task = i % 4095 + 1;
+        let joins = s.check(&Change::Insert(join(0, task, 1, 6, 0)));
+        let leaves = s.check(&Change::Alter(i % 57_344 + 1, leave(0, task)));
+        if joins != Err(EditFault::JoinTwice) || leaves != Err(EditFault::LeaveTwice) {
+            return false;
+        }
+    }
+    true
 }
 
 #[test]
 fn checks_beside_many_events(rt: HostRuntime) -> Result<(), Fail> {
     let mut s = Scenario::new(rt.alloc(), Settings::new(1, 6, 6)?);
-    for slot in 0..57_344u64 {
-        s.apply(Change::Insert(delay(slot, 1, 1)))?;
-    }
-    for task in 1..4096u64 {
-        s.apply(Change::Insert(join(task, task, 1, 6, 0)))?;
-        s.apply(Change::Insert(leave(task, task)))?;
-    }
-    for i in 0..500_000u64 {
-        let task = i % 4095 + 1;
-        let twice = Change::Insert(join(0, task, 1, 6, 0));
-        assert_eq!(rt; s.check(&twice), Err(EditFault::JoinTwice));
-        let other = Change::Alter(i % 57_344 + 1, leave(0, task));
-        assert_eq!(rt; s.check(&other), Err(EditFault::LeaveTwice));
-    }
+    delay_much(&mut s)?;
+    join_all(&mut s)?;
+    assert!(rt; refuses_twice(&s));
     Ok(())
 }
 
-#[test]
-fn room_for_numbers(rt: HostRuntime) -> Result<(), Fail> {
-    let mut s = Scenario::new(rt.alloc(), Settings::new(1, 6, 6)?);
-    let insert = Change::Insert(join(0, 1, 1, 6, 0));
-    for id in 1..1_048_576u64 {
-        assert_eq!(rt; s.apply(insert), Ok(id));
-        assert_eq!(rt; s.apply(Change::Strike(id)), Ok(id));
-    }
-    assert_eq!(rt; s.apply(insert), refused(EditFault::NumbersSpent));
-    assert_eq!(rt; s.next_number(), 1_048_576);
-    assert_eq!(rt; s.events().len(), 0);
-    Ok(())
+/// The text of a fault, if there is memory.
+fn text(alloc: Global, fault: ApplyFault) -> Result<String, AllocError> {
+    format!(in alloc; "{fault}")
 }
 
 #[test]
 fn texts_of_faults(rt: HostRuntime) -> Result<(), Fail> {
-    for (fault, text) in [
-        (ApplyFault::NoMemory, "memory was refused"),
-        (
-            ApplyFault::Refused(EditFault::NumbersSpent),
-            "all event numbers are spent",
-        ),
-        (
-            ApplyFault::Refused(EditFault::JoinTwice),
-            "another event joins the task",
-        ),
+    for (fault, wanted) in &[
+        (EditFault::NumbersSpent, "all event numbers are spent"),
+        (EditFault::JoinTwice, "another event joins the task"),
     ] {
-        assert_eq!(rt; format!(in rt.alloc(); "{fault}")?.as_str(), text);
+        let said = text(rt.alloc(), ApplyFault::Refused(*fault))?;
+        assert_eq!(rt; said.as_str(), *wanted);
     }
-    assert_eq!(rt;
-        format!(in rt.alloc(); "{BadSettings}")?.as_str(),
-        "the settings are out of their limits"
-    );
-    Ok(())
-}
-
-/// Makes the change, though memory may be refused once: then the scenario is as before, and the call is made again.
-fn apply_again(
-    rt: &impl Abort,
-    s: &mut Scenario,
-    change: Change,
-    before: &[Numbered],
-) -> Result<u64, ApplyFault> {
-    let next = s.next_number();
-    let answer = s.apply(change);
-    if answer != Err(ApplyFault::NoMemory) {
-        return answer;
-    }
-    assert_eq!(rt; s.events(), before);
-    assert_eq!(rt; s.next_number(), next);
-    assert_eq!(rt; s.check(&change), Ok(()));
-    s.apply(change)
-}
-
-/// The small scenario, though memory may be refused once.
-fn small_again(rt: &impl Abort, alloc: Global) -> Result<Scenario, Fail> {
-    let mut s = Scenario::new(alloc, Settings::new(1, 6, 6)?);
-    let events = small_events();
-    for (i, x) in events.iter().enumerate() {
-        let answer = apply_again(rt, &mut s, Change::Insert(x.event), &events[..i]);
-        assert_eq!(rt; answer, Ok(x.id));
-    }
-    Ok(s)
-}
-
-#[test]
-fn changes_where_memory_is_refused(rt: HostRuntime) -> Result<(), Fail> {
-    let mut s = small_again(&rt, rt.alloc())?;
-    // The index grows for a task that no join had.
-    let later = Change::Alter(2, join(3, 4000, 1, 6, 0));
-    let answer = apply_again(&rt, &mut s, later, small_events().as_slice());
-    assert_eq!(rt; answer, Ok(2));
-    for (event, answer) in [
-        (join(0, 1, 1, 6, 0), Ok(())),
-        (join(0, 4000, 1, 6, 0), Err(EditFault::JoinTwice)),
-        (leave(0, 1), Err(EditFault::LeaveTwice)),
-    ] {
-        assert_eq!(rt; s.check(&Change::Insert(event)), answer);
-    }
-    Ok(())
-}
-
-#[test]
-fn slots_where_memory_is_refused(rt: HostRuntime) -> Result<(), Fail> {
-    let s = small_again(&rt, rt.alloc())?;
-    let events = small_events();
-    let slot = match s.slot_events(2) {
-        Ok(slot) => slot,
-        Err(_) => {
-            assert_eq!(rt; s.events(), events.as_slice());
-            s.slot_events(2)?
-        }
-    };
-    assert_eq!(rt; slot.as_slice(), &events[1..]);
-    Ok(())
-}
-
-#[test]
-fn copies_where_memory_is_refused(rt: HostRuntime) -> Result<(), Fail> {
-    let s = small_again(&rt, rt.alloc())?;
-    let events = small_events();
-    let copy = match s.copy() {
-        Ok(copy) => copy,
-        Err(_) => {
-            assert_eq!(rt; s.events(), events.as_slice());
-            s.copy()?
-        }
-    };
-    assert_eq!(rt; copy.events(), events.as_slice());
-    assert_eq!(rt; copy.next_number(), 4);
+    let said = text(rt.alloc(), ApplyFault::NoMemory)?;
+    assert_eq!(rt; said.as_str(), "memory was refused");
+    let said = format!(in rt.alloc(); "{BadSettings}")?;
+    assert_eq!(rt; said.as_str(), "the settings are out of their limits");
     Ok(())
 }

@@ -34,6 +34,7 @@ is_plan = record {
   };
   rising = pairs (λ x y. x.id < y.id) (omega arith) (omega arith) (omega arith);
   given = all_three (λ x. (1 ≤ x.id) × (x.id < 4)) (omega arith, omega arith) (omega arith, omega arith) (omega arith, omega arith);
+  next_some = omega arith;
   next_within = omega arith;
   joins_once = pairs (λ x y. join_alike x.event y.event ≡ false) refl refl refl;
   leaves_once = pairs (λ x y. leave_alike x.event y.event ≡ false) refl refl refl;
