@@ -83,6 +83,10 @@ module _ {heaps : Heaps} {ready : ℕ} {es : List Entry} {unused : List ℕ} {he
   pub count_is : (n : ℕ) → count_of (seen heaps ready es n) ≡ fin.len (list_of heaps ready) + sum_by (λ (e : Entry). e.count) es
   count_is n = ap (λ m. fin.len (list_of heaps ready) + m) (sum_in heaps es laid.rise ∙ sum_counts es laid.counted)
 
+  -- the keys that wait are held
+  pub waiting_within : (n : ℕ) → sum_by (λ (e : Entry). fin.len (list_of heaps e.heap)) es ≤ count_of (seen heaps ready es n)
+  waiting_within n = omega (arith, count_is n, sum_counts es laid.counted)
+
   -- a task that isn't held has no key in a heap
   pub absent_below : (n task : ℕ) → ¬ (IsHeld (seen heaps ready es n) task) → ¬ (keys.IsHeld heaps.lists task)
   absent_below n task free w =

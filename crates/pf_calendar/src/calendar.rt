@@ -157,6 +157,7 @@ impl Calendar {
     pub fn take_out(&mut self, meter: &mut Meter, task: u32) -> Option<Key>
         ensures taken { MatchOption result ((¬ IsHeld self.old task) × (self.new ≡ self.old))
             (λ k. (k.task ≡ task) × TakesOut self.old self.new k) }
+        ensures comparisons { meter.new.compared ≤ meter.old.compared + 2 * digits (count_of self.old) }
         ensures slots { meter.new.slots ≡ meter.old.slots }
     {
         if let Some(key) = self.heaps.remove(meter, self.ready, task) {

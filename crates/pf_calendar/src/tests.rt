@@ -1,144 +1,164 @@
-ghost use Rattle.std.specs.Prelude.{◌≤◌, ◌^◌};
+//! The worked example, many calls beside a plain list, and what is left after memory was refused.
+ghost use Rattle.std.specs.Prelude.{◌≡◌, ◌+◌, ◌≤◌, ◌^◌, OnOk};
+
+mod draws;
+mod twin;
 
 use crate::calendar::Calendar;
+use draws::Draws;
 use pf_order::key::Key;
 use pf_order::meter::Meter;
 use pf_weight::base::Base;
 use pf_weight::weight::Weight;
+use std::alloc::{AllocError, Global};
 use std::process::Abort;
+use std::test::Fail;
+use twin::Twin;
 
-fn key(rt: &impl Abort, task: u32, cost: u64, period: u64, i: u32) -> Key
+/// A key in the base 462, not shifted.
+fn key(task: u32, cost: u64, period: u64, i: u32) -> Result<Key, Fail>
     requires first { 1 ≤ i }
     requires last { i ≤ 2 ^ 24 }
     requires task_some { 1 ≤ task }
     requires task_within { task ≤ 4095 }
 {
-    let base = Base::new(462).expect(rt, "a base");
-    let weight = Weight::new(base, cost, period).expect(rt, "a weight");
-    Key::of(weight, 0, i, task)
+    let weight = Weight::new(Base::new(462)?, cost, period)?;
+    Ok(Key::of(weight, 0, i, task))
 }
 
-// Takes the key's task out where it is held, else puts the key: whether it was put.
-fn turn(rt: &impl Abort, calendar: &mut Calendar, meter: &mut Meter, slot: u64, key: Key) -> bool {
-    calendar.reserve(1).expect(rt, "room");
+/// Puts a key of a task that isn't held.
+fn put(rt: &impl Abort, calendar: &mut Calendar, meter: &mut Meter, slot: u64, key: Key)
+    requires { 1 ≤ calendar.old.spare }
+    ensures { calendar.old.spare ≤ calendar.new.spare + 1 }
+{
     match calendar.take_out(meter, key.task()) {
-        Some(_) => false,
-        None => {
-            calendar.put(meter, slot, key);
-            true
-        }
+        Some(_) => assert!(rt; false, "the task is held"),
+        None => calendar.put(meter, slot, key),
     }
 }
 
-// The task of the key that is popped, 0 where there is none.
-fn pop(calendar: &mut Calendar, meter: &mut Meter) -> u32 {
-    match calendar.pop_ready(meter) {
-        Some(key) => key.task(),
-        None => 0,
-    }
+/// The task of the key that is popped.
+fn pop(calendar: &mut Calendar, meter: &mut Meter) -> Option<u32> {
+    let key = calendar.pop_ready(meter)?;
+    Some(key.task())
 }
 
-// The task of the key that is taken out, 0 where there is none.
-fn take(calendar: &mut Calendar, meter: &mut Meter, task: u32) -> u32 {
-    match calendar.take_out(meter, task) {
-        Some(key) => key.task(),
-        None => 0,
+/// The task of the key that is taken out.
+fn take(calendar: &mut Calendar, meter: &mut Meter, task: u32) -> Option<u32> {
+    let key = calendar.take_out(meter, task)?;
+    Some(key.task())
+}
+
+/// Pops the calendar empty: the ready keys are of these tasks, in this order.
+fn drain(rt: &impl Abort, calendar: &mut Calendar, meter: &mut Meter, tasks: &[u32]) {
+    for task in tasks {
+        assert_eq!(rt; pop(calendar, meter), Some(*task));
     }
+    assert_eq!(rt; pop(calendar, meter), None);
 }
 
 #[test]
-fn three_keys(rt: HostRuntime) {
+fn three_keys(rt: HostRuntime) -> Result<(), Fail> {
     let mut meter = Meter::new();
-    let mut calendar = Calendar::new(rt.alloc()).expect(&rt, "a calendar");
-    calendar.reserve(3).expect(&rt, "room");
-    assert!(rt; turn(&rt, &mut calendar, &mut meter, 2, key(&rt, 2, 8, 11, 2)));
-    assert!(rt; turn(&rt, &mut calendar, &mut meter, 0, key(&rt, 3, 2, 3, 1)));
-    assert!(rt; turn(&rt, &mut calendar, &mut meter, 5, key(&rt, 1, 3, 7, 1)));
-    assert_eq!(rt; pop(&mut calendar, &mut meter), 0);
+    let mut calendar = Calendar::new(rt.alloc())?;
+    calendar.reserve(3)?;
+    put(&rt, &mut calendar, &mut meter, 2, key(2, 8, 11, 2)?);
+    put(&rt, &mut calendar, &mut meter, 0, key(3, 2, 3, 1)?);
+    put(&rt, &mut calendar, &mut meter, 5, key(1, 3, 7, 1)?);
+    assert_eq!(rt; pop(&mut calendar, &mut meter), None);
     calendar.advance(&mut meter, 2);
-    let mut copy = calendar.copy().expect(&rt, "a copy");
-    assert_eq!(rt; pop(&mut calendar, &mut meter), 3);
-    assert_eq!(rt; take(&mut calendar, &mut meter, 1), 1);
-    assert_eq!(rt; take(&mut calendar, &mut meter, 1), 0);
-    assert_eq!(rt; pop(&mut calendar, &mut meter), 2);
-    assert_eq!(rt; pop(&mut calendar, &mut meter), 0);
+    let mut copy = calendar.copy()?;
+    assert_eq!(rt; pop(&mut calendar, &mut meter), Some(3));
+    assert_eq!(rt; take(&mut calendar, &mut meter, 1), Some(1));
+    assert_eq!(rt; take(&mut calendar, &mut meter, 1), None);
+    drain(&rt, &mut calendar, &mut meter, &[2]);
     calendar.advance(&mut meter, 9);
-    assert_eq!(rt; pop(&mut calendar, &mut meter), 0);
+    drain(&rt, &mut calendar, &mut meter, &[]);
+    drain(&rt, &mut copy, &mut meter, &[3, 2]);
     copy.advance(&mut meter, 5);
-    assert_eq!(rt; pop(&mut copy, &mut meter), 3);
-    assert_eq!(rt; pop(&mut copy, &mut meter), 2);
-    assert_eq!(rt; pop(&mut copy, &mut meter), 1);
-    assert_eq!(rt; pop(&mut copy, &mut meter), 0);
+    drain(&rt, &mut copy, &mut meter, &[1]);
+    Ok(())
 }
 
-// What a plain list holds of a key.
-#[derive(Clone, Copy)]
-struct Waiter {
-    key: Key,
-    slot: u64,
-    is_ready: bool,
+/// A key of some task up to 50, of one of many weights, shifts and numbers.
+fn drawn(draws: &mut Draws) -> Result<Key, Fail> {
+    let weight = Weight::new(Base::new(462)?, u64::from(draws.below(11) + 1), 11)?;
+    let shift = u64::from(draws.below(9));
+    let i = draws.below(9) + 1;
+    Ok(Key::of(weight, shift, i, draws.below(50) + 1))
 }
 
-// The place of the first ready key in the order.
-fn first_ready(waiters: &[Waiter], meter: &mut Meter) -> Option<usize> {
-    let mut best: Option<(usize, Key)> = None;
-    for (at, waiter) in waiters.iter().enumerate() {
-        let is_better = match &best {
-            Some((_, least)) => meter.before(&waiter.key, least),
-            None => true,
-        };
-        if waiter.is_ready && is_better {
-            best = Some((at, waiter.key));
+#[test]
+fn beside_a_plain_list(rt: HostRuntime) -> Result<(), Fail> {
+    let mut meter = Meter::new();
+    let mut draws = Draws::new(7);
+    let mut twin = Twin::new(rt.alloc())?;
+    for now in 0..10_000 {
+        match draws.below(8) {
+            0 => twin.advance(&mut meter, now / 10),
+            1..=3 => twin.pop(&rt, &mut meter),
+            _ => {
+                let slot = now / 10 + u64::from(draws.below(8));
+                twin.turn(&rt, &mut meter, slot, drawn(&mut draws)?)?;
+            }
         }
     }
-    match best {
-        Some((at, _)) => Some(at),
-        None => None,
+    Ok(())
+}
+
+/// A calendar that holds nothing, though memory may be refused once.
+fn calendar_again(alloc: Global) -> Result<Calendar, AllocError> {
+    match Calendar::new(alloc) {
+        Ok(calendar) => Ok(calendar),
+        Err(_) => Calendar::new(alloc),
+    }
+}
+
+/// A copy, though memory may be refused once.
+fn copy_again(calendar: &Calendar) -> Result<Calendar, AllocError> {
+    match calendar.copy() {
+        Ok(copy) => Ok(copy),
+        Err(_) => calendar.copy(),
+    }
+}
+
+/// Makes room, though memory may be refused once: then the calendar holds these tasks as before, and the call is made
+/// again.
+fn reserve_again(
+    rt: &impl Abort,
+    calendar: &mut Calendar,
+    tasks: &[u32],
+    n: usize,
+) -> Result<(), AllocError>
+    ensures { OnOk result (n ≤ calendar.new.spare) }
+{
+    match calendar.reserve(n) {
+        Ok(()) => Ok(()),
+        Err(_) => {
+            let mut meter = Meter::new();
+            let mut copy = calendar.copy()?;
+            copy.advance(&mut meter, 9);
+            drain(rt, &mut copy, &mut meter, tasks);
+            calendar.reserve(n)
+        }
     }
 }
 
 #[test]
-fn beside_a_plain_list(rt: HostRuntime) {
-    let base = Base::new(462).expect(&rt, "a base");
+fn growths_that_are_refused(rt: HostRuntime) -> Result<(), Fail> {
     let mut meter = Meter::new();
-    let mut other = Meter::new();
-    let mut calendar = Calendar::new(rt.alloc()).expect(&rt, "a calendar");
-    let mut waiters: Vec<Waiter> = Vec::new(rt.alloc());
-    let mut seed: u64 = 7;
-    let mut now: u64 = 0;
-    for _ in 0..4000 {
-        seed = seed
-            .wrapping_mul(6_364_136_223_846_793_005)
-            .wrapping_add(1_442_695_040_888_963_407);
-        let draw = seed >> 33;
-        let task = (draw % 50) as u32 + 1;
-        if draw % 7 < 4 {
-            let weight = Weight::new(base, draw % 3 + 1, 3).expect(&rt, "a weight");
-            let key = Key::of(weight, draw % 100, (draw % 9) as u32 + 1, task);
-            let slot = now % 1_000_000 + draw % 8;
-            let is_new = waiters.iter().all(|waiter| waiter.key.task() != task);
-            assert_eq!(rt; turn(&rt, &mut calendar, &mut meter, slot, key), is_new);
-            waiters.retain(|waiter| waiter.key.task() != task);
-            if is_new {
-                let waiter = Waiter {
-                    key,
-                    slot,
-                    is_ready: false,
-                };
-                waiters.push(waiter).expect(&rt, "memory");
-            }
-        } else if draw % 7 < 6 {
-            let wanted = match first_ready(&waiters, &mut other) {
-                Some(at) if at < waiters.len() => waiters.remove(at).key.task(),
-                _ => 0,
-            };
-            assert_eq!(rt; pop(&mut calendar, &mut meter), wanted);
-        } else {
-            now = now % 1_000_000 + 1;
-            calendar.advance(&mut meter, now);
-            for waiter in waiters.iter_mut() {
-                waiter.is_ready = waiter.is_ready || waiter.slot <= now;
-            }
-        }
-    }
+    let mut calendar = calendar_again(rt.alloc())?;
+    reserve_again(&rt, &mut calendar, &[], 2)?;
+    put(&rt, &mut calendar, &mut meter, 1, key(1, 1, 1, 1)?);
+    put(&rt, &mut calendar, &mut meter, 0, key(2, 1, 1, 1)?);
+    calendar.advance(&mut meter, 0);
+    reserve_again(&rt, &mut calendar, &[1, 2], 20)?;
+    put(&rt, &mut calendar, &mut meter, 3, key(3, 1, 1, 1)?);
+    let mut copy = copy_again(&calendar)?;
+    drain(&rt, &mut copy, &mut meter, &[2]);
+    copy.advance(&mut meter, 3);
+    drain(&rt, &mut copy, &mut meter, &[1, 3]);
+    calendar.advance(&mut meter, 3);
+    drain(&rt, &mut calendar, &mut meter, &[1, 2, 3]);
+    Ok(())
 }

@@ -1,4 +1,4 @@
-ghost use Rattle.std.specs.Prelude.{◌≡◌, ◌≢◌, ◌↔◌, IsTrue, true, ℕ, ◌+◌, ◌-◌, ◌*◌, ◌<◌, ◌≤◌, ◌^◌, [], ◌∷◌, ◌++◌, length, slice_set, IfOk, OnOk, OnErr, MatchOption, vec_len};
+ghost use Rattle.std.specs.Prelude.{◌≡◌, ◌≢◌, ◌↔◌, IsTrue, true, ℕ, ◌+◌, ◌-◌, ◌*◌, ◌<◌, ◌≤◌, ◌^◌, [], ◌∷◌, ◌++◌, length, slice_set, IfNone, IfOk, OnOk, OnErr, MatchOption, vec_len};
 ghost use Rattle.std.specs.Vec.{vec_capacity};
 ghost use Rattle.std.specs.FinSet as set;
 ghost use Rattle.pf_order.specs.Priority.{IsPriority};
@@ -245,12 +245,13 @@ impl Arena {
         Some(key)
     }
 
-    /// Takes the key of this task out of heap h, if it is there.
+    /// Takes the key of this task out of heap h. Where it isn't there no keys are compared.
     pub fn remove(&mut self, meter: &mut Meter, h: HeapId, task: u32) -> Option<Key>
         requires { h < length self.old.lists }
         ensures removed { MatchOption result (HasNone (list_of self.old h) task × (self.new ≡ self.old))
             (λ k. (set.contains (list_of self.old h) k ≡ true) × (k.task ≡ task)
             × (self.new ≡ record (with_list self.old h (without (list_of self.old h) task)) { spare = self.old.spare + 1 })) }
+        ensures unfound { IfNone result (meter.new ≡ meter.old) }
         ensures comparisons { meter.new.compared ≤ meter.old.compared + 2 * digits (set.len (list_of self.old h)) }
         ensures slots { meter.new.slots ≡ meter.old.slots }
     {

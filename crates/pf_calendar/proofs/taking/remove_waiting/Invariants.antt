@@ -7,5 +7,5 @@ abbrev pub invariant-loop-at : goal.invariant-loop-at
 invariant-loop-at l = record {
   heaps : l.heaps ≡ l.initial.heaps;
   none : (k : ℕ) (d : Entry) → k < l.at → HasNone (list_of l.initial.heaps (get_or l.entries k d).heap) l.task;
-  slots : l.meter.slots ≡ l.initial.meter.slots;
+  meter : l.meter ≡ l.initial.meter;
 }

@@ -3,6 +3,3 @@ use Rattle.pf_heap.proofs.tests.fifteen_keys.Given as goal
 
 abbrev pub invariant-loop-less : goal.invariant-loop-less
 invariant-loop-less g l = l.only < length l.arena.lists
-
-abbrev pub invariant-loop-more : goal.invariant-loop-more
-invariant-loop-more g l = l.only < length l.arena.lists

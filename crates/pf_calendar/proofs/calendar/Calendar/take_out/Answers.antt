@@ -1,16 +1,30 @@
-use Rattle.std.proofs.Common.{◌≡◌, ◌+◌, ◌-◌, ◌<◌, List, length, get_or, inl, sym, ap, ◌∙◌, subst, arith}
-use Rattle.std.specs.Prelude.{All}
+use Rattle.std.proofs.Common.{◌≡◌, ℕ, ◌+◌, ◌-◌, ◌*◌, ◌<◌, ◌≤◌, List, length, get_or, inl, sym, ap, ◌∙◌, subst, arith}
+use Rattle.std.specs.Prelude.{All, sum_by}
 use Rattle.std.specs.FinSet as set
 use Rattle.std.proofs.lemmas.List.{get_or_default}
+use Rattle.pf_order.specs.Counts.{Counts}
 use Rattle.pf_heap.specs.Keys.{Heaps, list_of, HasNone}
+use Rattle.pf_heap.specs.Digits.{digits}
+use Rattle.pf_heap.proofs.Digits.{digits-mono}
 use Rattle.pf_calendar.specs.declared.entry.Entry.{Entry}
-use Rattle.pf_calendar.specs.Queues.{Queues, IsHeld, TakesOut}
+use Rattle.pf_calendar.specs.Queues.{Queues, count_of, IsHeld, TakesOut}
 use Rattle.pf_calendar.specs.Steps.{RemovesAt}
 use Rattle.pf_calendar.proofs.Naming.{no_entry}
 use Rattle.pf_calendar.proofs.Arranged.{ready_listed, entry_listed}
-use Rattle.pf_calendar.proofs.Whole.{popped_laid, popped_seen, seen, with_room}
+use Rattle.pf_calendar.proofs.Whole.{count_is, waiting_within, popped_laid, popped_seen, seen, with_room}
 use Rattle.pf_calendar.proofs.Leaving.{ready_removed, not_held, some_held, discounted_calendar, takes_out}
 use Rattle.pf_calendar.proofs.calendar.Calendar.take_out.Goals as goal
+
+-- the first look compared nothing, and changed no list
+waiting_made : (first second third : Counts) (heaps same : Heaps) (es lent : List Entry) (k : ℕ) → second ≡ first → same ≡ heaps → lent ≡ es →
+    sum_by (λ (e : Entry). set.len (list_of heaps e.heap)) es ≤ k →
+    third.compared ≤ second.compared + 2 * digits (sum_by (λ (e : Entry). set.len (list_of same e.heap)) lent) → third.compared ≤ first.compared + 2 * digits k
+waiting_made first second third heaps same es lent k idle lists value le made =
+    let size = sum_by (λ (e : Entry). set.len (list_of heaps e.heap)) es in
+    let here : third.compared ≤ second.compared + 2 * digits size =
+    subst (λ (h : Heaps). third.compared ≤ second.compared + 2 * digits (sum_by (λ (e : Entry). set.len (list_of h e.heap)) es)) lists
+    (subst (λ (l : List Entry). third.compared ≤ second.compared + 2 * digits (sum_by (λ (e : Entry). set.len (list_of same e.heap)) l)) value made) in
+    omega (arith, here, ap (λ (m : Counts). m.compared) idle, digits-mono size k le)
 
 pub remove-requires : goal.remove-requires
 remove-requires c = ready_listed c.self.invariant.laid
@@ -39,6 +53,15 @@ returns-in-Some-clause-taken c =
       ),
     )
 
+pub returns-in-Some-clause-comparisons : goal.returns-in-Some-clause-comparisons
+returns-in-Some-clause-comparisons c =
+    omega (
+      arith,
+      c.in-Some.ensures.comparisons,
+      digits-mono (set.len (list_of c.self.inside.heaps c.self.inside.ready)) (count_of c.args.self.now)
+          (omega (arith, ap count_of c.self.view_is, count_is c.self.invariant.laid (c.self.inside.limit - c.self.inside.held))),
+    )
+
 pub remove_waiting-requires : goal.remove_waiting-requires
 remove_waiting-requires c = λ k d lt.
     let within : k < length c.self.inside.waiting.items = omega (arith, lt, ap length c.deref.ensures.value) in
@@ -59,6 +82,12 @@ returns-in_default-remove_waiting-clause-taken c =
           (not_held c.self.invariant.laid (c.self.inside.limit - c.self.inside.held) c.args.task c.in_default.ensures.removed.0 none),
       ap (λ h. seen h c.self.inside.ready es (c.self.inside.limit - c.self.inside.held)) same ∙ c.self.view_is,
     )
+
+pub returns-in_default-remove_waiting-clause-comparisons : goal.returns-in_default-remove_waiting-clause-comparisons
+returns-in_default-remove_waiting-clause-comparisons c =
+    waiting_made _ c.remove.new.meter c.remove_waiting.new.meter _ c.remove.new.self _ c.deref.result.now (count_of c.args.self.now) c.in_default.ensures.unfound c.in_default.ensures.removed.1 c.deref.ensures.value
+    (omega (arith, ap count_of c.self.view_is, waiting_within c.self.invariant.laid (c.self.inside.limit - c.self.inside.held)))
+    c.in_default-remove_waiting.ensures.comparisons
 
 pub overflow_sub-self-2 : goal.overflow_sub-self-2
 overflow_sub-self-2 c =
@@ -96,3 +125,9 @@ returns-clause-taken c =
           (takes_out c.self.invariant.laid c.remove_waiting.new.heaps c.args.task c.in-Some-remove_waiting.found.0 c.in-Some-remove_waiting.found.1 removes
           c.discount.new.entries.items c.discount.new.unused.items c.discount.ensures.discounted),
     )
+
+pub returns-clause-comparisons : goal.returns-clause-comparisons
+returns-clause-comparisons c =
+    waiting_made _ c.remove.new.meter c.remove_waiting.new.meter _ c.remove.new.self _ c.deref.result.now (count_of c.args.self.now) c.in_default.ensures.unfound c.in_default.ensures.removed.1 c.deref.ensures.value
+    (omega (arith, ap count_of c.self.view_is, waiting_within c.self.invariant.laid (c.self.inside.limit - c.self.inside.held)))
+    c.in-Some-remove_waiting.ensures.comparisons
