@@ -10,4 +10,6 @@ pub mod fault;
 pub mod reply;
 pub mod snapshot;
 #[cfg(test)]
+mod tally_tests;
+#[cfg(test)]
 mod tests;

@@ -4,7 +4,7 @@ use Rattle.std.specs.Option.{option_map}
 use Rattle.std.proofs.Math.Nat.{mul-le-mul_right, mul-le-mul_left}
 use Rattle.std.proofs.lemmas.Bool.{leb-true, and_parts}
 use Rattle.std.proofs.lemmas.Bool.Decides.{nat_tests}
-use Rattle.std.proofs.lemmas.List.Elements.{All-contains}
+use Rattle.std.proofs.lemmas.List.Elements.{All-contains, Contains-get_or}
 use Rattle.pf_weight.specs.Share.{IsShare, IsBase, share_of}
 use Rattle.pf_weight.specs.Weighed.{weight_fault}
 use Rattle.pf_weight.specs.declared.fault.WeightFault.{WeightFault}
@@ -72,9 +72,19 @@ share_is base cost period of_base is =
     let short : period * 1 ≤ period * q = mul-le-mul_left period q_some in
     record { some = some; within = within; short = omega arith; units_some = omega arith; units_within = omega arith }
 
+number_of : (system : System) (event : Event) (j : Joined) → IsEvent system event → joined_by system.base event ≡ Some j → j.task ≤ 4095
+number_of system (Join slot task cost period early) j within is =
+    let joined : Joined = record { task = task; slot = slot; weight = share_of system.base cost period; early = early } in
+    let same : joined ≡ j = cc in
+    let parts = parts_of (nat_lt slot system.horizon) (nat_le 1 task && nat_le task 4095) (nat_le early (2 ^ 20)) true true (option_map (λ f. BadWeight f) (weight_fault system.base cost period)) within in
+    let most = leb-true task 4095 (and_parts (nat_le 1 task) (nat_le task 4095) parts.0).1 in
+    omega (arith, ap (λ j. j.task) same)
+number_of system (Leave slot task) j within is = cc
+number_of system (Delay slot task by) j within is = cc
+number_of system (Limit slot count) j within is = cc
+
 -- the parts of a join within its limits
 record IsJoin (base : ℕ) (event : Event) (j : Joined) : Type 0 where
-  pub some : 1 ≤ j.task
   pub number : j.task ≤ 4095
   pub share : IsShare j.weight
   pub slot : j.slot ≡ slot_of event
@@ -84,17 +94,22 @@ joined_is system (Join slot task cost period early) j of_system within is =
     let joined : Joined = record { task = task; slot = slot; weight = share_of system.base cost period; early = early } in
     let same : joined ≡ j = cc in
     let parts = parts_of (nat_lt slot system.horizon) (nat_le 1 task && nat_le task 4095) (nat_le early (2 ^ 20)) true true (option_map (λ f. BadWeight f) (weight_fault system.base cost period)) within in
-    let number = and_parts (nat_le 1 task) (nat_le task 4095) parts.0 in
     let P : Joined → Type 0 = IsJoin system.base (Join slot task cost period early) in
     subst P same (record {
-      some = leb-true 1 task number.0;
-      number = leb-true task 4095 number.1;
+      number = number_of system (Join slot task cost period early) joined within refl;
       share = share_is system.base cost period of_system.limits.base (map_none (λ f. BadWeight f) (weight_fault system.base cost period) parts.2);
       slot = refl;
     })
 joined_is system (Leave slot task) j of_system within is = cc
 joined_is system (Delay slot task by) j of_system within is = cc
 joined_is system (Limit slot count) j of_system within is = cc
+
+-- Use: tasks that joined have numbers below 4,096.
+pub numbers_within : (system : System) (xs : List Numbered) → All (λ x. IsEvent system x.event) xs → All (λ j. j.task < 4096) (filter_map (join_of system.base) xs)
+numbers_within system xs limits k d within =
+    let js = filter_map (join_of system.base) xs in
+    let g = from_filter_map (join_of system.base) xs (get_or js k d) (Contains-get_or js k d within) in
+    omega (arith, number_of system g.giver.event (get_or js k d) (All-contains (λ x. IsEvent system x.event) xs g.giver limits g.stands) g.gives)
 
 delay_short : (system : System) (j : Joined) (event : Event) → IsEvent system event → delayed j event ≤ 2 ^ 20
 delay_short system j (Delay slot task by) within =

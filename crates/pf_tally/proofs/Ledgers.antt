@@ -1,5 +1,5 @@
 -- The ledger of a run, and what it says of a task.
-use Rattle.std.proofs.Common.{◌≡◌, ℕ, ◌+◌, ◌<◌, ◌≤◌, ◌≢◌, false, ◌&&◌, nat_le, Option, Some, List, [], ◌∷◌, ◌++◌, length, take, map, get_or, filter_map, All, AllPairs, Contains, IsPermutation, refl, sym, ap, ap₂, ◌∙◌, subst, arith}
+use Rattle.std.proofs.Common.{◌≡◌, ℕ, ◌+◌, ◌<◌, ◌≤◌, ◌≢◌, false, ◌&&◌, nat_le, Option, Some, List, [], ◌∷◌, ◌++◌, length, take, map, get_or, filter_map, All, AllPairs, Contains, IsPermutation, refl, sym, ap, ap₂, ◌∙◌, subst, subst₂, arith}
 use Rattle.std.proofs.lemmas.List.{map_more, take_all, take_more, get_or_default, flat_map_more}
 use Rattle.std.proofs.lemmas.List.Elements.{Contains-get_or}
 use Rattle.std.proofs.lemmas.List.Sorted.{IsPermutation-sym, Contains-permutation}
@@ -31,7 +31,9 @@ use Rattle.pf_tally.specs.declared.held.Held.{Held}
 use Rattle.pf_tally.specs.declared.miss.Miss.{Miss}
 use Rattle.pf_tally.specs.Ledger.{IsLedger}
 use Rattle.pf_tally.specs.Log.{IsLog}
-use Rattle.pf_tally.specs.Noted.{slots_at, IsRow, IsTableOf}
+use Rattle.pf_tally.specs.Notes.{noted_of}
+use Rattle.pf_tally.specs.Noted.{IsRow, IsTableOf}
+use Rattle.pf_tally.specs.Own.{own, AreDiaries}
 use Rattle.pf_tally.specs.Quanta.{slots_of, slots_in}
 use Rattle.pf_tally.specs.declared.lag.Lag.{Lag}
 use Rattle.pf_tally.specs.declared.ledger.Ledger.{Ledger}
@@ -39,6 +41,7 @@ use Rattle.pf_tally.proofs.InForce.{standing_is_log}
 use Rattle.pf_tally.proofs.Joined.{can_tally, inside_joined}
 use Rattle.pf_tally.proofs.Delays.{chain_from, held_chain, next_in_rises}
 use Rattle.pf_tally.proofs.Holding.{next_is}
+use Rattle.pf_tally.proofs.Own.{lag_own, misses_own, can_own}
 use Rattle.pf_tally.proofs.Missing.{misses_same, misses_sorted}
 use Rattle.pf_tally.proofs.Tallies.{by_task_keeps, all_small}
 use Rattle.pf_tally.proofs.Turns.{rows_of_run, slots_seated}
@@ -54,9 +57,9 @@ unfolding denials_in
 known_denials s n denials is = ap (λ ds. in_force ds (past s n)) is
 
 pub ledger_made : (s : Plan) (rows : List (List (Option Pick))) (denials : List Denied) (ledger : Ledger) → AreOfRun s (length rows) rows denials →
-    ledger.settings ≡ s.settings → ledger.now ≡ length rows → ledger.events.items ≡ in_force denials (past s (length rows)) → IsTableOf rows ledger.table.items →
-    IsLedger s (length rows) ledger
-ledger_made s rows denials ledger are settings now events table =
+    ledger.settings ≡ s.settings → ledger.now ≡ length rows → ledger.events.items ≡ in_force denials (past s (length rows)) → AreDiaries ledger.events.items ledger.diaries.items →
+    IsTableOf rows ledger.quanta.items → IsLedger s (length rows) ledger
+ledger_made s rows denials ledger are settings now events diaries quanta =
     let n = length rows in
     let P : List Numbered → Type 0 = IsLog s.settings n in
     record {
@@ -66,19 +69,31 @@ ledger_made s rows denials ledger are settings now events table =
       slots = computed_length s n are.scenario;
       events = events ∙ known_denials s n denials are.are_denials;
       log = subst P (sym events) (standing_is_log s n denials are.scenario are.within);
-      long = table.long;
-      table = λ task within. table.each task within ∙ ap (λ rows. slots_in rows task) are.are_rows ∙ slots_seated s n task are.scenario;
+      diaries = diaries;
+      quanta = λ task within. quanta.each task within ∙ ap (λ rows. slots_in rows task) are.are_rows ∙ slots_seated s n task are.scenario;
     }
 
--- what is known of a task of the ledger
-pub known_task : (s : Plan) (n : ℕ) (ledger : Ledger) (system : System) (now : ℕ) (j : Joined) (ran : List ℕ) → IsLedger s n ledger → system ≡ ledger.settings → now ≡ ledger.now →
-    Contains (filter_map (join_of system.base) ledger.events.items) j → ran ≡ slots_of (run_of s n) j.task → CanTally j ran ledger.events.items now
-known_task s n ledger system now j ran known of_system of_now at of_ran =
-    let same : system ≡ s.settings = of_system ∙ known.settings in
-    let e : n ≡ now = sym (of_now ∙ known.now) in
-    let P : ℕ → Type 0 = λ n. CanTally j ran ledger.events.items n in
-    let Q : System → Type 0 = λ system. Contains (filter_map (join_of system.base) ledger.events.items) j in
-    subst P e (can_tally s.settings n ledger.events.items j (run_of s n) ran known.log (subst Q same at) known.slots (sym of_ran))
+-- what is known of a task of the ledger: its quanta, its own events, and that it can be tallied by these
+module _ (s : Plan) (n : ℕ) (ledger : Ledger) (known : IsLedger s n ledger) (j : Joined) (at : Contains (filter_map (join_of ledger.settings.base) ledger.events.items) j) where
+  task_known : CanTally j (slots_of (run_of s n) j.task) ledger.events.items ledger.now
+  task_known =
+      let P : ℕ → Type 0 = CanTally j (slots_of (run_of s n) j.task) ledger.events.items in
+      let Q : System → Type 0 = λ system. Contains (filter_map (join_of system.base) ledger.events.items) j in
+      subst P (sym known.now) (can_tally s.settings n ledger.events.items j (run_of s n) (slots_of (run_of s n) j.task) known.log (subst Q known.settings at) known.slots refl)
+
+  task_share : IsShare j.weight
+  task_share = let can = task_known in can.share
+
+  task_ran : (ran : List ℕ) → ran ≡ noted_of ledger.quanta.items j.task → ran ≡ slots_of (run_of s n) j.task
+  task_ran ran of_ran = let can = task_known in of_ran ∙ known.quanta j.task (omega (arith, can.number))
+
+  task_diary : (diary : List Numbered) → diary ≡ noted_of ledger.diaries.items j.task → diary ≡ own j.task ledger.events.items
+  task_diary diary of_diary = let can = task_known in of_diary ∙ known.diaries.each j.task (omega (arith, can.number))
+
+  task_can : (ran : List ℕ) (diary : List Numbered) → ran ≡ noted_of ledger.quanta.items j.task → diary ≡ noted_of ledger.diaries.items j.task → CanTally j ran diary ledger.now
+  task_can ran diary of_ran of_diary =
+      let P : List ℕ → List Numbered → Type 0 = λ ran xs. CanTally j ran xs ledger.now in
+      subst₂ P (sym (task_ran ran of_ran)) (sym (task_diary diary of_diary)) (can_own j (slots_of (run_of s n) j.task) ledger.events.items ledger.now task_known)
 
 -- a task inside has joined
 pub inside_known : (base : ℕ) (xs : List Numbered) (tasks : List Joined) (k : ℕ) (d : Joined) → tasks ≡ by_task (inside base xs) → k < length tasks →
@@ -104,33 +119,19 @@ module _ (s : Plan) (n : ℕ) (ledger : Ledger) (known : IsLedger s n ledger) (t
       let P : Joined → Type 0 = Contains (filter_map (join_of ledger.settings.base) ledger.events.items) in
       subst P (sym is) (inside_known ledger.settings.base ledger.events.items tasks k j of_tasks within)
 
-  pub step_room : (k : ℕ) (j : Joined) (table : List (List ℕ)) → k < length tasks → j ≡ get_or tasks k j → table ≡ ledger.table.items → j.task < length table
-  step_room k j table within is of_table =
-      let can = known_task s n ledger ledger.settings ledger.now j (slots_of (run_of s n) j.task) known refl refl (step_joined k j within is) refl in
-      omega (arith, can.number, ap length of_table, known.long)
+  pub step_can : (k : ℕ) (j : Joined) (ran : List ℕ) (diary : List Numbered) → k < length tasks → j ≡ get_or tasks k j → ran ≡ noted_of ledger.quanta.items j.task →
+      diary ≡ noted_of ledger.diaries.items j.task → CanTally j ran diary ledger.now
+  step_can k j ran diary within is = task_can s n ledger known j (step_joined k j within is) ran diary
 
-  ran_is_slots : (task : ℕ) (ran : List ℕ) (table : List (List ℕ)) → table ≡ ledger.table.items → ran ≡ slots_at table task → task ≤ 4095 → ran ≡ slots_of (run_of s n) task
-  ran_is_slots task ran table of_table of_ran number = of_ran ∙ ap (λ table. slots_at table task) of_table ∙ known.table task (omega arith)
-
-  step_ran : (k : ℕ) (j : Joined) (ran : List ℕ) (table : List (List ℕ)) → k < length tasks → j ≡ get_or tasks k j → table ≡ ledger.table.items → ran ≡ slots_at table j.task →
-      ran ≡ slots_of (run_of s n) j.task
-  step_ran k j ran table within is of_table of_ran =
-      let can = known_task s n ledger ledger.settings ledger.now j (slots_of (run_of s n) j.task) known refl refl (step_joined k j within is) refl in
-      ran_is_slots j.task ran table of_table of_ran can.number
-
-  pub step_can : (k : ℕ) (j : Joined) (ran : List ℕ) (table : List (List ℕ)) (events : List Numbered) → k < length tasks → j ≡ get_or tasks k j → table ≡ ledger.table.items →
-      ran ≡ slots_at table j.task → events ≡ ledger.events.items → CanTally j ran events ledger.now
-  step_can k j ran table events within is of_table of_ran of_events =
-      let P : List Numbered → Type 0 = λ xs. CanTally j ran xs ledger.now in
-      subst P (sym of_events) (known_task s n ledger ledger.settings ledger.now j ran known refl refl (step_joined k j within is) (step_ran k j ran table within is of_table of_ran))
-
-  pub step_lag : (k : ℕ) (j : Joined) (ran : List ℕ) (table : List (List ℕ)) (events : List Numbered) (lag : Lag) (lags after : List Lag) → k < length tasks → j ≡ get_or tasks k j →
-      table ≡ ledger.table.items → ran ≡ slots_at table j.task → events ≡ ledger.events.items →
-      ((r : List Slot) → length r ≡ ledger.now → slots_of r j.task ≡ ran → lag ≡ lag_of r events j) →
+  pub step_lag : (k : ℕ) (j : Joined) (ran : List ℕ) (diary : List Numbered) (lag : Lag) (lags after : List Lag) → k < length tasks → j ≡ get_or tasks k j →
+      ran ≡ noted_of ledger.quanta.items j.task → diary ≡ noted_of ledger.diaries.items j.task →
+      ((r : List Slot) → length r ≡ ledger.now → slots_of r j.task ≡ ran → lag ≡ lag_of r diary j) →
       after ≡ lags ++ lag ∷ [] → lags ≡ map (lag_of (run_of s n) ledger.events.items) (take k tasks) → after ≡ map (lag_of (run_of s n) ledger.events.items) (take (k + 1) tasks)
-  step_lag k j ran table events lag lags after within is of_table of_ran of_events of_lag push before =
+  step_lag k j ran diary lag lags after within is of_ran of_diary of_lag push before =
       let f = lag_of (run_of s n) ledger.events.items in
-      let this : lag ≡ f j = of_lag (run_of s n) (known.slots ∙ sym known.now) (sym (step_ran k j ran table within is of_table of_ran)) ∙ ap (λ xs. lag_of (run_of s n) xs j) of_events in
+      let at = step_joined k j within is in
+      let this : lag ≡ f j = of_lag (run_of s n) (known.slots ∙ sym known.now) (sym (task_ran s n ledger known j at ran of_ran))
+      ∙ ap (λ xs. lag_of (run_of s n) xs j) (task_diary s n ledger known j at diary of_diary) ∙ lag_own (run_of s n) ledger.events.items j in
       push ∙ ap₂ (λ xs y. xs ++ y ∷ []) before (this ∙ ap f is) ∙ sym (map_more f tasks k j within)
 
 -- The misses.
@@ -171,35 +172,23 @@ module _ (s : Plan) (n : ℕ) (ledger : Ledger) (known : IsLedger s n ledger) (t
       let Q : Joined → Type 0 = Contains tasks in
       subst P of_tasks (subst Q (sym is) (Contains-get_or tasks k j within))
 
-  joined_can : (k : ℕ) (j : Joined) → k < length tasks → j ≡ get_or tasks k j → CanTally j (slots_of (run_of s n) j.task) ledger.events.items ledger.now
-  joined_can k j within is = known_task s n ledger ledger.settings ledger.now j (slots_of (run_of s n) j.task) known refl refl (joined_at k j within is) refl
+  pub miss_can : (k : ℕ) (j : Joined) (ran : List ℕ) (diary : List Numbered) → k < length tasks → j ≡ get_or tasks k j → ran ≡ noted_of ledger.quanta.items j.task →
+      diary ≡ noted_of ledger.diaries.items j.task → CanTally j ran diary ledger.now
+  miss_can k j ran diary within is = task_can s n ledger known j (joined_at k j within is) ran diary
 
-  pub miss_room : (k : ℕ) (j : Joined) (table : List (List ℕ)) → k < length tasks → j ≡ get_or tasks k j → table ≡ ledger.table.items → j.task < length table
-  miss_room k j table within is of_table = let can = joined_can k j within is in omega (arith, can.number, ap length of_table, known.long)
-
-  miss_ran : (k : ℕ) (j : Joined) (ran : List ℕ) (table : List (List ℕ)) → k < length tasks → j ≡ get_or tasks k j → table ≡ ledger.table.items → ran ≡ slots_at table j.task →
-      ran ≡ slots_of (run_of s n) j.task
-  miss_ran k j ran table within is of_table of_ran =
-      let can = joined_can k j within is in
-      of_ran ∙ ap (λ table. slots_at table j.task) of_table ∙ known.table j.task (omega (arith, can.number))
-
-  pub miss_can : (k : ℕ) (j : Joined) (ran : List ℕ) (table : List (List ℕ)) (events : List Numbered) → k < length tasks → j ≡ get_or tasks k j → table ≡ ledger.table.items →
-      ran ≡ slots_at table j.task → events ≡ ledger.events.items → CanTally j ran events ledger.now
-  miss_can k j ran table events within is of_table of_ran of_events =
-      let P : List Numbered → Type 0 = λ xs. CanTally j ran xs ledger.now in
-      subst P (sym of_events) (known_task s n ledger ledger.settings ledger.now j ran known refl refl (joined_at k j within is) (miss_ran k j ran table within is of_table of_ran))
-
-  pub miss_step : (k : ℕ) (j : Joined) (ran : List ℕ) (table : List (List ℕ)) (events : List Numbered) (misses after : List Miss) → k < length tasks → j ≡ get_or tasks k j →
-      table ≡ ledger.table.items → ran ≡ slots_at table j.task → events ≡ ledger.events.items →
-      ((s : Plan) → IsScenario s → length (run_of s ledger.now) ≡ ledger.now → ran ≡ slots_of (run_of s ledger.now) j.task → after ≡ misses ++ misses_of_task (run_of s ledger.now) events j) →
+  pub miss_step : (k : ℕ) (j : Joined) (ran : List ℕ) (diary : List Numbered) (misses after : List Miss) → k < length tasks → j ≡ get_or tasks k j →
+      ran ≡ noted_of ledger.quanta.items j.task → diary ≡ noted_of ledger.diaries.items j.task →
+      ((s : Plan) → IsScenario s → length (run_of s ledger.now) ≡ ledger.now → ran ≡ slots_of (run_of s ledger.now) j.task → after ≡ misses ++ misses_of_task (run_of s ledger.now) diary j) →
       misses ≡ flat_map (misses_of_task (run_of s n) ledger.events.items) (take k tasks) → after ≡ flat_map (misses_of_task (run_of s n) ledger.events.items) (take (k + 1) tasks)
-  miss_step k j ran table events misses after within is of_table of_ran of_events of_misses before =
+  miss_step k j ran diary misses after within is of_ran of_diary of_misses before =
       let f = misses_of_task (run_of s n) ledger.events.items in
       let e : ledger.now ≡ n = known.now in
+      let at = joined_at k j within is in
       let this = of_misses s known.scenario (let P : ℕ → Type 0 = λ n. length (run_of s n) ≡ n in subst P (sym e) known.slots)
-      (miss_ran k j ran table within is of_table of_ran ∙ ap (λ n. slots_of (run_of s n) j.task) (sym e)) in
-      this ∙ ap₂ (λ n xs. misses ++ misses_of_task (run_of s n) xs j) e of_events
-      ∙ ap₂ (λ ms x. ms ++ f x) before is
+      (task_ran s n ledger known j at ran of_ran ∙ ap (λ n. slots_of (run_of s n) j.task) (sym e)) in
+      this
+      ∙ ap₂ (λ n xs. misses ++ misses_of_task (run_of s n) xs j) e (task_diary s n ledger known j at diary of_diary)
+      ∙ ap₂ (λ ms xs. ms ++ xs) before (misses_own (run_of s n) ledger.events.items j ∙ ap f is)
       ∙ flat_map_more f [] (take k tasks) (get_or tasks k j)
       ∙ ap (flat_map f) (sym (take_more tasks k j within))
 
@@ -209,7 +198,7 @@ module _ (s : Plan) (n : ℕ) (ledger : Ledger) (known : IsLedger s n ledger) (t
   misses_known misses sorted k of_misses over same up =
       let f = misses_of_task (run_of s n) ledger.events.items in
       let e : misses ≡ flat_map f tasks = of_misses ∙ ap (flat_map f) (take_all k tasks over) in
-      let shares : All (λ j. IsShare j.weight) tasks = λ k d within. (joined_can k (get_or tasks k d) within (get_or_default tasks k d (get_or tasks k d) within)).share in
+      let shares : All (λ j. IsShare j.weight) tasks = λ k d within. task_share s n ledger known (get_or tasks k d) (joined_at k (get_or tasks k d) within (get_or_default tasks k d (get_or tasks k d) within)) in
       let Q : List Joined → Type 0 = λ js. AllPairs (λ a b. a.task ≢ b.task) js in
       let differ = subst Q (sym of_tasks)
       (pairs_filter_map (λ x y. join_alike x.event y.event ≡ false) (λ a b. a.task ≢ b.task) (join_of ledger.settings.base)

@@ -9,6 +9,7 @@ pub mod Chains
 pub mod InForce
 pub mod Noting
 pub mod Holding
+pub mod Own
 pub mod Tallies
 pub mod Joined
 pub mod Ledgers

@@ -5,7 +5,8 @@ use Rattle.pf_scenario.specs.Edit.{IsScenario}
 use Rattle.pf_engine.specs.Run.{standing}
 use Rattle.pf_engine.specs.Computed.{run_of}
 use Rattle.pf_tally.specs.Log.{IsLog}
-use Rattle.pf_tally.specs.Noted.{slots_at}
+use Rattle.pf_tally.specs.Notes.{noted_of}
+use Rattle.pf_tally.specs.Own.{AreDiaries}
 use Rattle.pf_tally.specs.Quanta.{slots_of}
 use Rattle.pf_tally.specs.declared.ledger.Ledger.{Ledger}
 
@@ -17,5 +18,5 @@ pub record IsLedger (s : Plan) (n : ℕ) (ledger : Ledger) : Type 0 where
   pub slots : length (run_of s n) ≡ n
   pub events : ledger.events.items ≡ standing s (run_of s n) n
   pub log : IsLog s.settings n ledger.events.items
-  pub long : length ledger.table.items ≡ 4096
-  pub table : (task : ℕ) → task < 4096 → slots_at ledger.table.items task ≡ slots_of (run_of s n) task
+  pub diaries : AreDiaries ledger.events.items ledger.diaries.items
+  pub quanta : (task : ℕ) → task < 4096 → noted_of ledger.quanta.items task ≡ slots_of (run_of s n) task

@@ -16,6 +16,8 @@ pub mod Quanta
 pub mod Held
 pub mod Standing
 pub mod Log
+pub mod Notes
 pub mod Noted
+pub mod Own
 pub mod Ledger
 pub mod Late

@@ -2,8 +2,11 @@ ghost use Rattle.std.specs.Prelude.{◌≡◌, false, All, AllPairs, filter, not
 ghost use Rattle.pf_scenario.specs.Edit.{IsEvent, join_alike};
 ghost use Rattle.pf_engine.specs.Inside.{is_leave_of, has_left, inside};
 ghost use Rattle.pf_tally.specs.Lags.{by_task};
+ghost use Rattle.pf_tally.specs.Notes.{noted_of};
+ghost use Rattle.pf_tally.specs.Own.{AreDiaries};
 
 use crate::admitted::{Admitted, admitted_tasks};
+use crate::notes::{Notes, notes_of};
 use pf_scenario::event::{Event, Numbered};
 use pf_scenario::settings::Settings;
 use std::alloc::{AllocError, Global};
@@ -27,35 +30,37 @@ fn has_left(events: &[Numbered], task: u64) -> bool
         .any(|numbered| is_leave_of(task, &numbered.event))
 }
 
-/// Those of the tasks that do not leave by one of these events.
+/// Those of the tasks that do not leave by one of their own events, which the table notes.
 fn staying(
     alloc: Global,
     tasks: &[Admitted],
-    events: &[Numbered],
+    diaries: &[Notes<Numbered>],
 ) -> Result<Vec<Admitted>, AllocError>
-    ensures { IfOk result (λ v. v.items ≡ filter (λ j. not (has_left events.now j.task)) tasks.now) }
+    ensures { IfOk result (λ v. v.items ≡ filter (λ j. not (has_left (noted_of diaries.now j.task) j.task)) tasks.now) }
 {
     let mut staying = Vec::new(alloc);
     for task in tasks {
-        if !has_left(events, task.task) {
+        if !has_left(notes_of(diaries, task.task), task.task) {
             staying.push(*task)?;
         }
     }
     Ok(staying)
 }
 
-/// The tasks inside where these events are in force, by number.
+/// The tasks inside where these events are in force, by number. The table notes of each task its own events.
 pub(crate) fn tasks_inside(
     alloc: Global,
     settings: Settings,
     events: &[Numbered],
+    diaries: &[Notes<Numbered>],
 ) -> Result<Vec<Admitted>, AllocError>
     requires limits { All (λ x. IsEvent settings x.event) events.now }
     requires once { AllPairs (λ x y. join_alike x.event y.event ≡ false) events.now }
+    requires diaries { AreDiaries events.now diaries.now }
     ensures { IfOk result (λ v. v.items ≡ by_task (inside settings.base events.now)) }
 {
     let admitted = admitted_tasks(alloc, settings, events)?;
-    let mut tasks = staying(alloc, &admitted, events)?;
+    let mut tasks = staying(alloc, &admitted, diaries)?;
     tasks.sort_unstable_by_key(|task| task.task);
     Ok(tasks)
 }

@@ -11,7 +11,7 @@ use crate::clock::clock_at;
 use crate::held::held_delays;
 use crate::inside::tasks_inside;
 use crate::lag::Lag;
-use crate::ledger::{make_ledger, slots_ran};
+use crate::ledger::make_ledger;
 use pf_engine::denied::Denied;
 use pf_place::rows::Rows;
 use pf_scenario::event::Numbered;
@@ -44,7 +44,7 @@ fn lag_at(task: Admitted, clock: u64, received: u64) -> Lag
     }
 }
 
-/// The lag of a task that ran in the slots `ran`, after `now` slots.
+/// The lag, after `now` slots, of a task that ran in the slots `ran` and whose own events these are.
 fn lag_of_task(
     alloc: Global,
     task: Admitted,
@@ -74,11 +74,12 @@ pub fn lags(
     ensures { IfOk result (λ v. v.items ≡ lags_of scenario.now (run_of scenario.now (length rows.now))) }
 {
     let ledger = make_ledger(alloc, scenario, rows, denials)?;
-    let tasks = tasks_inside(alloc, ledger.settings, &ledger.events)?;
+    let tasks = tasks_inside(alloc, ledger.settings, &ledger.events, &ledger.diaries)?;
     let mut lags = Vec::with_capacity(alloc, tasks.len())?;
     for task in &tasks {
-        let ran = slots_ran(&ledger.table, *task);
-        let lag = lag_of_task(alloc, *task, ran, &ledger.events, ledger.now)?;
+        let ran = ledger.quanta(*task);
+        let diary = ledger.diary(*task);
+        let lag = lag_of_task(alloc, *task, ran, diary, ledger.now)?;
         lags.push(lag)?;
     }
     Ok(lags)

@@ -1,10 +1,11 @@
-ghost use Rattle.std.specs.Prelude.{◌≡◌, ◌<◌, length, IfOk};
+ghost use Rattle.std.specs.Prelude.{◌≡◌, length, IfOk};
 ghost use Rattle.pf_engine.specs.RunRows.{AreOfRun};
 ghost use Rattle.pf_tally.specs.Ledger.{IsLedger};
-ghost use Rattle.pf_tally.specs.Noted.{slots_at};
 
 use crate::admitted::Admitted;
-use crate::quanta::{Quanta, quanta_by_task};
+use crate::diary::diaries_by_task;
+use crate::notes::{Notes, notes_of};
+use crate::quanta::quanta_by_task;
 use crate::standing::standing_events;
 use pf_engine::denied::Denied;
 use pf_place::rows::Rows;
@@ -21,8 +22,28 @@ pub(crate) struct Ledger {
     pub(crate) now: u64,
     /// The events in force, in run order.
     pub(crate) events: Vec<Numbered>,
-    /// Of each task number the slots in which it runs.
-    pub(crate) table: Vec<Quanta>,
+    /// Of each task number its own events in force, in run order.
+    pub(crate) diaries: Vec<Notes<Numbered>>,
+    /// Of each task number the slots in which it runs, rising.
+    pub(crate) quanta: Vec<Notes<u64>>,
+}
+
+impl Ledger {
+    ghost use Rattle.pf_tally.specs.Notes.{noted_of};
+
+    /// The task's own events in force, in run order.
+    pub(crate) fn diary(&self, task: Admitted) -> &[Numbered]
+        ensures { result.now ≡ noted_of self.entry.now.diaries.items task.task }
+    {
+        notes_of(&self.diaries, task.task)
+    }
+
+    /// The slots in which the task runs, rising.
+    pub(crate) fn quanta(&self, task: Admitted) -> &[u64]
+        ensures { result.now ≡ noted_of self.entry.now.quanta.items task.task }
+    {
+        notes_of(&self.quanta, task.task)
+    }
 }
 
 /// The ledger of a scenario's run.
@@ -38,19 +59,13 @@ pub(crate) fn make_ledger(
     let settings = scenario.settings();
     let now = rows.len() as u64;
     let events = standing_events(alloc, scenario, now, denials)?;
-    let table = quanta_by_task(alloc, settings.processors(), rows)?;
+    let diaries = diaries_by_task(alloc, &events)?;
+    let quanta = quanta_by_task(alloc, settings.processors(), rows)?;
     Ok(Ledger {
         settings,
         now,
         events,
-        table,
+        diaries,
+        quanta,
     })
-}
-
-/// The slots in which the task runs.
-pub(crate) fn slots_ran(table: &[Quanta], task: Admitted) -> &[u64]
-    requires { task.task < length table.now }
-    ensures { result.now ≡ slots_at table.now task.task }
-{
-    table[task.task as usize].slots()
 }

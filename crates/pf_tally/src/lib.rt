@@ -4,6 +4,7 @@
 
 mod admitted;
 mod clock;
+mod diary;
 mod held;
 mod inside;
 pub mod lag;
@@ -13,5 +14,6 @@ pub mod laws;
 mod ledger;
 pub mod miss;
 pub mod misses;
+mod notes;
 mod quanta;
 mod standing;

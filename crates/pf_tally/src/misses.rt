@@ -11,7 +11,7 @@ ghost use Rattle.pf_tally.specs.Misses.{misses_of_task, misses_of};
 use crate::admitted::{Admitted, admitted_tasks};
 use crate::held::{Held, held_delays};
 use crate::late::{due_of, last_due};
-use crate::ledger::{make_ledger, slots_ran};
+use crate::ledger::make_ledger;
 use crate::miss::Miss;
 use pf_engine::denied::Denied;
 use pf_place::rows::Rows;
@@ -64,7 +64,7 @@ fn note_misses(
     Ok(())
 }
 
-/// Appends the misses of a task that ran in the slots `ran`, after `now` slots.
+/// Appends the misses, after `now` slots, of a task that ran in the slots `ran` and whose own events these are.
 fn note_task(
     alloc: Global,
     misses: &mut Vec<Miss>,
@@ -100,8 +100,9 @@ pub fn misses(
     let tasks = admitted_tasks(alloc, ledger.settings, &ledger.events)?;
     let mut misses = Vec::new(alloc);
     for task in &tasks {
-        let ran = slots_ran(&ledger.table, *task);
-        note_task(alloc, &mut misses, *task, ran, &ledger.events, ledger.now)?;
+        let ran = ledger.quanta(*task);
+        let diary = ledger.diary(*task);
+        note_task(alloc, &mut misses, *task, ran, diary, ledger.now)?;
     }
     misses.sort_unstable_by_key(|miss| (miss.deadline, miss.task));
     Ok(misses)
