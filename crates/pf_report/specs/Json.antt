@@ -1,0 +1,73 @@
+-- A report as one JSON object: compact, its keys in byte order.
+use Rattle.std.specs.Prelude.{ℕ, Option, None, Some, List, codes, map}
+use Rattle.std.specs.Option.{option_map_or}
+use Rattle.serde_json.specs.Data.{Data, null, number, unsigned, string, array, object, item, no_items, member, no_members}
+use Rattle.serde_json.specs.Find.{of_integer}
+use Rattle.serde_json.specs.View.{items_of}
+use Rattle.serde_json.specs.Written.{compact_text}
+use Rattle.pf_order.specs.declared.pick.Pick.{Pick}
+use Rattle.pf_engine.specs.declared.denied.Denied.{Denied}
+use Rattle.pf_engine.specs.Computed.{run_of}
+use Rattle.pf_tally.specs.declared.lag.Lag.{Lag}
+use Rattle.pf_tally.specs.declared.miss.Miss.{Miss}
+use Rattle.pf_tally.specs.Lags.{lags_of}
+use Rattle.pf_tally.specs.Misses.{misses_of}
+use Rattle.pf_desk.specs.Desk.{Seen}
+use Rattle.pf_report.specs.Reasons.{code_of, name_of}
+
+abbrev pub count_data : ℕ → Data
+count_data n = number (unsigned n)
+
+-- an array, each element shown alike
+abbrev pub array_data : {X : Type 0} → (X → Data) → List X → Data
+array_data show xs = array (items_of (map show xs))
+
+-- `[task,sub]`, null where the processor is idle
+abbrev pub sitter_data : Option Pick → Data
+sitter_data None = null
+sitter_data (Some pick) = array (item (count_data pick.task) (item (count_data pick.sub) no_items))
+
+abbrev pub denial_data : Denied → Data
+denial_data denied =
+    object (member (codes "code") (count_data (code_of denied.denial))
+    (member (codes "event") (count_data denied.id)
+    (member (codes "reason") (string (name_of denied.denial))
+    (member (codes "slot") (count_data denied.slot) no_members))))
+
+abbrev pub lag_data : Lag → Data
+lag_data lag =
+    object (member (codes "cost") (count_data lag.cost)
+    (member (codes "lag") (number (of_integer lag.scaled))
+    (member (codes "period") (count_data lag.period)
+    (member (codes "received") (count_data lag.received)
+    (member (codes "task") (count_data lag.task) no_members)))))
+
+-- `ran` is null where the missed subtask didn't run
+abbrev pub miss_data : Miss → Data
+miss_data miss =
+    object (member (codes "deadline") (count_data miss.deadline)
+    (member (codes "ran") (option_map_or count_data miss.ran null)
+    (member (codes "sub") (count_data miss.sub)
+    (member (codes "task") (count_data miss.task) no_members))))
+
+-- the object of a report, of its parts
+abbrev pub report_object : Data → ℕ → Data → Data → ℕ → Data → Data
+report_object denials entries lags misses now schedule =
+    object (member (codes "denials") denials
+    (member (codes "entries") (count_data entries)
+    (member (codes "lags") lags
+    (member (codes "misses") misses
+    (member (codes "now") (count_data now)
+    (member (codes "schedule") schedule no_members))))))
+
+-- the report of what was seen: the denials, lags and misses as in their tables, and the rows of the slots below now
+unfoldable pub report_data : Seen → Data
+report_data seen =
+    report_object (array_data denial_data seen.denials) seen.version
+    (array_data lag_data (lags_of seen.state.plan (run_of seen.state.plan seen.state.now)))
+    (array_data miss_data (misses_of seen.state.plan (run_of seen.state.plan seen.state.now)))
+    seen.state.now (array_data (array_data sitter_data) seen.rows)
+
+-- its text
+abbrev pub json_text : Seen → List ℕ
+json_text seen = compact_text (report_data seen)

@@ -1,0 +1,5 @@
+pub mod Reasons
+pub mod Tables
+pub mod Json
+pub mod Page
+pub mod Examples

@@ -1,0 +1,71 @@
+-- The tables of a report, as csv writes them: commas, line feeds, quotes only where they are needed.
+use Rattle.std.specs.Prelude.{ℕ, ◌+◌, Option, None, Some, List, [], ◌∷◌, ◌++◌, codes, map}
+use Rattle.std.specs.List.{flat_map, range_with_len}
+use Rattle.std.specs.Option.{option_map_or}
+use Rattle.std.specs.Fmt.{decimal, signed_decimal}
+use Rattle.csv.specs.Writing.{row_text, default_writer}
+use Rattle.pf_order.specs.declared.pick.Pick.{Pick}
+use Rattle.pf_engine.specs.declared.denied.Denied.{Denied}
+use Rattle.pf_engine.specs.Computed.{run_of}
+use Rattle.pf_tally.specs.declared.lag.Lag.{Lag}
+use Rattle.pf_tally.specs.declared.miss.Miss.{Miss}
+use Rattle.pf_tally.specs.Lags.{lags_of}
+use Rattle.pf_tally.specs.Misses.{misses_of}
+use Rattle.pf_desk.specs.Desk.{Seen}
+use Rattle.pf_report.specs.Reasons.{code_of, name_of}
+
+-- a table: its records, each a list of fields, the heading first
+abbrev pub table_text : List (List (List ℕ)) → List ℕ
+table_text records = flat_map (row_text default_writer) records
+
+-- `task/sub`
+abbrev pub pick_text : Pick → List ℕ
+pick_text pick = decimal pick.task ++ codes "/" ++ decimal pick.sub
+
+-- who sits on a processor; nothing where it is idle
+abbrev pub sitter_field : Option Pick → List ℕ
+sitter_field None = []
+sitter_field (Some pick) = pick_text pick
+
+-- `slot,p0,p1,..`: a column for each of m processors
+abbrev pub schedule_heading : ℕ → List (List ℕ)
+schedule_heading m = codes "slot" ∷ map (λ p. codes "p" ++ decimal p) (range_with_len 0 m)
+
+-- the rows of the slots from t on, each behind its slot
+abbrev pub schedule_records : ℕ → List (List (Option Pick)) → List (List (List ℕ))
+schedule_records t [] = []
+schedule_records t (row ∷ rows) = (decimal t ∷ map sitter_field row) ∷ schedule_records (t + 1) rows
+
+abbrev pub lag_record : Lag → List (List ℕ)
+lag_record lag =
+    decimal lag.task ∷ decimal lag.cost ∷ decimal lag.period ∷ decimal lag.received ∷ signed_decimal lag.scaled ∷ []
+
+-- the slot in which a missed subtask ran late is empty where it didn't run
+abbrev pub miss_record : Miss → List (List ℕ)
+miss_record miss = decimal miss.task ∷ decimal miss.sub ∷ decimal miss.deadline ∷ option_map_or decimal miss.ran [] ∷ []
+
+abbrev pub denial_record : Denied → List (List ℕ)
+denial_record denied =
+    decimal denied.slot ∷ decimal denied.id ∷ decimal (code_of denied.denial) ∷ name_of denied.denial ∷ []
+
+-- the schedule that was seen: a line for each slot below now
+unfoldable pub schedule_text : Seen → List ℕ
+schedule_text seen =
+    table_text (schedule_heading seen.state.plan.settings.processors ∷ schedule_records 0 seen.rows)
+
+-- the lags, by task
+unfoldable pub lags_text : Seen → List ℕ
+lags_text seen =
+    table_text ((codes "task" ∷ codes "cost" ∷ codes "period" ∷ codes "received" ∷ codes "lag" ∷ [])
+    ∷ map lag_record (lags_of seen.state.plan (run_of seen.state.plan seen.state.now)))
+
+-- the missed windows, by deadline, then by task
+unfoldable pub misses_text : Seen → List ℕ
+misses_text seen =
+    table_text ((codes "task" ∷ codes "sub" ∷ codes "deadline" ∷ codes "ran" ∷ [])
+    ∷ map miss_record (misses_of seen.state.plan (run_of seen.state.plan seen.state.now)))
+
+-- the denials, in run order
+unfoldable pub denials_text : Seen → List ℕ
+denials_text seen =
+    table_text ((codes "slot" ∷ codes "event" ∷ codes "code" ∷ codes "reason" ∷ []) ∷ map denial_record seen.denials)

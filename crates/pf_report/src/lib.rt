@@ -1,0 +1,15 @@
+//! What people and programs read of a desk: tables as CSV and one JSON object. The one contract of this crate: from a
+//! snapshot each call gives the bytes of the report text.
+#![tactic(auto)]
+
+pub mod denials;
+pub mod json;
+pub mod lags;
+pub mod laws;
+pub mod misses;
+pub mod reason;
+mod rows;
+pub mod schedule;
+mod table;
+#[cfg(test)]
+mod tests;

@@ -1,0 +1,59 @@
+ghost use Rattle.std.specs.Prelude.{◌≡◌, ◌∷◌, [], length, map, IfOk, OnOk};
+ghost use Rattle.std.specs.Fmt.{decimal};
+ghost use Rattle.pf_report.specs.Page.{with_field, with_record};
+ghost use Rattle.pf_report.specs.Tables.{schedule_heading, schedule_text, sitter_field};
+
+use crate::rows::{row_at, row_count};
+use crate::table::Table;
+use pf_desk::snapshot::Snapshot;
+use pf_order::pick::Pick;
+use pf_place::row::Row;
+use std::alloc::{AllocError, Global};
+
+/// Adds the heading: a column for the slot and for each processor.
+fn push_heading(table: &mut Table, processors: u32) -> Result<(), AllocError>
+    requires { table.old.fields ≡ [] }
+    ensures { OnOk result (table.new ≡ with_record table.old (schedule_heading processors)) }
+{
+    table.show("slot")?;
+    for processor in 0..processors {
+        table.show(format_args!("p{processor}"))?;
+    }
+    table.end_record()
+}
+
+/// Adds the field of who sits on a processor.
+fn show_sitter(table: &mut Table, sitter: Option<Pick>) -> Result<(), AllocError>
+    ensures { OnOk result (table.new ≡ with_field table.old (sitter_field sitter)) }
+{
+    match sitter {
+        Some(pick) => table.show(format_args!("{}/{}", pick.task, pick.sub)),
+        None => table.show(""),
+    }
+}
+
+/// Adds the record of slot t, whose row this is.
+fn push_row(table: &mut Table, t: u64, processors: u32, row: &Row) -> Result<(), AllocError>
+    requires start { table.old.fields ≡ [] }
+    requires row { length row.now ≡ processors }
+    ensures { OnOk result (table.new ≡ with_record table.old (decimal t ∷ map sitter_field row.now)) }
+{
+    table.show(t)?;
+    for processor in 0..processors {
+        show_sitter(table, row.get(processor))?;
+    }
+    table.end_record()
+}
+
+/// The schedule: a line for each slot below now, a column for each processor.
+pub fn schedule_csv(alloc: Global, snapshot: &Snapshot) -> Result<Vec<u8>, AllocError>
+    ensures { IfOk result (λ text. text.items ≡ schedule_text snapshot.now) }
+{
+    let processors = snapshot.settings().processors();
+    let mut table = Table::new(alloc);
+    push_heading(&mut table, processors)?;
+    for t in 0..row_count(snapshot) {
+        push_row(&mut table, t, processors, row_at(snapshot, t))?;
+    }
+    table.finish()
+}

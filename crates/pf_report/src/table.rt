@@ -1,0 +1,97 @@
+use csv::{ByteRecord, Writer};
+use std::alloc::{AllocError, Global};
+use std::fmt::Display;
+use std::marker::Model;
+
+/// A table on its way to text: its whole records as csv writes them, and the fields of the next record so far. The next
+/// record may lose fields where a call fails, so a table is given up then; one whose write failed takes no more records.
+#[derive(Drop)]
+pub(crate) struct Table {
+    writer: Writer<Vec<u8>>,
+    /// Whether a write failed.
+    broken: bool,
+    fields: ByteRecord,
+    /// The memory in which a field is shown before it is added.
+    shown: String,
+}
+
+impl Model for Table {
+    ghost use Rattle.std.specs.Prelude.{◌≡◌, false, []};
+    ghost use Rattle.csv.specs.Records.{fields_of, partial_of};
+    ghost use Rattle.pf_report.specs.Page.{Page, text_given, IsBetweenRecords};
+
+    ghost Value = { Page };
+
+    ghost view = { λ t. record { text = text_given t.writer; fields = fields_of t.fields } };
+
+    ghost invariant = { λ t. (t.broken ≡ false → IsBetweenRecords t.writer) × (partial_of t.fields ≡ []) };
+}
+
+impl Table {
+    ghost use Rattle.std.specs.Prelude.{◌≡◌, [], map, IfOk, OnOk, IfSome};
+    ghost use Rattle.pf_report.specs.Page.{empty_page, with_field, with_record};
+
+    /// A table of no records.
+    pub(crate) fn new(alloc: Global) -> Self
+        ensures { result ≡ empty_page }
+    {
+        Table {
+            writer: Writer::from_writer(Vec::new(alloc)),
+            broken: false,
+            fields: ByteRecord::new(alloc),
+            shown: String::new(alloc),
+        }
+    }
+
+    /// Adds a field to the next record.
+    pub(crate) fn show<D: Display + Drop>(&mut self, value: D) -> Result<(), AllocError>
+        ensures { OnOk result (IfSome (D.output value) (λ field. self.new ≡ with_field self.old field)) }
+    {
+        self.shown.clear();
+        self.shown.write(value)?;
+        let pushed = self.fields.push_field(self.shown.as_bytes());
+        if pushed.is_err() {
+            self.fields.clear();
+        }
+        pushed
+    }
+
+    /// Ends the record.
+    pub(crate) fn end_record(&mut self) -> Result<(), AllocError>
+        ensures { OnOk result (self.new ≡ with_record self.old self.old.fields) }
+    {
+        if self.broken {
+            return Err(AllocError);
+        }
+        let written = self.writer.write_byte_record(&self.fields);
+        self.fields.clear();
+        match written {
+            Ok(()) => Ok(()),
+            Err(_) => {
+                self.broken = true;
+                Err(AllocError)
+            }
+        }
+    }
+
+    /// Adds a record of these texts: a heading.
+    pub(crate) fn push_texts(&mut self, texts: &[&str]) -> Result<(), AllocError>
+        requires { self.old.fields ≡ [] }
+        ensures { OnOk result (self.new ≡ with_record self.old (map (λ text. text.now) texts.now)) }
+    {
+        for text in texts {
+            self.show(*text)?;
+        }
+        self.end_record()
+    }
+
+    /// The text of the table.
+    pub(crate) fn finish(self) -> Result<Vec<u8>, AllocError>
+        ensures { IfOk result (λ text. text.items ≡ self.text) }
+    {
+        match self.writer.into_inner() {
+            Ok(text) => Ok(text),
+            Err(_) => Err(AllocError),
+        }
+    }
+}
