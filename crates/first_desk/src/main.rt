@@ -1,0 +1,34 @@
+//! A first desk: makes a plan by calls of pf_desk, and prints who runs where, how far each task is from its fair share,
+//! and how many commands were answered. The contract of `plan` is what a caller relies on.
+#![tactic(auto)]
+
+mod plan;
+
+use pf_place::row::Row;
+
+/// Prints a row: the slot, and who sits on each processor.
+fn print_row(rt: &HostRuntime, slot: u64, row: &Row) -> anyhow::Result<()> {
+    print!(rt; "slot {slot}:")?;
+    for processor in 0..2 {
+        match row.get(processor) {
+            Some(pick) => print!(rt; " {}/{}", pick.task, pick.sub)?,
+            None => print!(rt; " -")?,
+        }
+    }
+    println!(rt; "")?;
+    Ok(())
+}
+
+fn main(rt: HostRuntime) -> anyhow::Result<()> {
+    let desk = plan::plan(rt.alloc())?;
+    for slot in 0..desk.now() {
+        if let Some(row) = desk.schedule().get(slot) {
+            print_row(&rt, slot, row)?;
+        }
+    }
+    for lag in &desk.lags()? {
+        println!(rt; "task {}: {} of {}", lag.task, lag.scaled, lag.period)?;
+    }
+    println!(rt; "{} commands", desk.history().len())?;
+    Ok(())
+}
