@@ -17,7 +17,7 @@ use Rattle.pf_scenario.proofs.Scenarios.{Held, held, others_of, without_held, re
 use Rattle.pf_engine.specs.Laws.{events_below}
 use Rattle.pf_timeline.specs.Timeline.{KeptRun, StandsFor, StoodFor}
 use Rattle.pf_desk.proofs.Histories.{settings_changed}
-use Rattle.pf_desk.proofs.Pasts.{rows_taken}
+use Rattle.pf_timeline.proofs.Grown.{standing_rows}
 
 below-append : (n : ℕ) (xs ys : List Numbered) → events_below n (xs ++ ys) ≡ events_below n xs ++ events_below n ys
 below-append n xs ys = filter-append (λ x. nat_lt (slot_of x.event) n) xs ys
@@ -77,7 +77,7 @@ stood_changed s q c from kept stands faultless touched is = record {
   settings = sym (settings_changed s c) ∙ ap (λ plan. plan.settings) (sym is);
   events = events_rest s c from stands.of_run.scenario faultless (subst (λ o. IfSome o (λ t. from ≤ t)) (sym touched) (omega arith))
       ∙ ap (λ plan. events_below from plan.events) (sym is);
-  stood = subst (λ n. StandsFor s n kept) (sym (rows_taken s kept.engine.now kept stands)) stands;
+  stood = subst (λ n. StandsFor s n kept) (sym (standing_rows s kept.engine.now kept stands)) stands;
 }
 
 -- a change without a fault is not refused

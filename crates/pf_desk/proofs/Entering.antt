@@ -4,12 +4,14 @@ use Rattle.std.specs.List.{slice_get}
 use Rattle.std.proofs.lemmas.List.{nil_from_length}
 use Rattle.pf_scenario.specs.System.{System}
 use Rattle.pf_scenario.specs.Scenario.{Plan, opening, changed, concerned, touched_slot}
-use Rattle.pf_scenario.specs.Edit.{IsScenario, edit_fault}
+use Rattle.pf_scenario.specs.Edit.{edit_fault}
 use Rattle.pf_scenario.proofs.Scenarios.{changes_keep_scenarios}
 use Rattle.pf_scenario.specs.declared.change.Change.{Change}
 use Rattle.pf_engine.specs.Computed.{course_of}
-use Rattle.pf_engine.specs.RunRows.{rows_in, denials_in}
+use Rattle.pf_engine.specs.RunRows.{denials_in}
 use Rattle.pf_timeline.specs.Timeline.{KeptRun, StandsFor}
+use Rattle.pf_timeline.proofs.Grown.{standing_now, standing_rows}
+use Rattle.pf_timeline.proofs.Past.{timelines_rest_on_past}
 use Rattle.pf_engine.specs.declared.denied.Denied.{Denied}
 use Rattle.pf_desk.specs.declared.command.Command.{Command}
 use Rattle.pf_desk.specs.declared.command.Command.TheVariants.{Edit}
@@ -22,20 +24,16 @@ use Rattle.pf_desk.specs.History.{IsLegal, last_state}
 use Rattle.pf_desk.specs.Desk.{IsDesk, Answers, entry_of}
 use Rattle.pf_desk.specs.Kept.{state_of, shown_by, IsKept}
 use Rattle.pf_desk.proofs.Histories.{legal_append, behind_append, settings_changed, settings_after}
-use Rattle.pf_desk.proofs.Pasts.{slots_taken, length-rows_in, stands_alike}
 use Rattle.pf_desk.proofs.Changes.{events_rest}
 
 -- at the opening
-no_rows : (s : Plan) → IsScenario s → rows_in s 0 ≡ []
-no_rows s scenario = nil_from_length (rows_in s 0) (length-rows_in s 0 scenario)
-
 no_denials : (s : Plan) → denials_in s 0 ≡ []
 unfolding denials_in course_of
 no_denials s = refl
 
 pub opening_kept : (settings : System) (kept : KeptRun) → StandsFor (opening settings) 0 kept → IsKept (opening settings) kept []
 opening_kept settings kept stands =
-    let now = sym (slots_taken (opening settings) 0 kept stands) in
+    let now = sym (standing_now (opening settings) 0 kept stands) in
     record {
       stands = subst (λ n. StandsFor (opening settings) n kept) now stands;
       legal = tt;
@@ -45,8 +43,8 @@ opening_kept settings kept stands =
 pub opening_shown : (settings : System) (kept : KeptRun) → StandsFor (opening settings) 0 kept →
     shown_by (opening settings) kept [] ≡ record { state = opening_state settings; rows = []; denials = []; history = [] }
 opening_shown settings kept stands =
-    let now = slots_taken (opening settings) 0 kept stands in
-    let rows = stands.of_run.are_rows ∙ no_rows (opening settings) stands.of_run.scenario in
+    let now = standing_now (opening settings) 0 kept stands in
+    let rows = nil_from_length kept.rows (standing_rows (opening settings) 0 kept stands) in
     let denials = stands.of_run.are_denials ∙ no_denials (opening settings) in
     λ i. record { state = record { plan = opening settings; now = now i }; rows = rows i; denials = denials i; history = [] }
 
@@ -122,14 +120,14 @@ made_state : (plan plan' : Plan) (kept kept' : KeptRun) (es es' : List Entry) (c
     Edits plan plan' kept kept' es es' caller change strict id →
     state_after (state_of plan kept) (Edit change strict) (Edited id) ≡ state_of plan' kept'
 made_state plan plan' kept kept' es es' caller change strict id edits =
-    let now = slots_taken plan' kept.engine.now kept' edits.stands in
+    let now = standing_now plan' kept.engine.now kept' edits.stands in
     λ i. record { plan = sym edits.plan_is i; now = sym now i }
 
 -- Use: what is kept then, and that the machine answers so.
 pub edited_kept : (plan plan' : Plan) (kept kept' : KeptRun) (es es' : List Entry) (caller : ℕ) (change : Change) (strict : Bool) (id : ℕ) →
     Edits plan plan' kept kept' es es' caller change strict id → IsKept plan' kept' es'
 edited_kept plan plan' kept kept' es es' caller change strict id edits =
-    let now = slots_taken plan' kept.engine.now kept' edits.stands in
+    let now = standing_now plan' kept.engine.now kept' edits.stands in
     subst (IsKept plan' kept') (sym edits.entered)
     (kept_entered plan plan' kept kept' es (entry_of caller (Edit change strict) (Edited id)) edits.is
     (record {
@@ -153,13 +151,10 @@ pub ahead_stands : (plan : Plan) (kept : KeptRun) (es : List Entry) (change : Ch
     StandsFor (changed plan change) kept.engine.now kept
 ahead_stands plan kept es change is faultless ahead =
     let scenario = is.stands.of_run.scenario in
-    stands_alike kept.engine.now plan (changed plan change) kept
-    (record {
-      of_s = scenario;
-      of_q = changes_keep_scenarios plan change scenario faultless;
-      settings = sym (settings_changed plan change);
-      events = events_rest plan change kept.engine.now scenario faultless ahead;
-    })
+    timelines_rest_on_past plan (changed plan change) kept.engine.now kept
+    (changes_keep_scenarios plan change scenario faultless)
+    (sym (settings_changed plan change))
+    (events_rest plan change kept.engine.now scenario faultless ahead)
     is.stands
 
 -- Use: a strict edit of slots not below now is refused with the first kept denial.

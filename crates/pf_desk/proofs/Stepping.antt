@@ -14,7 +14,7 @@ use Rattle.pf_desk.specs.declared.entry.Entry.{Entry}
 use Rattle.pf_desk.specs.Machine.{State, row_at, reply_to, state_after}
 use Rattle.pf_desk.specs.Desk.{Answers, Seen, StandsForHistory, entry_of}
 use Rattle.pf_desk.specs.Kept.{state_of, shown_by, IsKept}
-use Rattle.pf_desk.proofs.Pasts.{slots_taken, rows_taken}
+use Rattle.pf_timeline.proofs.Grown.{standing_now, standing_rows}
 use Rattle.pf_desk.proofs.Entering.{kept_entered}
 
 -- a slot that is taken: the kept run is one slot longer, the row is its last, and there is one entry more
@@ -43,7 +43,7 @@ step_reply_is plan kept kept' es es' caller slot row steps =
 step_state_is : (plan : Plan) (kept kept' : KeptRun) (es es' : List Entry) (caller slot : ℕ) (row : List (Option Pick)) →
     Steps plan kept kept' es es' caller slot row → state_after (state_of plan kept) Step (Stepped slot row) ≡ state_of plan kept'
 step_state_is plan kept kept' es es' caller slot row steps =
-    ap (λ n. record { plan = plan; now = n }) (sym (slots_taken plan (kept.engine.now + 1) kept' steps.stands))
+    ap (λ n. record { plan = plan; now = n }) (sym (standing_now plan (kept.engine.now + 1) kept' steps.stands))
 
 -- Use: what is kept then, and that the machine answers so.
 pub stepped_kept : (plan : Plan) (kept kept' : KeptRun) (es es' : List Entry) (caller slot : ℕ) (row : List (Option Pick)) →
@@ -54,7 +54,7 @@ stepped_kept plan kept kept' es es' caller slot row steps =
     (record {
       answer = step_reply_is plan kept kept' es es' caller slot row steps;
       state = step_state_is plan kept kept' es es' caller slot row steps;
-      stands = subst (λ n. StandsFor plan n kept') (sym (slots_taken plan (kept.engine.now + 1) kept' steps.stands)) steps.stands;
+      stands = subst (λ n. StandsFor plan n kept') (sym (standing_now plan (kept.engine.now + 1) kept' steps.stands)) steps.stands;
     }))
 
 pub stepped_answers : (plan : Plan) (kept kept' : KeptRun) (es es' : List Entry) (caller slot : ℕ) (row : List (Option Pick)) →
@@ -70,13 +70,13 @@ stepped_answers plan kept kept' es es' caller slot row steps = record {
 pub kept_of_run : (plan : Plan) (kept : KeptRun) (es : List Entry) → IsKept plan kept es →
     AreOfRun plan (length kept.rows) kept.rows kept.denials
 kept_of_run plan kept es is =
-    subst (λ n. AreOfRun plan n kept.rows kept.denials) (sym (rows_taken plan kept.engine.now kept is.stands)) is.stands.of_run
+    subst (λ n. AreOfRun plan n kept.rows kept.denials) (sym (standing_rows plan kept.engine.now kept is.stands)) is.stands.of_run
 
 snapshot_stands : (plan : Plan) (kept : KeptRun) (es : List Entry) → IsKept plan kept es →
     StandsForHistory es (record { version = length es; state = record { plan = plan; now = length kept.rows }; rows = kept.rows; denials = kept.denials })
 snapshot_stands plan kept es is = record {
   legal = is.legal;
-  last = is.last ∙ ap (λ n. record { plan = plan; now = n }) (sym (rows_taken plan kept.engine.now kept is.stands));
+  last = is.last ∙ ap (λ n. record { plan = plan; now = n }) (sym (standing_rows plan kept.engine.now kept is.stands));
   version = refl;
   of_run = kept_of_run plan kept es is;
 }
@@ -89,3 +89,13 @@ seen_stands plan kept es version rows denials seen is entries of_rows of_denials
     let same : seen ≡ record { version = length es; state = record { plan = plan; now = length kept.rows }; rows = kept.rows; denials = kept.denials } =
     shows ∙ (λ i. record { version = entries i; state = record { plan = plan; now = length (of_rows i) }; rows = of_rows i; denials = of_denials i }) in
     subst (StandsForHistory es) (sym same) (snapshot_stands plan kept es is)
+
+-- the snapshot is what the desk shows
+pub seen_is_shown : (plan : Plan) (kept : KeptRun) (es : List Entry) (version : ℕ) (rows : List (List (Option Pick))) (denials : List Denied) (seen : Seen) →
+    IsKept plan kept es → version ≡ length es → rows ≡ kept.rows → denials ≡ kept.denials →
+    seen ≡ record { version = version; state = record { plan = plan; now = length rows }; rows = rows; denials = denials } →
+    seen ≡ record { version = length es; state = state_of plan kept; rows = kept.rows; denials = kept.denials }
+seen_is_shown plan kept es version rows denials seen is entries of_rows of_denials shows =
+    shows
+    ∙ (λ i. record { version = entries i; state = record { plan = plan; now = length (of_rows i) }; rows = of_rows i; denials = of_denials i })
+    ∙ (λ i. record { version = length es; state = record { plan = plan; now = standing_rows plan kept.engine.now kept is.stands i }; rows = kept.rows; denials = kept.denials })

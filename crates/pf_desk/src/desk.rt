@@ -6,6 +6,7 @@ ghost use Rattle.pf_scenario.specs.Edit.{edit_fault};
 ghost use Rattle.pf_engine.specs.Computed.{run_of};
 ghost use Rattle.pf_tally.specs.Lags.{lags_of};
 ghost use Rattle.pf_tally.specs.Misses.{misses_of};
+ghost use Rattle.pf_timeline.specs.Counted.{CountsAtMostOneSlot};
 ghost use Rattle.pf_desk.specs.declared.fault.OpenFault.TheVariants.{BadSettings};
 ghost use Rattle.pf_desk.specs.declared.command.Command.TheVariants.{Edit, Step};
 ghost use Rattle.pf_desk.specs.declared.reply.Reply.TheVariants.{Refused};
@@ -75,7 +76,9 @@ impl Desk {
         })
     }
 
-    /// Answers the caller's command as the machine does, and enters it. After an `Err` the desk is as before.
+    /// Answers the caller's command as the machine does, and enters it. After an `Err` the desk is as before. A step
+    /// counts one slot, with want of memory at most one and at the horizon none; an edit that is refused for its fault,
+    /// or that touches no slot below now, counts none.
     pub fn apply(
         &mut self,
         meter: &mut Meter,
@@ -87,8 +90,9 @@ impl Desk {
         ensures desk { IsDesk self.new }
         ensures refused { IfOk result (λ reply. LeavesRest reply self.old self.new) }
 
-        // A slot that was taken counts one.
+        // A slot that was taken counts one, and a step never counts more.
         ensures counted { IfOk result (λ reply. IsStepped reply → meter.new.slots ≡ one_more meter.old.slots) }
+        ensures at_most { command ≡ Step → CountsAtMostOneSlot meter.old meter.new }
         ensures uncounted { IsUncounted self.old.state command → meter.new ≡ meter.old }
     {
         match command {
@@ -180,7 +184,9 @@ impl Desk {
 
     /// What the desk shows now.
     pub fn snapshot(&self) -> Result<Snapshot, AllocError>
-        ensures { IfOk result (λ s. StandsForHistory self.now.history s) }
+        ensures stands { IfOk result (λ s. StandsForHistory self.now.history s) }
+        ensures shown { IfOk result
+            (λ s. s ≡ record { version = length self.now.history; state = self.now.state; rows = self.now.rows; denials = self.now.denials }) }
     {
         Snapshot::of(
             *self.history.allocator(),
@@ -198,6 +204,7 @@ impl Desk {
         ensures desk { IsDesk self.new }
         ensures refused { IfOk result (λ reply. LeavesRest reply self.old self.new) }
         ensures counted { IfOk result (λ reply. IsStepped reply → meter.new.slots ≡ one_more meter.old.slots) }
+        ensures at_most { CountsAtMostOneSlot meter.old meter.new }
         ensures uncounted { self.old.state.now ≡ self.old.state.plan.settings.horizon → meter.new ≡ meter.old }
     {
         if self.timeline.now() == self.scenario.settings().horizon() {

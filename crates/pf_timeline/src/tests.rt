@@ -3,7 +3,7 @@
 ghost use Rattle.std.specs.Prelude.{◌<◌, IfOk};
 ghost use Rattle.pf_timeline.specs.Timeline.{StandsFor};
 
-use crate::fault::NewFault;
+use crate::fault::{NewFault, StepFault};
 use crate::timeline::Timeline;
 use pf_admit::denial::Denial;
 use pf_engine::denied::Denied;
@@ -159,5 +159,20 @@ fn the_distance_of_checkpoints_has_limits(rt: HostRuntime) -> Result<(), Fail> {
         assert!(rt; timeline.rows().is_empty());
         assert_eq!(rt; timeline.denials().len(), 0);
     }
+    Ok(())
+}
+
+#[test]
+fn a_wide_timeline_ends_at_its_horizon(rt: HostRuntime) -> Result<(), Fail> {
+    let alloc = rt.alloc();
+    let scenario = Scenario::new(alloc, Settings::wide(1, 1, 1)?);
+    let mut meter = Meter::new();
+    let mut timeline = slots(alloc, &mut meter, &scenario, 4_194_304)?;
+    let longer = timeline.stepped(&mut meter, &scenario);
+    assert_eq!(rt; longer.err(), Some(StepFault::AtHorizon));
+    let refused = timeline.step(&mut meter, &scenario);
+    assert_eq!(rt; refused, Err(StepFault::AtHorizon));
+    assert_eq!(rt; timeline.now(), 4_194_304);
+    assert_eq!(rt; timeline.rows().len(), 4_194_304);
     Ok(())
 }

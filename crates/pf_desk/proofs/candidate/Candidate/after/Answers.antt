@@ -2,7 +2,7 @@ use Rattle.std.proofs.Common.{Err, ap, ◌∙◌, subst, arith}
 use Rattle.pf_scenario.specs.Scenario.{changed}
 use Rattle.pf_timeline.specs.Timeline.{StandsFor}
 use Rattle.pf_desk.proofs.Changes.{stood_changed, not_refused}
-use Rattle.pf_desk.proofs.Pasts.{rows_taken}
+use Rattle.pf_timeline.proofs.Grown.{standing_rows}
 use Rattle.pf_desk.proofs.candidate.Candidate.after.Goals as goal
 
 pub unreachable-requires : goal.unreachable-requires
@@ -11,7 +11,7 @@ unreachable-requires c =
     ((c.apply.ensures.refused c.in-Err-Refused.field-0-0).1 (c.in-Err-Refused.is ∙ ap Err c.in-Err-Refused.field-0-is))
 
 pub rewritten-requires-clause-below : goal.rewritten-requires-clause-below
-rewritten-requires-clause-below c = omega (arith, rows_taken _ _ _ c.requires.stands)
+rewritten-requires-clause-below c = omega (arith, standing_rows _ _ _ c.requires.stands)
 
 pub rewritten-requires-clause-stood : goal.rewritten-requires-clause-stood
 rewritten-requires-clause-stood c =
@@ -21,4 +21,4 @@ rewritten-requires-clause-stood c =
 
 pub returns-clause-stands : goal.returns-clause-stands
 returns-clause-stands c =
-    subst (λ n. StandsFor c.apply.new.self n c.in_ok-timeline.timeline) (rows_taken _ _ _ c.requires.stands) c.in_ok-timeline.ensures
+    subst (λ n. StandsFor c.apply.new.self n c.in_ok-timeline.timeline) (standing_rows _ _ _ c.requires.stands) c.in_ok-timeline.ensures

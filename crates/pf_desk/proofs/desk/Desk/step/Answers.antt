@@ -1,13 +1,14 @@
 use Rattle.std.proofs.Common.{◌≡◌, ◌<◌, ◌+◌, length, get_or, [], sym, ap, ◌∙◌, arith}
 use Rattle.std.proofs.lemmas.List.{length-replicate}
-use Rattle.pf_desk.proofs.Pasts.{rows_taken, places_taken}
+use Rattle.pf_timeline.proofs.Grown.{standing_rows}
+use Rattle.pf_desk.proofs.Pasts.{places_taken}
 use Rattle.pf_desk.proofs.Entering.{is_desk}
 use Rattle.pf_desk.proofs.Stepping.{Steps, stepped_kept, stepped_answers}
 use Rattle.pf_desk.proofs.desk.Desk.step.Goals as goal
 use Rattle.pf_desk.proofs.desk.Desk.step.Goals.{After-push_reserved}
 
 pub fill-requires-clause-within : goal.fill-requires-clause-within
-fill-requires-clause-within c = omega (arith, rows_taken _ _ _ c.in-Ok.ensures.ok, ap length c.rows.ensures)
+fill-requires-clause-within c = omega (arith, standing_rows _ _ _ c.in-Ok.ensures.ok, ap length c.rows.ensures)
 
 pub fill-requires-clause-places : goal.fill-requires-clause-places
 fill-requires-clause-places c =
@@ -18,7 +19,7 @@ fill-requires-clause-places c =
     rw (c.in_ok-row.ensures.row, length-replicate, c.rows.ensures) (m ∙ sym long)
 
 pub fill-requires-2-clause-within : goal.fill-requires-2-clause-within
-fill-requires-2-clause-within c = omega (arith, rows_taken _ _ _ c.in-Ok.ensures.ok, ap length c.rows-2.ensures)
+fill-requires-2-clause-within c = omega (arith, standing_rows _ _ _ c.in-Ok.ensures.ok, ap length c.rows-2.ensures)
 
 pub fill-requires-2-clause-places : goal.fill-requires-2-clause-places
 fill-requires-2-clause-places c =
