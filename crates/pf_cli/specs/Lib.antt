@@ -1,7 +1,14 @@
+pub mod Answers
 pub mod Counted
+pub mod Examples
 pub mod Failing
 pub mod Fields
+pub mod Formats
 pub mod Grammar
 pub mod Lines
+pub mod Meaning
 pub mod Reading
+pub mod Replies
 pub mod Script
+pub mod Session
+pub mod Status

@@ -13,8 +13,9 @@ pub const MOST_WAITING: usize = 65_536;
 #[derive(Clone, Copy, Debug, PartialEq, Eq)]
 pub struct WriteFault;
 
-// Writes a whole text, by as many writes as the writer needs.
-fn write_out<W: Sink>(writer: &mut W, text: &[u8]) -> Result<(), WriteFault>
+/// Writes a whole text, by as many writes as the writer needs. After a fault the writer has a front of the text. Its
+/// count of failures must be below `u64::MAX` before the call.
+pub fn write_out<W: Sink>(writer: &mut W, text: &[u8]) -> Result<(), WriteFault>
     requires { W.failed writer.old < 2 ^ 64 - 1 }
     ensures ok { OnOk result (Appends (W.contents writer.old) (W.contents writer.new) text.now) }
     ensures err { OnErr result (TookFront (W.contents writer.old) (W.contents writer.new) text.now) }

@@ -1,4 +1,4 @@
-ghost use Rattle.std.specs.Prelude.{◌≡◌, ◌+◌, ◌-◌, ◌^◌, ◌<◌, IfSome};
+ghost use Rattle.std.specs.Prelude.{◌≡◌, ◌+◌, ◌-◌, ◌^◌, ◌<◌, ◌≤◌, IfSome, IfOk, vec_len};
 ghost use Rattle.pf_cli.specs.Reading.{ReadsScript, TakesAtMost, CountsRead};
 
 use crate::source::Source;
@@ -29,6 +29,7 @@ pub fn read_script<S: Source>(alloc: Global, reader: &mut S) -> Result<Vec<u8>, 
     ensures bytes { IfSome (S.remaining reader.old) (λ bytes. ReadsScript bytes result) }
     ensures taken { TakesAtMost (S.remaining reader.old) (S.remaining reader.new) (LONGEST_SCRIPT + 1) }
     ensures count { CountsRead result (S.failed reader.old) (S.failed reader.new) }
+    ensures short { IfOk result (λ text. vec_len text ≤ LONGEST_SCRIPT) }
 {
     let mut text = Vec::new(alloc);
     let mut piece = [0; PIECE];

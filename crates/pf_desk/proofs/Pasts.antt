@@ -27,8 +27,8 @@ places_behind m before (turn ∷ turns) zero d within = length-row_of m turn.0 b
 places_behind m before (turn ∷ turns) (suc t) d within =
     places_behind m (row_of m turn.0 before turn.1) turns t d (omega arith)
 
--- each row of a run has a place for each processor
-places_in : (s : Plan) (n t : ℕ) (d : List (Option Pick)) → IsScenario s → t < n → length (get_or (rows_in s n) t d) ≡ s.settings.processors
+-- Use: each row of a run has a place for each processor.
+pub places_in : (s : Plan) (n t : ℕ) (d : List (Option Pick)) → IsScenario s → t < n → length (get_or (rows_in s n) t d) ≡ s.settings.processors
 unfolding rows_in
 places_in s n t d scenario within =
     places_behind s.settings.processors _ (turns_of s (run_of s n)) t d

@@ -1,0 +1,46 @@
+-- The worked examples of scripts, computed.
+use Rattle.std.proofs.Common.{refl}
+use Rattle.std.specs.Fmt.{digits}
+use Rattle.csv.specs.Machine.{next_record}
+use Rattle.csv.specs.Reading.{records_from, strip_bom}
+use Rattle.csv.specs.Writing.{escaped, fields_text, is_blank}
+use Rattle.pf_window.specs.Window.{release_of, deadline_of, bit_of}
+use Rattle.pf_window.specs.Group.{group_of}
+use Rattle.pf_order.specs.Priority.{priority_cmp}
+use Rattle.pf_place.specs.Occupancy.{row_of}
+use Rattle.pf_scenario.specs.Event.{run_cmp}
+use Rattle.pf_scenario.specs.Scenario.{events_of}
+use Rattle.pf_engine.specs.Record.{done, in_force}
+use Rattle.pf_engine.specs.Inside.{inside, load_of, count_of, shift_of, member_of, ready}
+use Rattle.pf_engine.specs.Computed.{course_of}
+use Rattle.pf_engine.specs.RunRows.{rows_in, denials_in}
+use Rattle.pf_tally.specs.Clock.{clock_of}
+use Rattle.pf_tally.specs.Lags.{lags_of}
+use Rattle.pf_tally.specs.Misses.{miss_cmp, misses_of}
+use Rattle.pf_report.specs.Tables.{schedule_text, lags_text, misses_text, denials_text}
+use Rattle.pf_cli.specs.Fields.{number_of, is_word}
+use Rattle.pf_cli.specs.Grammar.{is_heading, settings_of, opening_of, join_of, event_of, strike_of, alter_of, change_of, steps_of, edit_of, line_of}
+use Rattle.pf_cli.specs.Replies.{reply_line}
+use Rattle.pf_cli.specs.Meaning.{report_text, script_meaning}
+use Rattle.pf_cli.specs.Examples.{WholeScripts, BadScripts, WorkedScripts}
+
+bad : BadScripts
+unfolding digits escaped fields_text is_blank next_record records_from strip_bom release_of deadline_of bit_of group_of priority_cmp row_of run_cmp events_of done in_force inside load_of count_of shift_of member_of ready course_of rows_in denials_in number_of is_word is_heading settings_of opening_of join_of event_of strike_of alter_of change_of steps_of edit_of line_of reply_line report_text script_meaning
+bad = record {
+  third = refl;
+  third_unshown = refl;
+  second = refl;
+  settings = refl;
+  empty = refl;
+  refused = refl;
+  heading_alone = refl;
+  heading_twice = refl;
+  limit = refl;
+}
+
+whole : WholeScripts
+unfolding digits escaped fields_text is_blank next_record records_from strip_bom release_of deadline_of bit_of group_of priority_cmp row_of run_cmp events_of done in_force inside load_of count_of shift_of member_of ready course_of rows_in denials_in clock_of lags_of miss_cmp misses_of schedule_text lags_text misses_text denials_text number_of is_word is_heading settings_of opening_of join_of event_of strike_of alter_of change_of steps_of edit_of line_of reply_line report_text script_meaning
+whole = record { tables = refl; schedule = refl; second_version = refl }
+
+pub worked_scripts : WorkedScripts
+worked_scripts = record { whole = whole; bad = bad }

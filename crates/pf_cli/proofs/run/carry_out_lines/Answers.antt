@@ -1,0 +1,126 @@
+use Rattle.std.proofs.Common.{length, refl, ap, ◌∙◌, sym, arith}
+use Rattle.std.proofs.lemmas.Result.{err_from_is_err_and}
+use Rattle.pf_cli.specs.Grammar.{line_of}
+use Rattle.pf_cli.proofs.Sending.{so-far-finished, so-far-unfinished}
+use Rattle.pf_cli.proofs.Scripts.{answers_stopped, bad_left, begun, counts_stopped, front_under_way, is_first, is_none, line_stopped, line_taken, past_stopped, report_left}
+use Rattle.pf_cli.proofs.run.carry_out_lines.Goals as goal
+
+pub records-init : goal.records-init
+records-init g c = record {
+  way = begun c.args.version c.args.first c.args.session c.args.script _;
+  count = refl;
+  counted = c.requires.counted;
+}
+
+pub returns-in_err-next-clause-meaning : goal.returns-in_err-next-clause-meaning
+returns-in_err-next-clause-meaning g c =
+    let p = err_from_is_err_and c.from_residual.result c.from_residual.ensures.1 in
+    let way = c.records.invariant.way in
+    rw (p.1, p.2) (front_under_way c.args.version c.records.number c.records.session c.records.script _ _ _ way)
+
+pub returns-in_err-next-clause-read : goal.returns-in_err-next-clause-read
+returns-in_err-next-clause-read g c =
+    let p = err_from_is_err_and c.from_residual.result c.from_residual.ensures.1 in rw (p.1, p.2) tt
+
+pub returns-in_err-next-clause-writes : goal.returns-in_err-next-clause-writes
+returns-in_err-next-clause-writes g c =
+    let p = err_from_is_err_and c.from_residual.result c.from_residual.ensures.1 in rw (p.1, p.2) c.records.invariant.count
+
+pub finish-requires : goal.finish-requires
+finish-requires g c = omega (arith, c.requires.writes, c.records.invariant.count)
+
+pub take-requires : goal.take-requires
+take-requires g c = omega (arith, c.requires.writes, c.records.invariant.count)
+
+pub report-requires : goal.report-requires
+report-requires g c = omega (arith, c.requires.writes, c.records.invariant.count)
+
+pub records-smaller : goal.records-smaller
+records-smaller g c =
+    let first = is_first c.in_ok-next.field-0 c.records.script _ c.next.new.self c.in_ok-next.ensures.record c.if-branch.true in
+    omega (arith, ap length first)
+
+pub returns-in_err-take-clause-meaning : goal.returns-in_err-take-clause-meaning
+returns-in_err-take-clause-meaning g c =
+    let p = err_from_is_err_and c.from_residual-in_err-take.result c.from_residual-in_err-take.ensures.1 in
+    let first = is_first c.in_ok-next.field-0 c.records.script _ c.next.new.self c.in_ok-next.ensures.record c.if-branch.true in
+    let line = sym (ap (line_of c.args.version) c.new.ensures) ∙ sym c.in-Some.ensures in
+    rw (p.1, p.2) (answers_stopped (Unit {0}) _ _ _ _
+    (line_stopped c.args.version c.records.number c.records.session c.records.script _ c.next.new.self c.in-Some.line _ _ _ _ first line c.records.invariant.way c.in_err-take.ensures.err))
+
+pub returns-clause-meaning : goal.returns-clause-meaning
+returns-clause-meaning g c =
+    let none = is_none c.in_ok-next.field-0 c.records.script _ c.next.new.self c.in_ok-next.ensures.record c.if-branch.false in
+    let left = report_left c.args.version c.records.number c.records.session c.records.script _ _ _ none c.records.invariant.way in
+    (left.0, so-far-finished _ _ _ _ _ left.1 c.in_ok-report.ensures.ok)
+
+pub returns-in_err-take-clause-read : goal.returns-in_err-take-clause-read
+returns-in_err-take-clause-read g c =
+    let p = err_from_is_err_and c.from_residual-in_err-take.result c.from_residual-in_err-take.ensures.1 in rw (p.1, p.2) (past_stopped (Unit {0}) _)
+
+pub returns-in_err-take-clause-writes : goal.returns-in_err-take-clause-writes
+returns-in_err-take-clause-writes g c =
+    let p = err_from_is_err_and c.from_residual-in_err-take.result c.from_residual-in_err-take.ensures.1 in
+    rw (p.1, p.2) (rw (← c.records.invariant.count) (counts_stopped (Unit {0}) (Unit {0}) _ _ _ c.in_err-take.ensures.count))
+
+pub returns-in_err-finish-clause-read : goal.returns-in_err-finish-clause-read
+returns-in_err-finish-clause-read g c =
+    let p = err_from_is_err_and c.from_residual-in_err-finish.result c.from_residual-in_err-finish.ensures.1 in rw (p.1, p.2) (past_stopped (Unit {0}) _)
+
+pub returns-in_err-finish-clause-writes : goal.returns-in_err-finish-clause-writes
+returns-in_err-finish-clause-writes g c =
+    let p = err_from_is_err_and c.from_residual-in_err-finish.result c.from_residual-in_err-finish.ensures.1 in
+    rw (p.1, p.2) (rw (← c.records.invariant.count) (counts_stopped (Unit {0}) (Unit {0}) _ _ _ c.in_err-finish.ensures.count))
+
+pub returns-in_err-finish-clause-meaning : goal.returns-in_err-finish-clause-meaning
+returns-in_err-finish-clause-meaning g c =
+    let p = err_from_is_err_and c.from_residual-in_err-finish.result c.from_residual-in_err-finish.ensures.1 in
+    let first = is_first c.in_ok-next.field-0 c.records.script _ c.next.new.self c.in_ok-next.ensures.record c.if-branch.true in
+    let line = sym (ap (line_of c.args.version) c.new.ensures) ∙ sym c.in_default.ensures in
+    let left = bad_left c.args.version c.records.number c.records.session c.records.script _ c.next.new.self _ _ _ first line c.records.invariant.way in
+    rw (p.1, p.2) (answers_stopped (Unit {0}) _ _ _ _ (so-far-unfinished _ _ _ _ _ left.1 c.in_err-finish.ensures.err))
+
+pub returns-in_default-clause-meaning : goal.returns-in_default-clause-meaning
+returns-in_default-clause-meaning g c =
+    let first = is_first c.in_ok-next.field-0 c.records.script _ c.next.new.self c.in_ok-next.ensures.record c.if-branch.true in
+    let line = sym (ap (line_of c.args.version) c.new.ensures) ∙ sym c.in_default.ensures in
+    let left = bad_left c.args.version c.records.number c.records.session c.records.script _ c.next.new.self _ _ _ first line c.records.invariant.way in
+    (left.0, so-far-finished _ _ _ _ _ left.1 c.in_ok-finish.ensures.ok)
+
+pub returns-in_default-clause-writes : goal.returns-in_default-clause-writes
+returns-in_default-clause-writes g c = c.in_ok-finish.ensures.count ∙ c.records.invariant.count
+
+pub overflow_add-number : goal.overflow_add-number
+overflow_add-number g c =
+    let first = is_first c.in_ok-next.field-0 c.records.script _ c.next.new.self c.in_ok-next.ensures.record c.if-branch.true in
+    omega (arith, ap length first, c.records.invariant.counted)
+
+pub records-preserved : goal.records-preserved
+records-preserved g c =
+    let first = is_first c.in_ok-next.field-0 c.records.script _ c.next.new.self c.in_ok-next.ensures.record c.if-branch.true in
+    let line = sym (ap (line_of c.args.version) c.new.ensures) ∙ sym c.in-Some.ensures in
+    record {
+      way = line_taken c.args.version c.records.number c.records.session c.take.new.self c.records.script _ c.next.new.self c.in-Some.line _ _ _ _
+          first line c.records.invariant.way c.in_ok-take.ensures.ok;
+      count = c.in_ok-take.ensures.count ∙ c.records.invariant.count;
+      counted = omega (arith, ap length first, c.records.invariant.counted);
+    }
+
+pub returns-in_err-report-clause-meaning : goal.returns-in_err-report-clause-meaning
+returns-in_err-report-clause-meaning g c =
+    let p = err_from_is_err_and c.from_residual-in_err-report.result c.from_residual-in_err-report.ensures.1 in
+    let none = is_none c.in_ok-next.field-0 c.records.script _ c.next.new.self c.in_ok-next.ensures.record c.if-branch.false in
+    let left = report_left c.args.version c.records.number c.records.session c.records.script _ _ _ none c.records.invariant.way in
+    rw (p.1, p.2) (answers_stopped (Unit {0}) _ _ _ _ (so-far-unfinished _ _ _ _ _ left.1 c.in_err-report.ensures.err))
+
+pub returns-in_err-report-clause-read : goal.returns-in_err-report-clause-read
+returns-in_err-report-clause-read g c =
+    let p = err_from_is_err_and c.from_residual-in_err-report.result c.from_residual-in_err-report.ensures.1 in rw (p.1, p.2) (past_stopped (Unit {0}) _)
+
+pub returns-in_err-report-clause-writes : goal.returns-in_err-report-clause-writes
+returns-in_err-report-clause-writes g c =
+    let p = err_from_is_err_and c.from_residual-in_err-report.result c.from_residual-in_err-report.ensures.1 in
+    rw (p.1, p.2) (rw (← c.records.invariant.count) (counts_stopped (Unit {0}) (Unit {0}) _ _ _ c.in_err-report.ensures.count))
+
+pub returns-clause-writes : goal.returns-clause-writes
+returns-clause-writes g c = c.in_ok-report.ensures.count ∙ c.records.invariant.count

@@ -1,0 +1,16 @@
+use Rattle.std.proofs.Common.{◌≡◌, ◌+◌, ◌^◌, ◌<◌, length}
+use Rattle.pf_cli.specs.Meaning.{behind}
+use Rattle.pf_cli.proofs.Scripts.{IsUnderWay, to_come}
+use Rattle.pf_cli.proofs.run.carry_out_lines.Given as goal
+
+-- of what all records mean, what those before this number mean is put
+abbrev pub invariant-records : goal.invariant-records
+invariant-records g l = record {
+  way : IsUnderWay l.version l.number l.session l.script (g.W.Write.contents l.fn.writer) (g.W.Write.contents l.writer)
+      (behind l.fn.session.lines (to_come l.version l.fn.first l.fn.session l.fn.script));
+  count : g.W.Sink.failed l.writer ≡ g.W.Sink.failed l.fn.writer;
+  counted : l.number + length l.script < 2 ^ 64;
+}
+
+abbrev pub decreases-records : goal.decreases-records
+decreases-records g l = length l.script

@@ -1,0 +1,51 @@
+-- Worked examples of what scripts mean.
+use Rattle.std.specs.Prelude.{◌≡◌, ℕ, List, [], ◌++◌, codes}
+use Rattle.pf_cli.specs.declared.format.Format.{Format}
+use Rattle.pf_cli.specs.declared.format.Format.TheVariants.{Schedule, Tables}
+use Rattle.pf_cli.specs.Meaning.{End, Done, BadRecord, script_meaning}
+
+-- in the format, the script is a text and ends so
+abbrev pub Means : Format → List ℕ → List ℕ → End → Type 0
+Means format script text end = script_meaning format script ≡ record { text = text; end = end }
+
+-- three tasks on two processors
+abbrev pub three_tasks : List ℕ
+three_tasks = codes "settings,2,3,6,2\njoin,0,1,2,3,0\njoin,0,2,2,3,0\njoin,0,3,2,3,0\nstep,3\n"
+
+abbrev pub three_tasks_replies : List ℕ
+three_tasks_replies = codes "ready\nevent 1\nevent 2\nevent 3\nslot 0: 1/1 2/1\nslot 1: 1/2 3/1\nslot 2: 2/2 3/2\n"
+
+abbrev pub three_tasks_schedule : List ℕ
+three_tasks_schedule = codes "slot,p0,p1\n0,1/1,2/1\n1,1/2,3/1\n2,2/2,3/2\n"
+
+abbrev pub three_tasks_lags : List ℕ
+three_tasks_lags = codes "task,cost,period,received,lag\n1,2,3,2,0\n2,2,3,2,0\n3,2,3,2,0\n"
+
+-- scripts that are carried out to their end
+pub record WholeScripts : Type 0 where
+  pub tables : Means Tables three_tasks
+      (three_tasks_replies ++ codes "schedule\n" ++ three_tasks_schedule ++ codes "lags\n" ++ three_tasks_lags
+      ++ codes "misses\ntask,sub,deadline,ran\ndenials\nslot,event,code,reason\n") Done
+  pub schedule : Means Schedule three_tasks three_tasks_schedule Done
+  -- behind the heading the same script
+  pub second_version : Means Schedule (codes "pfair,2\n" ++ three_tasks) three_tasks_schedule Done
+
+-- scripts with a bad record
+pub record BadScripts : Type 0 where
+  -- the last record has no line end
+  pub third : Means Tables (codes "settings,1,2,2,1\nstep\njoin,0,1") (codes "ready\nslot 0: -\n") (BadRecord 3)
+  pub third_unshown : Means Schedule (codes "settings,1,2,2,1\nstep\njoin,0,1") [] (BadRecord 3)
+  pub second : Means Tables (codes "settings,1,2,2,1\nleave,0,1,9\n") (codes "ready\n") (BadRecord 2)
+  pub settings : Means Tables (codes "settings,65,1,1,1\n") [] (BadRecord 1)
+  pub empty : Means Tables [] [] (BadRecord 1)
+  -- a refused command is no bad record
+  pub refused : Means Tables (codes "settings,1,2,2,1\nstrict,strike,7\nstep,0\n") (codes "ready\nrefused 10 EventNotFound\n") (BadRecord 3)
+  -- no record lies behind the heading, or a second heading
+  pub heading_alone : Means Tables (codes "pfair,2\n") [] (BadRecord 2)
+  pub heading_twice : Means Tables (codes "pfair,2\npfair,2\n") [] (BadRecord 2)
+  -- a limit is a record of version 2 alone
+  pub limit : Means Tables (codes "settings,2,3,6,2\nlimit,1,1\n") (codes "ready\n") (BadRecord 2)
+
+pub record WorkedScripts : Type 0 where
+  pub whole : WholeScripts
+  pub bad : BadScripts

@@ -1,0 +1,151 @@
+-- What a script means: a text and an end.
+use Rattle.std.specs.Prelude.{ℕ, ◌+◌, ◌^◌, Bool, true, false, ◌&&◌, nat_le, nat_lt, if◌then◌else◌, Option, None, Some, List, [], ◌∷◌, ◌++◌, codes, length, replicate}
+use Rattle.pf_scenario.specs.System.{System}
+use Rattle.pf_engine.specs.RunRows.{rows_in, denials_in}
+use Rattle.pf_desk.specs.declared.command.Command.{Command}
+use Rattle.pf_desk.specs.declared.command.Command.TheVariants as command
+use Rattle.pf_desk.specs.Machine.{State, opening_state, reply_to, state_after}
+use Rattle.pf_desk.specs.Desk.{Seen}
+use Rattle.pf_report.specs.Tables.{schedule_text, lags_text, misses_text, denials_text}
+use Rattle.pf_report.specs.Json.{json_text}
+use Rattle.pf_cli.specs.declared.version.Version.{Version}
+use Rattle.pf_cli.specs.declared.version.Version.TheVariants.{First, Second}
+use Rattle.pf_cli.specs.declared.line.Line.{Line}
+use Rattle.pf_cli.specs.declared.line.Line.TheVariants as line
+use Rattle.pf_cli.specs.declared.line.Opening.{Opening}
+use Rattle.pf_cli.specs.declared.format.Format.{Format}
+use Rattle.pf_cli.specs.declared.format.Format.TheVariants.{Schedule, Tables, Json}
+use Rattle.pf_cli.specs.Script.{script_records}
+use Rattle.pf_cli.specs.Grammar.{horizon_of, is_heading, opening_of, line_of}
+use Rattle.pf_cli.specs.Replies.{reply_line, line_end}
+
+-- how a script ends: well, at a bad record of this number, or because it is too long
+pub data End : Type 0 where
+  Done : End
+  BadRecord : ℕ → End
+  TooLong : End
+
+pub record Meaning : Type 0 where
+  pub text : List ℕ
+  pub end : End
+
+-- a text before what follows
+abbrev pub behind : List ℕ → Meaning → Meaning
+behind text m = record { text = text ++ m.text; end = m.end }
+
+-- a bad record ends the script, with no report
+abbrev pub bad : ℕ → Meaning
+bad number = record { text = []; end = BadRecord number }
+
+-- how far a script is: the state of the desk machine, and how many commands it has answered
+pub record Course : Type 0 where
+  pub state : State
+  pub entries : ℕ
+
+abbrev pub course_after : Course → Command → Course
+course_after c command = record { state = state_after c.state command (reply_to c.state command); entries = c.entries + 1 }
+
+abbrev pub course_behind : Course → List Command → Course
+course_behind c [] = c
+course_behind c (command ∷ commands) = course_behind (course_after c command) commands
+
+-- only the format `schedule` has no reply lines
+abbrev pub has_replies : Format → Bool
+has_replies Schedule = false
+has_replies format = true
+
+abbrev pub shown : Format → List ℕ → List ℕ
+shown format text = if has_replies format then text else []
+
+-- the reply lines of these commands, one after another
+abbrev pub reply_lines : Course → List Command → List ℕ
+reply_lines c [] = []
+reply_lines c (command ∷ commands) = reply_line (reply_to c.state command) ++ reply_lines (course_after c command) commands
+
+-- what a line asks of the desk: one edit, or its steps
+abbrev pub commands_of : Line → List Command
+commands_of (line.Edit change strict) = command.Edit change strict ∷ []
+commands_of (line.Steps count) = replicate count command.Step
+
+-- what the desk shows there
+abbrev pub seen_at : Course → Seen
+seen_at c = record {
+  version = c.entries;
+  state = c.state;
+  rows = rows_in c.state.plan c.state.now;
+  denials = denials_in c.state.plan c.state.now;
+}
+
+-- a table behind a line with its name
+abbrev pub titled : List ℕ → List ℕ → List ℕ
+titled title table = title ++ line_end ++ table
+
+-- the four tables
+abbrev pub tables_text : Seen → List ℕ
+tables_text seen =
+    titled (codes "schedule") (schedule_text seen)
+    ++ titled (codes "lags") (lags_text seen)
+    ++ titled (codes "misses") (misses_text seen)
+    ++ titled (codes "denials") (denials_text seen)
+
+-- what stands behind all replies
+unfoldable pub report_text : Format → Seen → List ℕ
+report_text Schedule seen = schedule_text seen
+report_text Tables seen = tables_text seen
+report_text Json seen = json_text seen ++ line_end
+
+-- the record is this line, or it is bad
+abbrev pub line_meaning : Format → ℕ → Course → (Course → Meaning) → Option Line → Meaning
+line_meaning format number c next None = bad number
+line_meaning format number c next (Some line) =
+    behind (shown format (reply_lines c (commands_of line))) (next (course_behind c (commands_of line)))
+
+-- the records behind the settings, the first of them of this number
+abbrev pub lines_meaning : Format → Version → ℕ → Course → List (List (List ℕ)) → Meaning
+lines_meaning format version number c [] = record { text = report_text format (seen_at c); end = Done }
+lines_meaning format version number c (fields ∷ records) =
+    line_meaning format number c (λ d. lines_meaning format version (number + 1) d records) (line_of version fields)
+
+-- n is 1 to most
+abbrev pub is_one_to : ℕ → ℕ → Bool
+is_one_to most n = nat_le 1 n && nat_le n most
+
+-- the settings of an opening whose numbers are within their limits
+abbrev pub system_of : Version → Opening → Option System
+system_of version o =
+    if is_one_to 64 o.processors && is_one_to (2 ^ 30) o.base && is_one_to (2 ^ 44) o.cap && is_one_to 4096 o.every
+    then Some (record { processors = o.processors; base = o.base; cap = o.cap; horizon = horizon_of version })
+    else None
+
+abbrev pub settings_meaning : Format → Version → ℕ → List (List (List ℕ)) → Option System → Meaning
+settings_meaning format version number records None = bad number
+settings_meaning format version number records (Some settings) =
+    behind (shown format (codes "ready" ++ line_end))
+    (lines_meaning format version (number + 1) (record { state = opening_state settings; entries = 0 }) records)
+
+abbrev pub opened : Version → Option Opening → Option System
+opened version None = None
+opened version (Some opening) = system_of version opening
+
+-- the records from the one of this number on, which is to be the settings; a script needs one
+abbrev pub opening_meaning : Format → Version → ℕ → List (List (List ℕ)) → Meaning
+opening_meaning format version number [] = bad number
+opening_meaning format version number (fields ∷ records) =
+    settings_meaning format version number records (opened version (opening_of fields))
+
+-- a script of version 2 begins with its heading
+abbrev pub records_meaning : Format → List (List (List ℕ)) → Meaning
+records_meaning format [] = bad 1
+records_meaning format (fields ∷ records) =
+    if is_heading fields then opening_meaning format Second 2 records
+    else opening_meaning format First 1 (fields ∷ records)
+
+-- the longest script, in bytes
+abbrev pub longest_script : ℕ
+longest_script = 16777216
+
+-- what a script's bytes mean in a format
+unfoldable pub script_meaning : Format → List ℕ → Meaning
+script_meaning format bytes =
+    if nat_lt longest_script (length bytes) then record { text = []; end = TooLong }
+    else records_meaning format (script_records bytes)

@@ -1,0 +1,42 @@
+-- A script that is being carried out.
+use Rattle.std.specs.Prelude.{ℕ, ◌≡◌, List, [], ◌++◌, length, Option}
+use Rattle.pf_scenario.specs.System.{System}
+use Rattle.pf_desk.specs.declared.command.Command.{Command}
+use Rattle.pf_desk.specs.Machine.{opening_state}
+use Rattle.pf_desk.specs.Desk.{Shown}
+use Rattle.pf_cli.specs.declared.format.Format.{Format}
+use Rattle.pf_cli.specs.declared.session.Session.{Session}
+use Rattle.pf_cli.specs.Lines.{TookAllBut}
+use Rattle.pf_cli.specs.Meaning.{Course, course_behind, shown, reply_lines}
+
+-- how far a desk is
+abbrev pub course_at : Shown → Course
+course_at d = record { state = d.state; entries = length d.history }
+
+-- the course of a desk that was opened and has answered no command
+abbrev pub opening_course : System → Course
+opening_course settings = record { state = opening_state settings; entries = 0 }
+
+-- a session of this format, at the opening of its desk, with no text yet
+pub record Opened (settings : System) (asked : Format) (s : Session) : Type 0 where
+  pub format : s.format ≡ asked
+  pub course : course_at s.desk ≡ opening_course settings
+  pub lines : s.lines ≡ []
+
+-- the session put a text, where its format has replies: the writer took the front of what waited and of the text, and the
+-- rest waits; the desk is as before
+pub record HasPut (bytes : List ℕ) (before after : Session) (old new : Option (List ℕ)) : Type 0 where
+  pub format : after.format ≡ before.format
+  pub desk : after.desk ≡ before.desk
+  pub text : TookAllBut after.lines old new (before.lines ++ shown before.format bytes)
+
+-- what these commands add to the text
+abbrev pub replies_of : Session → List Command → List ℕ
+replies_of s commands = shown s.format (reply_lines (course_at s.desk) commands)
+
+-- the session answered these commands: its desk is behind them, the writer took the front of what waited and of the
+-- replies, and the rest waits
+pub record HasAnswered (commands : List Command) (before after : Session) (old new : Option (List ℕ)) : Type 0 where
+  pub format : after.format ≡ before.format
+  pub course : course_at after.desk ≡ course_behind (course_at before.desk) commands
+  pub text : TookAllBut after.lines old new (before.lines ++ replies_of before commands)

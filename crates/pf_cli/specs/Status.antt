@@ -1,0 +1,55 @@
+-- The status that the program ends with, and what it did to its streams.
+use Rattle.std.specs.Prelude.{ℕ, ◌≡◌, ◌+◌, List, Option, IfSome, Result, Ok, Err, ◌==◌, if◌then◌else◌, ◌⊎◌, []}
+use Rattle.std.specs.Io.KnownBytes.{Keeps}
+use Rattle.pf_cli.specs.declared.fault.RunFault.{RunFault}
+use Rattle.pf_cli.specs.declared.fault.RunFault.TheVariants.{BadLine, ReadFault, WriteFault, ScriptTooLong, NoMemory}
+use Rattle.pf_cli.specs.declared.format.Format.{Format}
+use Rattle.pf_cli.specs.declared.format.Format.TheVariants.{Tables}
+use Rattle.pf_cli.specs.Answers.{Answers, CountsReads, CountsWrites}
+use Rattle.pf_cli.specs.Meaning.{script_meaning}
+
+-- 0 done, 1 a script that is bad or too long, 3 a stream that failed, 4 no memory
+abbrev pub status_of : {A : Type 0} → Result A RunFault → ℕ
+status_of (Ok done) = 0
+status_of (Err (BadLine number)) = 1
+status_of (Err ScriptTooLong) = 1
+status_of (Err ReadFault) = 3
+status_of (Err WriteFault) = 3
+status_of (Err NoMemory) = 4
+
+-- what is seen of the two streams: the bytes that the reader has left and those that the writer holds, where they tell
+-- them, and how often each failed
+pub record Streams : Type 0 where
+  pub input : Option (List ℕ)
+  pub failed_reads : ℕ
+  pub output : Option (List ℕ)
+  pub failed_writes : ℕ
+
+-- the same, of a reader and a writer
+abbrev pub seen_streams : Option (List ℕ) → ℕ → Option (List ℕ) → ℕ → Streams
+seen_streams input failed_reads output failed_writes =
+    record { input = input; failed_reads = failed_reads; output = output; failed_writes = failed_writes }
+
+-- this answer is one to what the script means, and the streams failed as it says
+pub record IsAnswer {A : Type 0} (format : Format) (answer : Result A RunFault) (old new : Streams) : Type 0 where
+  pub meaning : IfSome old.input (λ bytes. Answers (script_meaning format bytes) answer old.output new.output)
+  pub reads : CountsReads answer old.failed_reads new.failed_reads
+  pub writes : CountsWrites answer old.failed_writes new.failed_writes
+
+-- a script was run in this format, and the status is that of the answer
+abbrev pub RunsScript : Format → ℕ → Streams → Streams → Type 0
+RunsScript format status old new =
+    (answer : Result (Unit {0}) RunFault) × (status ≡ status_of answer) × IsAnswer format answer old new
+
+-- no script was read: help was written (0) or could not be (3), the words were refused (2), or memory was (4)
+pub record ReadsNothing (status : ℕ) (old new : Streams) : Type 0 where
+  pub ended : (status ≡ 0) ⊎ (status ≡ 2) ⊎ (status ≡ 3) ⊎ (status ≡ 4)
+  pub input : new.input ≡ old.input
+  pub reads : new.failed_reads ≡ old.failed_reads
+  pub writes : new.failed_writes ≡ old.failed_writes + (if status == 3 then 1 else 0)
+  pub refused : status ≡ 2 → Keeps old.output new.output
+
+-- without words a script is run with tables; with words, in some format or not at all
+pub record AnswersWords {A : Type 0} (words : List A) (status : ℕ) (old new : Streams) : Type 0 where
+  pub without : words ≡ [] → RunsScript Tables status old new
+  pub any : ((format : Format) × RunsScript format status old new) ⊎ ReadsNothing status old new

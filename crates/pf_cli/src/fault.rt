@@ -1,0 +1,59 @@
+ghost use Rattle.std.specs.Prelude.{◌≡◌};
+ghost use Rattle.pf_cli.specs.declared.fault.RunFault.TheVariants.{NoMemory};
+ghost use Rattle.pf_cli.specs.Answers.{fault_of_reading, fault_of_output};
+
+use crate::output_fault::OutputFault;
+use crate::reading::ReadingFault;
+use std::alloc::AllocError;
+use thiserror::Error;
+
+/// Why a script was not carried out to its end.
+#[derive(Clone, Copy, Debug, PartialEq, Eq, Error)]
+pub enum RunFault {
+    /// A record, counted from 1, that is none of the script's.
+    #[error("bad record {0}")]
+    BadLine(u64),
+    /// The reader failed.
+    #[error("cannot read the script")]
+    ReadFault,
+    /// The writer failed, or took none of the bytes offered.
+    #[error("cannot write the output")]
+    WriteFault,
+    /// The script has more than 16,777,216 bytes.
+    #[error("the script is longer than 16777216 bytes")]
+    ScriptTooLong,
+    /// Memory was refused.
+    #[error("out of memory")]
+    NoMemory,
+}
+
+impl From<ReadingFault> for RunFault {
+    ghost from_gives = { λ reading f. f ≡ fault_of_reading reading };
+
+    fn from(fault: ReadingFault) -> Self {
+        match fault {
+            ReadingFault::Read => RunFault::ReadFault,
+            ReadingFault::TooLong => RunFault::ScriptTooLong,
+            ReadingFault::Memory => RunFault::NoMemory,
+        }
+    }
+}
+
+impl From<OutputFault> for RunFault {
+    ghost from_gives = { λ output f. f ≡ fault_of_output output };
+
+    fn from(fault: OutputFault) -> Self {
+        match fault {
+            OutputFault::Write => RunFault::WriteFault,
+            OutputFault::Memory => RunFault::NoMemory,
+        }
+    }
+}
+
+impl From<AllocError> for RunFault {
+    ghost from_gives = { λ _ f. f ≡ NoMemory };
+
+    fn from(_error: AllocError) -> Self {
+        RunFault::NoMemory
+    }
+}

@@ -1,0 +1,56 @@
+ghost use Rattle.std.specs.Prelude.{◌≡◌, ◌++◌, IfOk, OnOk};
+ghost use Rattle.pf_cli.specs.Meaning.{report_text, tables_text, titled};
+
+use crate::format::Format;
+use pf_desk::snapshot::Snapshot;
+use pf_report::denials::denials_csv;
+use pf_report::json::report_json;
+use pf_report::lags::lags_csv;
+use pf_report::misses::misses_csv;
+use pf_report::schedule::schedule_csv;
+use std::alloc::{AllocError, Global};
+
+/// What stands behind all replies.
+#[tactic(auto, unfolding(crate::specs::Meaning::report_text))]
+pub fn report_text(
+    alloc: Global,
+    snapshot: &Snapshot,
+    format: Format,
+) -> Result<Vec<u8>, AllocError>
+    ensures { IfOk result (λ text. text.items ≡ report_text format snapshot.now) }
+{
+    match format {
+        Format::Schedule => schedule_csv(alloc, snapshot),
+        Format::Tables => tables_text(alloc, snapshot),
+        Format::Json => {
+            let mut text = report_json(alloc, snapshot)?;
+            text.push(b'\n')?;
+            Ok(text)
+        }
+    }
+}
+
+// The four tables, each behind a line with its name.
+fn tables_text(alloc: Global, snapshot: &Snapshot) -> Result<Vec<u8>, AllocError>
+    ensures { IfOk result (λ text. text.items ≡ tables_text snapshot.now) }
+{
+    let mut text = Vec::new(alloc);
+    let schedule = schedule_csv(alloc, snapshot)?;
+    extend_titled(&mut text, b"schedule", &schedule)?;
+    let lags = lags_csv(alloc, snapshot)?;
+    extend_titled(&mut text, b"lags", &lags)?;
+    let misses = misses_csv(alloc, snapshot)?;
+    extend_titled(&mut text, b"misses", &misses)?;
+    let denials = denials_csv(alloc, snapshot)?;
+    extend_titled(&mut text, b"denials", &denials)?;
+    Ok(text)
+}
+
+// Adds a table behind a line with its name.
+fn extend_titled(text: &mut Vec<u8>, title: &[u8], table: &[u8]) -> Result<(), AllocError>
+    ensures { OnOk result (text.new.items ≡ text.old.items ++ titled title.now table.now) }
+{
+    text.extend_from_slice(title)?;
+    text.push(b'\n')?;
+    text.extend_from_slice(table)
+}

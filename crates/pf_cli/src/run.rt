@@ -1,0 +1,151 @@
+ghost use Rattle.std.specs.Prelude.{◌≡◌, ◌+◌, ◌-◌, ◌^◌, ◌<◌, ◌≤◌, length, IfSome, IfErr, Err};
+ghost use Rattle.std.specs.Io.KnownBytes.{Keeps};
+ghost use Rattle.csv.specs.Records.{fields_of};
+ghost use Rattle.pf_cli.specs.declared.fault.RunFault.TheVariants.{ReadFault};
+ghost use Rattle.pf_cli.specs.Answers.{Answers, CountsReads, CountsWrites, IsPastReading};
+ghost use Rattle.pf_cli.specs.Grammar.{opening_of};
+ghost use Rattle.pf_cli.specs.Meaning.{script_meaning, settings_meaning, lines_meaning, behind, opened, system_of};
+ghost use Rattle.pf_cli.specs.Session.{course_at};
+
+use crate::fault::RunFault;
+use crate::fields::Fields;
+use crate::format::Format;
+use crate::grammar::{read_heading, read_line, read_opening};
+use crate::line::Opening;
+use crate::reading::{LONGEST_SCRIPT, read_script};
+use crate::script::Script;
+use crate::session::Session;
+use crate::sink::Sink;
+use crate::source::Source;
+use crate::version::Version;
+use csv::ByteRecord;
+use pf_scenario::settings::Settings;
+use std::alloc::Global;
+
+// The most slots from one checkpoint to the next.
+const MOST_EVERY: u64 = 4096;
+
+/// Reads a whole script, carries it out, and writes its replies and its report in the format: what it writes, and how
+/// it ends, is what the script's bytes mean. `BadLine` comes after the replies to the records before the bad one;
+/// after `ReadFault` and `ScriptTooLong` nothing was written, and after `WriteFault` and `NoMemory` a front of the
+/// text. The counts of failures of reader and writer must be below `u64::MAX` before the call.
+
+pub fn run<R: Source, W: Sink>(
+    alloc: Global,
+    reader: &mut R,
+    writer: &mut W,
+    format: Format,
+) -> Result<(), RunFault>
+    requires reads { R.failed reader.old < 2 ^ 64 - 1 }
+    requires writes { W.failed writer.old < 2 ^ 64 - 1 }
+    ensures meaning { IfSome (R.remaining reader.old)
+        (λ bytes. Answers (script_meaning format bytes) result (W.contents writer.old) (W.contents writer.new)) }
+    ensures unwritten { result ≡ Err ReadFault → Keeps (W.contents writer.old) (W.contents writer.new) }
+    ensures reads { CountsReads result (R.failed reader.old) (R.failed reader.new) }
+    ensures writes { CountsWrites result (W.failed writer.old) (W.failed writer.new) }
+{
+    let text = read_script(alloc, reader)?;
+    carry_out(alloc, &text, writer, format)
+}
+
+// Carries out a script of these bytes.
+
+fn carry_out<W: Sink>(
+    alloc: Global,
+    bytes: &[u8],
+    writer: &mut W,
+    format: Format,
+) -> Result<(), RunFault>
+    requires short { length bytes.now ≤ LONGEST_SCRIPT }
+    requires writes { W.failed writer.old < 2 ^ 64 - 1 }
+    ensures meaning { Answers (script_meaning format bytes.now) result (W.contents writer.old) (W.contents writer.new) }
+    ensures read { IsPastReading result }
+    ensures writes { CountsWrites result (W.failed writer.old) (W.failed writer.new) }
+{
+    let mut script = Script::new(alloc, bytes);
+    let mut row = ByteRecord::new(alloc);
+    if !script.next(&mut row)? {
+        return Err(RunFault::BadLine(1));
+    }
+    if !read_heading(&Fields::new(&row)) {
+        return carry_out_from(alloc, script, row, writer, format, Version::First, 1);
+    }
+    if !script.next(&mut row)? {
+        return Err(RunFault::BadLine(2));
+    }
+    carry_out_from(alloc, script, row, writer, format, Version::Second, 2)
+}
+
+// Carries out a script from the record in `row` on, which has this number and is to be the settings.
+
+fn carry_out_from<W: Sink>(
+    alloc: Global,
+    script: Script,
+    row: ByteRecord,
+    writer: &mut W,
+    format: Format,
+    version: Version,
+    number: u64,
+) -> Result<(), RunFault>
+    requires counted { number + length script < 2 ^ 64 - 1 }
+    requires writes { W.failed writer.old < 2 ^ 64 - 1 }
+    ensures meaning { Answers (settings_meaning format version number script.entry (opened version (opening_of (fields_of row)))) result
+        (W.contents writer.old) (W.contents writer.new) }
+    ensures read { IsPastReading result }
+    ensures writes { CountsWrites result (W.failed writer.old) (W.failed writer.new) }
+{
+    let Some(opening) = read_opening(&Fields::new(&row)) else {
+        return Err(RunFault::BadLine(number));
+    };
+    let Some(settings) = settings(version, opening) else {
+        return Err(RunFault::BadLine(number));
+    };
+    let mut session = Session::open(alloc, settings, opening.every, format)?;
+    session.ready(writer)?;
+    carry_out_lines(alloc, session, script, row, writer, version, number + 1)
+}
+
+// The settings of an opening, where its numbers are within their limits.
+fn settings(version: Version, opening: Opening) -> Option<Settings>
+    ensures { result ≡ system_of version opening }
+{
+    if opening.every == 0 || opening.every > MOST_EVERY {
+        return None;
+    }
+    let (m, h, cap) = (opening.processors, opening.base, opening.cap);
+    match version {
+        Version::First => Settings::new(m, h, cap).ok(),
+        Version::Second => Settings::wide(m, h, cap).ok(),
+    }
+}
+
+// Carries out the records behind the settings, the first of which has this number. Each is read into `row`.
+
+fn carry_out_lines<W: Sink>(
+    alloc: Global,
+    mut session: Session,
+    mut script: Script,
+    mut row: ByteRecord,
+    writer: &mut W,
+    version: Version,
+    first: u64,
+) -> Result<(), RunFault>
+    requires counted { first + length script < 2 ^ 64 }
+    requires writes { W.failed writer.old < 2 ^ 64 - 1 }
+    ensures meaning { Answers (behind session.lines (lines_meaning session.format version first (course_at session.desk) script.entry)) result
+        (W.contents writer.old) (W.contents writer.new) }
+    ensures read { IsPastReading result }
+    ensures writes { CountsWrites result (W.failed writer.old) (W.failed writer.new) }
+{
+    let mut number = first;
+    'records: while script.next(&mut row)? {
+        let Some(line) = read_line(&Fields::new(&row), version) else {
+            session.finish(writer)?;
+            return Err(RunFault::BadLine(number));
+        };
+        session.take(writer, line)?;
+        number += 1;
+    }
+    session.report(alloc, writer)?;
+    Ok(())
+}

@@ -1,0 +1,169 @@
+ghost use Rattle.std.specs.Prelude.{◌≡◌, ◌-◌, ◌^◌, ◌<◌, ◌≤◌, ◌++◌, [], ◌∷◌, codes, replicate, IfOk, OnOk, OnErr};
+ghost use Rattle.std.specs.Io.KnownBytes.{Appends};
+ghost use Rattle.pf_desk.specs.declared.command.Command.TheVariants.{Step};
+ghost use Rattle.pf_cli.specs.Answers.{CountsOutput};
+ghost use Rattle.pf_cli.specs.Lines.{TookAllBut, TookFront};
+ghost use Rattle.pf_cli.specs.Meaning.{shown, commands_of, seen_at, report_text};
+ghost use Rattle.pf_cli.specs.Replies.{line_end};
+ghost use Rattle.pf_cli.specs.Session.{Opened, HasPut, HasAnswered, course_at, replies_of};
+
+use crate::format::Format;
+use crate::line::Line;
+use crate::lines::Lines;
+use crate::output_fault::OutputFault;
+use crate::replies::push_reply;
+use crate::reports::report_text;
+use crate::sink::Sink;
+use pf_desk::command::Command;
+use pf_desk::desk::Desk;
+use pf_desk::fault::OpenFault;
+use pf_order::meter::Meter;
+use pf_scenario::settings::Settings;
+use std::alloc::{AllocError, Global};
+
+// All commands of a script come from the one caller.
+const CALLER: u32 = 0;
+
+/// A script that is being carried out: its desk, and its text on the way to the writer. Each call is handed the same
+/// writer, whose count of failures must be below `u64::MAX` before the call. After a fault the writer has a front of
+/// the text, and nothing more may be put.
+#[derive(Drop)]
+pub struct Session {
+    desk: Desk,
+    meter: Meter,
+    lines: Lines,
+    line: String,
+    format: Format,
+}
+
+impl Session {
+    /// A session with an open desk that has answered no command, and with no text. Checkpoints are `every` slots apart.
+    pub fn open(
+        alloc: Global,
+        settings: Settings,
+        every: u64,
+        format: Format,
+    ) -> Result<Self, AllocError>
+        requires some { 1 ≤ every }
+        requires within { every ≤ 4096 }
+        ensures { IfOk result (λ session. Opened settings format session) }
+    {
+        let desk = match Desk::open(alloc, settings, every) {
+            Ok(desk) => desk,
+            Err(OpenFault::BadSettings) => unreachable!(),
+            Err(OpenFault::NoMemory) => return Err(AllocError),
+        };
+        Ok(Session {
+            desk,
+            meter: Meter::new(),
+            lines: Lines::new(alloc)?,
+            line: String::new(alloc),
+            format,
+        })
+    }
+
+    /// Puts the reply to the settings, of a session that was just opened.
+    pub fn ready<W: Sink>(&mut self, writer: &mut W) -> Result<(), OutputFault>
+        requires { W.failed writer.old < 2 ^ 64 - 1 }
+        ensures ok { OnOk result
+            (HasPut (codes "ready" ++ line_end) self.old self.new (W.contents writer.old) (W.contents writer.new)) }
+        ensures err { OnErr result
+            (TookFront (W.contents writer.old) (W.contents writer.new) (self.old.lines ++ shown self.old.format (codes "ready" ++ line_end))) }
+        ensures count { CountsOutput result (W.failed writer.old) (W.failed writer.new) }
+    {
+        self.show(writer, b"ready\n")
+    }
+
+    // Puts a text where the format has replies.
+    fn show<W: Sink>(&mut self, writer: &mut W, text: &[u8]) -> Result<(), OutputFault>
+        requires { W.failed writer.old < 2 ^ 64 - 1 }
+        ensures ok { OnOk result
+            (HasPut text.now self.old self.new (W.contents writer.old) (W.contents writer.new)) }
+        ensures err { OnErr result
+            (TookFront (W.contents writer.old) (W.contents writer.new) (self.old.lines ++ shown self.old.format text.now)) }
+        ensures count { CountsOutput result (W.failed writer.old) (W.failed writer.new) }
+    {
+        if !self.format.has_replies() {
+            return Ok(());
+        }
+        self.lines.put(writer, text)?;
+        Ok(())
+    }
+
+    /// Does what a line asks for, and puts the replies.
+    pub fn take<W: Sink>(&mut self, writer: &mut W, line: Line) -> Result<(), OutputFault>
+        requires { W.failed writer.old < 2 ^ 64 - 1 }
+        ensures ok { OnOk result
+            (HasAnswered (commands_of line) self.old self.new (W.contents writer.old) (W.contents writer.new)) }
+        ensures err { OnErr result
+            (TookFront (W.contents writer.old) (W.contents writer.new) (self.old.lines ++ replies_of self.old (commands_of line))) }
+        ensures count { CountsOutput result (W.failed writer.old) (W.failed writer.new) }
+    {
+        match line {
+            Line::Edit { change, strict } => self.answer(writer, Command::Edit { change, strict }),
+            Line::Steps(count) => self.step(writer, count),
+        }
+    }
+
+    // Takes so many steps.
+    fn step<W: Sink>(&mut self, writer: &mut W, count: u64) -> Result<(), OutputFault>
+        requires { W.failed writer.old < 2 ^ 64 - 1 }
+        ensures ok { OnOk result
+            (HasAnswered (replicate count Step) self.old self.new (W.contents writer.old) (W.contents writer.new)) }
+        ensures err { OnErr result
+            (TookFront (W.contents writer.old) (W.contents writer.new) (self.old.lines ++ replies_of self.old (replicate count Step))) }
+        ensures count { CountsOutput result (W.failed writer.old) (W.failed writer.new) }
+    {
+        for _turn in 0..count {
+            self.answer(writer, Command::Step)?;
+        }
+        Ok(())
+    }
+
+    // Answers a command, and puts the reply.
+    fn answer<W: Sink>(&mut self, writer: &mut W, command: Command) -> Result<(), OutputFault>
+        requires { W.failed writer.old < 2 ^ 64 - 1 }
+        ensures ok { OnOk result
+            (HasAnswered (command ∷ []) self.old self.new (W.contents writer.old) (W.contents writer.new)) }
+        ensures err { OnErr result
+            (TookFront (W.contents writer.old) (W.contents writer.new) (self.old.lines ++ replies_of self.old (command ∷ []))) }
+        ensures count { CountsOutput result (W.failed writer.old) (W.failed writer.new) }
+    {
+        let reply = self.desk.apply(&mut self.meter, CALLER, command)?;
+        if !self.format.has_replies() {
+            return Ok(());
+        }
+        self.line.clear();
+        push_reply(&mut self.line, &reply)?;
+        self.lines.put(writer, self.line.as_bytes())?;
+        Ok(())
+    }
+
+    /// Puts the report, and writes what waits.
+    pub fn report<W: Sink>(self, alloc: Global, writer: &mut W) -> Result<(), OutputFault>
+        requires { W.failed writer.old < 2 ^ 64 - 1 }
+        ensures ok { OnOk result
+            (Appends (W.contents writer.old) (W.contents writer.new) (self.lines ++ report_text self.format (seen_at (course_at self.desk)))) }
+        ensures err { OnErr result
+            (TookFront (W.contents writer.old) (W.contents writer.new) (self.lines ++ report_text self.format (seen_at (course_at self.desk)))) }
+        ensures count { CountsOutput result (W.failed writer.old) (W.failed writer.new) }
+    {
+        let snapshot = self.desk.snapshot()?;
+        let text = report_text(alloc, &snapshot, self.format)?;
+        let mut lines = self.lines;
+        lines.put(writer, &text)?;
+        lines.finish(writer)?;
+        Ok(())
+    }
+
+    /// Writes what waits, with no report.
+    pub fn finish<W: Sink>(self, writer: &mut W) -> Result<(), OutputFault>
+        requires { W.failed writer.old < 2 ^ 64 - 1 }
+        ensures ok { OnOk result (Appends (W.contents writer.old) (W.contents writer.new) self.lines) }
+        ensures err { OnErr result (TookFront (W.contents writer.old) (W.contents writer.new) self.lines) }
+        ensures count { CountsOutput result (W.failed writer.old) (W.failed writer.new) }
+    {
+        self.lines.finish(writer)?;
+        Ok(())
+    }
+}

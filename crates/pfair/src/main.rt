@@ -1,0 +1,26 @@
+//! The program `pfair`: hands its words and streams to `main_words`, and exits with the status that this answers.
+#![tactic(auto)]
+
+use pf_cli::sink::CountedWriter;
+use pf_cli::source::CountedReader;
+use pf_cli::words::{main_words, tell_unread};
+use std::env;
+use std::io;
+use std::process::ExitCode;
+
+fn main(rt: HostRuntime) -> ExitCode {
+    let mut faults = rt.stderr();
+    let words = match read_words(&rt) {
+        Ok(words) => words,
+        Err(fault) => return ExitCode::from(tell_unread(&fault, &mut faults)),
+    };
+    let mut reader = CountedReader::new(rt.stdin());
+    let mut writer = CountedWriter::new(rt.stdout());
+    let status = main_words(&rt, &words, &mut reader, &mut writer, &mut faults);
+    ExitCode::from(status)
+}
+
+// The words behind the program's own name.
+fn read_words(rt: &HostRuntime) -> io::Result<Vec<String>> {
+    Ok(env::args(rt)?.skip(1).collect(rt.alloc())?)
+}
