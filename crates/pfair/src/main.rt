@@ -4,9 +4,8 @@
 use pf_cli::sink::CountedWriter;
 use pf_cli::source::CountedReader;
 use pf_cli::words::{main_words, tell_unread};
-use std::env;
-use std::io;
 use std::process::ExitCode;
+use std::{env, io};
 
 fn main(rt: HostRuntime) -> ExitCode {
     let mut faults = rt.stderr();
