@@ -4,6 +4,7 @@
 
 mod plan;
 
+use pf_desk::desk::Desk;
 use pf_place::row::Row;
 
 /// Prints a row: the slot, and who sits on each processor.
@@ -19,16 +20,28 @@ fn print_row(rt: &HostRuntime, slot: u64, row: &Row) -> anyhow::Result<()> {
     Ok(())
 }
 
-fn main(rt: HostRuntime) -> anyhow::Result<()> {
-    let desk = plan::plan(rt.alloc())?;
+/// Prints the rows of all slots stepped.
+fn print_schedule(rt: &HostRuntime, desk: &Desk) -> anyhow::Result<()> {
     for slot in 0..desk.now() {
         if let Some(row) = desk.schedule().get(slot) {
-            print_row(&rt, slot, row)?;
+            print_row(rt, slot, row)?;
         }
     }
+    Ok(())
+}
+
+/// Prints how far each task is from its fair share, in parts of its period.
+fn print_lags(rt: &HostRuntime, desk: &Desk) -> anyhow::Result<()> {
     for lag in &desk.lags()? {
         println!(rt; "task {}: {} of {}", lag.task, lag.scaled, lag.period)?;
     }
+    Ok(())
+}
+
+fn main(rt: HostRuntime) -> anyhow::Result<()> {
+    let desk = plan::plan(rt.alloc())?;
+    print_schedule(&rt, &desk)?;
+    print_lags(&rt, &desk)?;
     println!(rt; "{} commands", desk.history().len())?;
     Ok(())
 }

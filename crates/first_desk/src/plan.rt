@@ -1,5 +1,6 @@
-ghost use Rattle.std.specs.Prelude.{IfOk};
+ghost use Rattle.std.specs.Prelude.{◌≡◌, map, IfOk};
 ghost use Rattle.pf_desk.specs.Desk.{IsDesk};
+ghost use Rattle.first_desk.specs.Planned.{join_of, planned};
 
 use pf_desk::command::Command;
 use pf_desk::desk::Desk;
@@ -30,7 +31,9 @@ pub enum PlanFault {
 const PLANNER: u32 = 0;
 
 /// A join in slot 0 of a task that asks for two quanta in each three slots.
-fn join(task: u64) -> Command {
+fn join(task: u64) -> Command
+    ensures { result ≡ join_of task }
+{
     let event = Event::Join {
         slot: 0,
         task,
@@ -46,7 +49,8 @@ fn join(task: u64) -> Command {
 
 /// A desk of two processors on which three tasks join and three slots are stepped; then the third task is struck out.
 pub fn plan(alloc: Global) -> Result<Desk, PlanFault>
-    ensures { IfOk result (λ desk. IsDesk desk) }
+    ensures desk { IfOk result (λ desk. IsDesk desk) }
+    ensures asked { IfOk result (λ desk. map (λ e. e.command) desk.history ≡ planned) }
 {
     let mut desk = Desk::open(alloc, Settings::new(2, 3, 6)?, 64)?;
     let mut meter = Meter::new();

@@ -1,0 +1,14 @@
+-- What the first desk is asked.
+use Rattle.std.specs.Prelude.{ℕ, false, List, [], ◌∷◌}
+use Rattle.pf_scenario.specs.declared.event.Event.TheVariants.{Join}
+use Rattle.pf_scenario.specs.declared.change.Change.TheVariants.{Insert, Strike}
+use Rattle.pf_desk.specs.declared.command.Command.{Command}
+use Rattle.pf_desk.specs.declared.command.Command.TheVariants.{Edit, Step}
+
+-- a task joins in slot 0 that asks for two quanta in each three slots
+abbrev pub join_of : ℕ → Command
+join_of task = Edit (Insert (Join 0 task 2 3 0)) false
+
+-- three joins, three steps, and the strike of the third event
+abbrev pub planned : List Command
+planned = join_of 1 ∷ join_of 2 ∷ join_of 3 ∷ Step ∷ Step ∷ Step ∷ Edit (Strike 3) false ∷ []
