@@ -1,7 +1,8 @@
 -- A task's key is taken out, and a calendar is copied.
 use Rattle.std.proofs.Common.{◌≡◌, ◌≢◌, ℕ, suc, ◌+◌, ◌-◌, ◌<◌, ◌≤◌, Bool, true, false, cond, eqb, inr, List, [], ◌∷◌, ◌++◌, length, get_or, set, take, drop, refl, sym, ap, ◌∙◌, subst, arith, ⊎_elim, None, Some, Option}
 use Rattle.std.specs.Prelude.{◌&&◌, not, remove, All}
-use Rattle.std.proofs.lemmas.Bool.{cases_lt, cases_eq, ne_eqb, eq-eqb}
+use Rattle.std.proofs.Math.Bool.{and-false, and-true}
+use Rattle.std.proofs.lemmas.Bool.{cases_lt, cases_eq, ne_eqb, eq-eqb, false_from_ne_true}
 use Rattle.std.proofs.lemmas.List.{length-set, get_or-set_same, get_or-set_other, take-set, drop-set-lt, length_push}
 use Rattle.std.proofs.lemmas.List.Edits.{length-remove}
 use Rattle.std.proofs.lemmas.List.Elements.{All-append, All-take, All-drop, All-push, All-set}
@@ -23,7 +24,8 @@ use Rattle.pf_calendar.specs.Queues.{list_at, with_list, IsHeld, TakesOut}
 use Rattle.pf_calendar.specs.Invariant.{lists_in, waiting_in, names_of, AreApart, IsLaidOut, IsCalendar}
 use Rattle.pf_calendar.specs.Steps.{RemovesAt, Discounts}
 use Rattle.pf_calendar.proofs.Naming.{no_entry, times-cons, times-append, times-nil, times-remove, lists_set, lists-remove, length-lists, slot_at, list_at_place}
-use Rattle.pf_calendar.proofs.Sets.{itself, tied_keys, some_has, remove_in, len-remove_one}
+use Rattle.pf_heap.proofs.Sets.{key_alike, tied_keys}
+use Rattle.pf_calendar.proofs.Sets.{some_has, remove_in, len-remove_one}
 use Rattle.pf_calendar.proofs.Apart.{Has}
 use Rattle.pf_calendar.proofs.Slots.{eq_by-same, eq_by-other, rises, find_at, where_but}
 use Rattle.pf_calendar.proofs.Maps.{in_order, set_in, get_in, list_found, retained_in, waits_at}
@@ -42,14 +44,8 @@ copied_seen heaps heaps' ready es es' m n is same none =
 -- ---- one key of a task
 
 same_answers : (b e t : Bool) → (b ≡ true → not t ≡ not e) → (b && not t) ≡ (not e && b)
-same_answers true e t h = h refl ∙ and_true (not e) where
-  and_true : (x : Bool) → x ≡ (x && true)
-  and_true true = refl
-  and_true false = refl
-same_answers false e t h = and_false (not e) where
-  and_false : (x : Bool) → false ≡ (x && false)
-  and_false true = refl
-  and_false false = refl
+same_answers true e t h = h refl ∙ sym (and-true (not e))
+same_answers false e t h = sym (and-false (not e))
 
 -- to take out a task is to take out its key
 pub without_is : (list : Keys) (task : ℕ) (k : Priority) → k.task ≡ task → ((q : Priority) → fin.contains list q ≡ true → q.task ≡ task → q ≡ k) → without list task ≡ fin.remove list k
@@ -58,14 +54,11 @@ without_is list task k of_task only =
     contains-retain list (λ x. not (eqb x.task task)) q (λ x t. ap (λ (y : Priority). not (eqb y.task task)) (sym (only_equal_keys_tie q x t)))
     ∙ same_answers (fin.contains list q) (eq_by_cmp key_cmp q k) (eqb q.task task) (λ h. ap not
     (⊎_elim
-    (λ e. eq-eqb q.task task e ∙ sym (ap (λ x. eq_by_cmp key_cmp q x) (sym (only q h e)) ∙ itself q))
+    (λ e. eq-eqb q.task task e ∙ sym (ap (λ x. eq_by_cmp key_cmp q x) (sym (only q h e)) ∙ key_alike q))
     (λ ne. ne_eqb q.task task ne
-    ∙ sym (false_or (eq_by_cmp key_cmp q k) (λ t. ne (ap (λ (x : Priority). x.task) (tied_keys q k t) ∙ of_task))))
+    ∙ sym (false_from_ne_true (eq_by_cmp key_cmp q k) (λ t. ne (ap (λ (x : Priority). x.task) (tied_keys q k t) ∙ of_task))))
     (cases_eq q.task task)))
-    ∙ sym (contains-remove key_cmp_total list k q)) where
-      false_or : (b : Bool) → (b ≡ true → ⊥) → b ≡ false
-      false_or true h = absurd (h refl)
-      false_or false h = refl
+    ∙ sym (contains-remove key_cmp_total list k q))
 
 -- ---- the list of a slot goes
 

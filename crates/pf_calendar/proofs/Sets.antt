@@ -2,22 +2,16 @@
 use Rattle.std.proofs.Common.{◌≡◌, ℕ, zero, suc, ◌+◌, ◌-◌, ◌<◌, ◌≤◌, Bool, true, false, cond, ◌⊎◌, inl, inr, List, [], ◌∷◌, ◌++◌, length, get_or, refl, sym, ap, ◌∙◌, arith, ⊎_elim}
 use Rattle.std.specs.Prelude.{◌||◌, ◌&&◌, not}
 use Rattle.std.specs.List.{list_any}
+use Rattle.std.proofs.Math.Bool.{or-false, or_assoc}
 use Rattle.std.proofs.lemmas.Bool.{or_cases}
-use Rattle.std.proofs.lemmas.Cmp.{tied_itself}
-use Rattle.std.specs.Cmp.{Equal-is}
-use Rattle.std.specs.Ordering.{eq_by_cmp, is_eq}
+use Rattle.std.specs.Ordering.{eq_by_cmp}
 use Rattle.std.specs.FinSet as fin
 use Rattle.std.specs.FinSet.{contains-empty, contains-union, contains-insert, contains-remove, contains-items, len-empty, len-insert, len-remove, same_set, empty_of_len}
 use Rattle.pf_order.specs.Priority.{Priority, key_cmp}
 use Rattle.pf_order.proofs.Order.{key_cmp_total, only_equal_keys_tie}
 use Rattle.pf_heap.specs.Keys.{Keys}
+use Rattle.pf_heap.proofs.Sets.{tied_keys, key_alike}
 use Rattle.pf_calendar.specs.Queues.{all_of}
-
-pub itself : (k : Priority) → eq_by_cmp key_cmp k k ≡ true
-itself k = ap is_eq (tied_itself key_cmp_total k)
-
-pub tied_keys : (q k : Priority) → eq_by_cmp key_cmp q k ≡ true → q ≡ k
-tied_keys q k e = only_equal_keys_tie q k ((Equal-is (key_cmp q k)).0 e)
 
 pub has_none : (q : Priority) → fin.contains {R = key_cmp} fin.empty q ≡ true → ⊥
 has_none q h = let e : false ≡ true = sym (contains-empty key_cmp q) ∙ h in cc
@@ -37,14 +31,6 @@ and_second false b h = cc
 pub remove_in : (s : Keys) (k q : Priority) → fin.contains (fin.remove s k) q ≡ true → fin.contains s q ≡ true
 remove_in s k q h = and_second (not (eq_by_cmp key_cmp q k)) (fin.contains s q) (sym (contains-remove key_cmp_total s k q) ∙ h)
 
-or_assoc : (a b c : Bool) → ((a || b) || c) ≡ (a || (b || c))
-or_assoc true b c = refl
-or_assoc false b c = refl
-
-or_none : (a : Bool) → (a || false) ≡ a
-or_none true = refl
-or_none false = refl
-
 pub union_assoc : (s t u : Keys) → fin.union (fin.union s t) u ≡ fin.union s (fin.union t u)
 union_assoc s t u =
     same_set key_cmp_total only_equal_keys_tie _ _ (λ q.
@@ -55,12 +41,12 @@ union_assoc s t u =
 pub union-empty : (s : Keys) → fin.union s fin.empty ≡ s
 union-empty s =
     same_set key_cmp_total only_equal_keys_tie _ _ (λ q.
-    contains-union key_cmp_total s fin.empty q ∙ ap (λ b. fin.contains s q || b) (contains-empty key_cmp q) ∙ or_none (fin.contains s q))
+    contains-union key_cmp_total s fin.empty q ∙ ap (λ b. fin.contains s q || b) (contains-empty key_cmp q) ∙ or-false (fin.contains s q))
 
 pub all_of-push : (lists : List Keys) (keys : Keys) → all_of (lists ++ keys ∷ []) ≡ fin.union (all_of lists) keys
 all_of-push [] keys =
     same_set key_cmp_total only_equal_keys_tie _ _ (λ q.
-    contains-union key_cmp_total keys fin.empty q ∙ ap (λ b. fin.contains keys q || b) (contains-empty key_cmp q) ∙ or_none (fin.contains keys q)
+    contains-union key_cmp_total keys fin.empty q ∙ ap (λ b. fin.contains keys q || b) (contains-empty key_cmp q) ∙ or-false (fin.contains keys q)
     ∙ sym (contains-union key_cmp_total fin.empty keys q ∙ ap (λ b. b || fin.contains keys q) (contains-empty key_cmp q)))
 all_of-push (l ∷ lists) keys = ap (fin.union l) (all_of-push lists keys) ∙ sym (union_assoc l (all_of lists) keys)
 
@@ -93,7 +79,7 @@ key_from s [] e some =
     let is : s ≡ fin.empty = same_set key_cmp_total only_equal_keys_tie s fin.empty (λ q. none q ∙ sym (contains-empty key_cmp q)) in
     absurd (omega (arith, some, ap fin.len is, len-empty key_cmp))
 key_from s (k ∷ ks) e some =
-    (k, contains-items s k ∙ ap (list_any (eq_by_cmp key_cmp k)) e ∙ ap (λ b. b || list_any (eq_by_cmp key_cmp k) ks) (itself k))
+    (k, contains-items s k ∙ ap (list_any (eq_by_cmp key_cmp k)) e ∙ ap (λ b. b || list_any (eq_by_cmp key_cmp k) ks) (key_alike k))
 
 -- a set that isn't empty has a key
 pub some_key : (s : Keys) → 1 ≤ fin.len s → (k : Priority) × (fin.contains s k ≡ true)

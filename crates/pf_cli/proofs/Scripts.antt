@@ -3,6 +3,7 @@ use Rattle.std.proofs.Common.{◌≡◌, ℕ, ◌+◌, Bool, true, false, List, 
 use Rattle.std.specs.Prelude.{if◌then◌else◌, codes}
 use Rattle.std.specs.Io.KnownBytes.{Appends}
 use Rattle.std.proofs.lemmas.List.{append-nil}
+use Rattle.std.proofs.KnownBytes.{Appends-nil}
 use Rattle.pf_cli.specs.declared.fault.RunFault.{RunFault}
 use Rattle.pf_cli.specs.declared.fault.RunFault.TheVariants.{BadLine, ReadFault, WriteFault, ScriptTooLong, NoMemory}
 use Rattle.pf_cli.specs.declared.output_fault.OutputFault.{OutputFault}
@@ -19,7 +20,7 @@ use Rattle.pf_cli.specs.Replies.{line_end}
 use Rattle.pf_cli.specs.Session.{course_at, replies_of, HasAnswered, HasPut, Opened}
 use Rattle.pf_scenario.specs.System.{System}
 use Rattle.pf_cli.proofs.Sending.{so-far-finished, so-far-unfinished, took-before}
-use Rattle.pf_cli.proofs.Sessions.{on_the_way, stopped_on_the_way, all_to_come, none_appended}
+use Rattle.pf_cli.proofs.Sessions.{on_the_way, stopped_on_the_way, all_to_come}
 
 -- what the records from this number on mean to a session
 abbrev pub to_come : Version → ℕ → Session → List (List (List ℕ)) → Meaning
@@ -148,7 +149,7 @@ is_none false script fields rest e none_found = e
 -- a bad opening
 pub bad_opening : (A : Type 0) (format : Format) (version : Version) (number : ℕ) (records : List (List (List ℕ))) (settings : Option System) (x : Option (List ℕ))
     → settings ≡ None → Answers {A = A} (settings_meaning format version number records settings) (Err (BadLine number)) x x
-bad_opening A format version number records settings x none = rw none (refl, none_appended x)
+bad_opening A format version number records settings x none = rw none (refl, Appends-nil x)
 
 -- a good one: the session begins, and says that it is ready
 pub opened_meaning : (format : Format) (version : Version) (number : ℕ) (records : List (List (List ℕ))) (settings : Option System) (system : System) (before after : Session)

@@ -1,7 +1,8 @@
 -- What a session's text comes to.
-use Rattle.std.proofs.Common.{◌≡◌, ◌<◌, ℕ, ◌+◌, ◌-◌, suc, Bool, true, false, List, [], ◌∷◌, ◌++◌, length, replicate, Option, Some, None, Result, Ok, Err, refl, sym, ap, ap₂, subst, ◌∙◌, arith, append_assoc}
+use Rattle.std.proofs.Common.{◌≡◌, ◌<◌, ℕ, ◌+◌, ◌-◌, suc, Bool, true, false, List, [], ◌∷◌, ◌++◌, length, replicate, Option, Result, Ok, Err, refl, sym, ap, ap₂, subst, ◌∙◌, arith, append_assoc}
 use Rattle.std.specs.Prelude.{if◌then◌else◌, OnErr}
 use Rattle.std.specs.Io.KnownBytes.{Appends}
+use Rattle.std.proofs.KnownBytes.{Appends-nil, Appends-trans}
 use Rattle.std.proofs.lemmas.List.{append-nil, length-append}
 use Rattle.pf_engine.specs.RunRows.{rows_in, denials_in}
 use Rattle.pf_desk.specs.declared.command.Command.{Command}
@@ -15,29 +16,20 @@ use Rattle.pf_cli.specs.Lines.{TookAllBut, TookFront}
 use Rattle.pf_cli.specs.Replies.{reply_line}
 use Rattle.pf_cli.specs.Meaning.{Course, course_after, course_behind, has_replies, shown, reply_lines, report_text, seen_at}
 use Rattle.pf_cli.specs.Session.{course_at, replies_of, HasAnswered}
-use Rattle.pf_cli.proofs.Sending.{appends-append}
-
--- nothing was taken
-appends-none : (x : Option (List ℕ)) → Appends x x []
-appends-none None = tt
-appends-none (Some a) = sym (append-nil a)
 
 -- a text is still to come, in whole
 pub all_to_come : (x : Option (List ℕ)) (text : List ℕ) → TookAllBut text x x text
-all_to_come x text = ([], appends-none x, refl)
+all_to_come x text = ([], Appends-nil x, refl)
 
 pub none_written : (x : Option (List ℕ)) (text : List ℕ) → TookFront x x text
 none_written x text = (text, all_to_come x text)
-
-pub none_appended : (x : Option (List ℕ)) → Appends x x []
-none_appended x = appends-none x
 
 -- Of a whole text some waits, some is put next, and the rest comes then.
 pub on_the_way : (start mid new : Option (List ℕ)) (was waiting more rest whole : List ℕ) → TookAllBut (was ++ (more ++ rest)) start mid whole
     → TookAllBut waiting mid new (was ++ more) → TookAllBut (waiting ++ rest) start new whole
 on_the_way start mid new was waiting more rest whole h k = (
   h.0 ++ k.0,
-  appends-append start mid new h.0 k.0 h.1 k.1,
+  Appends-trans start mid new h.0 k.0 h.1 k.1,
   append_assoc h.0 k.0 (waiting ++ rest)
       ∙ ap (λ t. h.0 ++ t) (sym (append_assoc k.0 waiting rest) ∙ ap (λ t. t ++ rest) k.2 ∙ append_assoc was more rest) ∙ h.2,
 )
@@ -143,7 +135,7 @@ pub answered_unshown : (caller : ℕ) (command : Command) (a b : Session) (reply
 answered_unshown caller command a b reply x h format lines hides = record {
   format = format;
   course = course_entered caller command a.desk b.desk reply h;
-  text = ([], appends-none x, lines ∙ sym (append-nil a.lines) ∙ ap (λ t. a.lines ++ t) (sym (replies_of_none a (command ∷ []) hides)));
+  text = ([], Appends-nil x, lines ∙ sym (append-nil a.lines) ∙ ap (λ t. a.lines ++ t) (sym (replies_of_none a (command ∷ []) hides)));
 }
 
 -- what was put is the one reply
@@ -169,7 +161,7 @@ anyway (Err e) P h = h
 -- nothing of a text was put, as the format shows none
 pub put_unshown : (format : Format) (bytes waiting : List ℕ) (x : Option (List ℕ)) → has_replies format ≡ false →
     TookAllBut waiting x x (waiting ++ shown format bytes)
-put_unshown format bytes waiting x hides = rw hides ([], appends-none x, sym (append-nil waiting))
+put_unshown format bytes waiting x hides = rw hides ([], Appends-nil x, sym (append-nil waiting))
 
 pub shown_whole : (format : Format) (bytes : List ℕ) → has_replies format ≡ true → shown format bytes ≡ bytes
 shown_whole format bytes shows = rw shows refl

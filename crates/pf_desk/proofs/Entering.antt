@@ -7,10 +7,9 @@ use Rattle.pf_scenario.specs.Scenario.{Plan, opening, changed, concerned, touche
 use Rattle.pf_scenario.specs.Edit.{edit_fault}
 use Rattle.pf_scenario.proofs.Scenarios.{changes_keep_scenarios}
 use Rattle.pf_scenario.specs.declared.change.Change.{Change}
-use Rattle.pf_engine.specs.Computed.{course_of}
 use Rattle.pf_engine.specs.RunRows.{denials_in}
 use Rattle.pf_timeline.specs.Timeline.{KeptRun, StandsFor}
-use Rattle.pf_timeline.proofs.Grown.{standing_now, standing_rows}
+use Rattle.pf_timeline.proofs.Grown.{no_denials, standing_now, standing_rows}
 use Rattle.pf_timeline.proofs.Past.{timelines_rest_on_past}
 use Rattle.pf_engine.specs.declared.denied.Denied.{Denied}
 use Rattle.pf_desk.specs.declared.command.Command.{Command}
@@ -27,10 +26,6 @@ use Rattle.pf_desk.proofs.Histories.{legal_append, behind_append, settings_chang
 use Rattle.pf_desk.proofs.Changes.{events_rest}
 
 -- at the opening
-no_denials : (s : Plan) → denials_in s 0 ≡ []
-unfolding denials_in course_of
-no_denials s = refl
-
 pub opening_kept : (settings : System) (kept : KeptRun) → StandsFor (opening settings) 0 kept → IsKept (opening settings) kept []
 opening_kept settings kept stands =
     let now = sym (standing_now (opening settings) 0 kept stands) in

@@ -10,7 +10,8 @@ use Rattle.pf_admit.specs.Member.{IsMember}
 use Rattle.pf_admit.specs.declared.member.Member.{Member}
 use Rattle.pf_engine.specs.Fits.{KeptTask, Kept}
 use Rattle.pf_engine.specs.Kept.{member_in, units_of}
-use Rattle.pf_engine.specs.Taking.{is_join_of, IsBounded, CanJudge}
+use Rattle.pf_scenario.specs.Event.{is_join_of}
+use Rattle.pf_engine.specs.Taking.{IsBounded, CanJudge}
 use Rattle.pf_engine.specs.Keeping.{CanJudgeOne}
 use Rattle.pf_engine.proofs.Counting.{none_found, count_by-cons}
 use Rattle.pf_engine.proofs.Limits.{join_task, join_weight, leave_task, delay_task, delay_by, limit_count}

@@ -11,6 +11,7 @@ use Rattle.pf_scenario.specs.Edit.{IsScenario, IsEvent}
 use Rattle.pf_scenario.specs.declared.event.Event.{Event}
 use Rattle.pf_scenario.specs.declared.event.Event.TheVariants.{Join, Leave, Delay, Limit}
 use Rattle.pf_scenario.specs.declared.event.Numbered.{Numbered}
+use Rattle.pf_engine.specs.declared.denied.Denied.{Denied}
 use Rattle.pf_engine.specs.Record.{Slot, runs, done, next_sub, denials_of, is_denied, in_force}
 use Rattle.pf_engine.specs.Inside.{Joined, joined_by, join_of, has_left, inside, load_of, limited, count_of, held_back, shift_of, member_of}
 use Rattle.pf_engine.specs.Run.{standing}
@@ -24,7 +25,7 @@ use Rattle.pf_engine.proofs.Plans.{slots_of_events, limits_of_events, limits_of_
 use Rattle.pf_engine.proofs.Limits.{passes_tests, join_weight, join_task, delay_by, limit_count, units_within}
 
 -- a horizon is at most 2^22
-horizon_within : (s : System) → IsSystem s → s.horizon ≤ 2 ^ 22
+pub horizon_within : (s : System) → IsSystem s → s.horizon ≤ 2 ^ 22
 horizon_within s is = ⊎_elim (λ near. omega (arith, near)) (λ wide. omega (arith, wide)) is.horizon
 
 -- a task that joined has its numbers within the limits
@@ -34,7 +35,7 @@ pub record IsJoined (s : System) (j : Joined) : Type 0 where
   pub task_within : j.task ≤ 4095
   pub units : j.weight.units ≤ s.base
 
-joined_within : (s : System) (event : Event) (j : Joined) → joined_by s.base event ≡ Some j → IsEvent s event → IsJoined s j
+pub joined_within : (s : System) (event : Event) (j : Joined) → joined_by s.base event ≡ Some j → IsEvent s event → IsJoined s j
 joined_within s (Join slot task cost period early) j e limits =
     let same : ◌≡◌ {A = Joined} (record { task = task; slot = slot; weight = share_of s.base cost period; early = early }) j = cc in
     let number = join_task s slot task cost period early limits in
@@ -86,7 +87,7 @@ load_within s xs is limits =
     )
 
 -- the shifts
-held_cond : (b : Bool) (by : ℕ) → by ≤ 2 ^ 20 → cond b by 0 ≤ 2 ^ 20
+pub held_cond : (b : Bool) (by : ℕ) → by ≤ 2 ^ 20 → cond b by 0 ≤ 2 ^ 20
 held_cond true by most = most
 held_cond false by most = omega arith
 
@@ -137,15 +138,16 @@ fold_within s (x ∷ xs) count limits most =
     fold_within s xs (limited count x.event) (All-tail (λ y. IsEvent s y.event) x xs limits)
     (limited_within s x.event count (All-head (λ y. IsEvent s y.event) x xs limits) most)
 
-count_within : (s : System) (xs : List Numbered) → All (λ x. IsEvent s x.event) xs → count_of s.processors xs ≤ s.processors
+pub count_within : (s : System) (xs : List Numbered) → All (λ x. IsEvent s x.event) xs → count_of s.processors xs ≤ s.processors
 unfolding count_of
 count_within s xs limits = fold_within s xs s.processors limits (omega arith)
 
 -- the events in force are within their limits
-standing_limits : (s : Plan) (r : List Slot) (t : ℕ) → IsScenario s → All (λ x. IsEvent s.settings x.event) (standing s r t)
+pub in_force_limits : (s : Plan) (t : ℕ) (denials : List Denied) → IsScenario s →
+    All (λ x. IsEvent s.settings x.event) (in_force denials (past s t))
 unfolding in_force
-standing_limits s r t scenario =
-    All-filter (λ x. not (is_denied (denials_of r) x)) (λ x. IsEvent s.settings x.event) (past s t) (limits_of_past s t scenario)
+in_force_limits s t denials scenario =
+    All-filter (λ x. not (is_denied denials x)) (λ x. IsEvent s.settings x.event) (past s t) (limits_of_past s t scenario)
 
 -- what is kept at the start of a slot
 can_judge_kept : (s : Plan) (r : List Slot) → IsScenario s → length r < s.settings.horizon →
@@ -156,7 +158,7 @@ can_judge_kept s r scenario below =
     let xs = standing s r t in
     let ys = events_of s t in
     let is = scenario.settings in
-    let limits = standing_limits s r t scenario in
+    let limits = in_force_limits s t (denials_of r) scenario in
     let few : length xs + length ys ≤ 65535 =
     omega (arith, scenario.few, past_few s (suc t), length-append (past s t) ys, in_force_few (denials_of r) (past s t)) in
     record {

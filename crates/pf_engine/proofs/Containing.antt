@@ -1,5 +1,5 @@
--- What lists contain, and what holds of their pairs.
-use Rattle.std.proofs.Common.{◌≡◌, ℕ, zero, suc, ◌<◌, ◌⊎◌, Bool, true, false, cond, List, [], ◌∷◌, ◌++◌, length, get_or, filter, filter_map, Option, Some, None, All, AllPairs, Contains, inl, inr, ⊎_elim, refl, sym, ap, ◌∙◌, subst, subst₂, arith}
+-- What lists contain, and what holds of their pairs; lists in a strict order.
+use Rattle.std.proofs.Common.{◌≡◌, ℕ, zero, suc, ◌<◌, ◌⊎◌, Bool, true, false, cond, List, [], ◌∷◌, ◌++◌, length, get_or, filter, filter_map, Option, Some, None, All, AllPairs, Contains, inl, inr, ⊎_elim, refl, sym, ap, ap₂, ◌∙◌, subst, subst₂, arith}
 use Rattle.std.specs.List.{cons_option}
 use Rattle.std.proofs.lemmas.Bool.{true≢false, cases_order}
 use Rattle.std.proofs.lemmas.List.{get_or_default}
@@ -79,6 +79,39 @@ module _ {X : Type 0} (R : X → X → Type 0) where
       (λ higher. inr (subst₂ R is_y at_x.2 (pairs at_y.0 at_x.0 x higher in_x)))
       apart))
       (cases_order at_x.0 at_y.0)
+
+-- two lists in a strict order with the same elements are one list
+module _ {X : Type 0} (B : X → X → Type 0) (not_both : (x y : X) → B x y → B y x → ⊥) where
+  not_itself : (x y : X) → B x y → x ≡ y → ⊥
+  not_itself x y first same = not_both x y first (subst₂ B same (sym same) first)
+
+  rest_within : (x y : X) (xs ys : List X) → AllPairs B (x ∷ xs) → x ≡ y →
+      ((k : X) → Contains (x ∷ xs) k → Contains (y ∷ ys) k) → (k : X) → Contains xs k → Contains ys k
+  rest_within x y xs ys rising same within k at = ⊎_elim
+      (λ e. absurd (not_itself x k (pairs_head B x xs k rising at) (same ∙ e)))
+      (λ later. later)
+      (contains_cases y ys k (within k (contains_tail x xs k at)))
+
+  heads_same : (x y : X) (xs ys : List X) → AllPairs B (x ∷ xs) → AllPairs B (y ∷ ys) →
+      ((k : X) → Contains (x ∷ xs) k → Contains (y ∷ ys) k) → ((k : X) → Contains (y ∷ ys) k → Contains (x ∷ xs) k) → x ≡ y
+  heads_same x y xs ys first second within back = ⊎_elim
+      (λ e. sym e)
+      (λ x_later. ⊎_elim
+      (λ e. e)
+      (λ y_later. absurd (not_both x y (pairs_head B x xs y first y_later) (pairs_head B y ys x second x_later)))
+      (contains_cases x xs y (back y (contains_head y ys))))
+      (contains_cases y ys x (within x (contains_head x xs)))
+
+  pub one_in_order : (a b : List X) → AllPairs B a → AllPairs B b →
+      ((k : X) → Contains a k → Contains b k) → ((k : X) → Contains b k → Contains a k) → a ≡ b
+  one_in_order [] [] first second within back = refl
+  one_in_order [] (y ∷ ys) first second within back = absurd (contains_none y (back y (contains_head y ys)))
+  one_in_order (x ∷ xs) [] first second within back = absurd (contains_none x (within x (contains_head x xs)))
+  one_in_order (x ∷ xs) (y ∷ ys) first second within back =
+      let same = heads_same x y xs ys first second within back in
+      ap₂ (λ z zs. z ∷ zs) same
+      (one_in_order xs ys (pairs_tail B x xs first) (pairs_tail B y ys second)
+      (rest_within x y xs ys first same within) (rest_within y x ys xs second (sym same) back))
 
 -- of what a function gives of some elements
 module _ {X Y : Type 0} (R : X → X → Type 0) (S : Y → Y → Type 0) (h : X → Option Y)

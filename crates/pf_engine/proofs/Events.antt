@@ -5,19 +5,19 @@ use Rattle.std.proofs.lemmas.Bool.Decides.{nat_tests}
 use Rattle.std.proofs.lemmas.List.Sums.{sum_by_push}
 use Rattle.std.proofs.lemmas.List.Elements.{All-push, All-head, All-tail}
 use Rattle.pf_scenario.specs.System.{System}
-use Rattle.pf_scenario.specs.Event.{slot_of}
+use Rattle.pf_scenario.specs.Event.{slot_of, is_join_of, is_leave_of}
 use Rattle.pf_scenario.specs.declared.event.Event.{Event}
 use Rattle.pf_scenario.specs.declared.event.Event.TheVariants.{Join, Leave, Delay, Limit}
 use Rattle.pf_scenario.specs.declared.event.Numbered.{Numbered}
 use Rattle.pf_admit.specs.Admission.{leave_denial, delay_denial}
 use Rattle.pf_admit.specs.declared.denial.Denial.{Denial}
 use Rattle.pf_engine.specs.Record.{Slot}
-use Rattle.pf_engine.specs.Inside.{is_leave_of, inside, held_back, member_of, member_at}
+use Rattle.pf_engine.specs.Inside.{inside, held_back, member_of, member_at}
 use Rattle.pf_engine.specs.Denials.{denial_of, denied_for}
 use Rattle.pf_engine.specs.Computed.{with_event, after_events, denials_among}
 use Rattle.pf_engine.specs.Fits.{kept_after}
 use Rattle.pf_engine.specs.Kept.{accepted, unless_denied, after_event, judged, denials_in}
-use Rattle.pf_engine.specs.Taking.{is_join_of, joins_of}
+use Rattle.pf_engine.specs.Taking.{joins_of}
 use Rattle.pf_engine.proofs.Counting.{none_found, count_by-cons}
 use Rattle.pf_engine.proofs.Points.{has_left_push, inside_count}
 use Rattle.pf_engine.proofs.Steps.{IsNew, IsPoint, denial_same, limit_step, leave_step, join_step, delay_step}

@@ -1,5 +1,5 @@
 -- The first of some keys: there is one answer, and how to show it.
-use Rattle.std.proofs.Common.{◌≡◌, ◌≢◌, ℕ, zero, suc, ◌+◌, ◌-◌, ◌<◌, ◌≤◌, Bool, true, false, not, ◌==◌, cond, min, List, [], ◌∷◌, ◌++◌, length, take, drop, get_or, filter, count_by, AllPairs, Contains, IsTrue, IsPermutation, ⊎_elim, refl, sym, ap, ap₂, ◌∙◌, subst, subst₂, zero-le, arith}
+use Rattle.std.proofs.Common.{◌≡◌, ◌≢◌, ℕ, zero, suc, ◌+◌, ◌-◌, ◌<◌, ◌≤◌, Bool, true, false, not, ◌==◌, cond, min, List, [], ◌∷◌, ◌++◌, length, take, drop, get_or, filter, count_by, All, AllPairs, Contains, IsTrue, IsPermutation, ⊎_elim, refl, sym, ap, ap₂, ◌∙◌, subst, subst₂, zero-le, arith}
 use Rattle.std.proofs.lemmas.Bool.{true≢false, cases_Bool, cases_eq, cases_lt, eq-eqb, eqb-true, false_from_ne_true}
 use Rattle.std.proofs.lemmas.List.{take-append-drop, length-append, length-take, length-drop, get_or-take, get_or-drop, get_or_default}
 use Rattle.std.proofs.lemmas.List.Elements.{Contains-append_left, Contains-append_right, Contains-append_cases, Contains-get_or}
@@ -9,7 +9,7 @@ use Rattle.std.proofs.lemmas.List.Sorted.{IsPermutation-sym, Contains-permutatio
 use Rattle.pf_order.specs.Priority.{Priority, precedes}
 use Rattle.pf_order.specs.First.{rank, AreFirst, first}
 use Rattle.pf_order.proofs.Order as order
-use Rattle.pf_engine.proofs.Containing.{contains_none, contains_head, contains_tail, contains_cases, from_filter, in_filter, pairs_head, pairs_tail, pairs_append, pairs_cases}
+use Rattle.pf_engine.proofs.Containing.{contains_none, contains_head, contains_tail, contains_cases, from_filter, in_filter, pairs_head, pairs_tail, pairs_append, pairs_cases, one_in_order}
 
 -- x before y
 abbrev pub Before : Priority → Priority → Type 0
@@ -19,41 +19,9 @@ Before x y = IsTrue (precedes x y)
 not_both : (x y : Priority) → Before x y → Before y x → ⊥
 not_both x y first back = true≢false (sym (order.preceding_is_transitive x y x first back) ∙ order.none_precedes_itself x)
 
-not_itself : (x y : Priority) → Before x y → x ≡ y → ⊥
-not_itself x y first same = true≢false (sym first ∙ ap (λ z. precedes z y) same ∙ order.none_precedes_itself y)
-
--- two lists in order with the same keys are one list
-rest_within : (x y : Priority) (xs ys : List Priority) → AllPairs Before (x ∷ xs) → x ≡ y →
-    ((k : Priority) → Contains (x ∷ xs) k → Contains (y ∷ ys) k) → (k : Priority) → Contains xs k → Contains ys k
-rest_within x y xs ys rising same within k at = ⊎_elim
-    (λ e. absurd (not_itself x k (pairs_head Before x xs k rising at) (same ∙ e)))
-    (λ later. later)
-    (contains_cases y ys k (within k (contains_tail x xs k at)))
-
-heads_same : (x y : Priority) (xs ys : List Priority) → AllPairs Before (x ∷ xs) → AllPairs Before (y ∷ ys) →
-    ((k : Priority) → Contains (x ∷ xs) k → Contains (y ∷ ys) k) → ((k : Priority) → Contains (y ∷ ys) k → Contains (x ∷ xs) k) → x ≡ y
-heads_same x y xs ys first second within back = ⊎_elim
-    (λ e. sym e)
-    (λ x_later. ⊎_elim
-    (λ e. e)
-    (λ y_later. absurd (not_both x y (pairs_head Before x xs y first y_later) (pairs_head Before y ys x second x_later)))
-    (contains_cases x xs y (back y (contains_head y ys))))
-    (contains_cases y ys x (within x (contains_head x xs)))
-
-pub one_in_order : (a b : List Priority) → AllPairs Before a → AllPairs Before b →
-    ((k : Priority) → Contains a k → Contains b k) → ((k : Priority) → Contains b k → Contains a k) → a ≡ b
-one_in_order [] [] first second within back = refl
-one_in_order [] (y ∷ ys) first second within back = absurd (contains_none y (back y (contains_head y ys)))
-one_in_order (x ∷ xs) [] first second within back = absurd (contains_none x (within x (contains_head x xs)))
-one_in_order (x ∷ xs) (y ∷ ys) first second within back =
-    let same = heads_same x y xs ys first second within back in
-    ap₂ (λ z zs. z ∷ zs) same
-    (one_in_order xs ys (pairs_tail Before x xs first) (pairs_tail Before y ys second)
-    (rest_within x y xs ys first same within) (rest_within y x ys xs second (sym same) back))
-
 -- There is one answer.
 pub first_is_one : (n : ℕ) (keys a b : List Priority) → AreFirst n keys a → AreFirst n keys b → a ≡ b
-first_is_one n keys a b first second = one_in_order a b first.in_order second.in_order
+first_is_one n keys a b first second = one_in_order Before not_both a b first.in_order second.in_order
     (λ k at. (second.exactly k).1 ((first.exactly k).0 at))
     (λ k at. (first.exactly k).1 ((second.exactly k).0 at))
 
@@ -173,7 +141,7 @@ one_of_task keys x y differ at_x at_y same = ⊎_elim
     (pairs_cases (λ x y. x.task ≢ y.task) keys x y differ at_x at_y)
 
 -- more pass a weaker test, and one more where some element passes it alone
-one_at_most : (b c : Bool) → (b ≡ true → c ≡ true) → cond b 1 0 ≤ cond c 1 0
+pub one_at_most : (b c : Bool) → (b ≡ true → c ≡ true) → cond b 1 0 ≤ cond c 1 0
 one_at_most false c weaker = zero-le
 one_at_most true c weaker = omega (arith, ap {B = ℕ} (λ d. cond d 1 0) (weaker refl))
 
@@ -202,6 +170,37 @@ rank_lt : (keys : List Priority) (x y : Priority) → Contains keys x → Before
 rank_lt keys x y at first =
     count_lt (λ z. precedes z x) (λ z. precedes z y) (λ z before. order.preceding_is_transitive z x y before first) keys x at
     (order.none_precedes_itself x) first
+
+-- what rises and stays below n is not longer than n
+module _ {X : Type 0} (f : X → ℕ) where
+  at_least_place : (xs : List X) (d : X) → AllPairs (λ x y. f x < f y) xs → (k : ℕ) → k < length xs → k ≤ f (get_or xs k d)
+  at_least_place xs d rising zero within = zero-le
+  at_least_place xs d rising (suc k) within =
+      omega (arith, at_least_place xs d rising k (omega arith), rising k (suc k) d (omega arith) within)
+
+  few_rising : (n : ℕ) (xs : List X) → AllPairs (λ x y. f x < f y) xs → All (λ x. f x < n) xs → length xs ≤ n
+  few_rising n [] rising below = zero-le
+  few_rising n (x ∷ xs) rising below =
+      omega (arith, at_least_place (x ∷ xs) x rising (length xs) (omega arith), below (length xs) x (omega arith))
+
+-- Use: the first keys are no more than were asked for, and of different tasks where the keys are.
+pub first_few : (n : ℕ) (keys chosen : List Priority) → AreFirst n keys chosen → length chosen ≤ n
+first_few n keys chosen are = few_rising (rank keys) n chosen
+    (λ i j d before within. rank_lt keys (get_or chosen i d) (get_or chosen j d)
+    ((are.exactly _).0 (Contains-get_or chosen i d (omega arith))).0 (are.in_order i j d before within))
+    (λ k d within. ((are.exactly _).0 (Contains-get_or chosen k d within)).1)
+
+pub first_differ : (n : ℕ) (keys chosen : List Priority) → TasksDiffer keys → AreFirst n keys chosen → TasksDiffer chosen
+first_differ n keys chosen differ are i j d before within =
+    let x = get_or chosen i d in
+    let y = get_or chosen j d in
+    ⊎_elim
+    (λ same. absurd (true≢false
+    (sym (are.in_order i j d before within) ∙ ap (λ z. precedes z y) same ∙ order.none_precedes_itself y)))
+    (λ apart. ⊎_elim (λ lower. lower) (λ higher. λ same. higher (sym same)) apart)
+    (pairs_cases (λ x y. x.task ≢ y.task) keys x y differ
+    ((are.exactly x).0 (Contains-get_or chosen i d (omega arith))).0
+    ((are.exactly y).0 (Contains-get_or chosen j d within)).0)
 
 -- of two of the keys the one of lower rank comes before
 before_from_rank : (keys : List Priority) (x y : Priority) → TasksDiffer keys → Contains keys x → Contains keys y →

@@ -1,44 +1,31 @@
 -- No task joins twice, or leaves twice, among the events of a run's past; so no two eligible subtasks are of one task.
-use Rattle.std.proofs.Common.{◌≡◌, ◌≢◌, ℕ, zero, suc, ◌<◌, ◌⊎◌, Bool, true, false, not, ◌==◌, nat_le, cond, if◌then◌else◌, List, [], ◌∷◌, length, get_or, filter, filter_map, Option, Some, None, AllPairs, Contains, inl, inr, ⊎_elim, refl, sym, ap, ◌∙◌, subst, arith, eq-eqb}
-use Rattle.std.specs.Ordering.{is_lt}
+use Rattle.std.proofs.Common.{◌≡◌, ◌≢◌, ℕ, zero, suc, ◌<◌, Bool, true, false, not, ◌==◌, nat_le, List, [], ◌∷◌, length, get_or, filter, filter_map, Option, Some, None, AllPairs, Contains, ⊎_elim, sym, ap, ◌∙◌, arith, eq-eqb}
 use Rattle.std.proofs.lemmas.Bool.{true≢false, false_from_ne_true, eqb-false, eqb-true}
+use Rattle.std.proofs.lemmas.Option.{cond_some}
 use Rattle.std.proofs.lemmas.List.Elements.{Contains-get_or, Contains-append_cases}
 use Rattle.std.proofs.lemmas.List.Folds.{list_any_at}
+use Rattle.std.proofs.lemmas.List.Sorted.{IsPermutation-sym, Contains-permutation}
 use Rattle.std.proofs.lemmas.List.Kept.{AllPairs-filter, AllPairs-cons}
-use Rattle.std.proofs.lemmas.Bool.Decides.{nat_tests}
 use Rattle.pf_order.specs.Priority.{Priority}
-use Rattle.pf_scenario.specs.Event.{slot_of, is_of, run_cmp, placed, in_run_order}
+use Rattle.pf_scenario.specs.Event.{slot_of, is_of, run_cmp, in_run_order}
 use Rattle.pf_scenario.specs.Scenario.{Plan, is_held, events_of, past}
 use Rattle.pf_scenario.specs.Edit.{IsScenario, join_alike, leave_alike}
 use Rattle.pf_scenario.specs.declared.event.Event.{Event}
-use Rattle.pf_scenario.specs.declared.event.Event.TheVariants.{Join, Leave}
+use Rattle.pf_scenario.specs.declared.event.Event.TheVariants.{Join}
 use Rattle.pf_scenario.specs.declared.event.Numbered.{Numbered}
+use Rattle.pf_scenario.proofs.Scenarios.{join_alike_back, leave_alike_back}
+use Rattle.pf_scenario.proofs.Sorting.{sorted_keeps}
 use Rattle.pf_engine.specs.declared.denied.Denied.{Denied}
 use Rattle.pf_engine.specs.Record.{Slot, is_denied, in_force}
 use Rattle.pf_engine.specs.Inside.{Joined, joined_by, join_of, inside, has_left, ready, ready_key, next_key, member_of, eligible_from}
-use Rattle.pf_engine.proofs.Containing.{contains_none, contains_head, contains_tail, contains_cases, from_filter, pairs_cases, pairs_filter_map}
+use Rattle.pf_engine.proofs.Containing.{contains_none, from_filter, pairs_cases, pairs_filter_map}
 use Rattle.pf_engine.proofs.Numbers.{AreApart, apart_past}
 use Rattle.pf_engine.proofs.Firsts.{TasksDiffer}
 
 -- the past holds events of the scenario
-contains_either : (b : Bool) (x y : Numbered) (ys zs : List Numbered) (k : Numbered) →
-    (Contains zs k → (x ≡ k) ⊎ Contains ys k) → Contains (cond b (x ∷ y ∷ ys) (y ∷ zs)) k → (x ≡ k) ⊎ Contains (y ∷ ys) k
-contains_either true x y ys zs k rest at = contains_cases x (y ∷ ys) k at
-contains_either false x y ys zs k rest at = ⊎_elim
-    (λ e. inr (subst (Contains (y ∷ ys)) e (contains_head y ys)))
-    (λ later. ⊎_elim (λ e. inl e) (λ in_rest. inr (contains_tail y ys k in_rest)) (rest later))
-    (contains_cases y zs k at)
-
-contains_placed : (x : Numbered) (xs : List Numbered) (k : Numbered) → Contains (placed x xs) k → (x ≡ k) ⊎ Contains xs k
-contains_placed x [] k at = contains_cases x [] k at
-contains_placed x (y ∷ ys) k at = contains_either (is_lt (run_cmp x y)) x y ys (placed x ys) k (contains_placed x ys k) at
-
 contains_in_run_order : (xs : List Numbered) (k : Numbered) → Contains (in_run_order xs) k → Contains xs k
-contains_in_run_order [] k at = at
-contains_in_run_order (x ∷ xs) k at = ⊎_elim
-    (λ e. subst (Contains (x ∷ xs)) e (contains_head x xs))
-    (λ later. contains_tail x xs k (contains_in_run_order xs k later))
-    (contains_placed x (in_run_order xs) k at)
+contains_in_run_order xs k at =
+    Contains-permutation (in_run_order xs) xs k (IsPermutation-sym xs (in_run_order xs) (sorted_keeps run_cmp xs)) at
 
 pub contains_events_of : (s : Plan) (t : ℕ) (k : Numbered) → Contains (events_of s t) k → Contains s.events k × (is_of t k ≡ true)
 unfolding events_of
@@ -89,21 +76,6 @@ module _ (alike : Event → Event → Bool) (symmetric : (x y : Event) → alike
       (ap (λ x. x.id) (one_alike events once (get_or xs i d) (get_or xs j d)
       (within _ (Contains-get_or xs i d (omega arith))) (within _ (Contains-get_or xs j d inside)) same)))
 
-equal_back : (a b : ℕ) → (a == b) ≡ (b == a)
-equal_back a b = grind (arith, nat_tests)
-
-join_alike_back : (x y : Event) → join_alike x y ≡ join_alike y x
-join_alike_back (Join slot task cost period early) (Join slot' task' cost' period' early') = equal_back task task'
-join_alike_back (Join slot task cost period early) y = refl
-join_alike_back x (Join slot task cost period early) = refl
-join_alike_back x y = refl
-
-leave_alike_back : (x y : Event) → leave_alike x y ≡ leave_alike y x
-leave_alike_back (Leave slot task) (Leave slot' task') = equal_back task task'
-leave_alike_back (Leave slot task) y = refl
-leave_alike_back x (Leave slot task) = refl
-leave_alike_back x y = refl
-
 -- Use: no task joins twice, or leaves twice, among the events of the slots below t.
 pub joins_once_past : (s : Plan) (t : ℕ) → IsScenario s → AllPairs (λ x y. join_alike x.event y.event ≡ false) (past s t)
 joins_once_past s t scenario =
@@ -126,21 +98,22 @@ joins_carry base (Join slot task cost period early) (Join slot' task' cost' peri
 joins_carry base (Join slot task cost period early) y a b is_a is_b apart same = cc
 joins_carry base x y a b is_a is_b apart same = cc
 
+-- Use: those who joined are of different tasks, and so are those inside.
+pub joined_differ : (base : ℕ) (xs : List Numbered) → AllPairs (λ x y. join_alike x.event y.event ≡ false) xs →
+    AllPairs (λ a b. a.task ≢ b.task) (filter_map (join_of base) xs)
+joined_differ base xs once =
+    pairs_filter_map (λ x y. join_alike x.event y.event ≡ false) (λ a b. a.task ≢ b.task) (join_of base)
+    (λ x y a b is_a is_b apart. joins_carry base x.event y.event a b is_a is_b apart) xs once
+
 pub inside_differ : (base : ℕ) (xs : List Numbered) → AllPairs (λ x y. join_alike x.event y.event ≡ false) xs →
     AllPairs (λ a b. a.task ≢ b.task) (inside base xs)
 unfolding inside
 inside_differ base xs once =
-    AllPairs-filter (λ a b. a.task ≢ b.task) (λ j. not (has_left xs j.task)) (filter_map (join_of base) xs)
-    (pairs_filter_map (λ x y. join_alike x.event y.event ≡ false) (λ a b. a.task ≢ b.task) (join_of base)
-    (λ x y a b is_a is_b apart. joins_carry base x.event y.event a b is_a is_b apart) xs once)
-
-key_when : (b : Bool) (key k : Priority) → (if b then Some key else None) ≡ Some k → key ≡ k
-key_when true key k is = cc
-key_when false key k is = cc
+    AllPairs-filter (λ a b. a.task ≢ b.task) (λ j. not (has_left xs j.task)) (filter_map (join_of base) xs) (joined_differ base xs once)
 
 key_task : (t : ℕ) (r : List Slot) (xs : List Numbered) (j : Joined) (k : Priority) →
     ready_key t j.task (member_of r xs j) ≡ Some k → k.task ≡ j.task
-key_task t r xs j k is = ap (λ k. k.task) (sym (key_when (nat_le (eligible_from (member_of r xs j)) t) (next_key j.task (member_of r xs j)) k is))
+key_task t r xs j k is = ap (λ k. k.task) (sym (cond_some (nat_le (eligible_from (member_of r xs j)) t) (next_key j.task (member_of r xs j)) k is).1)
 
 pub ready_differ : (base : ℕ) (r : List Slot) (xs : List Numbered) → AllPairs (λ x y. join_alike x.event y.event ≡ false) xs →
     TasksDiffer (ready base r xs)

@@ -5,6 +5,7 @@
 -- gives IsNextSlot from what was judged and picked, and `along_run` is induction over the slots of a run. Of any lists
 -- before and after: `denials_from_equation` and `denials_from_one_by_one`.
 use Rattle.std.proofs.Common.{◌≡◌, ℕ, zero, suc, ◌+◌, ◌≤◌, ◌⊎◌, Bool, true, false, not, ◌||◌, ◌==◌, cond, List, [], ◌∷◌, ◌++◌, length, take, filter, get_or, Option, None, Some, is_some, inl, inr, ⊎_elim, refl, sym, ap, ap₂, ◌∙◌, subst, subst₂, append-nil, append_assoc, arith, eq-eqb}
+use Rattle.std.proofs.Math.Bool.{or-false}
 use Rattle.std.specs.List.{list_any}
 use Rattle.std.proofs.lemmas.Bool.{or_from, or_parts, or_left, or_right, ne_eqb, false_from_ne_true, true≢false}
 use Rattle.std.proofs.lemmas.List.{length-take-le, take-take, get_or-take, take_all, take_more, nil_from_length}
@@ -140,10 +141,6 @@ pub record ComeAfter (old : List Denied) (before events : List Numbered) : Type 
   pub across : (id : ℕ) → is_held before id ≡ true → is_held events id ≡ false
   pub undenied : (id : ℕ) → is_held events id ≡ true → has_denial old id ≡ false
 
-or_false : (b : Bool) → (b || false) ≡ b
-or_false false = refl
-or_false true = refl
-
 -- denials of other numbers leave what is in force as it is
 in_force_more : (old new : List Denied) (xs : List Numbered) →
     ((id : ℕ) → is_held xs id ≡ true → has_denial new id ≡ false) → in_force (old ++ new) xs ≡ in_force old xs
@@ -153,7 +150,7 @@ in_force_more old new (x ∷ xs) others =
     ap₂ (λ b zs. cond (not b) (x ∷ zs) zs)
     (has_denial-append old new x.id
     ∙ ap (λ b. has_denial old x.id || b) (others x.id (or_left _ _ (eq-eqb x.id x.id refl)))
-    ∙ or_false (has_denial old x.id))
+    ∙ or-false (has_denial old x.id))
     (in_force_more old new xs (λ id held. others id (or_right _ _ held)))
 
 are_new : (old new : List Denied) (before events : List Numbered) → ComeAfter old before events → AreNew (old ++ new) new events

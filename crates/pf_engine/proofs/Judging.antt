@@ -3,7 +3,7 @@ use Rattle.std.proofs.Common.{◌≡◌, ℕ, suc, ◌+◌, ◌^◌, ◌≤◌, 
 use Rattle.std.proofs.lemmas.List.{length_push, length-map}
 use Rattle.std.proofs.lemmas.List.Sums.{sum_by_push, sum_by-cons, length-filter, count_by-le-length}
 use Rattle.std.proofs.lemmas.List.Elements.{All-head, All-tail, All-weaker, All-push, All-filter, All-map}
-use Rattle.pf_scenario.specs.Event.{slot_of}
+use Rattle.pf_scenario.specs.Event.{slot_of, is_join_of}
 use Rattle.pf_scenario.specs.Edit.{IsEvent}
 use Rattle.pf_scenario.specs.declared.event.Event.{Event}
 use Rattle.pf_scenario.specs.declared.event.Event.TheVariants.{Join, Leave, Delay, Limit}
@@ -12,7 +12,7 @@ use Rattle.pf_admit.specs.declared.member.Member.{Member}
 use Rattle.pf_admit.specs.declared.denial.Denial.{Denial}
 use Rattle.pf_engine.specs.Fits.{KeptTask, Kept}
 use Rattle.pf_engine.specs.Kept.{member_in, changed_at, without_task, units_of, new_task, delayed, denial_at, accepted, unless_denied, after_event}
-use Rattle.pf_engine.specs.Taking.{is_join_of, tasks_of, IsBounded, CanJudge}
+use Rattle.pf_engine.specs.Taking.{tasks_of, IsBounded, CanJudge}
 use Rattle.pf_engine.proofs.Counting.{sum_by-map, count_by-cons, count_by-filter-le, found, sum_without}
 use Rattle.pf_engine.proofs.Limits.{join_weight, join_task, delay_by, limit_count, units_within}
 

@@ -14,6 +14,7 @@ pub mod Fitting
 pub mod Limits
 pub mod Judging
 pub mod Bounding
+pub mod Seating
 pub mod Places
 pub mod Choosing
 pub mod Asking

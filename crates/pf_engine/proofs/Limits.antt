@@ -1,5 +1,5 @@
 -- What the limits of an event say of its numbers.
-use Rattle.std.proofs.Common.{◌≡◌, ℕ, ◌*◌, ◌/◌, ◌^◌, ◌<◌, ◌≤◌, Bool, true, false, nat_le, nat_lt, not, [], Option, Some, None, refl, arith, option_map}
+use Rattle.std.proofs.Common.{◌≡◌, ℕ, ◌*◌, ◌/◌, ◌%◌, ◌^◌, ◌<◌, ◌≤◌, true, nat_le, nat_lt, not, [], Option, Some, None, refl, arith, option_map}
 use Rattle.std.specs.List.{list_any}
 use Rattle.std.proofs.Math.Nat.{mul-le-mul_right}
 use Rattle.std.proofs.lemmas.Bool.{and_parts, leb-true, ltb-true}
@@ -14,11 +14,8 @@ use Rattle.pf_scenario.specs.declared.event.Event.{Event}
 use Rattle.pf_scenario.specs.declared.event.Event.TheVariants.{Join, Leave, Delay, Limit}
 use Rattle.pf_scenario.specs.declared.event.Numbered.{Numbered}
 use Rattle.pf_scenario.specs.declared.fault.EditFault.{EditFault}
+use Rattle.pf_scenario.proofs.Scenarios.{unless_none}
 use Rattle.pf_scenario.specs.declared.fault.EditFault.TheVariants.{SlotOutOfRange, TaskOutOfRange, EarlyOutOfRange, DelayOutOfRange, CountOutOfRange, BadWeight, JoinTwice, LeaveTwice}
-
-test_true : (b : Bool) (f : EditFault) → unless b f ≡ None → b ≡ true
-test_true true f e = refl
-test_true false f e = cc
 
 within_from : (most n : ℕ) → is_within most n ≡ true → (1 ≤ n) × (n ≤ most)
 within_from most n e =
@@ -56,11 +53,11 @@ passes_tests s event limits =
     (or_else (unless (not (list_any (λ (x : Numbered). join_alike x.event event) [])) JoinTwice)
     (unless (not (list_any (λ (x : Numbered). leave_alike x.event event) [])) LeaveTwice)) limits in
     record {
-      slot = ltb-true (slot_of event) s.horizon (test_true (nat_lt (slot_of event) s.horizon) SlotOutOfRange all.0);
-      task = test_true (has_task event) TaskOutOfRange all.1;
-      early = test_true (has_early event) EarlyOutOfRange all.2;
-      delay = test_true (has_delay event) DelayOutOfRange all.3;
-      count = test_true (has_count s.processors event) CountOutOfRange all.4;
+      slot = ltb-true (slot_of event) s.horizon (unless_none (nat_lt (slot_of event) s.horizon) SlotOutOfRange all.0);
+      task = unless_none (has_task event) TaskOutOfRange all.1;
+      early = unless_none (has_early event) EarlyOutOfRange all.2;
+      delay = unless_none (has_delay event) DelayOutOfRange all.3;
+      count = unless_none (has_count s.processors event) CountOutOfRange all.4;
       weight = all.5;
     }
 
@@ -85,9 +82,10 @@ delay_by s slot task by limits = (within_from (2 ^ 20) by (passes_tests s (Delay
 pub limit_count : (s : System) (slot count : ℕ) → IsEvent s (Limit slot count) → count ≤ s.processors
 limit_count s slot count limits = (within_from s.processors count (passes_tests s (Limit slot count) limits).count).1
 
--- the units of a weight are no more than the base
-weight_parts : (base cost period : ℕ) → weight_fault base cost period ≡ None → (1 ≤ cost) × (cost ≤ period)
-weight_parts base cost period none = (grind (arith, nat_tests), grind (arith, nat_tests))
+-- a weight's parts, and its units are no more than the base
+pub weight_parts : (base cost period : ℕ) → weight_fault base cost period ≡ None →
+    (1 ≤ cost) × (cost ≤ period) × (base % period ≡ 0)
+weight_parts base cost period none = (grind (arith, nat_tests), grind (arith, nat_tests), grind (arith, nat_tests))
 
 pub units_within : (base cost period : ℕ) → weight_fault base cost period ≡ None → (share_of base cost period).units ≤ base
 units_within base cost period none =

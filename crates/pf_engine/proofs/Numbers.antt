@@ -5,10 +5,12 @@ use Rattle.std.specs.Ordering.{is_lt}
 use Rattle.std.proofs.lemmas.Bool.{or_from, or_parts, or_left, or_right, or_cases, and_left, and_right, and_parts, ne_eqb, eqb-true, eqb-false, le-ltb, ltb-true, true≢false}
 use Rattle.std.proofs.lemmas.Bool.Decides.{nat_tests}
 use Rattle.std.proofs.lemmas.List.Folds.{list_any-append, list_any_none}
-use Rattle.pf_scenario.specs.Event.{slot_of, is_of, run_cmp, placed, in_run_order}
+use Rattle.pf_scenario.specs.Sorted.{put}
+use Rattle.pf_scenario.specs.Event.{slot_of, is_of, run_cmp, in_run_order}
 use Rattle.pf_scenario.specs.Scenario.{Plan, is_held, events_of, past}
 use Rattle.pf_scenario.specs.Edit.{IsScenario}
 use Rattle.pf_scenario.specs.declared.event.Numbered.{Numbered}
+use Rattle.pf_scenario.proofs.Sorting.{swap_or, list_any-put, list_any-sorted_by}
 
 -- the numbers of these events differ
 abbrev pub AreApart : List Numbered → Type 0
@@ -49,40 +51,23 @@ apart_from_rising (x ∷ xs) rising = (
   apart_from_rising xs (λ i j d before within. rising (suc i) (suc j) d (omega arith) (omega arith)),
 )
 
-or_swap : (a b c : Bool) → (a || (b || c)) ≡ (b || (a || c))
-or_swap false b c = refl
-or_swap true false c = refl
-or_swap true true c = refl
-
 -- in run order
-held_either : (b : Bool) (x y : Numbered) (ys zs : List Numbered) (id : ℕ) → is_held zs id ≡ ((x.id == id) || is_held ys id) →
-    is_held (cond b (x ∷ y ∷ ys) (y ∷ zs)) id ≡ ((x.id == id) || is_held (y ∷ ys) id)
-held_either true x y ys zs id rest = refl
-held_either false x y ys zs id rest =
-    ap (λ b. (y.id == id) || b) rest ∙ or_swap (y.id == id) (x.id == id) (is_held ys id)
-
-pub held_placed : (x : Numbered) (xs : List Numbered) (id : ℕ) → is_held (placed x xs) id ≡ ((x.id == id) || is_held xs id)
-held_placed x [] id = refl
-held_placed x (y ∷ ys) id = held_either (is_lt (run_cmp x y)) x y ys (placed x ys) id (held_placed x ys id)
-
 apart_either : (b : Bool) (x y : Numbered) (ys zs : List Numbered) → AreApart (x ∷ y ∷ ys) → AreApart (y ∷ zs) →
     AreApart (cond b (x ∷ y ∷ ys) (y ∷ zs))
 apart_either true x y ys zs first later = first
 apart_either false x y ys zs first later = later
 
-apart_placed : (x : Numbered) (xs : List Numbered) → is_held xs x.id ≡ false → AreApart xs → AreApart (placed x xs)
+apart_placed : (x : Numbered) (xs : List Numbered) → is_held xs x.id ≡ false → AreApart xs → AreApart (put run_cmp x xs)
 apart_placed x [] none apart = (refl, tt)
 apart_placed x (y ∷ ys) none apart =
     let parts = or_parts (y.id == x.id) (is_held ys x.id) none in
-    apart_either (is_lt (run_cmp x y)) x y ys (placed x ys) (none, apart) (
-      held_placed x ys y.id ∙ or_from _ _ (ne_eqb x.id y.id (λ e. eqb-false y.id x.id parts.0 (sym e))) apart.0,
+    apart_either (is_lt (run_cmp x y)) x y ys (put run_cmp x ys) (none, apart) (
+      list_any-put (λ z. z.id == y.id) run_cmp x ys ∙ or_from _ _ (ne_eqb x.id y.id (λ e. eqb-false y.id x.id parts.0 (sym e))) apart.0,
       apart_placed x ys parts.1 apart.1,
     )
 
-pub held_in_run_order : (xs : List Numbered) (id : ℕ) → is_held (in_run_order xs) id ≡ is_held xs id
-held_in_run_order [] id = refl
-held_in_run_order (x ∷ xs) id =
-    held_placed x (in_run_order xs) id ∙ ap (λ b. (x.id == id) || b) (held_in_run_order xs id)
+held_in_run_order : (xs : List Numbered) (id : ℕ) → is_held (in_run_order xs) id ≡ is_held xs id
+held_in_run_order xs id = list_any-sorted_by (λ x. x.id == id) run_cmp xs
 
 pub apart_in_run_order : (xs : List Numbered) → AreApart xs → AreApart (in_run_order xs)
 apart_in_run_order [] apart = tt
@@ -130,7 +115,7 @@ apart_tests p q differ (x ∷ xs) id apart held =
     (or_cases (p x && (x.id == id)) (is_held (filter p xs) id) (sym (kept_held (p x) x (filter p xs) id) ∙ held))
 
 or_regroup : (b c h m n : Bool) → (((b || c) && h) || (m || n)) ≡ (((b && h) || m) || ((c && h) || n))
-or_regroup false c h m n = or_swap (c && h) m n
+or_regroup false c h m n = swap_or (c && h) m n
 or_regroup true c true m n = refl
 or_regroup true false false m n = refl
 or_regroup true true false m n = refl

@@ -1,19 +1,19 @@
 -- What holds of the events of a scenario, up to a slot of a run.
-use Rattle.std.proofs.Common.{◌≡◌, ℕ, zero, suc, ◌+◌, ◌≤◌, Bool, true, false, not, ◌==◌, nat_lt, cond, List, [], ◌∷◌, length, filter, count_by, All, AllPairs, Contains, refl, sym, ap, ◌∙◌, arith}
-use Rattle.std.specs.Ordering.{is_lt}
-use Rattle.std.proofs.lemmas.Bool.{eqb-true, eq-eqb, ne_eqb, true≢false}
+use Rattle.std.proofs.Common.{◌≡◌, ℕ, zero, suc, ◌+◌, ◌≤◌, Bool, true, false, not, ◌==◌, nat_lt, cond, List, [], ◌∷◌, length, filter, count_by, All, AllPairs, Contains, refl, ap, arith}
+use Rattle.std.proofs.lemmas.Bool.{eqb-true}
 use Rattle.std.proofs.lemmas.Bool.Decides.{nat_tests}
 use Rattle.std.proofs.lemmas.List.Sums.{sum_by-append}
+use Rattle.std.proofs.lemmas.List.Sorted.{sum_by-IsPermutation}
 use Rattle.std.proofs.lemmas.List.Elements.{All-head, All-tail, All-weaker, All-contains, All-contains_itself}
-use Rattle.pf_scenario.specs.Event.{slot_of, is_of, run_cmp, placed, in_run_order}
+use Rattle.pf_scenario.specs.Event.{slot_of, is_of, run_cmp, in_run_order, is_join_of}
 use Rattle.pf_scenario.specs.Scenario.{Plan, events_of, past}
 use Rattle.pf_scenario.specs.Edit.{IsScenario, IsEvent, join_alike}
-use Rattle.pf_scenario.specs.declared.event.Event.{Event}
-use Rattle.pf_scenario.specs.declared.event.Event.TheVariants.{Join, Leave, Delay, Limit}
 use Rattle.pf_scenario.specs.declared.event.Numbered.{Numbered}
+use Rattle.pf_scenario.proofs.Indexing.{join_pair}
+use Rattle.pf_scenario.proofs.Sorting.{sorted_keeps}
 use Rattle.pf_engine.specs.declared.denied.Denied.{Denied}
 use Rattle.pf_engine.specs.Record.{is_denied, in_force}
-use Rattle.pf_engine.specs.Taking.{is_join_of, joins_of}
+use Rattle.pf_engine.specs.Taking.{joins_of}
 use Rattle.pf_engine.proofs.Counting.{count_by-cons, count_by-filter-le}
 use Rattle.pf_engine.proofs.Joins.{contains_events_of, contains_past, joins_once_past}
 
@@ -36,20 +36,8 @@ limits_of_past s t scenario =
     (past s t) (All-contains_itself (past s t))
 
 -- counts through the run order
-count_either : (p : Numbered → Bool) (b : Bool) (x y : Numbered) (ys zs : List Numbered) →
-    count_by p zs ≡ count_by p (x ∷ ys) → count_by p (cond b (x ∷ y ∷ ys) (y ∷ zs)) ≡ count_by p (x ∷ y ∷ ys)
-count_either p true x y ys zs e = refl
-count_either p false x y ys zs e =
-    omega (arith, count_by-cons p y zs, count_by-cons p x ys, count_by-cons p x (y ∷ ys), count_by-cons p y ys)
-
-count_placed : (p : Numbered → Bool) (x : Numbered) (xs : List Numbered) → count_by p (placed x xs) ≡ count_by p (x ∷ xs)
-count_placed p x [] = refl
-count_placed p x (y ∷ ys) = count_either p (is_lt (run_cmp x y)) x y ys (placed x ys) (count_placed p x ys)
-
 count_in_run_order : (p : Numbered → Bool) (xs : List Numbered) → count_by p (in_run_order xs) ≡ count_by p xs
-count_in_run_order p [] = refl
-count_in_run_order p (x ∷ xs) =
-    omega (arith, count_placed p x (in_run_order xs), count_by-cons p x (in_run_order xs), count_by-cons p x xs, count_in_run_order p xs)
+count_in_run_order p xs = sum_by-IsPermutation (λ x. cond (p x) 1 0) xs (in_run_order xs) (sorted_keeps run_cmp xs)
 
 -- the events of the slots below t, and of t
 count_split : (p : Numbered → Bool) (below at up : Bool) (x : Numbered) (xs ys zs : List Numbered) →
@@ -114,16 +102,6 @@ in_force_few denials xs =
     omega (arith, length_count xs, length_count (in_force denials xs), in_force_count (λ x. true) denials xs)
 
 -- no task joins twice
-join_pair : (task : ℕ) (x y : Event) → join_alike x y ≡ false → is_join_of task x ≡ true → is_join_of task y ≡ false
-join_pair task (Join slot t c p e) (Join slot' t' c' p' e') apart first =
-    ne_eqb t' task (λ same. true≢false (sym (eq-eqb t t' (eqb-true t task first ∙ sym same)) ∙ apart))
-join_pair task (Join slot t c p e) (Leave slot' t') apart first = refl
-join_pair task (Join slot t c p e) (Delay slot' t' by) apart first = refl
-join_pair task (Join slot t c p e) (Limit slot' count) apart first = refl
-join_pair task (Leave slot t) y apart first = cc
-join_pair task (Delay slot t by) y apart first = cc
-join_pair task (Limit slot count) y apart first = cc
-
 pub count_none : {A : Type 0} (p : A → Bool) (xs : List A) → All (λ x. p x ≡ false) xs → count_by p xs ≡ 0
 count_none p [] none = refl
 count_none p (x ∷ xs) none =

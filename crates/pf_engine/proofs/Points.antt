@@ -1,22 +1,20 @@
 -- A point of the run order, one event further: the tasks inside, their load, their shifts and the count.
 use Rattle.std.proofs.Common.{◌≡◌, ℕ, ◌+◌, ◌≤◌, Bool, true, false, not, ◌||◌, ◌&&◌, ◌==◌, cond, Some, None, List, [], ◌∷◌, ◌++◌, length, filter, filter_map, count_by, refl, sym, ap, ap₂, ◌∙◌, arith, append-nil}
+use Rattle.std.proofs.Math.Bool.{or-false}
 use Rattle.std.specs.List.{cons_option}
 use Rattle.std.proofs.lemmas.Bool.Decides.{nat_tests}
 use Rattle.std.proofs.lemmas.List.Sums.{sum_by_push, fold_push}
 use Rattle.std.proofs.lemmas.List.Folds.{list_any-append}
-use Rattle.std.proofs.lemmas.List.Elements.{filter-append, filter_map-append}
+use Rattle.std.proofs.lemmas.List.Elements.{filter_agree, filter-append, filter_map-append}
 use Rattle.pf_weight.specs.Share.{share_of}
 use Rattle.pf_scenario.specs.declared.event.Event.{Event}
 use Rattle.pf_scenario.specs.declared.event.Event.TheVariants.{Join, Leave, Delay, Limit}
 use Rattle.pf_scenario.specs.declared.event.Numbered.{Numbered}
 use Rattle.pf_engine.specs.Record.{Slot, done, next_sub}
-use Rattle.pf_engine.specs.Inside.{Joined, joined_by, join_of, is_leave_of, has_left, inside, limited, count_of, held_back, shift_of, member_of}
-use Rattle.pf_engine.specs.Taking.{is_join_of, joins_of}
+use Rattle.pf_engine.specs.Inside.{Joined, joined_by, join_of, has_left, inside, limited, count_of, held_back, shift_of, member_of}
+use Rattle.pf_scenario.specs.Event.{is_join_of, is_leave_of}
+use Rattle.pf_engine.specs.Taking.{joins_of}
 use Rattle.pf_engine.proofs.Counting.{filter_both, count_by-cons, count_by-filter-le}
-
-or_false : (b : Bool) → (b || false) ≡ b
-or_false true = refl
-or_false false = refl
 
 not_or : (a b : Bool) → not (a || b) ≡ (not a && not b)
 not_or true b = refl
@@ -27,17 +25,13 @@ pub has_left_push : (xs : List Numbered) (x : Numbered) (task : ℕ) →
     has_left (xs ++ x ∷ []) task ≡ (has_left xs task || is_leave_of task x.event)
 has_left_push xs x task =
     list_any-append (λ y. is_leave_of task y.event) xs (x ∷ [])
-    ∙ ap (λ b. has_left xs task || b) (or_false (is_leave_of task x.event))
+    ∙ ap (λ b. has_left xs task || b) (or-false (is_leave_of task x.event))
 
 -- one that is no leave leaves all who joined inside
-filter_same : {A : Type 0} (p q : A → Bool) → ((x : A) → p x ≡ q x) → (xs : List A) → filter p xs ≡ filter q xs
-filter_same p q same [] = refl
-filter_same p q same (x ∷ xs) = ap₂ (λ b ys. cond b (x ∷ ys) ys) (same x) (filter_same p q same xs)
-
 stays : (xs : List Numbered) (x : Numbered) (js : List Joined) → ((task : ℕ) → is_leave_of task x.event ≡ false) →
     filter (λ j. not (has_left (xs ++ x ∷ []) j.task)) js ≡ filter (λ j. not (has_left xs j.task)) js
-stays xs x js other = filter_same _ _
-    (λ j. ap not (has_left_push xs x j.task ∙ ap (λ b. has_left xs j.task || b) (other j.task) ∙ or_false (has_left xs j.task))) js
+stays xs x js other = filter_agree _ _
+    (λ j. ap not (has_left_push xs x j.task ∙ ap (λ b. has_left xs j.task || b) (other j.task) ∙ or-false (has_left xs j.task))) js
 
 -- the tasks that joined, one event further
 joined_push : (base : ℕ) (xs : List Numbered) (x : Numbered) →

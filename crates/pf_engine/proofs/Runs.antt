@@ -71,12 +71,13 @@ of_slot_below n t below (x ∷ xs) =
     (λ is. lt-ltb (slot_of x.event) n (let e : slot_of x.event ≡ t = eqb-true (slot_of x.event) t is in omega arith))
     (of_slot_below n t below xs)
 
-same_events : (s q : Plan) (n t : ℕ) → events_below n s.events ≡ events_below n q.events → t < n → events_of s t ≡ events_of q t
+-- Use: with the same events below n, the same events of each slot below n, and the same past.
+pub same_events : (s q : Plan) (n t : ℕ) → events_below n s.events ≡ events_below n q.events → t < n → events_of s t ≡ events_of q t
 unfolding events_of
 same_events s q n t same below =
     ap in_run_order (sym (of_slot_below n t below s.events) ∙ ap (filter (is_of t)) same ∙ of_slot_below n t below q.events)
 
-same_past : (s q : Plan) (n t : ℕ) → events_below n s.events ≡ events_below n q.events → t ≤ n → past s t ≡ past q t
+pub same_past : (s q : Plan) (n t : ℕ) → events_below n s.events ≡ events_below n q.events → t ≤ n → past s t ≡ past q t
 same_past s q n zero same within = refl
 same_past s q n (suc t) same within =
     ap₂ (λ xs ys. xs ++ ys) (same_past s q n t same (omega arith)) (same_events s q n t same within)

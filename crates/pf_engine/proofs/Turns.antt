@@ -8,7 +8,7 @@ use Rattle.std.proofs.lemmas.List.{take_more, drop_more}
 use Rattle.std.proofs.lemmas.List.Elements.{All-head, All-cons, All-nil, All-weaker, filter_map-append}
 use Rattle.std.proofs.lemmas.Option.{get_or_from_slice_get}
 use Rattle.pf_order.specs.Priority.{Priority}
-use Rattle.pf_scenario.specs.Event.{slot_of}
+use Rattle.pf_scenario.specs.Event.{slot_of, is_join_of}
 use Rattle.pf_scenario.specs.Edit.{IsEvent}
 use Rattle.pf_scenario.specs.declared.event.Event.{Event}
 use Rattle.pf_scenario.specs.declared.event.Event.TheVariants.{Join, Leave, Delay, Limit}
@@ -20,7 +20,7 @@ use Rattle.pf_engine.specs.Inside.{eligible_from, next_key, ready_key}
 use Rattle.pf_engine.specs.Denials.{denied_for}
 use Rattle.pf_engine.specs.Fits.{KeptTask, Kept}
 use Rattle.pf_engine.specs.Kept.{denial_at, accepted, unless_denied, after_event, judged, denials_in}
-use Rattle.pf_engine.specs.Taking.{is_join_of, IsBounded, CanJudge}
+use Rattle.pf_engine.specs.Taking.{IsBounded, CanJudge}
 use Rattle.pf_engine.specs.Keeping.{CanJudgeOne}
 use Rattle.pf_engine.proofs.Counting.{count_by-cons}
 use Rattle.pf_engine.proofs.Judging.{judge_more}

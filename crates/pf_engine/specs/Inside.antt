@@ -1,14 +1,15 @@
 -- The tasks inside at a point of the run order, and what is known of them there. A point is given by the events in
 -- force before it, in run order.
-use Rattle.std.specs.Prelude.{ℕ, ◌+◌, ◌-◌, ◌==◌, Bool, false, ◌&&◌, not, nat_le, if◌then◌else◌, max, Option, Some, None, List, filter, filter_map, find, fold, length, sum_by}
+use Rattle.std.specs.Prelude.{ℕ, ◌+◌, ◌-◌, ◌==◌, Bool, ◌&&◌, not, nat_le, if◌then◌else◌, max, Option, Some, None, List, filter, filter_map, find, fold, length, sum_by}
 use Rattle.std.specs.List.{list_any}
 use Rattle.std.specs.Option.{option_map}
 use Rattle.pf_weight.specs.Share.{Share, share_of}
 use Rattle.pf_window.specs.Window.{release_of}
 use Rattle.pf_order.specs.Priority.{Priority}
 use Rattle.pf_order.specs.KeyOf.{key_of}
+pub use Rattle.pf_scenario.specs.Event.{is_leave_of}
 use Rattle.pf_scenario.specs.declared.event.Event.{Event}
-use Rattle.pf_scenario.specs.declared.event.Event.TheVariants.{Join, Leave, Delay, Limit}
+use Rattle.pf_scenario.specs.declared.event.Event.TheVariants.{Join, Delay, Limit}
 use Rattle.pf_scenario.specs.declared.event.Numbered.{Numbered}
 use Rattle.pf_admit.specs.declared.member.Member.{Member}
 use Rattle.pf_engine.specs.Record.{Slot, done, next_sub}
@@ -29,11 +30,7 @@ joined_by base event = None
 abbrev pub join_of : ℕ → Numbered → Option Joined
 join_of base x = joined_by base x.event
 
--- the event is a leave of the task
-abbrev pub is_leave_of : ℕ → Event → Bool
-is_leave_of task (Leave slot task') = task' == task
-is_leave_of task event = false
-
+-- the task left
 abbrev pub has_left : List Numbered → ℕ → Bool
 has_left xs task = list_any (λ x. is_leave_of task x.event) xs
 

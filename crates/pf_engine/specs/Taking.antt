@@ -1,21 +1,14 @@
 -- One slot of an engine, from what it keeps alone.
-use Rattle.std.specs.Prelude.{◌≡◌, ℕ, ◌+◌, ◌*◌, ◌^◌, ◌<◌, ◌≤◌, ◌==◌, Bool, false, List, length, map, sum_by, count_by, All}
+use Rattle.std.specs.Prelude.{◌≡◌, ℕ, ◌+◌, ◌*◌, ◌^◌, ◌<◌, ◌≤◌, ◌==◌, List, length, map, sum_by, count_by, All}
 use Rattle.pf_order.specs.Priority.{Priority}
 use Rattle.pf_order.specs.First.{AreFirst}
 use Rattle.pf_scenario.specs.System.{IsSystem}
-use Rattle.pf_scenario.specs.Event.{slot_of}
+use Rattle.pf_scenario.specs.Event.{slot_of, is_join_of}
 use Rattle.pf_scenario.specs.Edit.{IsEvent}
-use Rattle.pf_scenario.specs.declared.event.Event.{Event}
-use Rattle.pf_scenario.specs.declared.event.Event.TheVariants.{Join}
 use Rattle.pf_scenario.specs.declared.event.Numbered.{Numbered}
 use Rattle.pf_engine.specs.Run.{pick_of}
 use Rattle.pf_engine.specs.Fits.{KeptTask, Kept, Taken}
 use Rattle.pf_engine.specs.Kept.{judged, denials_in, ready_keys, after_picks}
-
--- the event is a join of the task
-abbrev pub is_join_of : ℕ → Event → Bool
-is_join_of task (Join slot task' cost period early) = task' == task
-is_join_of task event = false
 
 -- how many of these events join the task
 abbrev pub joins_of : ℕ → List Numbered → ℕ

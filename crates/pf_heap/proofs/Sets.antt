@@ -1,5 +1,6 @@
 -- A forest's keys as a set, by their weights.
 use Rattle.std.proofs.Common.{◌≡◌, ◌≢◌, ℕ, ◌+◌, ◌≤◌, Bool, true, false, cond, ltb, eqb, refl, sym, ap, ◌∙◌, subst, arith, ⊎_elim}
+use Rattle.std.proofs.Math.Bool.{and-false, and-true, or-false, or_assoc}
 use Rattle.std.specs.Prelude.{◌||◌, ◌&&◌, not}
 use Rattle.std.proofs.lemmas.Bool.Decides.{nat_tests}
 use Rattle.std.proofs.lemmas.Bool.{cases_lt, eqb-true, eqb-false}
@@ -26,10 +27,10 @@ contains-keys q (tree at key rank kids rest) =
     ∙ ap (λ b. eq_by_cmp key_cmp q key || b) (contains-union key_cmp_total (keys kids) (keys rest) q)
     ∙ either (eq_by_cmp key_cmp q key) _ _ (weigh (of_key q) kids) (weigh (of_key q) rest) (contains-keys q kids) (contains-keys q rest)
 
-tied_keys : (q k : Priority) → eq_by_cmp key_cmp q k ≡ true → q ≡ k
+pub tied_keys : (q k : Priority) → eq_by_cmp key_cmp q k ≡ true → q ≡ k
 tied_keys q k e = only_equal_keys_tie q k ((Equal-is (key_cmp q k)).0 e)
 
-key_alike : (k : Priority) → eq_by_cmp key_cmp k k ≡ true
+pub key_alike : (k : Priority) → eq_by_cmp key_cmp k k ≡ true
 key_alike k = ap is_eq (tied_itself key_cmp_total k)
 
 -- ---- sets by weights
@@ -84,10 +85,6 @@ add_keys : Forest → Keys → Keys
 add_keys none s = s
 add_keys (tree at key rank kids rest) s = set.insert (add_keys kids (add_keys rest s)) key
 
-or_assoc : (a b c : Bool) → (a || (b || c)) ≡ ((a || b) || c)
-or_assoc true b c = refl
-or_assoc false b c = refl
-
 positive_sum : (b : Bool) (m n : ℕ) → ltb 0 (cond b 1 0 + (m + n)) ≡ (b || (ltb 0 m || ltb 0 n))
 positive_sum true m n = grind (arith, nat_tests)
 positive_sum false m n = grind (arith, nat_tests)
@@ -99,8 +96,8 @@ contains-add_keys q (tree at key rank kids rest) s =
     contains-insert key_cmp_total (add_keys kids (add_keys rest s)) key q
     ∙ ap (λ b. eq_by_cmp key_cmp q key || b)
     (contains-add_keys q kids (add_keys rest s) ∙ ap (λ b. ltb 0 (weigh (of_key q) kids) || b) (contains-add_keys q rest s)
-    ∙ or_assoc (ltb 0 (weigh (of_key q) kids)) (ltb 0 (weigh (of_key q) rest)) (set.contains s q))
-    ∙ or_assoc (eq_by_cmp key_cmp q key) (ltb 0 (weigh (of_key q) kids) || ltb 0 (weigh (of_key q) rest)) (set.contains s q)
+    ∙ sym (or_assoc (ltb 0 (weigh (of_key q) kids)) (ltb 0 (weigh (of_key q) rest)) (set.contains s q)))
+    ∙ sym (or_assoc (eq_by_cmp key_cmp q key) (ltb 0 (weigh (of_key q) kids) || ltb 0 (weigh (of_key q) rest)) (set.contains s q))
     ∙ ap (λ b. b || set.contains s q) (sym (positive_sum (eq_by_cmp key_cmp q key) (weigh (of_key q) kids) (weigh (of_key q) rest)))
 
 absent_both : (m : ℕ) (b : Bool) → m ≡ 0 → b ≡ false → (ltb 0 m || b) ≡ false
@@ -128,16 +125,12 @@ len-add_keys (tree at key rank kids rest) s once apart =
     e ∙ ap (λ b. cond b (set.len (add_keys kids (add_keys rest s))) (set.len (add_keys kids (add_keys rest s)) + 1)) absent in
     omega (arith, n, by_kids, by_rest)
 
-or_false : (b : Bool) → (b || false) ≡ b
-or_false true = refl
-or_false false = refl
-
 pub len-keys : (f : Forest) → ((t : ℕ) → weigh (of_task t) f ≤ 1) → set.len (keys f) ≡ size f
 len-keys f once =
     let e : keys f ≡ add_keys f set.empty =
     same_set key_cmp_total only_equal_keys_tie (keys f) (add_keys f set.empty) (λ q.
     contains-keys q f
-    ∙ sym (contains-add_keys q f set.empty ∙ ap (λ b. ltb 0 (weigh (of_key q) f) || b) (contains-empty key_cmp q) ∙ or_false (ltb 0 (weigh (of_key q) f)))) in
+    ∙ sym (contains-add_keys q f set.empty ∙ ap (λ b. ltb 0 (weigh (of_key q) f) || b) (contains-empty key_cmp q) ∙ or-false (ltb 0 (weigh (of_key q) f)))) in
     ap set.len e
     ∙ len-add_keys f set.empty (λ q. omega (arith, key-le-task q f, once q.task)) (λ q h. contains-empty key_cmp q)
     ∙ omega (arith, set.len-empty key_cmp)
@@ -178,19 +171,11 @@ key_of_task t (tree at key rank kids rest) h =
 
 -- ---- all tasks but one
 
-and_false : (c : Bool) → false ≡ (c && false)
-and_false true = refl
-and_false false = refl
-
-and_true : (c : Bool) → c ≡ (c && true)
-and_true true = refl
-and_true false = refl
-
 retained : (a c : Bool) (q t : ℕ) (l m : ℕ) → a ≡ ltb 0 l → c ≡ ltb 0 m → (q ≡ t → l ≡ 0) → (q ≢ t → l ≡ m) → a ≡ (c && not (eqb q t))
 retained a c q t l m p s gone stays =
     elim (eqb q t) as (λ b. eqb q t ≡ b → a ≡ (c && not b)) [
-      | true ↦ λ e. let z : l ≡ 0 = gone (eqb-true q t e) in p ∙ ap (ltb 0) z ∙ and_false c
-      | false ↦ λ e. let z : l ≡ m = stays (eqb-false q t e) in p ∙ ap (ltb 0) z ∙ sym s ∙ and_true c
+      | true ↦ λ e. let z : l ≡ 0 = gone (eqb-true q t e) in p ∙ ap (ltb 0) z ∙ sym (and-false c)
+      | false ↦ λ e. let z : l ≡ m = stays (eqb-false q t e) in p ∙ ap (ltb 0) z ∙ sym s ∙ sym (and-true c)
     ] refl
 
 pub keys_without : (h f : Forest) (key : Priority) (task : ℕ) → key.task ≡ task → ((t : ℕ) → weigh (of_task t) f ≤ 1) →

@@ -1,20 +1,22 @@
 -- A row seats exactly the picks of its slot, each once.
-use Rattle.std.proofs.Common.{◌≡◌, ◌≢◌, ℕ, zero, suc, ◌+◌, ◌-◌, ◌<◌, ◌≤◌, Bool, true, false, not, ◌||◌, inl, inr, Option, Some, None, List, [], ◌∷◌, ◌++◌, length, take, drop, map, get_or, filter, count_by, replicate, ap, sym, ◌∙◌, refl, subst, eqb, cond, arith}
+use Rattle.std.proofs.Common.{◌≡◌, ◌≢◌, ℕ, zero, suc, ◌+◌, ◌-◌, ◌≤◌, Bool, true, false, not, ◌||◌, inl, inr, Option, Some, None, List, [], ◌∷◌, ◌++◌, length, take, drop, map, get_or, filter, count_by, replicate, ap, sym, ◌∙◌, refl, subst, eqb, cond, arith}
 use Rattle.std.specs.List.{All, AllPairs, filter_map, cons_option}
 use Rattle.std.specs.List.Sorted.{IsPermutation}
 use Rattle.std.specs.Option.{is_none, option_to_list}
 use Rattle.std.proofs.lemmas.Bool.{cases_Bool, cases_eq, eqb-true, eq-eqb}
 use Rattle.std.proofs.lemmas.Bool.Decides.{nat_tests}
-use Rattle.std.proofs.lemmas.List.{append-nil, take-append-drop, get_or_append_left, length-append}
+use Rattle.std.proofs.lemmas.List.{append-nil, take-append-drop, get_or_append_left, length-append, length-replicate}
 use Rattle.std.proofs.lemmas.List.Elements.{All-head, All-tail, filter_map-append}
+use Rattle.std.proofs.lemmas.List.Kept.{AllPairs-cons}
 use Rattle.std.proofs.lemmas.List.Filters.{length-filter_both}
 use Rattle.std.proofs.lemmas.List.Sums.{sum_by-cons, length-filter, get_or-le-sum_by}
 use Rattle.std.proofs.lemmas.List.Sorted.{IsPermutation-refl, IsPermutation-cons, IsPermutation-middle, IsPermutation-trans, IsPermutation-sym, IsPermutation-append_left, IsPermutation-append_right, IsPermutation-filter_both, length_permutation, sum_by-IsPermutation}
 use Rattle.pf_order.specs.declared.pick.Pick.{Pick}
-use Rattle.pf_place.specs.Occupancy.{sitters, is_seated, NoTaskTwice, pick_of, next_pick, others, row_of}
+use Rattle.pf_place.specs.Occupancy.{sitters, is_seated, NoTaskTwice, pick_of, next_pick, others, row_of, idle_row}
 use Rattle.pf_place.specs.Seating.{filled}
+use Rattle.pf_place.specs.Turns.{IsTurn, IsRow}
 use Rattle.pf_place.proofs.Filling.{filled_seats}
-use Rattle.pf_place.proofs.Seats.{keepers, length-keepers, row_from_filled}
+use Rattle.pf_place.proofs.Seats.{keepers, length-keepers, row_from_filled, length-row_of}
 
 module _ {X : Type 0} where
   AllPairs-head : (R : X → X → Type 0) (x : X) (xs : List X) → AllPairs R (x ∷ xs) → All (R x) xs
@@ -22,13 +24,6 @@ module _ {X : Type 0} where
 
   AllPairs-tail : (R : X → X → Type 0) (x : X) (xs : List X) → AllPairs R (x ∷ xs) → AllPairs R xs
   AllPairs-tail R x xs h = λ i j d l k. h (suc i) (suc j) d (omega arith) (omega arith)
-
-  AllPairs-cons : (R : X → X → Type 0) (x : X) (xs : List X) → All (R x) xs → AllPairs R xs
-      → (i j : ℕ) (d : X) → i < j → j < length (x ∷ xs) → R (get_or (x ∷ xs) i d) (get_or (x ∷ xs) j d)
-  AllPairs-cons R x xs first rest zero zero d l k = absurd (omega arith)
-  AllPairs-cons R x xs first rest zero (suc j) d l k = first j d (omega arith)
-  AllPairs-cons R x xs first rest (suc i) zero d l k = absurd (omega arith)
-  AllPairs-cons R x xs first rest (suc i) (suc j) d l k = rest i j d (omega arith) (omega arith)
 
   AllPairs-front : (R : X → X → Type 0) (xs ys : List X) → AllPairs R (xs ++ ys) → AllPairs R xs
   AllPairs-front R xs ys h = λ i j d l k.
@@ -186,3 +181,17 @@ pub row_seats_once : (m count : ℕ) (before : List (Option Pick)) (picks : List
     → NoTaskTwice picks → NoTaskTwice (sitters before) → NoTaskTwice (sitters (row_of m count before picks))
 row_seats_once m count before picks in_use long few once apart =
     NoTaskTwice-permutation picks _ (row_seats_picks m count before picks in_use long few once apart) once
+
+-- Use: each row can stand before the next, and an idle one before the first.
+pub row_is_row : (m count : ℕ) (before : List (Option Pick)) (picks : List Pick) → IsTurn m count picks → IsRow m before
+    → IsRow m (row_of m count before picks)
+row_is_row m count before picks turn row = record {
+  places = length-row_of m count before picks;
+  once = row_seats_once m count before picks turn.in_use row.places turn.few turn.once row.once;
+}
+
+pub idle_is_row : (m : ℕ) → IsRow m (idle_row m)
+idle_is_row m = record {
+  places = length-replicate m None;
+  once = subst NoTaskTwice (sym (idle_seat_nobody m)) (λ i j d before within. absurd (omega arith));
+}

@@ -1,3 +1,4 @@
 pub mod Occupancy
 pub mod Seating
 pub mod RunRows
+pub mod Turns

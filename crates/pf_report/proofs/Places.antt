@@ -5,7 +5,7 @@ use Rattle.pf_order.specs.declared.pick.Pick.{Pick}
 use Rattle.pf_scenario.specs.Scenario.{Plan}
 use Rattle.pf_engine.specs.declared.denied.Denied.{Denied}
 use Rattle.pf_engine.specs.RunRows.{AreOfRun}
-use Rattle.pf_tally.specs.Noted.{IsRow}
+use Rattle.pf_place.specs.Turns.{IsRow}
 use Rattle.pf_tally.proofs.Noting.{got_at, row_at}
 use Rattle.pf_tally.proofs.Turns.{rows_of_run, rows_length}
 
@@ -17,4 +17,4 @@ pub length-row : (s : Plan) (n : ℕ) (rows : List (List (Option Pick))) (denial
 length-row s n rows denials t row are within is =
     let P : List (List (Option Pick)) → Type 0 = All (IsRow s.settings.processors) in
     let all = subst P (sym are.are_rows) (rows_of_run s n are.scenario) in
-    (row_at s.settings.processors rows t row all (omega (arith, length-rows s n rows denials are)) (got_at rows t row is)).long
+    (row_at s.settings.processors rows t row all (omega (arith, length-rows s n rows denials are)) (got_at rows t row is)).places

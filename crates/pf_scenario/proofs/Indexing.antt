@@ -15,11 +15,11 @@ use Rattle.std.proofs.lemmas.List.Folds.{list_any_none}
 use Rattle.pf_scenario.proofs.Lists.{Pairs, Pairs-from_all, AllPairs-from_pairs, Pairs_middle, Pairs_without, Pairs_before, Pairs_after, All_left, All_right, All_middle, All_without, All_at}
 use Rattle.pf_scenario.proofs.Scenarios.{join_alike_back, leave_alike_back}
 use Rattle.pf_scenario.proofs.Sorting.{IsInOrder, IsInOrder-put}
-use Rattle.pf_scenario.specs.Event.{slot_of, kind_of, task_of, run_cmp}
+use Rattle.pf_scenario.specs.Event.{slot_of, kind_of, task_of, run_cmp, is_join_of, is_leave_of}
 use Rattle.pf_scenario.specs.Scenario.{without}
 use Rattle.pf_scenario.specs.Edit.{join_alike, leave_alike}
 use Rattle.pf_scenario.specs.TimeOrder.{time_cmp, put_in_time}
-use Rattle.pf_scenario.specs.Index.{is_join_of, is_leave_of, number_of, AreApart, IsInTime, IsIndexed, IsNew, HasRoom, Notes}
+use Rattle.pf_scenario.specs.Index.{number_of, AreApart, IsInTime, IsIndexed, IsNew, HasRoom, Notes}
 use Rattle.pf_scenario.specs.declared.event.Event.{Event}
 use Rattle.pf_scenario.specs.declared.event.Event.TheVariants.{Join, Leave, Delay, Limit}
 use Rattle.pf_scenario.specs.declared.event.Numbered.{Numbered}
@@ -66,17 +66,18 @@ number_of-here p (y ∷ front) x back h none =
 abbrev pub Excludes : (Event → Bool) → Numbered → Numbered → Type 0
 Excludes p x y = p x.event ≡ true → p y.event ≡ false
 
+-- Use: of two events that do not join one task, no more than one joins a task.
+pub join_pair : (task : ℕ) (x y : Event) → join_alike x y ≡ false → is_join_of task x ≡ true → is_join_of task y ≡ false
+join_pair task (Join slot t cost period early) (Join slot' t' cost' period' early') apart first = grind (arith, nat_tests)
+join_pair task (Join slot t cost period early) (Leave slot' t') apart first = refl
+join_pair task (Join slot t cost period early) (Delay slot' t' by) apart first = refl
+join_pair task (Join slot t cost period early) (Limit slot' count) apart first = refl
+join_pair task (Leave slot t) y apart first = absurd (false≢true first)
+join_pair task (Delay slot t by) y apart first = absurd (false≢true first)
+join_pair task (Limit slot count) y apart first = absurd (false≢true first)
+
 pub join_excludes : (t : ℕ) (x y : Numbered) → AreApart x y → Excludes (is_join_of t) x y
-join_excludes t x y h = join_of t x.event y.event h.joins
-  where
-    join_of : (t : ℕ) (x y : Event) → join_alike x y ≡ false → is_join_of t x ≡ true → is_join_of t y ≡ false
-    join_of t (Join slot task cost period early) (Join slot' task' cost' period' early') h e = grind (arith, nat_tests)
-    join_of t (Join slot task cost period early) (Leave slot' task') h e = refl
-    join_of t (Join slot task cost period early) (Delay slot' task' by) h e = refl
-    join_of t (Join slot task cost period early) (Limit slot' count) h e = refl
-    join_of t (Leave slot task) y h e = absurd (false≢true e)
-    join_of t (Delay slot task by) y h e = absurd (false≢true e)
-    join_of t (Limit slot count) y h e = absurd (false≢true e)
+join_excludes t x y h = join_pair t x.event y.event h.joins
 
 pub leave_excludes : (t : ℕ) (x y : Numbered) → AreApart x y → Excludes (is_leave_of t) x y
 leave_excludes t x y h = leave_of t x.event y.event h.leaves

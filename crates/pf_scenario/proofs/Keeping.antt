@@ -15,7 +15,8 @@ use Rattle.pf_scenario.specs.System.{System}
 use Rattle.pf_scenario.specs.Event.{task_of, is_of}
 use Rattle.pf_scenario.specs.Scenario.{Plan, numbered, without, changed, events_of}
 use Rattle.pf_scenario.specs.Edit.{IsScenario, IsEvent, edit_fault, join_alike, leave_alike}
-use Rattle.pf_scenario.specs.TimeOrder.{put, time_cmp, put_in_time, in_time_order}
+use Rattle.pf_scenario.specs.Sorted.{put}
+use Rattle.pf_scenario.specs.TimeOrder.{time_cmp, put_in_time, in_time_order}
 use Rattle.pf_scenario.specs.Index.{AreApart, IsNew}
 use Rattle.pf_scenario.specs.Kept.{IsPlace, IsKept}
 use Rattle.pf_scenario.specs.declared.event.Event.{Event}

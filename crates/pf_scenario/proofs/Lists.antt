@@ -4,6 +4,7 @@ use Rattle.std.specs.List.{All, AllPairs, list_any, filter, find}
 use Rattle.std.proofs.lemmas.List.Elements.{All-nil, All-cons, All-head, All-tail, All-append, filter-append}
 use Rattle.std.proofs.lemmas.List.Kept.{AllPairs-cons}
 use Rattle.std.proofs.lemmas.List.{map-append}
+use Rattle.std.proofs.lemmas.List.Folds.{map_fixed}
 use Rattle.std.proofs.lemmas.Bool.{or_parts, or_cases}
 
 -- what holds of each element of a list holds of each element of its parts
@@ -60,20 +61,13 @@ pub Pairs_after : {X : Type 0} (R : X → X → Type 0) (xs : List X) (y : X) (y
 Pairs_after R [] y ys h = h.0
 Pairs_after R (x ∷ xs) y ys h = Pairs_after R xs y ys h.1
 
--- a filter that keeps each element, and a map that leaves each
+-- a filter that keeps each element
 pub filter_all : {X : Type 0} (p : X → Bool) (xs : List X) → All (λ x. p x ≡ true) xs → filter p xs ≡ xs
 filter_all p [] h = refl
 filter_all p (x ∷ xs) h =
     let here = All-head (λ x. p x ≡ true) x xs h in
     let rest = filter_all p xs (All-tail (λ x. p x ≡ true) x xs h) in
     rw here (ap (λ zs. x ∷ zs) rest)
-
-pub map_same : {X : Type 0} (f : X → X) (xs : List X) → All (λ x. f x ≡ x) xs → map f xs ≡ xs
-map_same f [] h = refl
-map_same f (x ∷ xs) h =
-    let here = All-head (λ x. f x ≡ x) x xs h in
-    let rest = map_same f xs (All-tail (λ x. f x ≡ x) x xs h) in
-    cc
 
 -- the one element in the middle that a filter drops, a map changes, or a search finds
 pub filter_middle : {X : Type 0} (p : X → Bool) (xs : List X) (y : X) (ys : List X) → All (λ x. p x ≡ true) (xs ++ ys) → p y ≡ false → filter p (xs ++ y ∷ ys) ≡ xs ++ ys
@@ -84,8 +78,8 @@ filter_middle p xs y ys h fails =
 
 pub map_middle : {X : Type 0} (f : X → X) (xs : List X) (y : X) (ys : List X) → All (λ x. f x ≡ x) (xs ++ ys) → map f (xs ++ y ∷ ys) ≡ xs ++ f y ∷ ys
 map_middle f xs y ys h =
-    let left = map_same f xs (All_left (λ x. f x ≡ x) xs ys h) in
-    let right = map_same f ys (All_right (λ x. f x ≡ x) xs ys h) in
+    let left = map_fixed f xs (All_left (λ x. f x ≡ x) xs ys h) in
+    let right = map_fixed f ys (All_right (λ x. f x ≡ x) xs ys h) in
     rw (map-append, left, right)
 
 pub find_middle : {X : Type 0} (p : X → Bool) (xs : List X) (y : X) (ys : List X) → All (λ x. p x ≡ false) xs → p y ≡ true → find p (xs ++ y ∷ ys) ≡ Some y

@@ -11,7 +11,7 @@ use Rattle.pf_scenario.specs.Scenario.{Plan, numbered, is_held, without, changed
 use Rattle.pf_scenario.specs.Edit.{or_else, unless, join_alike, leave_alike, event_fault, edit_fault, most_events, last_number, IsEvent, IsScenario}
 use Rattle.pf_scenario.specs.Laws.{ChangesKeepScenarios, NumbersRise, OpeningIsScenario}
 use Rattle.pf_scenario.specs.declared.event.Event.{Event}
-use Rattle.pf_scenario.specs.declared.event.Event.TheVariants.{Join, Leave, Delay, Limit}
+use Rattle.pf_scenario.specs.declared.event.Event.TheVariants.{Join, Leave}
 use Rattle.pf_scenario.specs.declared.event.Numbered.{Numbered}
 use Rattle.pf_scenario.specs.declared.change.Change.TheVariants.{Insert, Alter, Strike}
 use Rattle.pf_scenario.specs.declared.fault.EditFault.{EditFault}
@@ -38,39 +38,15 @@ or_else_assoc (Some f) g h = refl
 -- two joins of one task, and two leaves of one, are so either way round
 pub join_alike_back : (x y : Event) → join_alike x y ≡ join_alike y x
 join_alike_back (Join slot task cost period early) (Join slot' task' cost' period' early') = nat_eq_equiv.symm task task'
-join_alike_back (Join slot task cost period early) (Leave slot' task') = refl
-join_alike_back (Join slot task cost period early) (Delay slot' task' by') = refl
-join_alike_back (Join slot task cost period early) (Limit slot' count') = refl
-join_alike_back (Leave slot task) (Join slot' task' cost' period' early') = refl
-join_alike_back (Leave slot task) (Leave slot' task') = refl
-join_alike_back (Leave slot task) (Delay slot' task' by') = refl
-join_alike_back (Leave slot task) (Limit slot' count') = refl
-join_alike_back (Delay slot task by) (Join slot' task' cost' period' early') = refl
-join_alike_back (Delay slot task by) (Leave slot' task') = refl
-join_alike_back (Delay slot task by) (Delay slot' task' by') = refl
-join_alike_back (Delay slot task by) (Limit slot' count') = refl
-join_alike_back (Limit slot count) (Join slot' task' cost' period' early') = refl
-join_alike_back (Limit slot count) (Leave slot' task') = refl
-join_alike_back (Limit slot count) (Delay slot' task' by') = refl
-join_alike_back (Limit slot count) (Limit slot' count') = refl
+join_alike_back (Join slot task cost period early) y = refl
+join_alike_back x (Join slot task cost period early) = refl
+join_alike_back x y = refl
 
 pub leave_alike_back : (x y : Event) → leave_alike x y ≡ leave_alike y x
-leave_alike_back (Join slot task cost period early) (Join slot' task' cost' period' early') = refl
-leave_alike_back (Join slot task cost period early) (Leave slot' task') = refl
-leave_alike_back (Join slot task cost period early) (Delay slot' task' by') = refl
-leave_alike_back (Join slot task cost period early) (Limit slot' count') = refl
-leave_alike_back (Leave slot task) (Join slot' task' cost' period' early') = refl
 leave_alike_back (Leave slot task) (Leave slot' task') = nat_eq_equiv.symm task task'
-leave_alike_back (Leave slot task) (Delay slot' task' by') = refl
-leave_alike_back (Leave slot task) (Limit slot' count') = refl
-leave_alike_back (Delay slot task by) (Join slot' task' cost' period' early') = refl
-leave_alike_back (Delay slot task by) (Leave slot' task') = refl
-leave_alike_back (Delay slot task by) (Delay slot' task' by') = refl
-leave_alike_back (Delay slot task by) (Limit slot' count') = refl
-leave_alike_back (Limit slot count) (Join slot' task' cost' period' early') = refl
-leave_alike_back (Limit slot count) (Leave slot' task') = refl
-leave_alike_back (Limit slot count) (Delay slot' task' by') = refl
-leave_alike_back (Limit slot count) (Limit slot' count') = refl
+leave_alike_back (Leave slot task) y = refl
+leave_alike_back x (Leave slot task) = refl
+leave_alike_back x y = refl
 
 -- an event that has no fault beside others is within its limits, and is alike to none of them
 pub record IsFree (settings : System) (others : List Numbered) (event : Event) : Type 0 where

@@ -1,6 +1,7 @@
 -- Insertion by an order: where an element goes, and what a filter or another element makes of it.
 use Rattle.std.proofs.Common.{◌≡◌, ◌≢◌, Bool, true, false, cond, List, [], ◌∷◌, ◌++◌, drop, refl, sym, ap, ◌∙◌, subst, ◌||◌, inl, inr}
 use Rattle.std.specs.List.{All, filter, list_any}
+use Rattle.std.specs.List.Sorted.{IsPermutation}
 use Rattle.std.specs.Cmp.{IsTotalOrder}
 use Rattle.std.specs.declared.cmp.Ordering.{Ordering}
 use Rattle.std.specs.declared.cmp.Ordering.TheVariants.{Less, Equal, Greater}
@@ -8,8 +9,9 @@ use Rattle.std.specs.Ordering.{is_lt, ordering_reverse}
 use Rattle.std.proofs.lemmas.Cmp.{alike_right}
 use Rattle.std.proofs.lemmas.Bool.{cases_Bool, cond-true, cond-false, false≢true, false_from_ne_true}
 use Rattle.std.proofs.lemmas.List.Elements.{All-nil, All-cons, All-head, All-tail, All-weaker, All-filter}
+use Rattle.std.proofs.lemmas.List.Sorted.{IsPermutation-refl, IsPermutation-sym, IsPermutation-cons, IsPermutation-middle, IsPermutation-trans}
 use Rattle.pf_scenario.proofs.Lists.{Pairs}
-use Rattle.pf_scenario.specs.TimeOrder.{put, sorted_by}
+use Rattle.pf_scenario.specs.Sorted.{put, sorted_by}
 
 -- what an order says of two elements, by its test
 pub is_less : (o : Ordering) → is_lt o ≡ true → o ≡ Less
@@ -50,7 +52,7 @@ not_below_of : {X : Type 0} {R : X → X → Ordering} (o : IsTotalOrder R) (x y
 not_below_of {R = R} o x y z low high =
     false_from_ne_true (is_lt (R x y)) (λ below. false≢true (sym high ∙ below_all o x y z below low))
 
-swap_or : (a b c : Bool) → (a || (b || c)) ≡ (b || (a || c))
+pub swap_or : (a b c : Bool) → (a || (b || c)) ≡ (b || (a || c))
 swap_or true true c = refl
 swap_or true false c = refl
 swap_or false true c = refl
@@ -62,6 +64,26 @@ put_low R x y ys h = cond-true (is_lt (R x y)) _ _ h
 
 pub put_high : {X : Type 0} (R : X → X → Ordering) (x y : X) (ys : List X) → is_lt (R x y) ≡ false → put R x (y ∷ ys) ≡ y ∷ put R x ys
 put_high R x y ys h = cond-false (is_lt (R x y)) _ _ h
+
+-- insertion keeps the elements
+pub put_keeps : {X : Type 0} (R : X → X → Ordering) (x : X) (ys : List X) → IsPermutation (x ∷ ys) (put R x ys)
+put_keeps R x [] = IsPermutation-refl (x ∷ [])
+put_keeps R x (y ∷ ys) =
+    let P : List _ → Type 0 = IsPermutation (x ∷ y ∷ ys) in
+    elim (cases_Bool (is_lt (R x y))) [
+      | inl low ↦ subst P (sym (put_low R x y ys low)) (IsPermutation-refl (x ∷ y ∷ ys))
+      | inr high ↦
+          subst P (sym (put_high R x y ys high))
+          (IsPermutation-trans (x ∷ y ∷ ys) (y ∷ x ∷ ys) (y ∷ put R x ys)
+          (IsPermutation-sym (y ∷ x ∷ ys) (x ∷ y ∷ ys) (IsPermutation-middle (y ∷ []) x ys))
+          (IsPermutation-cons y (x ∷ ys) (put R x ys) (put_keeps R x ys)))
+    ]
+
+pub sorted_keeps : {X : Type 0} (R : X → X → Ordering) (xs : List X) → IsPermutation xs (sorted_by R xs)
+sorted_keeps R [] = IsPermutation-refl []
+sorted_keeps R (x ∷ xs) =
+    IsPermutation-trans (x ∷ xs) (x ∷ sorted_by R xs) (sorted_by R (x ∷ xs))
+    (IsPermutation-cons x xs (sorted_by R xs) (sorted_keeps R xs)) (put_keeps R x (sorted_by R xs))
 
 -- two elements that the order tells apart may be put in either way round
 pub put_comm : {X : Type 0} {R : X → X → Ordering} (o : IsTotalOrder R) (x y : X) → R x y ≢ Equal → R y x ≢ Equal → (zs : List X) → put R x (put R y zs) ≡ put R y (put R x zs)

@@ -1,18 +1,19 @@
 -- The events of a scenario in time order, and what a change makes of them.
-use Rattle.std.proofs.Common.{◌≡◌, ◌≢◌, ℕ, Bool, true, not, cond, List, [], ◌∷◌, ◌++◌, refl, sym, ap, ◌∙◌}
+use Rattle.std.proofs.Common.{◌≡◌, ◌≢◌, ℕ, Bool, true, not, List, [], ◌∷◌, ◌++◌, refl, sym, ap, ◌∙◌}
 use Rattle.std.specs.Prelude.{◌==◌}
 use Rattle.std.specs.List.{All, list_any, filter}
 use Rattle.std.specs.declared.cmp.Ordering.TheVariants.{Equal}
-use Rattle.std.specs.Ordering.{is_lt, ordering_then, nat_cmp}
+use Rattle.std.specs.Ordering.{ordering_then, nat_cmp}
 use Rattle.std.proofs.lemmas.Cmp.{tied_itself}
 use Rattle.std.specs.Cmp.{nat_cmp_total}
 use Rattle.std.proofs.lemmas.Bool.{eqb-true}
 use Rattle.std.proofs.lemmas.List.Elements.{All-head, All-tail, All-weaker, filter_passes}
 use Rattle.pf_scenario.proofs.Sorting.{All-sorted_by, list_any-sorted_by, sorted_middle, filter-sorted_by, put_agree}
 use Rattle.pf_scenario.proofs.Indexing.{time_cmp_total, time_differs, apart_back}
-use Rattle.pf_scenario.specs.Event.{slot_of, is_of, run_cmp, placed, in_run_order}
+use Rattle.pf_scenario.specs.Sorted.{put}
+use Rattle.pf_scenario.specs.Event.{slot_of, is_of, run_cmp, in_run_order}
 use Rattle.pf_scenario.specs.Scenario.{Plan, without, events_of}
-use Rattle.pf_scenario.specs.TimeOrder.{put, time_cmp, put_in_time, in_time_order}
+use Rattle.pf_scenario.specs.TimeOrder.{time_cmp, put_in_time, in_time_order}
 use Rattle.pf_scenario.specs.Index.{AreApart}
 use Rattle.pf_scenario.specs.declared.event.Numbered.{Numbered}
 
@@ -35,10 +36,6 @@ unfolding time_cmp
 time_in_slot x y same =
     ap (λ o. ordering_then o (run_cmp x y)) (ap (λ t. nat_cmp (slot_of x.event) t) (sym same) ∙ tied_itself nat_cmp_total (slot_of x.event))
 
-placed_is : (x : Numbered) (ys : List Numbered) → placed x ys ≡ put run_cmp x ys
-placed_is x [] = refl
-placed_is x (y ∷ ys) = ap (λ zs. cond (is_lt (run_cmp x y)) (x ∷ y ∷ ys) (y ∷ zs)) (placed_is x ys)
-
 slot_order : (t : ℕ) (xs : List Numbered) → All (λ x. is_of t x ≡ true) xs → in_time_order xs ≡ in_run_order xs
 slot_order t [] h = refl
 slot_order t (x ∷ xs) h =
@@ -47,7 +44,6 @@ slot_order t (x ∷ xs) h =
     let slots = All-sorted_by (λ y. is_of t y ≡ true) time_cmp xs later in
     put_agree time_cmp run_cmp x (in_time_order xs) (All-weaker (λ y. is_of t y ≡ true) (λ y. time_cmp x y ≡ run_cmp x y) (λ y of. time_in_slot x y (here ∙ sym (eqb-true _ _ of))) (in_time_order xs) slots)
     ∙ ap (put run_cmp x) (slot_order t xs later)
-    ∙ sym (placed_is x (in_run_order xs))
 
 -- the events of a slot, cut out of all events in time order
 pub events_of-in_time : (s : Plan) (t : ℕ) → filter (is_of t) (in_time_order s.events) ≡ events_of s t

@@ -1,7 +1,8 @@
 -- Events, and the order in which a run takes them.
-use Rattle.std.specs.Prelude.{ℕ, Bool, ◌==◌, List, [], ◌∷◌, cond}
+use Rattle.std.specs.Prelude.{ℕ, Bool, false, ◌==◌, List}
 use Rattle.std.specs.declared.cmp.Ordering.{Ordering}
-use Rattle.std.specs.Ordering.{nat_cmp, on, then_cmp, is_lt}
+use Rattle.std.specs.Ordering.{nat_cmp, on, then_cmp}
+use Rattle.pf_scenario.specs.Sorted.{sorted_by}
 use Rattle.pf_scenario.specs.declared.event.Event.{Event}
 use Rattle.pf_scenario.specs.declared.event.Event.TheVariants.{Join, Leave, Delay, Limit}
 use Rattle.pf_scenario.specs.declared.event.Numbered.{Numbered}
@@ -31,18 +32,21 @@ task_of (Limit slot count) = 0
 abbrev pub is_of : ℕ → Numbered → Bool
 is_of t x = slot_of x.event == t
 
+-- the event joins the task, or leaves it
+abbrev pub is_join_of : ℕ → Event → Bool
+is_join_of task (Join slot task' cost period early) = task' == task
+is_join_of task event = false
+
+abbrev pub is_leave_of : ℕ → Event → Bool
+is_leave_of task (Leave slot task') = task' == task
+is_leave_of task event = false
+
 -- the order of a slot's events: by kind, then by task, then by number
 unfoldable pub run_cmp : Numbered → Numbered → Ordering
 run_cmp =
     then_cmp (on (λ x. kind_of x.event) nat_cmp)
     (then_cmp (on (λ x. task_of x.event) nat_cmp) (on (λ x. x.id) nat_cmp))
 
--- x in its place among events in run order
-abbrev pub placed : Numbered → List Numbered → List Numbered
-placed x [] = x ∷ []
-placed x (y ∷ ys) = cond (is_lt (run_cmp x y)) (x ∷ y ∷ ys) (y ∷ placed x ys)
-
 -- these events in run order
 abbrev pub in_run_order : List Numbered → List Numbered
-in_run_order [] = []
-in_run_order (x ∷ xs) = placed x (in_run_order xs)
+in_run_order = sorted_by run_cmp

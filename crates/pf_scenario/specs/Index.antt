@@ -2,20 +2,11 @@
 use Rattle.std.specs.Prelude.{◌≡◌, ℕ, ◌+◌, ◌≤◌, Bool, true, false, ◌==◌, if◌then◌else◌, List, [], ◌∷◌, length, slice_index, All, AllPairs}
 use Rattle.std.specs.Ordering.{is_lt}
 use Rattle.pf_scenario.specs.Event.{task_of}
+pub use Rattle.pf_scenario.specs.Event.{is_join_of, is_leave_of}
 use Rattle.pf_scenario.specs.TimeOrder.{time_cmp}
 use Rattle.pf_scenario.specs.Edit.{join_alike, leave_alike}
 use Rattle.pf_scenario.specs.declared.event.Event.{Event}
-use Rattle.pf_scenario.specs.declared.event.Event.TheVariants.{Join, Leave}
 use Rattle.pf_scenario.specs.declared.event.Numbered.{Numbered}
-
--- the event joins the task, or leaves it
-abbrev pub is_join_of : ℕ → Event → Bool
-is_join_of t (Join slot task cost period early) = task == t
-is_join_of t event = false
-
-abbrev pub is_leave_of : ℕ → Event → Bool
-is_leave_of t (Leave slot task) = task == t
-is_leave_of t event = false
 
 -- the number of the first event that passes a test, or 0
 abbrev pub number_of : (Event → Bool) → List Numbered → ℕ

@@ -1,5 +1,6 @@
 pub use Rattle.pf_weight.specs.Share
 pub mod System
+pub mod Sorted
 pub mod Event
 pub mod Scenario
 pub mod Edit

@@ -1,19 +1,10 @@
 -- The order of all events of a scenario: slot by slot, and in a slot as a run takes them.
-use Rattle.std.specs.Prelude.{List, [], ◌∷◌, cond}
+use Rattle.std.specs.Prelude.{List}
 use Rattle.std.specs.declared.cmp.Ordering.{Ordering}
-use Rattle.std.specs.Ordering.{nat_cmp, on, then_cmp, is_lt}
+use Rattle.std.specs.Ordering.{nat_cmp, on, then_cmp}
+use Rattle.pf_scenario.specs.Sorted.{put, sorted_by}
 use Rattle.pf_scenario.specs.Event.{slot_of, run_cmp}
 use Rattle.pf_scenario.specs.declared.event.Numbered.{Numbered}
-
--- x in its place among elements in an order
-abbrev pub put : {X : Type 0} → (X → X → Ordering) → X → List X → List X
-put cmp x [] = x ∷ []
-put cmp x (y ∷ ys) = cond (is_lt (cmp x y)) (x ∷ y ∷ ys) (y ∷ put cmp x ys)
-
--- these elements in an order
-abbrev pub sorted_by : {X : Type 0} → (X → X → Ordering) → List X → List X
-sorted_by cmp [] = []
-sorted_by cmp (x ∷ xs) = put cmp x (sorted_by cmp xs)
 
 -- by slot, and in a slot as a run takes them
 unfoldable pub time_cmp : Numbered → Numbered → Ordering

@@ -154,7 +154,7 @@ parts_more n from (s ∷ ss) rise =
     not_own true false c none = omega arith
     not_own false false c none = omega arith
 
-range_more : (a n : ℕ) → range_with_len a (n + 1) ≡ range_with_len a n ++ (a + n) ∷ []
+pub range_more : (a n : ℕ) → range_with_len a (n + 1) ≡ range_with_len a n ++ (a + n) ∷ []
 range_more a n = sym (map-id (range_with_len a (n + 1))) ∙ map-range_with_len_more (λ x. x) a n (a + n) refl ∙ ap (λ xs. xs ++ (a + n) ∷ []) (map-id (range_with_len a n))
 
 no_part : (a from : ℕ) (ss : List Stop) → StopsRise from ss → a ≤ from → 0 + sum_by (part_of (a + 0)) ss ≡ 0

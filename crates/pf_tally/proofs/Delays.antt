@@ -9,6 +9,7 @@ use Rattle.pf_scenario.specs.Event.{slot_of}
 use Rattle.pf_scenario.specs.declared.event.Event.{Event}
 use Rattle.pf_scenario.specs.declared.event.Event.TheVariants.{Join, Leave, Delay, Limit}
 use Rattle.pf_scenario.specs.declared.event.Numbered.{Numbered}
+use Rattle.pf_engine.proofs.Firsts.{one_at_most}
 use Rattle.pf_engine.specs.Record.{Slot, done}
 use Rattle.pf_engine.specs.Inside.{Joined, held_back, shift_of}
 use Rattle.pf_tally.specs.Clock.{Stop, next_at, stop_by, stops_behind}
@@ -18,14 +19,10 @@ use Rattle.pf_tally.specs.Held.{delayed, next_in, held_by, held_from, stop_of, I
 use Rattle.pf_tally.specs.declared.held.Held.{Held}
 use Rattle.pf_tally.proofs.Places.{done_is}
 
-at_most : (b c : Bool) → (b ≡ true → c ≡ true) → cond b 1 0 ≤ cond c 1 0
-at_most false c weaker = grind arith
-at_most true c weaker = omega (arith, ap {B = ℕ} (λ d. cond d 1 0) (weaker refl))
-
 pub done_rises : (r : List Slot) (task t u : ℕ) → t ≤ u → done r task t ≤ done r task u
 done_rises r task t u within =
     let more = sum_by-le-sum_by (λ q. cond (nat_lt q t) 1 0) (λ q. cond (nat_lt q u) 1 0) (slots_of r task)
-    (λ q. at_most (nat_lt q t) (nat_lt q u) (λ below. lt-ltb q u (let h : q < t = ltb-true q t below in omega arith))) in
+    (λ q. one_at_most (nat_lt q t) (nat_lt q u) (λ below. lt-ltb q u (let h : q < t = ltb-true q t below in omega arith))) in
     omega (arith, done_is r task t, done_is r task u, more)
 
 -- each delay before slot u counts for the subtask that is next at u
@@ -116,5 +113,5 @@ next_rises r j t u within = let up : done r j.task t ≤ done r j.task u = done_
 pub next_in_rises : (ran : List ℕ) (t u : ℕ) → t ≤ u → next_in ran t ≤ next_in ran u
 next_in_rises ran t u within =
     let more = sum_by-le-sum_by (λ q. cond (nat_lt q t) 1 0) (λ q. cond (nat_lt q u) 1 0) ran
-    (λ q. at_most (nat_lt q t) (nat_lt q u) (λ below. lt-ltb q u (let h : q < t = ltb-true q t below in omega arith))) in
+    (λ q. one_at_most (nat_lt q t) (nat_lt q u) (λ below. lt-ltb q u (let h : q < t = ltb-true q t below in omega arith))) in
     omega (arith, more)

@@ -1,18 +1,16 @@
 -- The events in force: how they are found, and what is known of them.
-use Rattle.std.proofs.Common.{◌≡◌, ℕ, zero, suc, ◌+◌, ◌<◌, ◌≤◌, Bool, true, false, not, ◌||◌, ◌==◌, nat_lt, cond, Result, Ok, Err, List, [], ◌∷◌, ◌++◌, length, map, filter, get_or, count_by, All, AllPairs, ⊎_elim, refl, sym, ap, ap₂, ◌∙◌, arith}
+use Rattle.std.proofs.Common.{◌≡◌, ℕ, zero, suc, ◌+◌, ◌<◌, ◌≤◌, not, ◌||◌, ◌==◌, Result, Ok, Err, List, [], ◌∷◌, ◌++◌, length, map, filter, get_or, All, AllPairs, ⊎_elim, refl, sym, ap, ap₂, ◌∙◌, arith}
 use Rattle.std.specs.List.{list_any}
 use Rattle.std.specs.List.Sorted.{IsNonDecreasing, IsBinarySearchResult}
-use Rattle.std.specs.Ordering.{nat_cmp, is_lt}
+use Rattle.std.specs.Ordering.{nat_cmp}
 use Rattle.std.specs.Result.{is_ok}
 use Rattle.std.proofs.lemmas.Bool.{cases_lt, eqb-true, ne_eqb, eq-eqb}
-use Rattle.std.proofs.lemmas.Bool.Decides.{nat_tests}
-use Rattle.std.proofs.lemmas.List.{length-append, get_or_default}
+use Rattle.std.proofs.lemmas.List.{get_or_default}
 use Rattle.std.proofs.lemmas.List.Elements.{All-filter, Contains-get_or, filter_agree, filter-append}
 use Rattle.std.proofs.lemmas.List.Folds.{list_any_at, list_any_none}
 use Rattle.std.proofs.lemmas.List.Kept.{AllPairs-filter}
-use Rattle.std.proofs.lemmas.List.Sums.{sum_by-cons, length-filter, count_by-le-length}
 use Rattle.std.proofs.lemmas.List.Sorted.{searched, list_any-IsPermutation}
-use Rattle.pf_scenario.specs.Event.{slot_of, is_of, run_cmp, placed, in_run_order}
+use Rattle.pf_scenario.specs.Event.{slot_of}
 use Rattle.pf_scenario.specs.Scenario.{Plan, events_of, past}
 use Rattle.pf_scenario.specs.Edit.{IsScenario, most_events}
 use Rattle.pf_scenario.specs.declared.event.Numbered.{Numbered}
@@ -20,9 +18,10 @@ use Rattle.pf_engine.specs.declared.denied.Denied.{Denied}
 use Rattle.pf_engine.specs.Record.{is_denied, in_force}
 use Rattle.pf_engine.proofs.Containing.{pairs_append, pairs_tail}
 use Rattle.pf_engine.proofs.Joins.{contains_events_of, past_below, joins_once_in_force}
+use Rattle.pf_engine.proofs.Plans.{past_few, in_force_few}
+use Rattle.pf_engine.proofs.Bounding.{in_force_limits}
 use Rattle.pf_tally.specs.Log.{RiseFrom, IsLog}
 use Rattle.pf_tally.specs.Standing.{AreNumbersOf}
-use Rattle.pf_tally.proofs.Turns.{in_force_limits}
 
 -- what a search among rising numbers says
 pub among_from_search : (numbers : List ℕ) (id : ℕ) (r : Result ℕ ℕ) → IsNonDecreasing numbers → IsBinarySearchResult (λ y. nat_cmp y id) numbers r →
@@ -88,46 +87,6 @@ rise_from_pairs u (x ∷ xs) pairs low = (
       (λ k d within. pairs 0 (suc k) d (omega arith) (omega arith)),
 )
 
--- there are no more of them than events
-either_length : (b : Bool) (x y : Numbered) (ys zs : List Numbered) → length zs ≡ suc (length ys) →
-    length (cond b (x ∷ y ∷ ys) (y ∷ zs)) ≡ suc (length (y ∷ ys))
-either_length true x y ys zs e = refl
-either_length false x y ys zs e = ap suc e
-
-placed_length : (x : Numbered) (xs : List Numbered) → length (placed x xs) ≡ suc (length xs)
-placed_length x [] = refl
-placed_length x (y ∷ ys) = either_length (is_lt (run_cmp x y)) x y ys (placed x ys) (placed_length x ys)
-
-in_run_order_length : (xs : List Numbered) → length (in_run_order xs) ≡ length xs
-in_run_order_length [] = refl
-in_run_order_length (x ∷ xs) = placed_length x (in_run_order xs) ∙ ap suc (in_run_order_length xs)
-
-events_length : (s : Plan) (t : ℕ) → length (events_of s t) ≡ count_by (is_of t) s.events
-unfolding events_of
-events_length s t = in_run_order_length (filter (is_of t) s.events) ∙ length-filter (is_of t) s.events
-
-one_more_slot : (t : ℕ) (x : Numbered) → cond (nat_lt (slot_of x.event) t) 1 0 + cond (is_of t x) 1 0 ≡ cond {A = ℕ} (nat_lt (slot_of x.event) (suc t)) 1 0
-one_more_slot t x = grind (arith, nat_tests)
-
-slots_count : (t : ℕ) (xs : List Numbered) → count_by (λ x. nat_lt (slot_of x.event) t) xs + count_by (is_of t) xs ≡ count_by (λ x. nat_lt (slot_of x.event) (suc t)) xs
-slots_count t [] = refl
-slots_count t (x ∷ xs) = omega (
-  arith,
-  sum_by-cons (λ x. cond (nat_lt (slot_of x.event) t) 1 0) x xs,
-  sum_by-cons (λ x. cond (is_of t x) 1 0) x xs,
-  sum_by-cons (λ x. cond (nat_lt (slot_of x.event) (suc t)) 1 0) x xs,
-  one_more_slot t x,
-  slots_count t xs,
-)
-
-past_length : (s : Plan) (t : ℕ) → length (past s t) ≤ count_by (λ x. nat_lt (slot_of x.event) t) s.events
-past_length s zero = omega arith
-past_length s (suc t) = omega (arith, length-append (past s t) (events_of s t), past_length s t, events_length s t, slots_count t s.events)
-
-in_force_length : (denials : List Denied) (xs : List Numbered) → length (in_force denials xs) ≤ length xs
-unfolding in_force
-in_force_length denials xs = omega (arith, length-filter (λ x. not (is_denied denials x)) xs, count_by-le-length (λ x. not (is_denied denials x)) xs)
-
 in_force_below : (s : Plan) (n : ℕ) (denials : List Denied) → All (λ x. slot_of x.event < n) (in_force denials (past s n))
 unfolding in_force
 in_force_below s n denials =
@@ -150,6 +109,6 @@ standing_is_log s n denials scenario within = record {
   limits = in_force_limits s n denials scenario;
   below = in_force_below s n denials;
   few = let few : length s.events ≤ most_events = scenario.few in
-      omega (arith, in_force_length denials (past s n), past_length s n, count_by-le-length (λ x. nat_lt (slot_of x.event) n) s.events);
+      omega (arith, in_force_few denials (past s n), past_few s n);
   joins_once = joins_once_in_force s n denials scenario;
 }

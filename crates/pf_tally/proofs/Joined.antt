@@ -1,18 +1,12 @@
 -- What is known of the tasks that the events of a log bring.
-use Rattle.std.proofs.Common.{◌≡◌, ℕ, ◌*◌, ◌/◌, ◌%◌, ◌^◌, ◌<◌, ◌≤◌, Bool, true, false, ◌==◌, ◌&&◌, nat_lt, nat_le, cond, Option, None, Some, List, length, get_or, filter_map, All, Contains, ⊎_elim, refl, ap, subst, arith}
-use Rattle.std.specs.Option.{option_map}
+use Rattle.std.proofs.Common.{◌≡◌, ℕ, ◌*◌, ◌/◌, ◌%◌, ◌^◌, ◌<◌, ◌≤◌, ◌==◌, None, Some, List, length, get_or, filter_map, All, Contains, refl, ap, subst, arith}
 use Rattle.std.proofs.Math.Nat.{mul-le-mul_right, mul-le-mul_left}
-use Rattle.std.proofs.lemmas.Bool.{leb-true, and_parts}
-use Rattle.std.proofs.lemmas.Bool.Decides.{nat_tests}
 use Rattle.std.proofs.lemmas.List.Elements.{All-contains, Contains-get_or}
 use Rattle.pf_weight.specs.Share.{IsShare, IsBase, share_of}
 use Rattle.pf_weight.specs.Weighed.{weight_fault}
-use Rattle.pf_weight.specs.declared.fault.WeightFault.{WeightFault}
 use Rattle.pf_scenario.specs.System.{System, IsSystem}
 use Rattle.pf_scenario.specs.Event.{slot_of}
-use Rattle.pf_scenario.specs.Edit.{IsEvent, or_else, unless}
-use Rattle.pf_scenario.specs.declared.fault.EditFault.{EditFault}
-use Rattle.pf_scenario.specs.declared.fault.EditFault.TheVariants.{SlotOutOfRange, TaskOutOfRange, EarlyOutOfRange, DelayOutOfRange, CountOutOfRange, BadWeight}
+use Rattle.pf_scenario.specs.Edit.{IsEvent}
 use Rattle.pf_scenario.specs.declared.event.Event.{Event}
 use Rattle.pf_scenario.specs.declared.event.Event.TheVariants.{Join, Leave, Delay, Limit}
 use Rattle.pf_scenario.specs.declared.event.Numbered.{Numbered}
@@ -22,43 +16,17 @@ use Rattle.std.proofs.lemmas.List.Sums.{count_by-le-length}
 use Rattle.pf_engine.specs.Record.{Slot, runs}
 use Rattle.pf_engine.specs.Inside.{Joined, joined_by, join_of, has_left, inside}
 use Rattle.pf_engine.proofs.Containing.{from_filter}
+use Rattle.pf_engine.proofs.Limits.{join_task, join_weight, delay_by, weight_parts}
+use Rattle.pf_engine.proofs.Bounding.{joined_within, held_cond, horizon_within}
 use Rattle.pf_tally.specs.Log.{IsLog}
 use Rattle.pf_tally.specs.Held.{delayed, CanTally}
 use Rattle.pf_tally.specs.Quanta.{slots_of}
 use Rattle.pf_tally.proofs.Places.{places_rise, length_places}
 use Rattle.pf_tally.proofs.Subs.{from_filter_map}
 
-or_none : (f g : Option EditFault) → or_else f g ≡ None → (f ≡ None) × (g ≡ None)
-or_none None g is = (refl, is)
-or_none (Some f) g is = cc
-
-unless_none : (b : Bool) (f : EditFault) → unless b f ≡ None → b ≡ true
-unless_none true f is = refl
-unless_none false f is = cc
-
--- of the tests that an event passes: its task's number, its delay and its weight
-parts_of : (a b c d e : Bool) (w : Option EditFault) →
-    or_else (unless a SlotOutOfRange) (or_else (unless b TaskOutOfRange) (or_else (unless c EarlyOutOfRange)
-    (or_else (unless d DelayOutOfRange) (or_else (unless e CountOutOfRange) (or_else w None))))) ≡ None →
-    (b ≡ true) × (d ≡ true) × (w ≡ None)
-parts_of a b c d e w is =
-    let rest = (or_none (unless a SlotOutOfRange) (or_else (unless b TaskOutOfRange) (or_else (unless c EarlyOutOfRange) (or_else (unless d DelayOutOfRange) (or_else (unless e CountOutOfRange) (or_else w None))))) is).1 in
-    let of_b = or_none (unless b TaskOutOfRange) (or_else (unless c EarlyOutOfRange) (or_else (unless d DelayOutOfRange) (or_else (unless e CountOutOfRange) (or_else w None)))) rest in
-    let of_c = or_none (unless c EarlyOutOfRange) (or_else (unless d DelayOutOfRange) (or_else (unless e CountOutOfRange) (or_else w None))) of_b.1 in
-    let of_d = or_none (unless d DelayOutOfRange) (or_else (unless e CountOutOfRange) (or_else w None)) of_c.1 in
-    let of_e = or_none (unless e CountOutOfRange) (or_else w None) of_d.1 in
-    (unless_none b TaskOutOfRange of_b.0, unless_none d DelayOutOfRange of_d.0, (or_none w None of_e.1).0)
-
-map_none : (f : WeightFault → EditFault) (o : Option WeightFault) → option_map f o ≡ None → o ≡ None
-map_none f None is = refl
-map_none f (Some x) is = cc
-
-weighed_parts : (base cost period : ℕ) → weight_fault base cost period ≡ None → (1 ≤ cost) × (cost ≤ period) × (base % period ≡ 0)
-weighed_parts base cost period is = (grind (arith, nat_tests), grind (arith, nat_tests), grind (arith, nat_tests))
-
 share_is : (base cost period : ℕ) → IsBase base → weight_fault base cost period ≡ None → IsShare (share_of base cost period)
 share_is base cost period of_base is =
-    let parts = weighed_parts base cost period is in
+    let parts = weight_parts base cost period is in
     let some : 1 ≤ cost = parts.0 in
     let within : cost ≤ period = parts.1 in
     let whole : base % period ≡ 0 = parts.2 in
@@ -72,17 +40,6 @@ share_is base cost period of_base is =
     let short : period * 1 ≤ period * q = mul-le-mul_left period q_some in
     record { some = some; within = within; short = omega arith; units_some = omega arith; units_within = omega arith }
 
-number_of : (system : System) (event : Event) (j : Joined) → IsEvent system event → joined_by system.base event ≡ Some j → j.task ≤ 4095
-number_of system (Join slot task cost period early) j within is =
-    let joined : Joined = record { task = task; slot = slot; weight = share_of system.base cost period; early = early } in
-    let same : joined ≡ j = cc in
-    let parts = parts_of (nat_lt slot system.horizon) (nat_le 1 task && nat_le task 4095) (nat_le early (2 ^ 20)) true true (option_map (λ f. BadWeight f) (weight_fault system.base cost period)) within in
-    let most = leb-true task 4095 (and_parts (nat_le 1 task) (nat_le task 4095) parts.0).1 in
-    omega (arith, ap (λ j. j.task) same)
-number_of system (Leave slot task) j within is = cc
-number_of system (Delay slot task by) j within is = cc
-number_of system (Limit slot count) j within is = cc
-
 -- the parts of a join within its limits
 record IsJoin (base : ℕ) (event : Event) (j : Joined) : Type 0 where
   pub number : j.task ≤ 4095
@@ -93,11 +50,10 @@ joined_is : (system : System) (event : Event) (j : Joined) → IsSystem system �
 joined_is system (Join slot task cost period early) j of_system within is =
     let joined : Joined = record { task = task; slot = slot; weight = share_of system.base cost period; early = early } in
     let same : joined ≡ j = cc in
-    let parts = parts_of (nat_lt slot system.horizon) (nat_le 1 task && nat_le task 4095) (nat_le early (2 ^ 20)) true true (option_map (λ f. BadWeight f) (weight_fault system.base cost period)) within in
     let P : Joined → Type 0 = IsJoin system.base (Join slot task cost period early) in
     subst P same (record {
-      number = number_of system (Join slot task cost period early) joined within refl;
-      share = share_is system.base cost period of_system.limits.base (map_none (λ f. BadWeight f) (weight_fault system.base cost period) parts.2);
+      number = (join_task system slot task cost period early within).1;
+      share = share_is system.base cost period of_system.limits.base (join_weight system slot task cost period early within);
       slot = refl;
     })
 joined_is system (Leave slot task) j of_system within is = cc
@@ -109,23 +65,14 @@ pub numbers_within : (system : System) (xs : List Numbered) → All (λ x. IsEve
 numbers_within system xs limits k d within =
     let js = filter_map (join_of system.base) xs in
     let g = from_filter_map (join_of system.base) xs (get_or js k d) (Contains-get_or js k d within) in
-    omega (arith, number_of system g.giver.event (get_or js k d) (All-contains (λ x. IsEvent system x.event) xs g.giver limits g.stands) g.gives)
+    let is = joined_within system g.giver.event (get_or js k d) g.gives (All-contains (λ x. IsEvent system x.event) xs g.giver limits g.stands) in
+    omega (arith, is.task_within)
 
 delay_short : (system : System) (j : Joined) (event : Event) → IsEvent system event → delayed j event ≤ 2 ^ 20
-delay_short system j (Delay slot task by) within =
-    let parts = parts_of (nat_lt slot system.horizon) (nat_le 1 task && nat_le task 4095) true (nat_le 1 by && nat_le by (2 ^ 20)) true None within in
-    let short = leb-true by (2 ^ 20) (and_parts (nat_le 1 by) (nat_le by (2 ^ 20)) parts.1).1 in
-    one_or_none (task == j.task) short
-  where
-    one_or_none : (b : Bool) → by ≤ 2 ^ 20 → cond b by 0 ≤ 2 ^ 20
-    one_or_none true short = short
-    one_or_none false short = omega arith
+delay_short system j (Delay slot task by) within = held_cond (task == j.task) by (delay_by system slot task by within)
 delay_short system j (Join slot task cost period early) within = omega arith
 delay_short system j (Leave slot task) within = omega arith
 delay_short system j (Limit slot count) within = omega arith
-
-horizon_within : (system : System) → IsSystem system → system.horizon ≤ 2 ^ 22
-horizon_within system of_system = ⊎_elim (λ near. omega (arith, near)) (λ wide. omega (arith, wide)) of_system.horizon
 
 -- Use: what is known of a task that joined.
 pub can_tally : (system : System) (n : ℕ) (xs : List Numbered) (j : Joined) (r : List Slot) (ran : List ℕ) → IsLog system n xs →

@@ -1,29 +1,27 @@
 -- The ledger of a run, and what it says of a task.
-use Rattle.std.proofs.Common.{◌≡◌, ℕ, ◌+◌, ◌<◌, ◌≤◌, ◌≢◌, false, ◌&&◌, nat_le, Option, Some, List, [], ◌∷◌, ◌++◌, length, take, map, get_or, filter_map, All, AllPairs, Contains, IsPermutation, refl, sym, ap, ap₂, ◌∙◌, subst, subst₂, arith}
+use Rattle.std.proofs.Common.{◌≡◌, ℕ, ◌+◌, ◌<◌, ◌≤◌, ◌≢◌, ◌&&◌, nat_le, Option, List, [], ◌∷◌, ◌++◌, length, take, map, get_or, filter_map, All, AllPairs, Contains, IsPermutation, refl, sym, ap, ap₂, ◌∙◌, subst, subst₂, arith}
 use Rattle.std.proofs.lemmas.List.{map_more, take_all, take_more, get_or_default, flat_map_more}
 use Rattle.std.proofs.lemmas.List.Elements.{Contains-get_or}
 use Rattle.std.proofs.lemmas.List.Sorted.{IsPermutation-sym, Contains-permutation}
 use Rattle.std.specs.List.{flat_map}
 use Rattle.std.specs.List.Sorted.{IsSortedBy}
 use Rattle.std.specs.Ordering.{is_lt}
-use Rattle.std.proofs.lemmas.Bool.{eqb-false}
-use Rattle.pf_weight.specs.Share.{IsShare, share_of}
+use Rattle.pf_weight.specs.Share.{IsShare}
 use Rattle.pf_order.specs.declared.pick.Pick.{Pick}
 use Rattle.pf_scenario.specs.Scenario.{Plan, past}
-use Rattle.pf_scenario.specs.Edit.{IsScenario, join_alike}
-use Rattle.pf_scenario.specs.declared.event.Event.{Event}
-use Rattle.pf_scenario.specs.declared.event.Event.TheVariants.{Join}
+use Rattle.pf_scenario.specs.Edit.{IsScenario}
 use Rattle.pf_scenario.specs.System.{System}
 use Rattle.pf_scenario.specs.declared.event.Numbered.{Numbered}
 use Rattle.pf_engine.specs.declared.denied.Denied.{Denied}
 use Rattle.pf_engine.specs.Record.{Slot, in_force}
-use Rattle.pf_engine.specs.Inside.{Joined, joined_by, join_of, inside}
+use Rattle.pf_engine.specs.Inside.{Joined, join_of, inside}
 use Rattle.pf_engine.specs.Run.{standing}
 use Rattle.pf_engine.specs.Computed.{run_of}
 use Rattle.pf_engine.specs.RunRows.{AreOfRun, rows_in, denials_in}
 use Rattle.pf_engine.proofs.Runs.{computed_length}
-use Rattle.pf_tally.specs.Lags.{by_task, lag_of, lags_of}
-use Rattle.pf_engine.proofs.Containing.{pairs_filter_map}
+use Rattle.pf_tally.specs.Lags.{task_cmp, by_task, lag_of, lags_of}
+use Rattle.pf_scenario.proofs.Sorting.{sorted_keeps}
+use Rattle.pf_engine.proofs.Joins.{joined_differ}
 use Rattle.pf_tally.specs.Held.{CanTally, next_in, held_from}
 use Rattle.pf_tally.specs.Late.{late_misses, CanMiss}
 use Rattle.pf_tally.specs.Misses.{leaves_after, misses_of_task, miss_cmp, in_miss_order, misses_of}
@@ -43,7 +41,7 @@ use Rattle.pf_tally.proofs.Delays.{chain_from, held_chain, next_in_rises}
 use Rattle.pf_tally.proofs.Holding.{next_is}
 use Rattle.pf_tally.proofs.Own.{lag_own, misses_own, can_own}
 use Rattle.pf_tally.proofs.Missing.{misses_same, misses_sorted}
-use Rattle.pf_tally.proofs.Tallies.{by_task_keeps, all_small}
+use Rattle.pf_tally.proofs.Tallies.{all_small}
 use Rattle.pf_tally.proofs.Turns.{rows_of_run, slots_seated}
 
 pub rows_known : (s : Plan) (m : ℕ) (rows : List (List (Option Pick))) (denials : List Denied) → AreOfRun s (length rows) rows denials → m ≡ s.settings.processors → All (IsRow m) rows
@@ -102,7 +100,7 @@ inside_known base xs tasks k d is within =
     let j = get_or tasks k d in
     let P : List Joined → Type 0 = λ js. Contains js j in
     inside_joined base xs j
-    (Contains-permutation (by_task (inside base xs)) (inside base xs) j (IsPermutation-sym (inside base xs) (by_task (inside base xs)) (by_task_keeps (inside base xs)))
+    (Contains-permutation (by_task (inside base xs)) (inside base xs) j (IsPermutation-sym (inside base xs) (by_task (inside base xs)) (sorted_keeps task_cmp (inside base xs)))
     (subst P is (Contains-get_or tasks k d within)))
 
 pub lags_known : (s : Plan) (n : ℕ) (ledger : Ledger) (lags : List Lag) (tasks : List Joined) (k : ℕ) → IsLedger s n ledger → tasks ≡ by_task (inside ledger.settings.base ledger.events.items) →
@@ -135,16 +133,6 @@ module _ (s : Plan) (n : ℕ) (ledger : Ledger) (known : IsLedger s n ledger) (t
       push ∙ ap₂ (λ xs y. xs ++ y ∷ []) before (this ∙ ap f is) ∙ sym (map_more f tasks k j within)
 
 -- The misses.
-joins_carry : (base : ℕ) (x y : Event) (a b : Joined) → joined_by base x ≡ Some a → joined_by base y ≡ Some b → join_alike x y ≡ false → a.task ≢ b.task
-joins_carry base (Join slot task cost period early) (Join slot' task' cost' period' early') a b is_a is_b apart same =
-    let first : Joined = record { task = task; slot = slot; weight = share_of base cost period; early = early } in
-    let second : Joined = record { task = task'; slot = slot'; weight = share_of base cost' period'; early = early' } in
-    let e : first ≡ a = cc in
-    let f : second ≡ b = cc in
-    eqb-false task task' apart (ap (λ j. j.task) e ∙ same ∙ sym (ap (λ j. j.task) f))
-joins_carry base (Join slot task cost period early) y a b is_a is_b apart same = cc
-joins_carry base x y a b is_a is_b apart same = cc
-
 pub can_miss : (j : Joined) (ran : List ℕ) (xs : List Numbered) (n : ℕ) (held : List Held) → CanTally j ran xs n → held ≡ held_from (next_in ran) j j.slot xs → CanMiss j held n
 can_miss j ran xs n held can is =
     let P : List Held → Type 0 = λ held. CanMiss j held n in
@@ -200,9 +188,7 @@ module _ (s : Plan) (n : ℕ) (ledger : Ledger) (known : IsLedger s n ledger) (t
       let e : misses ≡ flat_map f tasks = of_misses ∙ ap (flat_map f) (take_all k tasks over) in
       let shares : All (λ j. IsShare j.weight) tasks = λ k d within. task_share s n ledger known (get_or tasks k d) (joined_at k (get_or tasks k d) within (get_or_default tasks k d (get_or tasks k d) within)) in
       let Q : List Joined → Type 0 = λ js. AllPairs (λ a b. a.task ≢ b.task) js in
-      let differ = subst Q (sym of_tasks)
-      (pairs_filter_map (λ x y. join_alike x.event y.event ≡ false) (λ a b. a.task ≢ b.task) (join_of ledger.settings.base)
-      (λ x y a b is_a is_b apart. joins_carry ledger.settings.base x.event y.event a b is_a is_b apart) ledger.events.items known.log.joins_once) in
+      let differ = subst Q (sym of_tasks) (joined_differ ledger.settings.base ledger.events.items known.log.joins_once) in
       misses_sorted (run_of s n) ledger.events.items tasks misses sorted shares differ e same up
       ∙ ap (λ js. in_miss_order (flat_map f js)) of_tasks
       ∙ ap₂ (λ (xs : List Numbered) base. in_miss_order (flat_map (misses_of_task (run_of s n) xs) (filter_map (join_of base) xs)))

@@ -9,31 +9,33 @@ use Rattle.std.specs.Cmp.{IsTotalOrder, nat_cmp_total}
 use Rattle.std.proofs.lemmas.Cmp.{on_total, then_total}
 use Rattle.std.proofs.lemmas.Bool.{cases_Bool, cond-true, cond-false, le-leb, lt-leb, leb-true, and_left, and_right, and_from}
 use Rattle.std.proofs.lemmas.Bool.Decides.{nat_tests}
-use Rattle.std.proofs.lemmas.List.{append-nil, append_assoc, map-id, map-append, length-map, get_or-map}
+use Rattle.std.proofs.lemmas.List.{append-nil, append_assoc, map-append, length-map, get_or-map}
+use Rattle.std.proofs.lemmas.Option.{cond_some}
 use Rattle.std.proofs.lemmas.List.Elements.{filter-append, Contains-append_cases}
-use Rattle.std.proofs.lemmas.List.FromFn.{length-range_with_len, get_or-range_with_len, map-range_with_len_more}
+use Rattle.std.proofs.lemmas.List.FromFn.{length-range_with_len, get_or-range_with_len}
 use Rattle.std.proofs.lemmas.List.Kept.{AllPairs-filter}
 use Rattle.std.proofs.lemmas.List.Sums.{sum_by-le-sum_by}
 use Rattle.pf_weight.specs.Share.{IsShare}
 use Rattle.pf_window.specs.Window.{deadline_of}
 use Rattle.pf_scenario.specs.Scenario.{Plan}
 use Rattle.pf_scenario.specs.Edit.{IsScenario}
-use Rattle.pf_scenario.specs.TimeOrder.{put, sorted_by}
 use Rattle.pf_scenario.specs.declared.event.Event.{Event}
 use Rattle.pf_scenario.specs.declared.event.Event.TheVariants.{Join, Leave, Delay, Limit}
 use Rattle.pf_scenario.specs.declared.event.Numbered.{Numbered}
 use Rattle.pf_engine.specs.Record.{Slot}
-use Rattle.pf_engine.specs.Inside.{Joined, shift_of, is_leave_of}
+use Rattle.pf_scenario.specs.Event.{is_leave_of}
+use Rattle.pf_engine.specs.Inside.{Joined, shift_of}
 use Rattle.pf_engine.specs.Computed.{run_of}
+use Rattle.pf_engine.proofs.Counting.{found_counted}
 use Rattle.pf_engine.proofs.Containing.{contains_none, pairs_append, pairs_tail}
 use Rattle.pf_tally.specs.Clock.{next_at}
 use Rattle.pf_tally.specs.Held.{held_from}
 use Rattle.pf_tally.specs.Late.{counted, due_at, is_late, late_miss, late_misses, miss_if}
-use Rattle.pf_tally.specs.Misses.{due_of, ran_in, leaves_after, is_missed, miss_of, misses_of_task, miss_cmp, placed_miss, in_miss_order}
+use Rattle.pf_tally.specs.Misses.{due_of, ran_in, leaves_after, is_missed, miss_of, misses_of_task, miss_cmp, in_miss_order}
 use Rattle.pf_tally.specs.Quanta.{slots_of}
 use Rattle.pf_tally.specs.declared.held.Held.{Held}
 use Rattle.pf_tally.specs.declared.miss.Miss.{Miss}
-use Rattle.pf_tally.proofs.Chains.{all_counted}
+use Rattle.pf_tally.proofs.Chains.{all_counted, range_more}
 use Rattle.pf_tally.proofs.Sorts.{NoTies, one_sorted}
 use Rattle.pf_tally.proofs.Subs.{ran_is}
 use Rattle.pf_tally.proofs.Windows.{deadlines_rise}
@@ -52,9 +54,6 @@ dues_rise j held i k share below =
     omega (arith, deadlines_rise j.weight i k share below, sum_by-le-sum_by (counted i) (counted k) held (counted_rises i k (omega arith)))
 
 -- one more subtask, and none once one is due after the last slot
-range_more : (a n : ℕ) → range_with_len a (n + 1) ≡ range_with_len a n ++ (a + n) ∷ []
-range_more a n = sym (map-id (range_with_len a (n + 1))) ∙ map-range_with_len_more (λ x. x) a n (a + n) refl ∙ ap (λ xs. xs ++ (a + n) ∷ []) (map-id (range_with_len a n))
-
 module _ (j : Joined) (ran : List ℕ) (held : List Held) (last : ℕ) where
   late_step : (n : ℕ) → late_misses j ran held last (n + 1) ≡ late_misses j ran held last n ++ cond (is_late j ran held last (1 + n)) (late_miss j ran held (1 + n) ∷ []) []
   late_step n =
@@ -167,14 +166,6 @@ unfolding miss_cmp
 untied x y (inl differ) tie = grind (arith, nat_tests)
 untied x y (inr differ) tie = grind (arith, nat_tests)
 
-placed_is_put : (m : Miss) (ms : List Miss) → placed_miss m ms ≡ put miss_cmp m ms
-placed_is_put m [] = refl
-placed_is_put m (x ∷ xs) = ap (λ rest. cond (is_lt (miss_cmp m x)) (m ∷ x ∷ xs) (x ∷ rest)) (placed_is_put m xs)
-
-in_order_is_sorted : (ms : List Miss) → in_miss_order ms ≡ sorted_by miss_cmp ms
-in_order_is_sorted [] = refl
-in_order_is_sorted (m ∷ ms) = ap (placed_miss m) (in_order_is_sorted ms) ∙ placed_is_put m (sorted_by miss_cmp ms)
-
 range_rises : (a n : ℕ) → AllPairs (λ x y. x < y) (range_with_len a n)
 range_rises a n i j d before within =
     let long = length-range_with_len a n in
@@ -226,13 +217,8 @@ pub misses_sorted : (r : List Slot) (xs : List Numbered) (js : List Joined) (ms 
 misses_sorted r xs js ms sorted shares differ is same up =
     let P : List Miss → Type 0 = λ ms. IsPermutation ms sorted in
     one_sorted miss_total (flat_map (misses_of_task r xs) js) sorted (all_untied r xs js shares differ) (subst P is same) up
-    ∙ sym (in_order_is_sorted (flat_map (misses_of_task r xs) js))
 
 -- what the look at one subtask says
-some_if : (b : Bool) (m k : Miss) → Some m ≡ cond b (Some k) None → (b ≡ true) × (m ≡ k)
-some_if true m k is = (refl, cc)
-some_if false m k is = cc
-
 none_if : (b : Bool) (k : Miss) → None ≡ cond b (Some k) None → b ≡ false
 none_if true k is = cc
 none_if false k is = refl
@@ -241,8 +227,8 @@ pub some_late : (j : Joined) (ran : List ℕ) (held : List Held) (last due i : �
     (is_late j ran held last i ≡ true) × (m ≡ late_miss j ran held i)
 some_late j ran held last due i m of_due within is =
     let e : Some m ≡ miss_if j ran (due_at j held i) i = is ∙ ap (λ d. miss_if j ran d i) of_due in
-    let both = some_if (option_map_or (λ t. nat_le (due_at j held i) t) (slice_get ran (i - 1)) true) m (late_miss j ran held i) e in
-    (and_from _ _ (le-leb (due_at j held i) last (omega arith)) both.0, both.1)
+    let both = cond_some (option_map_or (λ t. nat_le (due_at j held i) t) (slice_get ran (i - 1)) true) (late_miss j ran held i) m (sym e) in
+    (and_from _ _ (le-leb (due_at j held i) last (omega arith)) both.0, sym both.1)
 
 pub none_late : (j : Joined) (ran : List ℕ) (held : List Held) (last due i : ℕ) → due ≡ due_at j held i → None ≡ miss_if j ran due i → is_late j ran held last i ≡ false
 none_late j ran held last due i of_due is =
@@ -256,12 +242,5 @@ leave_passes task (Join slot task' cost period early) is none = cc
 leave_passes task (Delay slot task' by) is none = cc
 leave_passes task (Limit slot count) is none = cc
 
-found_passes : {X : Type 0} (p : X → Bool) (xs : List X) (x : X) → Some x ≡ find p xs → p x ≡ true
-found_passes p [] x is = cc
-found_passes p (y ∷ ys) x is = ⊎_elim
-    (λ here. let e : Some x ≡ Some y = is ∙ cond-true (p y) (Some y) (find p ys) here in let same : x ≡ y = cc in ap p same ∙ here)
-    (λ later. found_passes p ys x (is ∙ cond-false (p y) (Some y) (find p ys) later))
-    (cases_Bool (p y))
-
 pub only_leaves : (task : ℕ) (xs : List Numbered) (x : Numbered) → Some x ≡ find (λ x. is_leave_of task x.event) xs → ((a b : ℕ) → x.event ≡ Leave a b → ⊥) → ⊥
-only_leaves task xs x found none = leave_passes task x.event (found_passes (λ x. is_leave_of task x.event) xs x found) none
+only_leaves task xs x found none = leave_passes task x.event (found_counted (λ x. is_leave_of task x.event) xs x (sym found)).1 none

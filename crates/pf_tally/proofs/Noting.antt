@@ -1,8 +1,10 @@
 -- Each row is noted of the tasks that sit in it.
-use Rattle.std.proofs.Common.{◌≡◌, ◌≢◌, ℕ, zero, suc, ◌+◌, ◌-◌, ◌<◌, ◌≤◌, Bool, true, false, ◌||◌, ◌==◌, cond, Option, None, Some, List, [], ◌∷◌, ◌++◌, length, take, get_or, All, Contains, ⊎_elim, refl, sym, ap, ap₂, ◌∙◌, subst, arith}
+use Rattle.std.proofs.Common.{◌≡◌, ◌≢◌, ℕ, zero, suc, ◌+◌, ◌-◌, ◌<◌, ◌≤◌, true, false, ◌||◌, ◌==◌, cond, Option, None, Some, List, [], ◌∷◌, ◌++◌, length, take, get_or, All, Contains, ⊎_elim, refl, sym, ap, ap₂, ◌∙◌, subst, arith}
+use Rattle.std.proofs.Math.Bool.{or-false}
 use Rattle.std.specs.List.{slice_get}
 use Rattle.std.specs.Option.{option_map_or}
 use Rattle.std.proofs.lemmas.Bool.{cases_eq, cases_lt, ne_eqb, eq-eqb, or_from}
+use Rattle.std.proofs.lemmas.Option.{get_or_from_slice_get}
 use Rattle.std.proofs.lemmas.List.{append-nil, length-set, length_push, get_or_append_left, get_or-append_right, get_or-set_same, get_or-set_other, take_all, take_more, length-take-le}
 use Rattle.std.proofs.lemmas.List.Folds.{list_any_more}
 use Rattle.pf_order.specs.declared.pick.Pick.{Pick}
@@ -39,17 +41,13 @@ seated_more row p o task within is =
     list_any_more (λ place. option_map_or (λ q. q.task == task) place false) row p None within
     ∙ ap (λ o. is_seated (take p row) task || option_map_or (λ q. q.task == task) o false) is
 
-or_false : (b : Bool) → (b || false) ≡ b
-or_false true = refl
-or_false false = refl
-
 -- an idle place
 pub idle_noted : (old new : List (List ℕ)) (row : List (Option Pick)) (t p : ℕ) → p < length row → None ≡ sitter row p →
     AreNoted old new (take p row) t → AreNoted old new (take (p + 1) row) t
 idle_noted old new row t p within is before = record {
   long = before.long;
   each = λ task inside. before.each task inside
-      ∙ ap (λ b. noted_of old task ++ cond b (t ∷ []) []) (sym (seated_more row p None task within (sym is) ∙ or_false (is_seated (take p row) task)));
+      ∙ ap (λ b. noted_of old task ++ cond b (t ∷ []) []) (sym (seated_more row p None task within (sym is) ∙ or-false (is_seated (take p row) task)));
 }
 
 -- a place with a pick
@@ -75,7 +73,7 @@ pick_noted old new row t p pick after once within is before e =
           get_or-set_other new pick.task task (noted_of new pick.task ++ t ∷ []) [] (λ e. differ (sym e))
           ∙ before.each task inside
           ∙ ap (λ b. noted_of old task ++ cond b (t ∷ []) [])
-          (sym (seated_more row p (Some pick) task within (sym is) ∙ ap (λ b. is_seated (take p row) task || b) (ne_eqb pick.task task differ) ∙ or_false (is_seated (take p row) task))))
+          (sym (seated_more row p (Some pick) task within (sym is) ∙ ap (λ b. is_seated (take p row) task || b) (ne_eqb pick.task task differ) ∙ or-false (is_seated (take p row) task))))
           (cases_eq pick.task task);
     })
 
@@ -121,9 +119,7 @@ all_table rows table t over is = let P : List (List (Option Pick)) → Type 0 = 
 
 -- what a look-up gives
 pub got_at : {X : Type 0} (xs : List X) (t : ℕ) (x : X) → Some x ≡ slice_get xs t → get_or xs t x ≡ x
-got_at [] t x is = cc
-got_at (y ∷ xs) zero x is = cc
-got_at (y ∷ xs) (suc t) x is = got_at xs t x is
+got_at xs t x is = get_or_from_slice_get xs t x x (sym is)
 
 pub got_none : {X : Type 0} (xs : List X) (t : ℕ) → t < length xs → None ≡ slice_get xs t → ⊥
 got_none [] t within is = absurd (omega arith)

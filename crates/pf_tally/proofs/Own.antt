@@ -9,12 +9,12 @@ use Rattle.std.proofs.lemmas.List.Elements.{All-filter, All-head, All-tail, filt
 use Rattle.std.proofs.lemmas.Map.Views.{any-filter_same}
 use Rattle.std.proofs.lemmas.List.Sums.{sum_by-cons, length-filter, count_by-le-length}
 use Rattle.pf_window.specs.Window.{release_of, deadline_of}
-use Rattle.pf_scenario.specs.Event.{slot_of}
+use Rattle.pf_scenario.specs.Event.{slot_of, is_leave_of}
 use Rattle.pf_scenario.specs.declared.event.Event.{Event}
 use Rattle.pf_scenario.specs.declared.event.Event.TheVariants.{Join, Leave, Delay, Limit}
 use Rattle.pf_scenario.specs.declared.event.Numbered.{Numbered}
 use Rattle.pf_engine.specs.Record.{Slot, done}
-use Rattle.pf_engine.specs.Inside.{Joined, is_leave_of, has_left, held_back, shift_of}
+use Rattle.pf_engine.specs.Inside.{Joined, has_left, held_back, shift_of}
 use Rattle.pf_tally.specs.Clock.{Stop, next_at, stop_by, stops_behind, is_stopped, clock_of}
 use Rattle.pf_tally.specs.Lags.{lag_of}
 use Rattle.pf_tally.specs.Misses.{due_of, ran_in, leaves_after, misses_of_task}

@@ -1,5 +1,5 @@
 -- A list that is sorted by an order is the one that insertion gives, where no two elements tie.
-use Rattle.std.proofs.Common.{◌≡◌, ◌≢◌, ℕ, suc, ◌<◌, ◌≤◌, true, false, cond, List, [], ◌∷◌, length, get_or, count_by, AllPairs, All, Contains, IsPermutation, ⊎_elim, refl, sym, ap, ap₂, ◌∙◌, subst, arith}
+use Rattle.std.proofs.Common.{◌≡◌, ◌≢◌, ℕ, suc, ◌<◌, ◌≤◌, true, false, cond, List, [], ◌∷◌, length, get_or, count_by, AllPairs, All, IsPermutation, ⊎_elim, refl, sym, ap, ◌∙◌, arith}
 use Rattle.std.specs.Cmp.{IsTotalOrder}
 use Rattle.std.specs.declared.cmp.Ordering.{Ordering}
 use Rattle.std.specs.declared.cmp.Ordering.TheVariants.{Less, Equal, Greater}
@@ -9,44 +9,11 @@ use Rattle.std.proofs.lemmas.Cmp.{tied_itself, tied_back, alike_right}
 use Rattle.std.proofs.lemmas.Bool.{true≢false, cases_Bool, cond-true, cond-false}
 use Rattle.std.proofs.lemmas.List.Kept.{AllPairs-cons}
 use Rattle.std.proofs.lemmas.List.Sums.{sum_by-cons, get_or-le-sum_by}
-use Rattle.std.proofs.lemmas.List.Sorted.{IsPermutation-refl, IsPermutation-sym, IsPermutation-cons, IsPermutation-middle, IsPermutation-trans, Contains-permutation, sum_by-IsPermutation, ranks_by, sorted_far}
-use Rattle.pf_scenario.specs.TimeOrder.{put, sorted_by}
+use Rattle.std.proofs.lemmas.List.Sorted.{IsPermutation-sym, IsPermutation-trans, Contains-permutation, sum_by-IsPermutation, ranks_by, sorted_far}
+use Rattle.pf_scenario.specs.Sorted.{sorted_by}
 use Rattle.pf_scenario.proofs.Lists.{AllPairs-from_pairs}
-use Rattle.pf_scenario.proofs.Sorting.{put_low, put_high, after, not_after, IsInOrder-sorted_by}
-use Rattle.pf_engine.proofs.Containing.{contains_none, contains_head, contains_tail, contains_cases, pairs_head, pairs_tail}
-
--- two lists in a strict order with the same elements are one list
-module _ {X : Type 0} (B : X → X → Type 0) (apart : (x y : X) → B x y → B y x → ⊥) where
-  not_itself : (x y : X) → B x y → x ≡ y → ⊥
-  not_itself x y first same = apart x y first (let P : X → Type 0 = λ z. B z x in subst P same (let Q : X → Type 0 = λ z. B x z in subst Q (sym same) first))
-
-  rest_within : (x y : X) (xs ys : List X) → AllPairs B (x ∷ xs) → x ≡ y →
-      ((k : X) → Contains (x ∷ xs) k → Contains (y ∷ ys) k) → (k : X) → Contains xs k → Contains ys k
-  rest_within x y xs ys rising same within k at = ⊎_elim
-      (λ e. absurd (not_itself x k (pairs_head B x xs k rising at) (same ∙ e)))
-      (λ later. later)
-      (contains_cases y ys k (within k (contains_tail x xs k at)))
-
-  heads_same : (x y : X) (xs ys : List X) → AllPairs B (x ∷ xs) → AllPairs B (y ∷ ys) →
-      ((k : X) → Contains (x ∷ xs) k → Contains (y ∷ ys) k) → ((k : X) → Contains (y ∷ ys) k → Contains (x ∷ xs) k) → x ≡ y
-  heads_same x y xs ys first second within back = ⊎_elim
-      (λ e. sym e)
-      (λ x_later. ⊎_elim
-      (λ e. e)
-      (λ y_later. absurd (apart x y (pairs_head B x xs y first y_later) (pairs_head B y ys x second x_later)))
-      (contains_cases x xs y (back y (contains_head y ys))))
-      (contains_cases y ys x (within x (contains_head x xs)))
-
-  pub one_in_order : (a b : List X) → AllPairs B a → AllPairs B b →
-      ((k : X) → Contains a k → Contains b k) → ((k : X) → Contains b k → Contains a k) → a ≡ b
-  one_in_order [] [] first second within back = refl
-  one_in_order [] (y ∷ ys) first second within back = absurd (contains_none y (back y (contains_head y ys)))
-  one_in_order (x ∷ xs) [] first second within back = absurd (contains_none x (within x (contains_head x xs)))
-  one_in_order (x ∷ xs) (y ∷ ys) first second within back =
-      let same = heads_same x y xs ys first second within back in
-      ap₂ (λ z zs. z ∷ zs) same
-      (one_in_order xs ys (pairs_tail B x xs first) (pairs_tail B y ys second)
-      (rest_within x y xs ys first same within) (rest_within y x ys xs second (sym same) back))
+use Rattle.pf_scenario.proofs.Sorting.{after, not_after, sorted_keeps, IsInOrder-sorted_by}
+use Rattle.pf_engine.proofs.Containing.{pairs_tail, one_in_order}
 
 eq_is : (r : Ordering) → r ≡ Equal → is_eq r ≡ true
 eq_is r e = ap is_eq e
@@ -62,24 +29,6 @@ not_eq Equal e = absurd (e refl)
 not_eq Greater e = refl
 
 module _ {X : Type 0} {R : X → X → Ordering} (o : IsTotalOrder R) where
-  -- insertion keeps the elements
-  pub put_keeps : (x : X) (ys : List X) → IsPermutation (x ∷ ys) (put R x ys)
-  put_keeps x [] = IsPermutation-refl (x ∷ [])
-  put_keeps x (y ∷ ys) = ⊎_elim
-      (λ low. let P : List X → Type 0 = IsPermutation (x ∷ y ∷ ys) in subst P (sym (put_low R x y ys low)) (IsPermutation-refl (x ∷ y ∷ ys)))
-      (λ high.
-      let P : List X → Type 0 = IsPermutation (x ∷ y ∷ ys) in
-      subst P (sym (put_high R x y ys high))
-      (IsPermutation-trans (x ∷ y ∷ ys) (y ∷ x ∷ ys) (y ∷ put R x ys)
-      (IsPermutation-sym (y ∷ x ∷ ys) (x ∷ y ∷ ys) (IsPermutation-middle (y ∷ []) x ys))
-      (IsPermutation-cons y (x ∷ ys) (put R x ys) (put_keeps x ys))))
-      (cases_Bool (is_lt (R x y)))
-
-  pub sorted_keeps : (xs : List X) → IsPermutation xs (sorted_by R xs)
-  sorted_keeps [] = IsPermutation-refl []
-  sorted_keeps (x ∷ xs) = IsPermutation-trans (x ∷ xs) (x ∷ sorted_by R xs) (sorted_by R (x ∷ xs))
-      (IsPermutation-cons x xs (sorted_by R xs) (sorted_keeps xs)) (put_keeps x (sorted_by R xs))
-
   -- no two of these tie
   abbrev pub NoTies : List X → Type 0
   NoTies xs = AllPairs (λ x y. R x y ≢ Equal) xs
@@ -144,13 +93,13 @@ module _ {X : Type 0} {R : X → X → Ordering} (o : IsTotalOrder R) where
 
   pub sorted_rises : (xs : List X) → NoTies xs → AllPairs Below (sorted_by R xs)
   sorted_rises xs differ =
-      rises (sorted_by R xs) (no_ties_permuted xs (sorted_by R xs) (sorted_keeps xs) differ)
+      rises (sorted_by R xs) (no_ties_permuted xs (sorted_by R xs) (sorted_keeps R xs) differ)
       (AllPairs-from_pairs (λ x y. is_lt (R y x) ≡ false) (sorted_by R xs) (IsInOrder-sorted_by o xs))
 
   -- Use: what a sort left is what insertion gives.
   pub one_sorted : (xs ys : List X) → NoTies xs → IsPermutation xs ys → IsSortedBy (λ x y. is_lt (R x y)) ys → ys ≡ sorted_by R xs
   one_sorted xs ys differ same up =
-      let both = IsPermutation-trans ys xs (sorted_by R xs) (IsPermutation-sym xs ys same) (sorted_keeps xs) in
+      let both = IsPermutation-trans ys xs (sorted_by R xs) (IsPermutation-sym xs ys same) (sorted_keeps R xs) in
       one_in_order Below below_apart ys (sorted_by R xs)
       (rises ys (no_ties_permuted xs ys same differ)
       (λ i j d before within. sorted_far (λ x y. is_lt (R x y)) (ranks_by o (λ (x : X). x)) ys up i j d (omega arith) within))

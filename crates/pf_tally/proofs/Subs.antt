@@ -1,10 +1,11 @@
 -- A task's subtasks run in turn: the i-th slot in which it runs is that of subtask i.
-use Rattle.std.proofs.Common.{◌≡◌, ℕ, suc, ◌+◌, ◌-◌, ◌<◌, ◌≤◌, Bool, true, false, ◌&&◌, ◌==◌, ◌||◌, nat_lt, nat_le, cond, if◌then◌else◌, Option, None, Some, List, [], ◌∷◌, ◌++◌, length, get_or, filter_map, count_by, position, All, Contains, ⊎_elim, refl, sym, ap, ap₂, ◌∙◌, subst, append_assoc, arith}
+use Rattle.std.proofs.Common.{◌≡◌, ℕ, suc, ◌+◌, ◌-◌, ◌<◌, ◌≤◌, Bool, true, false, ◌&&◌, ◌==◌, ◌||◌, nat_lt, nat_le, cond, Option, None, Some, List, [], ◌∷◌, ◌++◌, length, get_or, filter_map, count_by, position, All, Contains, ⊎_elim, refl, sym, ap, ap₂, ◌∙◌, subst, append_assoc, arith}
 use Rattle.std.specs.Prelude.{not}
 use Rattle.std.specs.List.{list_any, cons_option, slice_get, position_or_len}
 use Rattle.std.proofs.lemmas.Bool.{cases_Bool, cases_eq, cond-true, cond-false, lt-ltb, ne_eqb, eq-eqb}
 use Rattle.std.proofs.lemmas.Bool.Decides.{nat_tests}
 use Rattle.std.proofs.lemmas.List.{take_all, length-map, get_or-map}
+use Rattle.std.proofs.lemmas.Option.{cond_some}
 use Rattle.std.proofs.lemmas.List.Elements.{Contains-get_or, All-head, All-tail}
 use Rattle.std.proofs.lemmas.List.Sums.{sum_by_push}
 use Rattle.pf_order.specs.Priority.{Priority}
@@ -44,17 +45,13 @@ module _ {X Y : Type 0} (h : X → Option Y) where
   from_filter_map [] y at = absurd (contains_none y at)
   from_filter_map (x ∷ xs) y at = giver_given x xs y (h x) refl (from_filter_map xs y) at
 
-key_when : (b : Bool) (key k : Priority) → (if b then Some key else None) ≡ Some k → key ≡ k
-key_when true key k is = cc
-key_when false key k is = cc
-
 -- an eligible subtask is its task's next one
 ready_sub : (base : ℕ) (r : List Slot) (xs : List Numbered) (k : Priority) → Contains (ready base r xs) k → k.sub ≡ next_sub r k.task
 unfolding ready member_of
 ready_sub base r xs k at =
     let g = from_filter_map (λ j. ready_key (length r) j.task (member_of r xs j)) (inside base xs) k at in
     let m = member_of r xs g.giver in
-    let e : next_key g.giver.task m ≡ k = key_when (nat_le (eligible_from m) (length r)) (next_key g.giver.task m) k g.gives in
+    let e : next_key g.giver.task m ≡ k = (cond_some (nat_le (eligible_from m) (length r)) (next_key g.giver.task m) k g.gives).1 in
     ap (λ k. k.sub) (sym e) ∙ ap (λ k. next_sub r k.task) e
 
 abbrev Numbers : List Slot → List Pick → Type 0

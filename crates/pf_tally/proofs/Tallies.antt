@@ -1,6 +1,6 @@
 -- What a task's tally adds up to.
-use Rattle.std.proofs.Common.{◌≡◌, ◌≢◌, ℕ, ◌+◌, ◌-◌, ◌*◌, ◌^◌, ◌<◌, ◌≤◌, Bool, true, false, not, ◌==◌, nat_lt, cond, List, [], ◌∷◌, length, filter, filter_map, count_by, All, AllPairs, IsPermutation, refl, sym, ap, ap₂, ◌∙◌, subst, arith}
-use Rattle.std.specs.Ordering.{nat_cmp, on, is_lt}
+use Rattle.std.proofs.Common.{◌≡◌, ◌≢◌, ℕ, ◌+◌, ◌-◌, ◌*◌, ◌^◌, ◌<◌, ◌≤◌, Bool, true, false, not, ◌==◌, nat_lt, cond, List, [], ◌∷◌, length, filter, filter_map, count_by, All, AllPairs, IsPermutation, sym, ap, ap₂, ◌∙◌, subst, arith}
+use Rattle.std.specs.Ordering.{nat_cmp, is_lt}
 use Rattle.std.specs.declared.cmp.Ordering.TheVariants.{Equal}
 use Rattle.std.specs.Cmp.{nat_cmp_total}
 use Rattle.std.specs.List.Sorted.{IsSortedBy}
@@ -8,27 +8,25 @@ use Rattle.std.proofs.lemmas.Cmp.{on_total}
 use Rattle.std.proofs.lemmas.Bool.Decides.{nat_tests}
 use Rattle.std.proofs.lemmas.List.Elements.{All-nil, All-cons, All-append, All-head, All-tail}
 use Rattle.std.proofs.lemmas.List.Sums.{count_by-le-length}
-use Rattle.pf_scenario.specs.TimeOrder.{put, sorted_by}
 use Rattle.pf_scenario.specs.Edit.{join_alike}
 use Rattle.pf_scenario.specs.declared.event.Event.{Event}
 use Rattle.pf_scenario.specs.declared.event.Event.TheVariants.{Join, Leave, Delay, Limit}
 use Rattle.pf_scenario.specs.declared.event.Numbered.{Numbered}
 use Rattle.std.proofs.lemmas.List.{take_all}
-use Rattle.std.specs.declared.cmp.Ordering.{Ordering}
 use Rattle.pf_engine.specs.Record.{Slot, runs, done}
 use Rattle.std.specs.Prelude.{pos, ◌-ℤ◌}
 use Rattle.pf_engine.specs.Inside.{Joined, join_of, has_left, inside}
 use Rattle.pf_tally.specs.declared.lag.Lag.{Lag}
 use Rattle.pf_engine.proofs.Joins.{inside_differ}
 use Rattle.pf_tally.specs.Clock.{clock_of}
-use Rattle.pf_tally.specs.Lags.{placed_by_task, by_task, lag_of}
+use Rattle.pf_tally.specs.Lags.{by_task, lag_of}
 use Rattle.pf_tally.specs.Quanta.{slots_of}
 use Rattle.pf_tally.specs.Held.{delayed, next_in, held_by, held_from, IsSmall, CanTally, stopped_below}
 use Rattle.pf_tally.specs.declared.held.Held.{Held}
 use Rattle.pf_tally.proofs.Chains.{clock_is}
 use Rattle.pf_tally.proofs.Holding.{next_is}
 use Rattle.pf_tally.proofs.Places.{length_places}
-use Rattle.pf_tally.proofs.Sorts.{one_sorted, sorted_keeps}
+use Rattle.pf_tally.proofs.Sorts.{one_sorted}
 
 -- the delays of a task are small
 module _ (next : ℕ → ℕ) (j : Joined) (some : (u : ℕ) → 1 ≤ next u) (within : (u : ℕ) → next u ≤ 2 ^ 24) where
@@ -70,21 +68,6 @@ received_is r task ran is =
     ap length (sym is) ∙ length_places (runs task) 0 r ∙ sym (ap (count_by (runs task)) (take_all (length r) r (omega arith)))
 
 -- the tasks by number
-lt_is : (a b : ℕ) → is_lt (nat_cmp a b) ≡ nat_lt a b
-lt_is a b = grind (arith, nat_tests)
-
-abbrev task_cmp : Joined → Joined → Ordering
-task_cmp = on (λ j. j.task) nat_cmp
-
-placed_is_put : (j : Joined) (ks : List Joined) → placed_by_task j ks ≡ put task_cmp j ks
-placed_is_put j [] = refl
-placed_is_put j (k ∷ ks) =
-    ap₂ (λ b rest. cond b (j ∷ k ∷ ks) (k ∷ rest)) (sym (lt_is j.task k.task)) (placed_is_put j ks)
-
-by_task_is_sorted : (js : List Joined) → by_task js ≡ sorted_by task_cmp js
-by_task_is_sorted [] = refl
-by_task_is_sorted (j ∷ js) = ap (placed_by_task j) (by_task_is_sorted js) ∙ placed_is_put j (sorted_by task_cmp js)
-
 not_tied : (a b : ℕ) → a ≢ b → nat_cmp a b ≢ Equal
 not_tied a b differ tie = differ (equal_from_cmp a b tie)
   where
@@ -97,7 +80,6 @@ tasks_sorted base xs js once same up =
     let differ = inside_differ base xs once in
     one_sorted (on_total (λ (j : Joined). j.task) nat_cmp_total) (inside base xs) js
     (λ i j d before within. not_tied _ _ (differ i j d before within)) same up
-    ∙ sym (by_task_is_sorted (inside base xs))
 
 pub tasks_from_sort : (base : ℕ) (xs : List Numbered) (joined found stay js : List Joined) → AllPairs (λ x y. join_alike x.event y.event ≡ false) xs →
     joined ≡ filter_map (join_of base) xs → found ≡ joined → stay ≡ filter (λ j. not (has_left xs j.task)) found →
@@ -127,8 +109,3 @@ lag_counted j ran xs n held clock lag can of_held of_clock of_lag r long of_ran 
     (omega (arith, clock_from j ran xs n r can of_ran, of_clock, ap (stopped_below n j.weight) of_held))
     (sym (received_is r j.task ran of_ran ∙ ap (done r j.task) long))
     of_lag
-
-pub by_task_keeps : (js : List Joined) → IsPermutation js (by_task js)
-by_task_keeps js =
-    let P : List Joined → Type 0 = IsPermutation js in
-    subst P (sym (by_task_is_sorted js)) (sorted_keeps (on_total (λ (j : Joined). j.task) nat_cmp_total) js)

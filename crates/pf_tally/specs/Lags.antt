@@ -1,5 +1,8 @@
 -- How far each task is from its fair share.
-use Rattle.std.specs.Prelude.{pos, ◌-ℤ◌, ◌*◌, cond, nat_lt, List, [], ◌∷◌, length, map}
+use Rattle.std.specs.Prelude.{pos, ◌-ℤ◌, ◌*◌, List, length, map}
+use Rattle.std.specs.declared.cmp.Ordering.{Ordering}
+use Rattle.std.specs.Ordering.{nat_cmp, on}
+use Rattle.pf_scenario.specs.Sorted.{sorted_by}
 use Rattle.pf_scenario.specs.Scenario.{Plan}
 use Rattle.pf_scenario.specs.declared.event.Numbered.{Numbered}
 use Rattle.pf_engine.specs.Record.{Slot, done}
@@ -8,15 +11,13 @@ use Rattle.pf_engine.specs.Run.{standing}
 use Rattle.pf_tally.specs.Clock.{clock_of}
 use Rattle.pf_tally.specs.declared.lag.Lag.{Lag}
 
--- a task in its place among tasks in rising number
-abbrev pub placed_by_task : Joined → List Joined → List Joined
-placed_by_task j [] = j ∷ []
-placed_by_task j (k ∷ ks) = cond (nat_lt j.task k.task) (j ∷ k ∷ ks) (k ∷ placed_by_task j ks)
+-- tasks go by number
+abbrev pub task_cmp : Joined → Joined → Ordering
+task_cmp = on (λ j. j.task) nat_cmp
 
 -- these tasks in rising number
 abbrev pub by_task : List Joined → List Joined
-by_task [] = []
-by_task (j ∷ js) = placed_by_task j (by_task js)
+by_task = sorted_by task_cmp
 
 -- the lag of a task after the slots r, where the events xs are in force: what its clock owes it, less what it
 -- received, in units of one part of a quantum in its period

@@ -1,15 +1,16 @@
 -- Which windows were missed.
-use Rattle.std.specs.Prelude.{ℕ, ◌+◌, ◌==◌, Bool, true, ◌&&◌, nat_le, cond, Option, List, [], ◌∷◌, length, filter, filter_map, map, find, position}
+use Rattle.std.specs.Prelude.{ℕ, ◌+◌, ◌==◌, Bool, true, ◌&&◌, nat_le, Option, List, length, filter, filter_map, map, find, position}
 use Rattle.std.specs.List.{list_any, flat_map, range_with_len}
 use Rattle.std.specs.Option.{option_map_or}
 use Rattle.std.specs.declared.cmp.Ordering.{Ordering}
-use Rattle.std.specs.Ordering.{nat_cmp, on, then_cmp, is_lt}
+use Rattle.std.specs.Ordering.{nat_cmp, on, then_cmp}
 use Rattle.pf_window.specs.Window.{deadline_of}
-use Rattle.pf_scenario.specs.Event.{slot_of}
+use Rattle.pf_scenario.specs.Sorted.{sorted_by}
+use Rattle.pf_scenario.specs.Event.{slot_of, is_leave_of}
 use Rattle.pf_scenario.specs.Scenario.{Plan}
 use Rattle.pf_scenario.specs.declared.event.Numbered.{Numbered}
 use Rattle.pf_engine.specs.Record.{Slot}
-use Rattle.pf_engine.specs.Inside.{Joined, join_of, is_leave_of, shift_of}
+use Rattle.pf_engine.specs.Inside.{Joined, join_of, shift_of}
 use Rattle.pf_engine.specs.Run.{standing}
 use Rattle.pf_tally.specs.declared.miss.Miss.{Miss}
 
@@ -43,13 +44,9 @@ misses_of_task r xs j = map (miss_of r xs j) (filter (is_missed r xs j) (range_w
 unfoldable pub miss_cmp : Miss → Miss → Ordering
 miss_cmp = then_cmp (on (λ m. m.deadline) nat_cmp) (on (λ m. m.task) nat_cmp)
 
-abbrev pub placed_miss : Miss → List Miss → List Miss
-placed_miss m [] = m ∷ []
-placed_miss m (x ∷ xs) = cond (is_lt (miss_cmp m x)) (m ∷ x ∷ xs) (x ∷ placed_miss m xs)
-
+-- these misses in this order
 abbrev pub in_miss_order : List Miss → List Miss
-in_miss_order [] = []
-in_miss_order (m ∷ ms) = placed_miss m (in_miss_order ms)
+in_miss_order = sorted_by miss_cmp
 
 -- the missed windows of the tasks admitted so far, those that left too, after the record r of the scenario
 unfoldable pub misses_of : Plan → List Slot → List Miss

@@ -1,14 +1,10 @@
 -- How a schedule's rows are noted by task: of each task the slots in which it runs.
 use Rattle.std.specs.Prelude.{◌≡◌, ℕ, ◌<◌, cond, Option, List, [], ◌∷◌, ◌++◌, length}
 use Rattle.pf_order.specs.declared.pick.Pick.{Pick}
-use Rattle.pf_place.specs.Occupancy.{sitters, is_seated, NoTaskTwice}
+use Rattle.pf_place.specs.Occupancy.{is_seated}
+pub use Rattle.pf_place.specs.Turns.{IsRow}
 use Rattle.pf_tally.specs.Notes.{noted_of}
 use Rattle.pf_tally.specs.Quanta.{slots_in}
-
--- a row of m places in which no task sits twice
-pub record IsRow (m : ℕ) (row : List (Option Pick)) : Type 0 where
-  pub long : length row ≡ m
-  pub once : NoTaskTwice (sitters row)
 
 -- the slot t was noted of those tasks that sit on these places
 pub record AreNoted (old new : List (List ℕ)) (places : List (Option Pick)) (t : ℕ) : Type 0 where

@@ -1,12 +1,10 @@
 -- A timeline that stands for a scenario, and the slot that its engine takes next.
-use Rattle.std.proofs.Common.{◌≡◌, ℕ, zero, suc, ◌+◌, ◌-◌, ◌<◌, Option, Some, None, List, [], ◌∷◌, ◌++◌, length, refl, sym, ap, ap₂, ◌∙◌, subst, arith, append_assoc}
-use Rattle.std.specs.List.{slice_get, range_with_len}
-use Rattle.std.proofs.lemmas.List.FromFn.{length-range_with_len}
-use Rattle.std.proofs.lemmas.List.{length-replicate, length-map}
+use Rattle.std.proofs.Common.{◌≡◌, ℕ, suc, ◌+◌, ◌-◌, ◌<◌, Option, Some, None, List, [], ◌∷◌, ◌++◌, length, refl, sym, ap, ap₂, ◌∙◌, subst, arith, append_assoc}
+use Rattle.std.specs.List.{slice_get}
 use Rattle.pf_order.specs.declared.pick.Pick.{Pick}
-use Rattle.pf_place.specs.Occupancy.{sitters, NoTaskTwice, seat, row_of, idle_row}
+use Rattle.pf_place.specs.Occupancy.{row_of, idle_row}
 use Rattle.pf_place.specs.RunRows.{rows_behind, rows_of}
-use Rattle.pf_place.proofs.Seated.{row_seats_once}
+use Rattle.pf_place.proofs.Seated.{row_is_row, idle_is_row}
 use Rattle.pf_scenario.specs.Scenario.{Plan, events_of}
 use Rattle.pf_scenario.specs.Edit.{IsScenario}
 use Rattle.pf_scenario.specs.declared.event.Numbered.{Numbered}
@@ -18,10 +16,10 @@ use Rattle.pf_engine.specs.Computed.{course_of, run_of}
 use Rattle.pf_engine.specs.Fits.{Kept, kept_after, Fits, Taken, CanTake, TakesSlot}
 use Rattle.pf_engine.specs.RunRows.{count_in_last, turns_behind, turns_of, rows_in, denials_in}
 use Rattle.pf_engine.proofs.Judged.{length_snoc, denials_of_snoc, along_run}
+use Rattle.pf_engine.proofs.Seating.{next_is_turn}
 use Rattle.pf_engine.proofs.Runs.{one_run, run_more, run_is_computed, computed_length}
 use Rattle.pf_timeline.specs.Seated.{IsTurn, IsRow, last_row}
 use Rattle.pf_timeline.specs.Timeline.{KeptRun, StandsFor}
-use Rattle.pf_timeline.proofs.Turns.{next_is_turn}
 
 -- the row of a slot follows the rows of those before it
 turns_snoc : (s : Plan) (r slots : List Slot) (slot : Slot) →
@@ -68,28 +66,6 @@ record_rows_snoc s r slot =
     ∙ rows_snoc s.settings.processors (idle_row s.settings.processors) (turns_of s r) (count_in_last s (r ++ slot ∷ []), slot.picks)
 
 -- each row of a run can stand before the next
-none_sit : (m : ℕ) → sitters (idle_row m) ≡ []
-none_sit zero = refl
-none_sit (suc m) = none_sit m
-
-pub idle_is_row : (m : ℕ) → IsRow m (idle_row m)
-idle_is_row m = record {
-  places = length-replicate m None;
-  once = subst NoTaskTwice (sym (none_sit m)) (λ i j d before within. absurd (omega arith));
-}
-
-placed_length : (m count : ℕ) (before : List (Option Pick)) (picks : List Pick) → length (row_of m count before picks) ≡ m
-unfolding row_of
-placed_length m count before picks =
-    length-map (range_with_len 0 m) (seat count before picks) ∙ length-range_with_len 0 m
-
-pub placed_is_row : (m count : ℕ) (before : List (Option Pick)) (picks : List Pick) → IsTurn m count picks → IsRow m before →
-    IsRow m (row_of m count before picks)
-placed_is_row m count before picks turn row = record {
-  places = placed_length m count before picks;
-  once = row_seats_once m count before picks turn.in_use row.places turn.few turn.once row.once;
-}
-
 last_is_row : (s : Plan) → IsScenario s → (n : ℕ) (r : List Slot) → IsRun s n r → IsRow s.settings.processors (row_behind s r)
 last_is_row s scenario = along_run s (λ r. IsRow s.settings.processors (row_behind s r))
     (idle_is_row s.settings.processors)
@@ -98,7 +74,7 @@ last_is_row s scenario = along_run s (λ r. IsRow s.settings.processors (row_beh
     let row = row_of m (count_in_last s (r ++ slot ∷ [])) (row_behind s r) slot.picks in
     subst (IsRow m)
     (sym (ap (last_row (idle_row m)) (record_rows_snoc s r slot) ∙ last_snoc (idle_row m) (record_rows s r) row))
-    (placed_is_row m (count_in_last s (r ++ slot ∷ [])) (row_behind s r) slot.picks (next_is_turn s r slot scenario next) before))
+    (row_is_row m (count_in_last s (r ++ slot ∷ [])) (row_behind s r) slot.picks (next_is_turn s r slot scenario next) before))
 
 -- no slots
 no_slots : (s : Plan) → run_of s 0 ≡ []
@@ -109,7 +85,7 @@ no_rows : (s : Plan) → rows_in s 0 ≡ []
 unfolding rows_in
 no_rows s = ap (record_rows s) (no_slots s)
 
-no_denials : (s : Plan) → denials_in s 0 ≡ []
+pub no_denials : (s : Plan) → denials_in s 0 ≡ []
 unfolding denials_in
 no_denials s = ap denials_of (no_slots s)
 

@@ -1,4 +1,2 @@
-pub mod Rising
-pub mod Turns
 pub mod Grown
 pub mod Past

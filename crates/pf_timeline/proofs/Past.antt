@@ -1,10 +1,10 @@
 -- What a timeline stands for rests on the settings and on the events of its slots.
-use Rattle.std.proofs.Common.{◌≡◌, ℕ, zero-le, zero, suc, ◌+◌, ◌<◌, ◌≤◌, Bool, true, false, cond, List, [], ◌∷◌, ◌++◌, length, filter, refl, sym, ap, ap₂, ◌∙◌, subst, arith, length-append}
+use Rattle.std.proofs.Common.{◌≡◌, ℕ, zero-le, ◌+◌, ◌≤◌, List, [], ◌∷◌, ◌++◌, length, refl, sym, ap, ap₂, ◌∙◌, subst, arith, length-append}
 use Rattle.std.specs.Prelude.{nat_lt}
-use Rattle.std.proofs.lemmas.Bool.{true≢false, false_from_ne_true, cond-false, eqb-true, lt-ltb, le-ltb}
+use Rattle.std.proofs.lemmas.Bool.{cond-false, le-ltb}
 use Rattle.pf_place.specs.RunRows.{rows_of}
-use Rattle.pf_scenario.specs.Event.{slot_of, is_of, in_run_order}
-use Rattle.pf_scenario.specs.Scenario.{Plan, events_of, past}
+use Rattle.pf_scenario.specs.Event.{slot_of}
+use Rattle.pf_scenario.specs.Scenario.{Plan}
 use Rattle.pf_scenario.specs.Edit.{IsScenario}
 use Rattle.pf_scenario.specs.declared.event.Numbered.{Numbered}
 use Rattle.pf_engine.specs.Record.{Slot, denials_of, in_force}
@@ -14,37 +14,15 @@ use Rattle.pf_engine.specs.Computed.{run_of}
 use Rattle.pf_engine.specs.Fits.{Kept, kept_after, Fits}
 use Rattle.pf_engine.specs.Laws.{events_below}
 use Rattle.pf_engine.specs.RunRows.{count_in_last, turns_behind, turns_of, rows_in, denials_in}
-use Rattle.pf_engine.proofs.Runs.{run_is_computed, computed_length, computed_alike}
+use Rattle.pf_engine.proofs.Runs.{same_past, run_is_computed, computed_length, computed_alike}
 use Rattle.pf_timeline.specs.Timeline.{KeptRun, StandsFor, StoodFor}
 use Rattle.pf_timeline.specs.Laws.{TimelinesRestOnPast}
 
--- the events of the slots below n have those of each
-narrowed : (b : Bool) (p : Numbered → Bool) (x : Numbered) (xs ys : List Numbered) → (p x ≡ true → b ≡ true) →
-    filter p xs ≡ filter p ys → filter p (cond b (x ∷ xs) xs) ≡ filter p (x ∷ ys)
-narrowed true p x xs ys wider rest = ap (λ zs. cond (p x) (x ∷ zs) zs) rest
-narrowed false p x xs ys wider rest =
-    rest ∙ sym (cond-false (p x) _ _ (false_from_ne_true (p x) (λ is. true≢false (sym (wider is)))))
-
-of_slot_below : (n t : ℕ) → t < n → (xs : List Numbered) → filter (is_of t) (events_below n xs) ≡ filter (is_of t) xs
-of_slot_below n t below [] = refl
-of_slot_below n t below (x ∷ xs) =
-    narrowed (nat_lt (slot_of x.event) n) (is_of t) x (events_below n xs) xs
-    (λ is. lt-ltb (slot_of x.event) n (let e : slot_of x.event ≡ t = eqb-true (slot_of x.event) t is in omega arith))
-    (of_slot_below n t below xs)
-
+-- between plans with the same settings, and the same events below n
 module _ (s q : Plan) (n : ℕ) (settings : s.settings ≡ q.settings) (same : events_below n s.events ≡ events_below n q.events) where
-  same_events : (t : ℕ) → t < n → events_of s t ≡ events_of q t
-  unfolding events_of
-  same_events t below =
-      ap in_run_order (sym (of_slot_below n t below s.events) ∙ ap (filter (is_of t)) same ∙ of_slot_below n t below q.events)
-
-  same_past : (t : ℕ) → t ≤ n → past s t ≡ past q t
-  same_past zero within = refl
-  same_past (suc t) within = ap₂ (λ xs ys. xs ++ ys) (same_past t (omega arith)) (same_events t within)
-
   same_count : (r : List Slot) → length r ≤ n → count_in_last s r ≡ count_in_last q r
   same_count r within =
-      ap₂ (λ m events. count_of m (in_force (denials_of r) events)) (ap (λ system. system.processors) settings) (same_past (length r) within)
+      ap₂ (λ m events. count_of m (in_force (denials_of r) events)) (ap (λ system. system.processors) settings) (same_past s q n (length r) same within)
 
   same_turns : (r slots : List Slot) → length r + length slots ≤ n → turns_behind s r slots ≡ turns_behind q r slots
   same_turns r [] within = refl
@@ -81,7 +59,7 @@ module _ (s q : Plan) (n : ℕ) (settings : s.settings ≡ q.settings) (same : e
         is_run = subst (λ k. IsRun q k (run_of q n)) (sym run.slots) run;
         keeps = fits.keeps
             ∙ ap₂ (λ system events. kept_after system (run_of s n) (in_force (denials_of (run_of s n)) events)) settings
-            (same_past (length (run_of s n)) (omega arith))
+            (same_past s q n (length (run_of s n)) same (omega arith))
             ∙ ap (λ r. kept_after q.settings r (standing q r (length r))) alike;
       }
 

@@ -1,18 +1,7 @@
--- What can be seated in a row, and what can stand before it.
-use Rattle.std.specs.Prelude.{◌≡◌, ℕ, ◌≤◌, Option, List, [], ◌∷◌, length}
+-- What can be seated in a row, what can stand before it, and the last row.
+use Rattle.std.specs.Prelude.{Option, List, [], ◌∷◌}
 use Rattle.pf_order.specs.declared.pick.Pick.{Pick}
-use Rattle.pf_place.specs.Occupancy.{sitters, NoTaskTwice}
-
--- these picks can be seated on the first `count` of m processors, each on one
-pub record IsTurn (m count : ℕ) (picks : List Pick) : Type 0 where
-  pub in_use : count ≤ m
-  pub few : length picks ≤ count
-  pub once : NoTaskTwice picks
-
--- a row of m processors in which no task sits twice
-pub record IsRow (m : ℕ) (row : List (Option Pick)) : Type 0 where
-  pub places : length row ≡ m
-  pub once : NoTaskTwice (sitters row)
+pub use Rattle.pf_place.specs.Turns.{IsTurn, IsRow}
 
 -- the last of these rows, or the row before them where there are none
 abbrev pub last_row : List (Option Pick) → List (List (Option Pick)) → List (Option Pick)

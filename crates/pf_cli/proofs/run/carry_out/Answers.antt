@@ -1,9 +1,10 @@
 use Rattle.std.proofs.Common.{length, refl, ap, ◌∙◌, sym, arith}
+use Rattle.std.proofs.KnownBytes.{Appends-nil}
 use Rattle.std.proofs.lemmas.Result.{err_from_is_err_and}
 use Rattle.pf_cli.specs.Grammar.{is_heading}
 use Rattle.pf_cli.proofs.Counting.{few_records}
 use Rattle.pf_cli.proofs.Openings.{heading_alone, heading_first, no_heading, no_record}
-use Rattle.pf_cli.proofs.Sessions.{none_appended, none_written}
+use Rattle.pf_cli.proofs.Sessions.{none_written}
 use Rattle.pf_cli.proofs.Scripts.{is_first, is_none}
 use Rattle.pf_cli.proofs.run.carry_out.Goals as goal
 
@@ -14,7 +15,7 @@ returns-in_err-next-clause-meaning g c =
 pub returns-then-not-branch-clause-meaning : goal.returns-then-not-branch-clause-meaning
 returns-then-not-branch-clause-meaning g c =
     let none = is_none c.in_ok-next.field-0 _ _ c.next.new.self (sym c.new-script.ensures ∙ c.in_ok-next.ensures.record) c.if-not-branch.true in
-    rw (no_record c.args.format c.args.bytes.now c.requires.short none) (refl, none_appended _)
+    rw (no_record c.args.format c.args.bytes.now c.requires.short none) (refl, Appends-nil _)
 
 pub carry_out_from-requires-clause-counted : goal.carry_out_from-requires-clause-counted
 carry_out_from-requires-clause-counted g c =
@@ -36,7 +37,7 @@ returns-then-not-branch-2-clause-meaning g c =
     let first = is_first c.in_ok-next.field-0 _ _ c.next.new.self (sym c.new-script.ensures ∙ c.in_ok-next.ensures.record) c.if-not-branch.false in
     let heading = sym (ap is_heading c.new.ensures) ∙ sym c.read_heading.ensures ∙ c.if-not-read_heading.false in
     let none = is_none c.in_ok-next-2.field-0 c.next.new.self _ c.next-2.new.self c.in_ok-next-2.ensures.record c.if-not-branch-2.true in
-    rw (heading_alone c.args.format c.args.bytes.now _ _ c.requires.short first heading none) (refl, none_appended _)
+    rw (heading_alone c.args.format c.args.bytes.now _ _ c.requires.short first heading none) (refl, Appends-nil _)
 
 pub carry_out_from-requires-2-clause-counted : goal.carry_out_from-requires-2-clause-counted
 carry_out_from-requires-2-clause-counted g c =

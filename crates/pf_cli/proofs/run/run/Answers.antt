@@ -1,6 +1,6 @@
 use Rattle.std.proofs.Common.{◌≡◌, ℕ, true, List, length, Option, Some, None, Err, refl, rules, tests}
 use Rattle.std.specs.Prelude.{nat_lt, IfSome}
-use Rattle.std.specs.Io.KnownBytes.{Keeps}
+use Rattle.std.proofs.KnownBytes.{Appends-nil, Keeps-refl}
 use Rattle.std.proofs.lemmas.Result.{err_from_is_err_and}
 use Rattle.pf_cli.specs.declared.format.Format.{Format}
 use Rattle.pf_cli.specs.declared.reading.ReadingFault.{ReadingFault}
@@ -8,19 +8,15 @@ use Rattle.pf_cli.specs.declared.reading.ReadingFault.TheVariants.{Read, TooLong
 use Rattle.pf_cli.specs.Answers.{Answers, fault_of_reading}
 use Rattle.pf_cli.specs.Meaning.{script_meaning}
 use Rattle.pf_cli.specs.Reading.{ReadsScript}
-use Rattle.pf_cli.proofs.Sessions.{none_appended, none_written}
+use Rattle.pf_cli.proofs.Sessions.{none_written}
 use Rattle.pf_cli.proofs.run.run.Goals as goal
-
-kept : (x : Option (List ℕ)) → Keeps x x
-kept None = tt
-kept (Some a) = refl
 
 -- no script was read, and nothing was written
 unread : (A : Type 0) (format : Format) (bytes : List ℕ) (fault : ReadingFault) (x : Option (List ℕ)) → ReadsScript bytes (Err fault)
     → Answers {A = A} (script_meaning format bytes) (Err (fault_of_reading fault)) x x
 unfolding script_meaning
-unread A format bytes Read x h = kept x
-unread A format bytes TooLong x h = let long : nat_lt 16777216 (length bytes) ≡ true = search (rules, tests) in rw long (refl, none_appended x)
+unread A format bytes Read x h = Keeps-refl x
+unread A format bytes TooLong x h = let long : nat_lt 16777216 (length bytes) ≡ true = search (rules, tests) in rw long (refl, Appends-nil x)
 unread A format bytes Memory x h = none_written x _
 
 unread_if : (A : Type 0) (format : Format) (o : Option (List ℕ)) (fault : ReadingFault) (x : Option (List ℕ)) → IfSome o (λ bytes. ReadsScript bytes (Err fault))

@@ -1,6 +1,6 @@
 use Rattle.std.proofs.Common.{refl, ap, ◌∙◌, arith}
 use Rattle.std.proofs.lemmas.Bool.{eq-eqb}
-use Rattle.pf_scenario.specs.Index.{is_join_of, is_leave_of}
+use Rattle.pf_scenario.specs.Event.{is_join_of, is_leave_of}
 use Rattle.pf_scenario.proofs.tables.note.Goals as goal
 
 pub index_mut-requires : goal.index_mut-requires

@@ -3,7 +3,8 @@ use Rattle.std.proofs.Common.{◌≡◌, ℕ, Option, List, sym, ap, ap₂, ◌�
 use Rattle.pf_order.specs.declared.pick.Pick.{Pick}
 use Rattle.pf_place.specs.Occupancy.{row_of, idle_row}
 use Rattle.pf_timeline.specs.Seated.{IsRow}
-use Rattle.pf_timeline.proofs.Grown.{idle_is_row, last_read, none_read}
+use Rattle.pf_place.proofs.Seated.{idle_is_row}
+use Rattle.pf_timeline.proofs.Grown.{last_read, none_read}
 use Rattle.pf_timeline.proofs.timeline.next_row.Goals as goal
 
 same_row : (m : ℕ) (count count' : ℕ) (before before' : List (Option Pick)) (picks picks' : List Pick) →
