@@ -30,7 +30,6 @@ pub struct Timeline {
     rows: Rows,
     denials: Vec<Denied>,
     engine: Engine,
-    every: u64,
 }
 
 impl Model for Timeline {
@@ -50,11 +49,11 @@ impl Timeline {
         if every == 0 || every > LARGEST_DISTANCE {
             return Err(NewFault::BadSettings);
         }
-        let start = Timeline::at_start(alloc, settings, every)?;
+        let start = Timeline::at_start(alloc, settings)?;
         Ok(start)
     }
 
-    fn at_start(alloc: Global, settings: Settings, every: u64) -> Result<Self, AllocError>
+    fn at_start(alloc: Global, settings: Settings) -> Result<Self, AllocError>
         ensures { IfOk result (λ t. (s : Plan) → s.settings ≡ settings → IsScenario s → StandsFor s 0 t) }
     {
         let engine = Engine::new(alloc, settings)?;
@@ -62,7 +61,6 @@ impl Timeline {
             rows: Rows::new(alloc),
             denials: Vec::new(alloc),
             engine,
-            every,
         })
     }
 
@@ -143,7 +141,7 @@ impl Timeline {
     {
         let _ = from;
         let alloc = *self.denials.allocator();
-        let mut fresh = Timeline::at_start(alloc, scenario.settings(), self.every)?;
+        let mut fresh = Timeline::at_start(alloc, scenario.settings())?;
         for _ in 0..self.rows.len() {
             fresh.advance(meter, scenario)?;
         }
@@ -158,7 +156,6 @@ impl Timeline {
             rows: self.rows.copy()?,
             denials: Vec::from_slice(*self.denials.allocator(), &self.denials)?,
             engine: self.engine.copy()?,
-            every: self.every,
         })
     }
 
