@@ -1,15 +1,6 @@
-pub mod Counting
-pub mod Digits
-pub mod FieldExamples
-pub mod GrammarExamples
 pub mod Limits
 pub mod Openings
-pub mod Places
-pub mod Records
 pub mod Replying
-pub mod ScriptExamples
 pub mod Scripts
 pub mod ScriptsWorked
-pub mod Sending
 pub mod Sessions
-pub mod Taking

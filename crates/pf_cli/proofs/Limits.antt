@@ -4,9 +4,9 @@ use Rattle.std.specs.Prelude.{◌&&◌, ◌↔◌, if◌then◌else◌, IsOk, If
 use Rattle.std.specs.Result.{result_ok}
 use Rattle.std.proofs.lemmas.Bool.{and_parts, leb-true, le-leb, cases_Bool, false≢true}
 use Rattle.pf_scenario.specs.System.{System, IsInLimits}
-use Rattle.pf_cli.specs.declared.line.Opening.{Opening}
-use Rattle.pf_cli.specs.declared.version.Version.{Version}
-use Rattle.pf_cli.specs.Grammar.{horizon_of}
+use Rattle.pf_script.specs.declared.line.Opening.{Opening}
+use Rattle.pf_script.specs.declared.version.Version.{Version}
+use Rattle.pf_script.specs.Grammar.{horizon_of}
 use Rattle.pf_cli.specs.Meaning.{is_one_to, system_of}
 
 within_of : (most n : ℕ) → is_one_to most n ≡ true → (1 ≤ n) × (n ≤ most)

@@ -1,11 +1,11 @@
 -- What a script's first records mean.
 use Rattle.std.proofs.Common.{◌≡◌, ◌≤◌, ℕ, true, false, List, [], ◌∷◌, length, refl, ap, ◌∙◌, rules, tests}
 use Rattle.std.specs.Prelude.{nat_lt}
+use Rattle.pf_script.specs.declared.version.Version.TheVariants.{First, Second}
+use Rattle.pf_script.specs.Grammar.{is_heading, opening_of}
+use Rattle.pf_script.specs.Script.{script_records}
 use Rattle.pf_cli.specs.declared.format.Format.{Format}
-use Rattle.pf_cli.specs.declared.version.Version.TheVariants.{First, Second}
-use Rattle.pf_cli.specs.Grammar.{is_heading, opening_of}
 use Rattle.pf_cli.specs.Meaning.{bad, records_meaning, settings_meaning, opened, script_meaning}
-use Rattle.pf_cli.specs.Script.{script_records}
 
 short_meaning : (format : Format) (bytes : List ℕ) → length bytes ≤ 16777216 → script_meaning format bytes ≡ records_meaning format (script_records bytes)
 unfolding script_meaning

@@ -4,22 +4,22 @@ use Rattle.std.specs.Prelude.{if◌then◌else◌, codes}
 use Rattle.std.specs.Io.KnownBytes.{Appends}
 use Rattle.std.proofs.lemmas.List.{append-nil}
 use Rattle.std.proofs.KnownBytes.{Appends-nil}
+use Rattle.pf_script.specs.declared.line.Line.{Line}
+use Rattle.pf_script.specs.declared.version.Version.{Version}
+use Rattle.pf_script.specs.Grammar.{line_of}
+use Rattle.pf_stream.specs.Lines.{TookAllBut, TookFront}
+use Rattle.pf_stream.proofs.Sending.{so-far-finished, so-far-unfinished, took-before}
 use Rattle.pf_cli.specs.declared.fault.RunFault.{RunFault}
 use Rattle.pf_cli.specs.declared.fault.RunFault.TheVariants.{BadLine, ReadFault, WriteFault, ScriptTooLong, NoMemory}
 use Rattle.pf_cli.specs.declared.output_fault.OutputFault.{OutputFault}
 use Rattle.pf_cli.specs.declared.output_fault.OutputFault.TheVariants.{Write, Memory}
 use Rattle.pf_cli.specs.declared.format.Format.{Format}
-use Rattle.pf_cli.specs.declared.line.Line.{Line}
-use Rattle.pf_cli.specs.declared.version.Version.{Version}
 use Rattle.pf_cli.specs.declared.session.Session.{Session}
 use Rattle.pf_cli.specs.Answers.{Answers, CountsOutput, CountsWrites, IsPastReading, fault_of_output}
-use Rattle.pf_cli.specs.Grammar.{line_of}
-use Rattle.pf_cli.specs.Lines.{TookAllBut, TookFront}
 use Rattle.pf_cli.specs.Meaning.{Meaning, Done, BadRecord, behind, commands_of, course_behind, line_meaning, lines_meaning, settings_meaning, shown, report_text, seen_at}
 use Rattle.pf_cli.specs.Replies.{line_end}
 use Rattle.pf_cli.specs.Session.{course_at, replies_of, HasAnswered, HasPut, Opened}
 use Rattle.pf_scenario.specs.System.{System}
-use Rattle.pf_cli.proofs.Sending.{so-far-finished, so-far-unfinished, took-before}
 use Rattle.pf_cli.proofs.Sessions.{on_the_way, stopped_on_the_way, all_to_come}
 
 -- what the records from this number on mean to a session

@@ -18,8 +18,8 @@ use Rattle.pf_tally.specs.Clock.{clock_of}
 use Rattle.pf_tally.specs.Lags.{lags_of}
 use Rattle.pf_tally.specs.Misses.{miss_cmp, misses_of}
 use Rattle.pf_report.specs.Tables.{schedule_text, lags_text, misses_text, denials_text}
-use Rattle.pf_cli.specs.Fields.{number_of, is_word}
-use Rattle.pf_cli.specs.Grammar.{is_heading, settings_of, opening_of, join_of, event_of, strike_of, alter_of, change_of, steps_of, edit_of, line_of}
+use Rattle.pf_script.specs.Fields.{number_of, is_word}
+use Rattle.pf_script.specs.Grammar.{is_heading, settings_of, opening_of, join_of, event_of, strike_of, alter_of, change_of, steps_of, edit_of, line_of}
 use Rattle.pf_cli.specs.Replies.{reply_line}
 use Rattle.pf_cli.specs.Meaning.{report_text, script_meaning}
 use Rattle.pf_cli.specs.Examples.{WholeScripts, BadScripts, WorkedScripts}

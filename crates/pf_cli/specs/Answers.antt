@@ -1,13 +1,13 @@
 -- How the program's answer and what it wrote stand to what a script means.
 use Rattle.std.specs.Prelude.{⊤, ◌≡◌, ℕ, ◌+◌, List, Option, Result, Ok, Err}
 use Rattle.std.specs.Io.KnownBytes.{Appends, Keeps}
+use Rattle.pf_stream.specs.declared.reading.ReadingFault.{ReadingFault}
+use Rattle.pf_stream.specs.declared.reading.ReadingFault.TheVariants as reading
+use Rattle.pf_stream.specs.Lines.{TookFront}
 use Rattle.pf_cli.specs.declared.fault.RunFault.{RunFault}
 use Rattle.pf_cli.specs.declared.fault.RunFault.TheVariants.{BadLine, ReadFault, WriteFault, ScriptTooLong, NoMemory}
-use Rattle.pf_cli.specs.declared.reading.ReadingFault.{ReadingFault}
-use Rattle.pf_cli.specs.declared.reading.ReadingFault.TheVariants as reading
 use Rattle.pf_cli.specs.declared.output_fault.OutputFault.{OutputFault}
 use Rattle.pf_cli.specs.declared.output_fault.OutputFault.TheVariants as output
-use Rattle.pf_cli.specs.Lines.{TookFront}
 use Rattle.pf_cli.specs.Meaning.{Meaning, Done, BadRecord, TooLong}
 
 -- the answer is the script's end and the writer took its text; a failing reader leaves the writer as it was, and after

@@ -8,15 +8,15 @@ use Rattle.pf_desk.specs.Machine.{State, opening_state, reply_to, state_after}
 use Rattle.pf_desk.specs.Desk.{Seen}
 use Rattle.pf_report.specs.Tables.{schedule_text, lags_text, misses_text, denials_text}
 use Rattle.pf_report.specs.Json.{json_text}
-use Rattle.pf_cli.specs.declared.version.Version.{Version}
-use Rattle.pf_cli.specs.declared.version.Version.TheVariants.{First, Second}
-use Rattle.pf_cli.specs.declared.line.Line.{Line}
-use Rattle.pf_cli.specs.declared.line.Line.TheVariants as line
-use Rattle.pf_cli.specs.declared.line.Opening.{Opening}
+use Rattle.pf_script.specs.declared.version.Version.{Version}
+use Rattle.pf_script.specs.declared.version.Version.TheVariants.{First, Second}
+use Rattle.pf_script.specs.declared.line.Line.{Line}
+use Rattle.pf_script.specs.declared.line.Line.TheVariants as line
+use Rattle.pf_script.specs.declared.line.Opening.{Opening}
+use Rattle.pf_script.specs.Script.{script_records}
+use Rattle.pf_script.specs.Grammar.{horizon_of, is_heading, opening_of, line_of}
 use Rattle.pf_cli.specs.declared.format.Format.{Format}
 use Rattle.pf_cli.specs.declared.format.Format.TheVariants.{Schedule, Tables, Json}
-use Rattle.pf_cli.specs.Script.{script_records}
-use Rattle.pf_cli.specs.Grammar.{horizon_of, is_heading, opening_of, line_of}
 use Rattle.pf_cli.specs.Replies.{reply_line, line_end}
 
 -- how a script ends: well, at a bad record of this number, or because it is too long

@@ -3,7 +3,7 @@ ghost use Rattle.pf_cli.specs.declared.fault.RunFault.TheVariants.{NoMemory};
 ghost use Rattle.pf_cli.specs.Answers.{fault_of_reading, fault_of_output};
 
 use crate::output_fault::OutputFault;
-use crate::reading::ReadingFault;
+use pf_stream::reading::ReadingFault;
 use std::alloc::AllocError;
 use thiserror::Error;
 

@@ -5,22 +5,15 @@
 #![tactic(auto)]
 
 pub mod fault;
-pub mod fields;
 pub mod format;
-pub mod grammar;
 pub mod laws;
-pub mod line;
-pub mod lines;
 mod output_fault;
-pub mod reading;
 mod replies;
 mod reports;
 pub mod run;
-pub mod script;
 mod session;
-pub mod sink;
-pub mod source;
 #[cfg(test)]
 mod tests;
-pub mod version;
 pub mod words;
+
+pub use pf_stream::{sink, source};

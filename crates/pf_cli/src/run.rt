@@ -1,25 +1,25 @@
 ghost use Rattle.std.specs.Prelude.{◌≡◌, ◌+◌, ◌-◌, ◌^◌, ◌<◌, ◌≤◌, length, IfSome, IfErr, Err};
 ghost use Rattle.std.specs.Io.KnownBytes.{Keeps};
 ghost use Rattle.csv.specs.Records.{fields_of};
+ghost use Rattle.pf_script.specs.Grammar.{opening_of};
 ghost use Rattle.pf_cli.specs.declared.fault.RunFault.TheVariants.{ReadFault};
 ghost use Rattle.pf_cli.specs.Answers.{Answers, CountsReads, CountsWrites, IsPastReading};
-ghost use Rattle.pf_cli.specs.Grammar.{opening_of};
 ghost use Rattle.pf_cli.specs.Meaning.{script_meaning, settings_meaning, lines_meaning, behind, opened, system_of};
 ghost use Rattle.pf_cli.specs.Session.{course_at};
 
 use crate::fault::RunFault;
-use crate::fields::Fields;
 use crate::format::Format;
-use crate::grammar::{read_heading, read_line, read_opening};
-use crate::line::Opening;
-use crate::reading::{LONGEST_SCRIPT, read_script};
-use crate::script::Script;
 use crate::session::Session;
-use crate::sink::Sink;
-use crate::source::Source;
-use crate::version::Version;
 use csv::ByteRecord;
 use pf_scenario::settings::Settings;
+use pf_script::fields::Fields;
+use pf_script::grammar::{read_heading, read_line, read_opening};
+use pf_script::line::Opening;
+use pf_script::script::Script;
+use pf_script::version::Version;
+use pf_stream::reading::{LONGEST_SCRIPT, read_script};
+use pf_stream::sink::Sink;
+use pf_stream::source::Source;
 use std::alloc::Global;
 
 // The most slots from one checkpoint to the next.
@@ -29,7 +29,6 @@ const MOST_EVERY: u64 = 4096;
 /// it ends, is what the script's bytes mean. `BadLine` comes after the replies to the records before the bad one;
 /// after `ReadFault` and `ScriptTooLong` nothing was written, and after `WriteFault` and `NoMemory` a front of the
 /// text. The counts of failures of reader and writer must be below `u64::MAX` before the call.
-
 pub fn run<R: Source, W: Sink>(
     alloc: Global,
     reader: &mut R,
@@ -49,7 +48,6 @@ pub fn run<R: Source, W: Sink>(
 }
 
 // Carries out a script of these bytes.
-
 fn carry_out<W: Sink>(
     alloc: Global,
     bytes: &[u8],
@@ -77,7 +75,6 @@ fn carry_out<W: Sink>(
 }
 
 // Carries out a script from the record in `row` on, which has this number and is to be the settings.
-
 fn carry_out_from<W: Sink>(
     alloc: Global,
     script: Script,
@@ -120,7 +117,6 @@ fn settings(version: Version, opening: Opening) -> Option<Settings>
 }
 
 // Carries out the records behind the settings, the first of which has this number. Each is read into `row`.
-
 fn carry_out_lines<W: Sink>(
     alloc: Global,
     mut session: Session,

@@ -1,24 +1,24 @@
 ghost use Rattle.std.specs.Prelude.{◌≡◌, ◌-◌, ◌^◌, ◌<◌, ◌≤◌, ◌++◌, [], ◌∷◌, codes, replicate, IfOk, OnOk, OnErr};
 ghost use Rattle.std.specs.Io.KnownBytes.{Appends};
 ghost use Rattle.pf_desk.specs.declared.command.Command.TheVariants.{Step};
+ghost use Rattle.pf_stream.specs.Lines.{TookAllBut, TookFront};
 ghost use Rattle.pf_cli.specs.Answers.{CountsOutput};
-ghost use Rattle.pf_cli.specs.Lines.{TookAllBut, TookFront};
 ghost use Rattle.pf_cli.specs.Meaning.{shown, commands_of, seen_at, report_text};
 ghost use Rattle.pf_cli.specs.Replies.{line_end};
 ghost use Rattle.pf_cli.specs.Session.{Opened, HasPut, HasAnswered, course_at, replies_of};
 
 use crate::format::Format;
-use crate::line::Line;
-use crate::lines::Lines;
 use crate::output_fault::OutputFault;
 use crate::replies::push_reply;
 use crate::reports::report_text;
-use crate::sink::Sink;
 use pf_desk::command::Command;
 use pf_desk::desk::Desk;
 use pf_desk::fault::OpenFault;
 use pf_order::meter::Meter;
 use pf_scenario::settings::Settings;
+use pf_script::line::Line;
+use pf_stream::lines::Lines;
+use pf_stream::sink::Sink;
 use std::alloc::{AllocError, Global};
 
 // All commands of a script come from the one caller.

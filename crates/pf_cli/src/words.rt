@@ -5,12 +5,12 @@ ghost use Rattle.pf_cli.specs.Status.{status_of, seen_streams, RunsScript, Answe
 
 use crate::fault::RunFault;
 use crate::format::Format;
-use crate::lines::write_out;
 use crate::run::run;
-use crate::sink::Sink;
-use crate::source::Source;
 use clap::error::ErrorKind;
 use clap::{Arg, ArgAction, Command};
+use pf_stream::lines::write_out;
+use pf_stream::sink::Sink;
+use pf_stream::source::Source;
 use std::alloc::{AllocError, Global};
 use std::convert::AsStr;
 use std::fmt::Display;

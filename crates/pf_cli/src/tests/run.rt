@@ -1,9 +1,9 @@
 use crate::fault::RunFault;
 use crate::format::Format;
 use crate::run::run;
-use crate::sink::{CountedWriter, Sink};
-use crate::source::{CountedReader, Source};
-use crate::tests::streams::{OneByOne, Reluctant};
+use pf_stream::fakes::{OneByOne, Reluctant};
+use pf_stream::sink::{CountedWriter, Sink};
+use pf_stream::source::{CountedReader, Source};
 use std::alloc::Global;
 use std::io;
 use std::process::Abort;

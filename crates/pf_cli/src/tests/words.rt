@@ -1,7 +1,7 @@
-use crate::sink::CountedWriter;
-use crate::source::CountedReader;
-use crate::tests::streams::{OneByOne, Plenty, Reluctant};
 use crate::words::{main_words, tell_unread};
+use pf_stream::fakes::{OneByOne, Plenty, Reluctant};
+use pf_stream::sink::CountedWriter;
+use pf_stream::source::CountedReader;
 use std::alloc::AllocError;
 use std::{io, str};
 

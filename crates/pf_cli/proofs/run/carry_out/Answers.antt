@@ -1,8 +1,8 @@
 use Rattle.std.proofs.Common.{length, refl, ap, ◌∙◌, sym, arith}
 use Rattle.std.proofs.KnownBytes.{Appends-nil}
 use Rattle.std.proofs.lemmas.Result.{err_from_is_err_and}
-use Rattle.pf_cli.specs.Grammar.{is_heading}
-use Rattle.pf_cli.proofs.Counting.{few_records}
+use Rattle.pf_script.specs.Grammar.{is_heading}
+use Rattle.pf_script.proofs.Counting.{few_records}
 use Rattle.pf_cli.proofs.Openings.{heading_alone, heading_first, no_heading, no_record}
 use Rattle.pf_cli.proofs.Sessions.{none_written}
 use Rattle.pf_cli.proofs.Scripts.{is_first, is_none}

@@ -1,7 +1,7 @@
 use Rattle.std.proofs.Common.{refl, ap, ◌∙◌, sym, subst}
 use Rattle.std.proofs.lemmas.Result.{err_from_is_err_and}
+use Rattle.pf_script.specs.Grammar.{opening_of}
 use Rattle.pf_cli.specs.Answers.{CountsWrites}
-use Rattle.pf_cli.specs.Grammar.{opening_of}
 use Rattle.pf_cli.specs.Meaning.{opened}
 use Rattle.pf_cli.proofs.Limits.{every_of}
 use Rattle.pf_cli.proofs.Sessions.{none_written}

@@ -1,7 +1,7 @@
 use Rattle.std.proofs.Common.{length, refl, ap, ◌∙◌, sym, arith}
 use Rattle.std.proofs.lemmas.Result.{err_from_is_err_and}
-use Rattle.pf_cli.specs.Grammar.{line_of}
-use Rattle.pf_cli.proofs.Sending.{so-far-finished, so-far-unfinished}
+use Rattle.pf_script.specs.Grammar.{line_of}
+use Rattle.pf_stream.proofs.Sending.{so-far-finished, so-far-unfinished}
 use Rattle.pf_cli.proofs.Scripts.{answers_stopped, bad_left, begun, counts_stopped, front_under_way, is_first, is_none, line_stopped, line_taken, past_stopped, report_left}
 use Rattle.pf_cli.proofs.run.carry_out_lines.Goals as goal
 

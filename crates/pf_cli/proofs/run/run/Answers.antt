@@ -2,12 +2,12 @@ use Rattle.std.proofs.Common.{◌≡◌, ℕ, true, List, length, Option, Some, 
 use Rattle.std.specs.Prelude.{nat_lt, IfSome}
 use Rattle.std.proofs.KnownBytes.{Appends-nil, Keeps-refl}
 use Rattle.std.proofs.lemmas.Result.{err_from_is_err_and}
+use Rattle.pf_stream.specs.declared.reading.ReadingFault.{ReadingFault}
+use Rattle.pf_stream.specs.declared.reading.ReadingFault.TheVariants.{Read, TooLong, Memory}
+use Rattle.pf_stream.specs.Reading.{ReadsScript}
 use Rattle.pf_cli.specs.declared.format.Format.{Format}
-use Rattle.pf_cli.specs.declared.reading.ReadingFault.{ReadingFault}
-use Rattle.pf_cli.specs.declared.reading.ReadingFault.TheVariants.{Read, TooLong, Memory}
 use Rattle.pf_cli.specs.Answers.{Answers, fault_of_reading}
 use Rattle.pf_cli.specs.Meaning.{script_meaning}
-use Rattle.pf_cli.specs.Reading.{ReadsScript}
 use Rattle.pf_cli.proofs.Sessions.{none_written}
 use Rattle.pf_cli.proofs.run.run.Goals as goal
 

@@ -1,5 +1,5 @@
 use Rattle.std.proofs.Common.{◌++◌, ◌∙◌}
-use Rattle.pf_cli.proofs.Sending.{so-far-finished, so-far-unfinished}
+use Rattle.pf_stream.proofs.Sending.{so-far-finished, so-far-unfinished}
 use Rattle.pf_cli.proofs.Sessions.{anyway, appended_at, front_at, none_written, report_is}
 use Rattle.pf_cli.proofs.session.Session.report.Goals as goal
 

@@ -1,0 +1,120 @@
+ghost use Rattle.std.specs.Prelude.{◌≡◌, ◌<◌, ◌^◌, IfSome};
+ghost use Rattle.pf_script.specs.Fields.{number_of};
+
+use csv::ByteRecord;
+use std::marker::Model;
+
+// The most digits that a number field has.
+const MOST_DIGITS: usize = 15;
+
+/// The number that a field is, where it is 1 to 15 ASCII digits and nothing else. Leading zeros are allowed.
+#[tactic(auto, unfolding(crate::specs::Fields::number_of))]
+pub fn parse_number(field: &[u8]) -> Option<u64>
+    ensures value { result ≡ number_of field.now }
+    ensures small { IfSome result (λ number. number < 10 ^ 15) }
+{
+    if field.is_empty() || field.len() > MOST_DIGITS {
+        return None;
+    }
+    let mut value = 0;
+    for byte in field {
+        if !byte.is_ascii_digit() {
+            return None;
+        }
+        value = value * 10 + u64::from(*byte - b'0');
+    }
+    Some(value)
+}
+
+/// The fields of a record from one of them on.
+#[derive(Drop)]
+pub struct Fields<'a> {
+    row: &'a ByteRecord,
+    at: usize,
+}
+
+impl<'a> Model for Fields<'a> {
+    ghost use Rattle.std.specs.Prelude.{◌≤◌, ℕ, List, length, drop};
+    ghost use Rattle.csv.specs.Records.{fields_of};
+
+    ghost Value = { List (List ℕ) };
+
+    ghost view = { λ f. drop f.at (fields_of f.row.now) };
+
+    ghost invariant = { λ f. f.at ≤ length (fields_of f.row.now) };
+}
+
+impl<'a> Fields<'a> {
+    ghost use Rattle.std.specs.Prelude.{◌≡◌, ◌==◌, ◌<◌, ◌^◌, length, drop, IfSome};
+    ghost use Rattle.csv.specs.Records.{fields_of};
+    ghost use Rattle.pf_script.specs.Fields.{field, number, is_word, is_of};
+
+    /// All fields of a record.
+    pub fn new(row: &'a ByteRecord) -> Self
+        ensures { result ≡ fields_of row.now }
+    {
+        Fields { row, at: 0 }
+    }
+
+    /// How many fields there are.
+    pub fn len(&self) -> usize
+        ensures { result ≡ length self.now }
+    {
+        self.row.len() - self.at
+    }
+
+    /// Whether there is no field.
+    pub fn is_empty(&self) -> bool
+        ensures { result ≡ (length self.now == 0) }
+    {
+        self.len() == 0
+    }
+
+    /// The fields behind the first `count`, none where there are no more than that.
+    pub fn rest(&self, count: usize) -> Fields<'a>
+        ensures { result ≡ drop count self.now }
+    {
+        let end = self.row.len();
+        let at = if count < end - self.at {
+            self.at + count
+        } else {
+            end
+        };
+        Fields { row: self.row, at }
+    }
+
+    /// The field at a place from 0, with no byte past the last one.
+    pub fn field(&self, place: usize) -> &'a [u8]
+        ensures { result.now ≡ field self.now place }
+    {
+        let end = self.row.len();
+        if place >= end - self.at {
+            return &[];
+        }
+        self.row.get(self.at + place).unwrap_or(&[])
+    }
+
+    /// The number of the field at a place: 1 to 15 ASCII digits and nothing else, leading zeros allowed. `None` where
+    /// the field is no number or there is none.
+    pub fn number(&self, place: usize) -> Option<u64>
+        ensures value { result ≡ number self.now place }
+        ensures small { IfSome result (λ number. number < 10 ^ 15) }
+    {
+        parse_number(self.field(place))
+    }
+
+    /// Whether the field at a place is this word, byte for byte.
+    #[tactic(auto, unfolding(crate::specs::Fields::is_word))]
+    pub fn is_word(&self, place: usize, word: &[u8]) -> bool
+        ensures { result ≡ is_word self.now place word.now }
+    {
+        self.field(place) == word
+    }
+
+    /// Whether there are so many fields, the first of them this word.
+    pub fn is_of(&self, word: &[u8], count: usize) -> bool
+        ensures { result ≡ is_of self.now word.now count }
+    {
+        self.len() == count && self.is_word(0, word)
+    }
+}

@@ -1,0 +1,11 @@
+//! Records and lines of scripts. The one contract of this crate: the records are those of the script's bytes, and each
+//! is the line that its version's grammar says, or none.
+#![tactic(auto)]
+
+pub mod fields;
+pub mod grammar;
+pub mod line;
+pub mod script;
+#[cfg(test)]
+mod tests;
+pub mod version;

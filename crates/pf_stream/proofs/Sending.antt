@@ -1,0 +1,83 @@
+-- How the parts of a text that a writer took add up, where what it holds is known.
+use Rattle.std.proofs.Common.{◌≡◌, ◌+◌, ◌-◌, ◌∙◌, ℕ, List, [], ◌++◌, length, take, drop, Option, Result, Ok, Err, sym, ap, arith, append_assoc}
+use Rattle.std.specs.Prelude.{OnOk, OnErr}
+use Rattle.std.specs.Io.KnownBytes.{Appends, Keeps}
+use Rattle.std.proofs.KnownBytes.{Appends-trans, Appends-kept}
+use Rattle.std.proofs.lemmas.List.{append-nil, drop-take, take-append-drop, take-take, take_all, length-drop}
+use Rattle.pf_stream.specs.Lines.{TookAllBut, TookFront}
+
+-- a part of a text, and the part behind it
+take-next : (at n : ℕ) (text : List ℕ) → take at text ++ take n (drop at text) ≡ take (at + n) text
+take-next at n text =
+    let front = take-append-drop at (take (at + n) text) in
+    let same : take at (take (at + n) text) ≡ take at text = take-take at (at + n) text (omega arith) in
+    rw (same, drop-take at n text) at front
+
+-- one write of the rest of a text
+pub appends-next : (old mid new : Option (List ℕ)) (at n : ℕ) (text : List ℕ)
+    → Appends old mid (take at text) → Appends mid new (take n (take (length text - at) (drop at text))) → Appends old new (take (at + n) text)
+appends-next old mid new at n text h k =
+    let rest : take (length text - at) (drop at text) ≡ drop at text = take_all (length text - at) (drop at text) (omega (arith, length-drop at text)) in
+    rw (← take-next at n text) (Appends-trans old mid new (take at text) (take n (drop at text)) h (rw rest at k))
+
+-- the front of a text that was taken when a write failed
+pub took-part : (old mid new : Option (List ℕ)) (at : ℕ) (text : List ℕ) → Appends old mid (take at text) → Keeps mid new → TookFront old new text
+took-part old mid new at text h k = (drop at text, (take at text, Appends-kept old mid new (take at text) h k, take-append-drop at text))
+
+pub took-nothing : (old mid new : Option (List ℕ)) (at : ℕ) (text : List ℕ) → Appends old mid (take at text) → Appends mid new [] → TookFront old new text
+took-nothing old mid new at text h k =
+    (drop at text, (take at text, rw append-nil at (Appends-trans old mid new (take at text) [] h k), take-append-drop at text))
+
+-- a text was taken in part, and a second one was to follow
+pub took-before : (old new : Option (List ℕ)) (text more : List ℕ) → TookFront old new text → TookFront old new (text ++ more)
+took-before old new text more h =
+    let (rest, took) = h in
+    (rest ++ more, (took.0, took.1, sym (append_assoc took.0 rest more) ∙ ap (λ t. t ++ more) took.2))
+
+-- a text was taken, and a second one in part
+pub took-after : (old mid new : Option (List ℕ)) (text more : List ℕ) → Appends old mid text → TookFront mid new more → TookFront old new (text ++ more)
+took-after old mid new text more h k =
+    let (rest, took) = k in
+    (rest, (text ++ took.0, Appends-trans old mid new text took.0 h took.1, append_assoc text took.0 rest ∙ ap (λ t. text ++ t) took.2))
+
+-- a text was taken, and a second one too
+pub took-both : (old mid new : Option (List ℕ)) (text more : List ℕ) → Appends old mid text → Appends mid new more → TookAllBut [] old new (text ++ more)
+took-both old mid new text more h k = (text ++ more, Appends-trans old mid new text more h k, append-nil (text ++ more))
+
+-- the first one in part, where its writing failed
+pub err-before : {A E : Type 0} (r : Result A E) (old new : Option (List ℕ)) (text more : List ℕ) → TookFront old new text
+    → OnErr r (TookFront old new (text ++ more))
+err-before (Ok x) old new text more h = tt
+err-before (Err e) old new text more h = took-before old new text more h
+
+-- the second one, as its writing went
+pub ok-after : {A E : Type 0} (r : Result A E) (old mid new : Option (List ℕ)) (text more : List ℕ) → Appends old mid text
+    → OnOk r (Appends mid new more) → OnOk r (TookAllBut [] old new (text ++ more))
+ok-after (Ok x) old mid new text more h k = took-both old mid new text more h k
+ok-after (Err e) old mid new text more h k = k
+
+pub err-after : {A E : Type 0} (r : Result A E) (old mid new : Option (List ℕ)) (text more : List ℕ) → Appends old mid text
+    → OnErr r (TookFront mid new more) → OnErr r (TookFront old new (text ++ more))
+err-after (Ok x) old mid new text more h k = k
+err-after (Err e) old mid new text more h k = took-after old mid new text more h k
+
+-- Of a text so far, whose front the writer has and whose rest waits: a further text is put behind it, in whole or in
+-- part, and the rest is written, in whole or in part.
+pub so-far-put : (start old new : Option (List ℕ)) (was waiting text more : List ℕ) → TookAllBut was start old text
+    → TookAllBut waiting old new (was ++ more) → TookAllBut waiting start new (text ++ more)
+so-far-put start old new was waiting text more h k =
+    (h.0 ++ k.0, Appends-trans start old new h.0 k.0 h.1 k.1, behind h.0 k.0 waiting was text more h.2 k.2)
+  where
+    behind : (front next waiting was text more : List ℕ) → front ++ was ≡ text → next ++ waiting ≡ was ++ more → (front ++ next) ++ waiting ≡ text ++ more
+    behind front next waiting was text more a b = append_assoc front next waiting ∙ ap (λ t. front ++ t) b ∙ sym (append_assoc front was more) ∙ ap (λ t. t ++ more) a
+
+pub so-far-stopped : (start old new : Option (List ℕ)) (was text more : List ℕ) → TookAllBut was start old text
+    → TookFront old new (was ++ more) → TookFront start new (text ++ more)
+so-far-stopped start old new was text more h k = (k.0, so-far-put start old new was k.0 text more h k.1)
+
+pub so-far-finished : (start old new : Option (List ℕ)) (was text : List ℕ) → TookAllBut was start old text → Appends old new was → Appends start new text
+so-far-finished start old new was text h k = rw (← h.2) (Appends-trans start old new h.0 was h.1 k)
+
+pub so-far-unfinished : (start old new : Option (List ℕ)) (was text : List ℕ) → TookAllBut was start old text → TookFront old new was → TookFront start new text
+so-far-unfinished start old new was text h k =
+    rw append-nil at (so-far-stopped start old new was text [] h (rw (append-nil was) k))

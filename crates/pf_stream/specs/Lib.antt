@@ -1,0 +1,4 @@
+pub mod Counted
+pub mod Failing
+pub mod Lines
+pub mod Reading

@@ -1,0 +1,12 @@
+//! Streams that count their failures. A whole script is read from a `Source`; a text is written to a `Sink` through a
+//! small buffer. The one contract of this crate: a script that was read is all of the reader's bytes, the writer has the
+//! text put or a front of it, and a stream failed once where the answer says so, else not at all.
+#![tactic(auto)]
+
+pub mod fakes;
+pub mod lines;
+pub mod reading;
+pub mod sink;
+pub mod source;
+#[cfg(test)]
+mod tests;

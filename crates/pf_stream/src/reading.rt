@@ -1,0 +1,50 @@
+ghost use Rattle.std.specs.Prelude.{◌≡◌, ◌+◌, ◌-◌, ◌^◌, ◌<◌, ◌≤◌, IfSome, IfOk, vec_len};
+ghost use Rattle.pf_stream.specs.Reading.{ReadsScript, TakesAtMost, CountsRead};
+
+use crate::source::Source;
+use std::alloc::Global;
+
+/// The greatest length of a script, in bytes.
+pub const LONGEST_SCRIPT: usize = 16_777_216;
+
+// How many bytes are asked for at once.
+const PIECE: usize = 8192;
+
+/// Why no script was read.
+#[derive(Clone, Copy, Debug, PartialEq, Eq)]
+pub enum ReadingFault {
+    /// The reader failed. An interruption is a failure too.
+    Read,
+    /// The input is longer than `LONGEST_SCRIPT`.
+    TooLong,
+    /// Out of memory.
+    Memory,
+}
+
+/// All bytes that the reader has left, at most `LONGEST_SCRIPT` of them. `TooLong` where there are more: one byte more
+/// is read, and the reader is not asked again. `Read` where a read fails. The reader's count of failures must be below
+/// `u64::MAX` before the call.
+pub fn read_script<S: Source>(alloc: Global, reader: &mut S) -> Result<Vec<u8>, ReadingFault>
+    requires { S.failed reader.old < 2 ^ 64 - 1 }
+    ensures bytes { IfSome (S.remaining reader.old) (λ bytes. ReadsScript bytes result) }
+    ensures taken { TakesAtMost (S.remaining reader.old) (S.remaining reader.new) (LONGEST_SCRIPT + 1) }
+    ensures count { CountsRead result (S.failed reader.old) (S.failed reader.new) }
+    ensures short { IfOk result (λ text. vec_len text ≤ LONGEST_SCRIPT) }
+{
+    let mut text = Vec::new(alloc);
+    let mut piece = [0; PIECE];
+    while text.len() <= LONGEST_SCRIPT {
+        let room = PIECE.min(LONGEST_SCRIPT + 1 - text.len());
+        let taken = match reader.read_counted(&mut piece[..room]) {
+            Ok(taken) => taken,
+            Err(_) => return Err(ReadingFault::Read),
+        };
+        if taken == 0 {
+            return Ok(text);
+        }
+        if text.extend_from_slice(&piece[..taken]).is_err() {
+            return Err(ReadingFault::Memory);
+        }
+    }
+    Err(ReadingFault::TooLong)
+}
