@@ -7,5 +7,3 @@ mod entry;
 mod merge;
 mod names;
 mod taking;
-#[cfg(test)]
-mod tests;

@@ -12,8 +12,6 @@ mod replies;
 mod reports;
 pub mod run;
 mod session;
-#[cfg(test)]
-mod tests;
 pub mod words;
 
 pub use pf_stream::{sink, source};

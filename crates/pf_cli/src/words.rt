@@ -1,6 +1,7 @@
 ghost use Rattle.std.specs.Prelude.{◌≡◌, ◌-◌, ◌^◌, ◌<◌, ◌+◌, ◌⊎◌, ◌==◌, if◌then◌else◌, [], IsOk, Ok};
 ghost use Rattle.std.specs.Io.KnownBytes.{Appends, Keeps};
 ghost use Rattle.pf_cli.specs.declared.format.Format.TheVariants.{Tables};
+ghost use Rattle.pf_cli.specs.declared.words.WordsFault.TheVariants as words_fault;
 ghost use Rattle.pf_cli.specs.Status.{status_of, seen_streams, RunsScript, AnswersWords};
 
 use crate::fault::RunFault;
@@ -77,6 +78,8 @@ enum WordsFault {
 }
 
 impl From<AllocError> for WordsFault {
+    ghost from_gives = { λ _ f. f ≡ words_fault.NoMemory };
+
     fn from(_error: AllocError) -> WordsFault {
         WordsFault::NoMemory
     }

@@ -9,7 +9,3 @@ pub mod entry;
 pub mod fault;
 pub mod reply;
 pub mod snapshot;
-#[cfg(test)]
-mod tally_tests;
-#[cfg(test)]
-mod tests;

@@ -1,6 +1,5 @@
 ghost use Rattle.std.specs.Prelude.{◌≡◌, ◌+◌, ◌≤◌, List, [], length, IfOk, OnOk, OnErr};
 ghost use Rattle.pf_order.specs.Counts.{one_more};
-ghost use Rattle.pf_scenario.specs.System.{near_horizon};
 ghost use Rattle.pf_scenario.specs.Scenario.{Plan, events_of};
 ghost use Rattle.pf_scenario.specs.Edit.{IsScenario};
 ghost use Rattle.pf_engine.specs.Record.{Slot};
@@ -80,71 +79,5 @@ impl Engine {
         let room = self.state.prepare(events.len())?;
         meter.slot();
         Ok(self.state.advance(meter, events, room))
-    }
-}
-
-#[cfg(test)]
-mod tests {
-    use super::*;
-    use pf_order::pick::Pick;
-    use pf_scenario::event::Event;
-    use std::test::Fail;
-
-    fn join(task: u64) -> Numbered
-        ensures { result ≡ record { id = task; event = Event.Join 0 task 2 3 0 } }
-    {
-        Numbered {
-            id: task,
-            event: Event::Join {
-                slot: 0,
-                task,
-                cost: 2,
-                period: 3,
-                early: 0,
-            },
-        }
-    }
-
-    #[derive(Drop)]
-    struct Slots {
-        engine: Engine,
-        first: Outcome,
-        second: Outcome,
-        again: Outcome,
-    }
-
-    /// The joins' slot and the next one, and that one once more by a copy that was made between them.
-    fn two_slots(alloc: Global, settings: Settings, meter: &mut Meter) -> Result<Slots, AllocError>
-        requires { settings ≡ record { processors = 2; base = 3; cap = 6; horizon = near_horizon } }
-    {
-        let joins = [join(1), join(2), join(3)];
-        let mut engine = Engine::new(alloc, settings)?;
-        let first = engine.slot(meter, &joins)?;
-        let mut copy = engine.copy()?;
-        let second = engine.slot(meter, &[])?;
-        let again = copy.slot(meter, &[])?;
-        Ok(Slots {
-            engine,
-            first,
-            second,
-            again,
-        })
-    }
-
-    #[test]
-    fn three_tasks_on_two_processors(rt: HostRuntime) -> Result<(), Fail> {
-        let mut meter = Meter::new();
-        let slots = two_slots(rt.alloc(), Settings::new(2, 3, 6)?, &mut meter)?;
-        let in_first = [Pick { task: 1, sub: 1 }, Pick { task: 2, sub: 1 }];
-        let in_second = [Pick { task: 3, sub: 1 }, Pick { task: 1, sub: 2 }];
-        assert_eq!(rt; slots.first.picks(), in_first.as_slice());
-        assert_eq!(rt; slots.second.picks(), in_second.as_slice());
-        assert_eq!(rt; slots.again.picks(), in_second.as_slice());
-        assert!(rt; slots.first.denials().is_empty());
-        assert_eq!(rt; slots.first.count(), 2);
-        assert_eq!(rt; slots.engine.now(), 2);
-        assert_eq!(rt; slots.engine.settings().processors(), 2);
-        assert_eq!(rt; meter.slots(), 3);
-        Ok(())
     }
 }

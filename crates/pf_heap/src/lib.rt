@@ -9,5 +9,3 @@ mod links;
 mod node;
 mod popping;
 mod roots;
-#[cfg(test)]
-mod tests;

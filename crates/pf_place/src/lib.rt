@@ -5,5 +5,3 @@
 pub mod row;
 pub mod rows;
 mod seating;
-#[cfg(test)]
-mod tests;

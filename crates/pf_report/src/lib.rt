@@ -11,5 +11,3 @@ pub mod reason;
 mod rows;
 pub mod schedule;
 mod table;
-#[cfg(test)]
-mod tests;

@@ -14,5 +14,3 @@ mod order;
 pub mod scenario;
 pub mod settings;
 mod tables;
-#[cfg(test)]
-mod tests;

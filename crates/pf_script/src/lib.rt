@@ -6,6 +6,4 @@ pub mod fields;
 pub mod grammar;
 pub mod line;
 pub mod script;
-#[cfg(test)]
-mod tests;
 pub mod version;

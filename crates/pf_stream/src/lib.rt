@@ -3,10 +3,7 @@
 //! text put or a front of it, and a stream failed once where the answer says so, else not at all.
 #![tactic(auto)]
 
-pub mod fakes;
 pub mod lines;
 pub mod reading;
 pub mod sink;
 pub mod source;
-#[cfg(test)]
-mod tests;

@@ -3,6 +3,4 @@
 
 pub mod fault;
 pub mod laws;
-#[cfg(test)]
-mod tests;
 pub mod timeline;

@@ -1,0 +1,199 @@
+use crate::fakes::{OneByOne, Plenty, Reluctant};
+use pf_cli::sink::CountedWriter;
+use pf_cli::source::CountedReader;
+use pf_cli::words::{main_words, tell_unread};
+use std::alloc::AllocError;
+use std::{io, str};
+
+// How the program ended, what it wrote, and what it told.
+#[derive(Drop)]
+struct Ending {
+    status: u8,
+    written: Vec<u8>,
+    told: Vec<u8>,
+}
+
+impl Ending {
+    // Whether it ended with this status, wrote nothing and told this.
+    fn tells(&self, status: u8, text: &[u8]) -> bool {
+        self.status == status && self.written.is_empty() && self.told.as_slice() == text
+    }
+}
+
+// Does what the words say over a script. Ends with the want of memory where the program does.
+fn end_of(rt: &HostRuntime, words: &[&str], script: &[u8]) -> Result<Ending, AllocError> {
+    let mut reader = CountedReader::new(script);
+    let mut writer = CountedWriter::new(Vec::with_capacity(rt.alloc(), 8192)?);
+    let mut told = Vec::with_capacity(rt.alloc(), 1024)?;
+    let status = main_words(rt, words, &mut reader, &mut writer, &mut told);
+    if status == 4 {
+        return Err(AllocError);
+    }
+    Ok(Ending {
+        status,
+        written: writer.into_inner(),
+        told,
+    })
+}
+
+// Whether clap refuses these words, with its own text.
+fn is_refused(rt: &HostRuntime, words: &[&str]) -> Result<bool, AllocError> {
+    let ending = end_of(rt, words, b"")?;
+    let refused = ending.status == 2 && ending.written.is_empty();
+    Ok(refused && ending.told.starts_with(b"error: ") && ending.told.ends_with(b"\n"))
+}
+
+#[test]
+fn other_words_are_refused(rt: HostRuntime) -> Result<(), AllocError> {
+    let cases: [&[&str]; 8] = [
+        &["drill"],
+        &["--format", "json"],
+        &[""],
+        &["run", "run"],
+        &["run", "tables"],
+        &["run", "--format"],
+        &["run", "--Format", "json"],
+        &["run", "--format", "json", "--format", "json"],
+    ];
+    for words in cases {
+        assert!(rt; is_refused(&rt, words)?, "{words:?}");
+    }
+    Ok(())
+}
+
+#[test]
+fn another_format_is_unknown(rt: HostRuntime) -> Result<(), AllocError> {
+    for name in ["", "csv", "Tables", "json "] {
+        let ending = end_of(&rt, &["run", "--format", name], b"")?;
+        assert!(rt; ending.tells(2, b"unknown format\n"), "{name}");
+    }
+    Ok(())
+}
+
+// Whether these words show a help that has this usage and the example.
+fn shows_help(rt: &HostRuntime, words: &[&str], usage: &str) -> Result<bool, AllocError> {
+    let ending = end_of(rt, words, b"")?;
+    let Ok(text) = str::from_utf8(&ending.written) else {
+        return Ok(false);
+    };
+    let is_quiet = ending.status == 0 && ending.told.is_empty();
+    Ok(is_quiet && text.contains(usage) && text.contains("  settings,2,3,6,2\n"))
+}
+
+#[test]
+fn help_is_shown(rt: HostRuntime) -> Result<(), AllocError> {
+    let usage = "Usage: pfair [COMMAND]\n";
+    assert!(rt; shows_help(&rt, &["--help"], usage)?);
+    assert!(rt; shows_help(&rt, &["help"], usage)?);
+    let usage = "Usage: pfair run [OPTIONS]\n";
+    assert!(rt; shows_help(&rt, &["run", "--help"], usage)?);
+    assert!(rt; shows_help(&rt, &["help", "run"], usage)?);
+    Ok(())
+}
+
+#[test]
+fn a_bad_record_is_told(rt: HostRuntime) -> Result<(), AllocError> {
+    let cases: [&[&str]; 5] = [
+        &[],
+        &["run"],
+        &["run", "--format", "schedule"],
+        &["run", "--format=tables"],
+        &["run", "--format", "json"],
+    ];
+    for words in cases {
+        let ending = end_of(&rt, words, b"step\n")?;
+        assert!(rt; ending.tells(1, b"bad record 1\n"), "{words:?}");
+    }
+    Ok(())
+}
+
+// The status, and what is told.
+type Told = (u8, Vec<u8>);
+
+// Whether that is this status and text, or the want of memory.
+fn is_told(told: &Told, status: u8, text: &[u8]) -> bool {
+    told.0 == 4 || (told.0 == status && told.1.as_slice() == text)
+}
+
+// Over a script that is too long.
+fn told_too_long(rt: &HostRuntime) -> Result<Told, AllocError> {
+    let mut reader = CountedReader::new(Plenty { left: 16_777_217 });
+    let mut writer = CountedWriter::new(Vec::new(rt.alloc()));
+    let mut told = Vec::with_capacity(rt.alloc(), 1024)?;
+    let words: [&str; 0] = [];
+    let status = main_words(rt, &words, &mut reader, &mut writer, &mut told);
+    Ok((status, told))
+}
+
+#[test]
+fn a_script_too_long_is_told(rt: HostRuntime) -> Result<(), AllocError> {
+    let told = told_too_long(&rt)?;
+    assert!(rt; is_told(&told, 1, b"the script is longer than 16777216 bytes\n"));
+    Ok(())
+}
+
+// Where the reader fails at its third call.
+fn told_of_reader(rt: &HostRuntime) -> Result<Told, AllocError> {
+    let mut reader = CountedReader::new(OneByOne {
+        bytes: b"settings,1,1,1,1\n",
+        calls: 0,
+        fails_at: 3,
+        kind: io::ErrorKind::Other,
+    });
+    let mut writer = CountedWriter::new(Vec::new(rt.alloc()));
+    let mut told = Vec::with_capacity(rt.alloc(), 1024)?;
+    let status = main_words(rt, &["run"], &mut reader, &mut writer, &mut told);
+    Ok((status, told))
+}
+
+// Where the writer fails at its third call.
+fn told_of_writer(rt: &HostRuntime, word: &str) -> Result<Told, AllocError> {
+    let mut reader = CountedReader::new(b"settings,1,1,1,1\n".as_slice());
+    let mut writer = CountedWriter::new(Reluctant {
+        got: Vec::with_capacity(rt.alloc(), 2)?,
+        calls: 0,
+        stops_at: 3,
+        fails: true,
+        flushed: false,
+    });
+    let mut told = Vec::with_capacity(rt.alloc(), 1024)?;
+    let status = main_words(rt, &[word], &mut reader, &mut writer, &mut told);
+    Ok((status, told))
+}
+
+#[test]
+fn a_failed_stream_is_told(rt: HostRuntime) -> Result<(), AllocError> {
+    assert!(rt; is_told(&told_of_reader(&rt)?, 3, b"cannot read the script\n"));
+    assert!(rt;
+        is_told(
+            &told_of_writer(&rt, "run")?,
+            3,
+            b"cannot write the output\n"
+        )
+    );
+    assert!(rt;
+        is_told(
+            &told_of_writer(&rt, "--help")?,
+            3,
+            b"cannot write the output\n"
+        )
+    );
+    Ok(())
+}
+
+// Where the words could not be had.
+fn told_of_words(rt: &HostRuntime, kind: io::ErrorKind) -> Result<Told, AllocError> {
+    let mut told = Vec::with_capacity(rt.alloc(), 1024)?;
+    let status = tell_unread(&io::Error::from(kind), &mut told);
+    Ok((status, told))
+}
+
+#[test]
+fn words_not_had_are_told(rt: HostRuntime) -> Result<(), AllocError> {
+    let no_text: &[u8] = b"error: invalid UTF-8 was detected in one or more arguments\n";
+    let told = told_of_words(&rt, io::ErrorKind::InvalidData)?;
+    assert!(rt; told.0 == 2 && told.1.as_slice() == no_text);
+    let told = told_of_words(&rt, io::ErrorKind::OutOfMemory)?;
+    assert!(rt; told.0 == 4 && told.1.as_slice() == b"out of memory\n".as_slice());
+    Ok(())
+}

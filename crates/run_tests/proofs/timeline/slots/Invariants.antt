@@ -1,0 +1,5 @@
+use Rattle.pf_timeline.specs.Timeline.{StandsFor}
+use Rattle.run_tests.proofs.timeline.slots.Given as goal
+
+abbrev pub invariant-loop : goal.invariant-loop
+invariant-loop l = StandsFor l.scenario l.timeline.engine.now l.timeline

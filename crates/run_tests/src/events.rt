@@ -1,0 +1,60 @@
+//! Events in short, and what inserts them.
+
+use pf_scenario::apply_fault::ApplyFault;
+use pf_scenario::change::Change;
+use pf_scenario::event::{Event, Numbered};
+use pf_scenario::scenario::Scenario;
+use pf_scenario::settings::Settings;
+use std::alloc::Global;
+use std::test::Fail;
+
+pub(crate) fn join(slot: u64, task: u64, cost: u64, period: u64, early: u64) -> Event {
+    Event::Join {
+        slot,
+        task,
+        cost,
+        period,
+        early,
+    }
+}
+
+pub(crate) fn leave(slot: u64, task: u64) -> Event {
+    Event::Leave { slot, task }
+}
+
+pub(crate) fn delay(slot: u64, task: u64, by: u64) -> Event {
+    Event::Delay { slot, task, by }
+}
+
+pub(crate) fn limit(slot: u64, count: u64) -> Event {
+    Event::Limit { slot, count }
+}
+
+pub(crate) fn numbered(id: u64, event: Event) -> Numbered {
+    Numbered { id, event }
+}
+
+/// Makes the change. A caller that needs no clause of `Scenario::apply` calls this.
+pub(crate) fn apply(scenario: &mut Scenario, change: Change) -> Result<u64, ApplyFault> {
+    scenario.apply(change)
+}
+
+/// Inserts the events, one after another.
+pub(crate) fn insert_all(scenario: &mut Scenario, events: &[Event]) -> Result<(), ApplyFault> {
+    for event in events {
+        apply(scenario, Change::Insert(*event))?;
+    }
+    Ok(())
+}
+
+/// Three tasks of weight 2/3 join in slot 0, on two processors.
+pub(crate) fn three_tasks(alloc: Global) -> Result<Scenario, Fail> {
+    let mut scenario = Scenario::new(alloc, Settings::new(2, 3, 6)?);
+    let joins = [
+        join(0, 1, 2, 3, 0),
+        join(0, 2, 2, 3, 0),
+        join(0, 3, 2, 3, 0),
+    ];
+    insert_all(&mut scenario, &joins)?;
+    Ok(scenario)
+}

@@ -1,0 +1,160 @@
+//! Edits in the past, the distance of checkpoints, and the horizon.
+
+ghost use Rattle.std.specs.Prelude.{◌≡◌, ◌<◌, length, IfOk, OnOk};
+ghost use Rattle.pf_timeline.specs.Timeline.{StandsFor};
+
+use crate::events::three_tasks;
+use pf_order::meter::Meter;
+use pf_order::pick::Pick;
+use pf_scenario::change::Change;
+use pf_scenario::scenario::Scenario;
+use pf_scenario::settings::Settings;
+use pf_timeline::fault::{NewFault, StepFault};
+use pf_timeline::timeline::Timeline;
+use std::alloc::{AllocError, Global};
+use std::process::Abort;
+use std::test::Fail;
+
+/// A timeline of no slots of the scenario.
+fn start(alloc: Global, scenario: &Scenario) -> Result<Timeline, NewFault>
+    ensures { IfOk result (λ t. StandsFor scenario.now t.engine.now t) }
+{
+    Timeline::new(alloc, scenario.settings(), 64)
+}
+
+/// Takes the next slot.
+fn step(timeline: &mut Timeline, meter: &mut Meter, scenario: &Scenario) -> Result<(), StepFault>
+    requires { StandsFor scenario.now timeline.old.engine.now timeline.old }
+    ensures { OnOk result (StandsFor scenario.now timeline.new.engine.now timeline.new) }
+{
+    timeline.step(meter, scenario)
+}
+
+/// A timeline of that many slots of the scenario.
+fn slots(
+    alloc: Global,
+    meter: &mut Meter,
+    scenario: &Scenario,
+    count: u64,
+) -> Result<Timeline, Fail>
+    ensures { IfOk result (λ t. StandsFor scenario.now t.engine.now t) }
+{
+    let mut timeline = start(alloc, scenario)?;
+    for _ in 0..count {
+        step(&mut timeline, meter, scenario)?;
+    }
+    Ok(timeline)
+}
+
+/// The scenario without this event.
+fn struck(scenario: &Scenario, id: u64) -> Result<Scenario, Fail>
+    ensures { IfOk result (λ s. s.settings ≡ scenario.now.settings) }
+{
+    let mut struck = scenario.copy()?;
+    struck.apply(Change::Strike(id))?;
+    Ok(struck)
+}
+
+/// What a timeline that stands for one scenario becomes for another with the same settings.
+fn rewritten(
+    meter: &mut Meter,
+    kept: &Timeline,
+    former: &Scenario,
+    scenario: &Scenario,
+) -> Result<Timeline, AllocError>
+    requires some { 0 < length kept.now.rows }
+    requires stands { StandsFor former.now kept.now.engine.now kept.now }
+    requires settings { scenario.now.settings ≡ former.now.settings }
+    ensures { IfOk result (λ t. StandsFor scenario.now t.engine.now t) }
+{
+    kept.rewritten(meter, 0, scenario)
+}
+
+/// Who sits on the first processor and on the second, slot by slot.
+fn sitters(alloc: Global, timeline: &Timeline) -> Result<Vec<Pick>, AllocError> {
+    let mut sitters = Vec::new(alloc);
+    for t in 0..timeline.now() {
+        if let Some(row) = timeline.rows().get(t) {
+            sitters.extend(row.get(0))?;
+            sitters.extend(row.get(1))?;
+        }
+    }
+    Ok(sitters)
+}
+
+/// The timeline of three slots without event 3, and then a slot longer.
+fn with_a_strike(rt: &impl Abort, alloc: Global, scenario: &Scenario) -> Result<Timeline, Fail> {
+    let mut meter = Meter::new();
+    let kept = slots(alloc, &mut meter, scenario, 3)?;
+    assert!(rt; !kept.rows().is_empty());
+    let struck = struck(scenario, 3)?;
+    let rewritten = rewritten(&mut meter, &kept, scenario, &struck)?;
+    Ok(rewritten.stepped(&mut meter, &struck)?)
+}
+
+fn pick(task: u32, sub: u32) -> Pick {
+    Pick { task, sub }
+}
+
+#[test]
+fn a_strike_in_the_past(rt: HostRuntime) -> Result<(), Fail> {
+    let longer = with_a_strike(&rt, rt.alloc(), &three_tasks(rt.alloc())?)?;
+    let wanted = [
+        pick(1, 1),
+        pick(2, 1),
+        pick(1, 2),
+        pick(2, 2),
+        pick(1, 3),
+        pick(2, 3),
+    ];
+    assert_eq!(rt; longer.now(), 4);
+    assert_eq!(rt; sitters(rt.alloc(), &longer)?.as_slice(), wanted.as_slice());
+    Ok(())
+}
+
+#[test]
+fn the_distance_of_checkpoints_has_limits(rt: HostRuntime) -> Result<(), Fail> {
+    let settings = Settings::new(1, 1, 1)?;
+    for every in [0, 4097] {
+        let refused = Timeline::new(rt.alloc(), settings, every);
+        assert_eq!(rt; refused.err(), Some(NewFault::BadSettings));
+    }
+    for every in [1, 4096] {
+        let timeline = Timeline::new(rt.alloc(), settings, every)?;
+        assert_eq!(rt; timeline.now(), 0);
+        assert!(rt; timeline.rows().is_empty());
+        assert_eq!(rt; timeline.denials().len(), 0);
+    }
+    Ok(())
+}
+
+/// A timeline, and what is answered where one slot more is asked for, in both ways.
+#[derive(Drop)]
+struct Ended {
+    timeline: Timeline,
+    stepped: Option<StepFault>,
+    step: Option<StepFault>,
+}
+
+/// The timeline of all slots of wide settings.
+fn all_slots(alloc: Global, scenario: &Scenario) -> Result<Ended, Fail> {
+    let mut meter = Meter::new();
+    let mut timeline = slots(alloc, &mut meter, scenario, 4_194_304)?;
+    let stepped = timeline.stepped(&mut meter, scenario).err();
+    let step = step(&mut timeline, &mut meter, scenario).err();
+    Ok(Ended {
+        timeline,
+        stepped,
+        step,
+    })
+}
+
+#[test]
+fn a_wide_timeline_ends_at_its_horizon(rt: HostRuntime) -> Result<(), Fail> {
+    let scenario = Scenario::new(rt.alloc(), Settings::wide(1, 1, 1)?);
+    let ended = all_slots(rt.alloc(), &scenario)?;
+    assert_eq!(rt; ended.stepped, Some(StepFault::AtHorizon));
+    assert_eq!(rt; ended.step, Some(StepFault::AtHorizon));
+    assert_eq!(rt; ended.timeline.rows().len(), 4_194_304);
+    Ok(())
+}
