@@ -5,5 +5,3 @@
 pub mod denial;
 pub mod member;
 pub mod rules;
-#[cfg(test)]
-mod tests;

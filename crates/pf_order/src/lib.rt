@@ -6,5 +6,3 @@ pub mod key;
 pub mod laws;
 pub mod meter;
 pub mod pick;
-#[cfg(test)]
-mod tests;

@@ -4,6 +4,4 @@
 
 pub mod base;
 pub mod fault;
-#[cfg(test)]
-mod tests;
 pub mod weight;

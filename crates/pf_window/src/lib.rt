@@ -73,6 +73,3 @@ pub fn group(weight: Weight, i: u32) -> u64
     }
     ((due * free).div_ceil(weight.period()) * weight.period()).div_ceil(free)
 }
-
-#[cfg(test)]
-mod tests;

@@ -5,8 +5,6 @@
 #[cfg(test)]
 mod fakes;
 #[cfg(test)]
-mod fields;
-#[cfg(test)]
 mod lines;
 #[cfg(test)]
 mod reading;

@@ -1,9 +1,9 @@
 ghost use Rattle.std.specs.Prelude.{◌≤◌, ◌^◌};
 
-use crate::key::Key;
-use crate::laws::keys_are_ordered;
-use crate::meter::Meter;
-use crate::pick::Pick;
+use pf_order::key::Key;
+use pf_order::laws::keys_are_ordered;
+use pf_order::meter::Meter;
+use pf_order::pick::Pick;
 use pf_weight::base::Base;
 use pf_weight::weight::Weight;
 use std::process::Abort;

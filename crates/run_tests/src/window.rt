@@ -1,8 +1,8 @@
 ghost use Rattle.std.specs.Prelude.{◌≤◌, ◌^◌};
 
-use crate::{bit, deadline, group, release};
 use pf_weight::base::Base;
 use pf_weight::weight::Weight;
+use pf_window::{bit, deadline, group, release};
 use std::process::Abort;
 
 fn weight(rt: &impl Abort, base: u64, cost: u64, period: u64) -> Weight {

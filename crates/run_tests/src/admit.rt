@@ -1,8 +1,8 @@
 ghost use Rattle.std.specs.Prelude.{◌≡◌};
 
-use crate::denial::Denial;
-use crate::member::Member;
-use crate::rules::{may_delay, may_join, may_leave};
+use pf_admit::denial::Denial;
+use pf_admit::member::Member;
+use pf_admit::rules::{may_delay, may_join, may_leave};
 use pf_weight::base::Base;
 use pf_weight::weight::Weight;
 use std::process::Abort;

@@ -1,6 +1,6 @@
-use crate::base::Base;
-use crate::fault::{BaseOutOfRange, WeightFault};
-use crate::weight::Weight;
+use pf_weight::base::Base;
+use pf_weight::fault::{BaseOutOfRange, WeightFault};
+use pf_weight::weight::Weight;
 use std::process::Abort;
 
 fn base(rt: &impl Abort, h: u64) -> Base {
