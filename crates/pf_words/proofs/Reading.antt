@@ -1,0 +1,62 @@
+-- What clap's answer says of the words.
+use Rattle.std.proofs.Common.{◌≡◌, ◌⊎◌, refl, subst, inl, inr, true, option_map, List, [], Option, Some, None, Result, Ok, Err, codes}
+use Rattle.clap.specs.Words.{IsAmong, Row, Text, fault_of, first_of, is_simple, is_simple_and_free, subcommand_of}
+use Rattle.clap.specs.declared.error.kind.ErrorKind.{ErrorKind}
+use Rattle.clap.specs.declared.error.kind.ErrorKind.TheVariants.{OutOfMemory}
+use Rattle.pf_words.specs.declared.format.Format.{Format}
+use Rattle.pf_words.specs.declared.request.Request.{Request}
+use Rattle.pf_words.specs.declared.request.Request.TheVariants.{Run, Help}
+use Rattle.pf_words.specs.declared.request.WordsFault.{WordsFault}
+use Rattle.pf_words.specs.declared.request.WordsFault.TheVariants.{Refused, UnknownFormat, NoMemory}
+use Rattle.pf_words.specs.CommandLine.{kinds_of, name_behind_run, name_given, program}
+use Rattle.pf_words.specs.Asked.{IsAsked, ShowsError, format_asked, format_or_tables, run_in, run_of}
+
+pub option_map-option_map : {X Y Z : Type 0} (f : Y → Z) (g : X → Y) (o : Option X) → option_map f (option_map g o) ≡ option_map (λ x. f (g x)) o
+option_map-option_map f g None = refl
+option_map-option_map f g (Some x) = refl
+
+-- where the subcommand is `run`, the text is that of its rows
+pub behind_run : (found : Option (Text × List Row)) (rows : List Row) → option_map (λ p. p.0) found ≡ Some (codes "run")
+    → option_map (λ p. p.1) found ≡ Some rows → first_of (codes "format") rows ≡ name_behind_run found
+behind_run None rows name here = cc
+behind_run (Some p) rows name here =
+    let is_run : p.0 ≡ codes "run" = cc in
+    let is_rows : p.1 ≡ rows = cc in
+    rw (is_run, is_rows) refl
+
+pub program_is_simple : (is_simple program ≡ true) × (is_simple_and_free program ≡ true)
+program_is_simple = (refl, refl)
+
+asked_in : (words : List Text) (format : Option Format) → kinds_of words ≡ [] → format_asked words ≡ format → IsAsked words (run_in format)
+asked_in words None taken is = (taken, is)
+asked_in words (Some format) taken is = is
+
+pub kinds_are : (words : List Text) → fault_of program words ≡ kinds_of words
+unfolding kinds_of
+kinds_are words = refl
+
+taken_format : (words : List Text) (found : Option (Text × List Row)) → kinds_of words ≡ [] → found ≡ subcommand_of program words
+    → format_asked words ≡ format_or_tables (name_behind_run found)
+unfolding name_given format_asked
+taken_format words found taken is = rw (taken, is) refl
+
+-- words that the grammar takes
+pub taken_words : (words : List Text) (found : Option (Text × List Row)) → kinds_of words ≡ [] → found ≡ subcommand_of program words
+    → IsAsked words (run_of (name_behind_run found))
+taken_words words found taken is =
+    asked_in words (format_or_tables (name_behind_run found)) taken (taken_format words found taken is)
+
+-- words that it does not take, by the kind of its error
+pub untaken_words : (words : List Text) (kind : ErrorKind) (answer : Result Request WordsFault)
+    → (kind ≡ OutOfMemory) ⊎ IsAmong kind (kinds_of words) → ShowsError kind answer → IsAsked words answer
+untaken_words words kind (Ok (Run format)) among shows = absurd shows
+untaken_words words kind (Ok (Help text)) among shows = elim among [
+  | inl memory ↦ cc
+  | inr here ↦ subst (λ (k : ErrorKind). IsAmong k (kinds_of words)) shows here
+]
+untaken_words words kind (Err (Refused text)) among shows = elim among [
+  | inl memory ↦ absurd (shows.0 memory)
+  | inr here ↦ (kind, shows.1, here)
+]
+untaken_words words kind (Err UnknownFormat) among shows = absurd shows
+untaken_words words kind (Err NoMemory) among shows = tt

@@ -1,0 +1,22 @@
+use Rattle.std.proofs.Common.{◌∙◌, sym, ap, subst, map}
+use Rattle.clap.specs.Words.{App, HasKind, Kinds, fault_of, is_simple, is_simple_and_free, kind_of, subcommand_of, subcommand_rows_of}
+use Rattle.pf_words.specs.Asked.{IsAsked}
+use Rattle.pf_words.proofs.Reading.{kinds_are, program_is_simple, taken_words, untaken_words}
+use Rattle.pf_words.proofs.words.read_words.Goals as goal
+
+pub returns-in-Ok : goal.returns-in-Ok
+returns-in-Ok g c =
+    let is = c.in_ok-program.ensures in
+    let words = map g.S.AsStr.text c.args.words.now in
+    let kinds = ap (λ (a : App). fault_of a words) is ∙ kinds_are words in
+    let taken = sym kinds ∙ c.in-Ok.ensures.kinds (ap is_simple_and_free is ∙ program_is_simple.1) in
+    let found = (c.in-Ok.ensures.matches (ap is_simple is ∙ program_is_simple.0)).1 ∙ ap (λ (a : App). subcommand_of a words) is in
+    subst (IsAsked words) (sym c.read_matches.ensures) (taken_words words (subcommand_rows_of c.in-Ok.matches) taken found)
+
+pub returns-in-Err : goal.returns-in-Err
+returns-in-Err g c =
+    let is = c.in_ok-program.ensures in
+    let words = map g.S.AsStr.text c.args.words.now in
+    let kinds = ap (λ (a : App). fault_of a words) is ∙ kinds_are words in
+    let among = subst (λ (ks : Kinds). HasKind ks c.in-Err.error) kinds (c.in-Err.ensures.kinds (ap is_simple_and_free is ∙ program_is_simple.1)) in
+    untaken_words words (kind_of c.in-Err.error) c.read_error.result among c.read_error.ensures

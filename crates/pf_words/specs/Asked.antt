@@ -1,0 +1,61 @@
+-- What the words ask for.
+use Rattle.std.specs.Prelude.{◌≡◌, ◌≢◌, if◌then◌else◌, List, [], Option, Some, None, Result, Ok, Err}
+use Rattle.clap.specs.Walk.{is_empty}
+use Rattle.clap.specs.Words.{IsAmong, Text}
+use Rattle.clap.specs.declared.error.kind.ErrorKind.{ErrorKind}
+use Rattle.clap.specs.declared.error.kind.ErrorKind.TheVariants.{DisplayHelp, OutOfMemory}
+use Rattle.pf_words.specs.declared.format.Format.{Format}
+use Rattle.pf_words.specs.declared.format.Format.TheVariants.{Tables}
+use Rattle.pf_words.specs.declared.request.Request.{Request}
+use Rattle.pf_words.specs.declared.request.Request.TheVariants.{Run, Help}
+use Rattle.pf_words.specs.declared.request.WordsFault.{WordsFault}
+use Rattle.pf_words.specs.declared.request.WordsFault.TheVariants.{Refused, UnknownFormat, NoMemory}
+use Rattle.pf_words.specs.Formats.{format_named}
+use Rattle.pf_words.specs.CommandLine.{kinds_of, name_given}
+
+-- without a name the format is `tables`
+abbrev pub format_or_tables : Option Text → Option Format
+format_or_tables None = Some Tables
+format_or_tables (Some name) = format_named name
+
+-- the format in which the words ask for a run: none where the grammar does not take them, and where the text of
+-- `--format` names no format
+unfoldable pub format_asked : List Text → Option Format
+format_asked words = if is_empty (kinds_of words) then format_or_tables (name_given words) else None
+
+-- the grammar may answer with help
+abbrev pub AsksHelp : List Text → Type 0
+AsksHelp words = IsAmong DisplayHelp (kinds_of words)
+
+-- the grammar may refuse the words
+abbrev pub IsRefused : List Text → Type 0
+IsRefused words = (kind : ErrorKind) × (kind ≢ DisplayHelp) × IsAmong kind (kinds_of words)
+
+-- the grammar takes the words, and the text of `--format` names no format
+abbrev pub NamesNoFormat : List Text → Type 0
+NamesNoFormat words = (kinds_of words ≡ []) × (format_asked words ≡ None)
+
+-- this answer is what the words ask for; want of memory may stand in place of any
+abbrev pub IsAsked : List Text → Result Request WordsFault → Type 0
+IsAsked words (Ok (Run format)) = format_asked words ≡ Some format
+IsAsked words (Ok (Help text)) = AsksHelp words
+IsAsked words (Err (Refused text)) = IsRefused words
+IsAsked words (Err UnknownFormat) = NamesNoFormat words
+IsAsked words (Err NoMemory) = Unit {0}
+
+-- a run in this format, or none of the name
+abbrev pub run_in : Option Format → Result Request WordsFault
+run_in None = Err UnknownFormat
+run_in (Some format) = Ok (Run format)
+
+-- what words ask for that the grammar takes, by the text of `--format`
+abbrev pub run_of : Option Text → Result Request WordsFault
+run_of name = run_in (format_or_tables name)
+
+-- what is answered to an error of this kind
+abbrev pub ShowsError : ErrorKind → Result Request WordsFault → Type 0
+ShowsError kind (Ok (Run format)) = ⊥
+ShowsError kind (Ok (Help text)) = kind ≡ DisplayHelp
+ShowsError kind (Err (Refused text)) = (kind ≢ OutOfMemory) × (kind ≢ DisplayHelp)
+ShowsError kind (Err UnknownFormat) = ⊥
+ShowsError kind (Err NoMemory) = Unit {0}

@@ -1,0 +1,39 @@
+-- The program's command line, as clap's definitions see it.
+use Rattle.std.specs.Prelude.{true, if◌then◌else◌, List, Option, Some, None, codes}
+use Rattle.std.specs.Str.{bytes_eq}
+use Rattle.clap.specs.Words.{App, Kinds, Row, Rule, Text, fault_of, first_of, new_app, new_rule, subcommand_of, with_rule, with_subcommand}
+use Rattle.clap.specs.Simple.{on_top}
+use Rattle.clap.specs.declared.builder.action.ArgAction.TheVariants.{Set}
+
+-- the option `--format`, with one text
+abbrev pub format_option : Rule
+format_option = record (new_rule (codes "format")) {
+  long = Some (codes "format");
+  value_names = 1;
+  action = Some Set;
+}
+
+-- `run`, which may have that option
+abbrev pub run_command : App
+run_command = with_rule (new_app (codes "run")) format_option
+
+-- the program's own name is not among the words
+abbrev pub without_own_name : App → App
+without_own_name = on_top (λ s. record s { no_binary_name = true })
+
+-- `pfair`, with the subcommand `run`
+abbrev pub program : App
+program = with_subcommand (without_own_name (new_app (codes "pfair"))) run_command.top
+
+-- the kinds of error by which the grammar does not take the words; it takes them where there is none
+unfoldable pub kinds_of : List Text → Kinds
+kinds_of words = fault_of program words
+
+-- the text of `--format` behind `run`, in what clap found of a subcommand
+abbrev pub name_behind_run : Option (Text × List Row) → Option Text
+name_behind_run None = None
+name_behind_run (Some found) = if bytes_eq found.0 (codes "run") then first_of (codes "format") found.1 else None
+
+-- the text of `--format`, where words that the grammar takes have one
+unfoldable pub name_given : List Text → Option Text
+name_given words = name_behind_run (subcommand_of program words)

@@ -1,0 +1,70 @@
+ghost use Rattle.std.specs.Prelude.{◌≡◌, IfOk, false};
+ghost use Rattle.clap.specs.Words.{app_of};
+ghost use Rattle.clap.specs.declared.builder.command.Command.TheViews.{out-Command};
+ghost use Rattle.pf_words.specs.CommandLine.{program, run_command};
+
+use clap::{Arg, ArgAction, Command};
+use std::alloc::{AllocError, Global};
+
+// What `--help` says of the program.
+const ABOUT: &str =
+    "Schedules periodic tasks on processors slot by slot (Pfair, the order PD2), as a script says. \
+The script is read from standard input, and the answer is written to standard output.";
+
+// What `--help` teaches behind the words.
+const LESSON: &str = "A script is a list of comma-separated records, one a line:
+  settings,M,BASE,CAP,EVERY           first: M processors, the base that each period divides, the most
+                                      load in 1/BASE, and a checkpoint at every so many slots
+  join,SLOT,TASK,COST,PERIOD,EARLY    a task of weight COST/PERIOD joins, each quantum up to EARLY slots early
+  leave,SLOT,TASK                     it leaves
+  delay,SLOT,TASK,BY                  its next quanta come BY slots later
+  alter,ID,..                         event ID becomes this join, leave or delay
+  strike,ID                           event ID never was
+  strict,..                           any of these changes, refused where it would leave a denial
+  step                                one slot passes; step,N: N slots
+Events are numbered from 1 and may lie in any slot, also in the past. A script that begins with the record pfair,2
+may hold limit,SLOT,COUNT (so many processors are in use from that slot on), and may step 4194304 slots, else 1048576.
+
+Example, three tasks of weight 2/3 on two processors:
+  settings,2,3,6,2
+  join,0,1,2,3,0
+  join,0,2,2,3,0
+  join,0,3,2,3,0
+  step,3
+
+Formats:
+  schedule    the schedule: for each slot the task/subtask on each processor
+  tables      a reply to each record, then the schedule, the lags, the misses and the denials
+  json        a reply to each record, then one JSON object of these
+
+Status: 0 done, 1 a bad record or a script that is too long, 2 words that are not understood, 3 a fault of reading or
+writing, 4 out of memory. What is wrong is told on standard error.";
+
+// The words that the program knows.
+pub(crate) fn program<'a>(alloc: Global) -> Result<Command<'a>, AllocError>
+    ensures { IfOk result (λ c. app_of c ≡ program) }
+{
+    let run = run_command(alloc)?;
+    Command::new(alloc, "pfair")
+        .no_binary_name(true)
+        .bin_name("pfair")?
+        .about(ABOUT)
+        .after_help(LESSON)
+        .subcommand(run)
+}
+
+// `run`, with `--format` and a text.
+fn run_command<'a>(alloc: Global) -> Result<Command<'a>, AllocError>
+    ensures shape { IfOk result (λ c. app_of c ≡ run_command) }
+    ensures globals { IfOk result (λ c. (out-Command c).has_globals ≡ false) }
+{
+    let format = Arg::new(alloc, "format")
+        .long("format")
+        .value_name("FORMAT")
+        .help("schedule, tables or json [default: tables]")
+        .action(ArgAction::Set);
+    Command::new(alloc, "run")
+        .about("Runs the script; also without any words")
+        .after_help(LESSON)
+        .arg(format)
+}

@@ -1,0 +1,37 @@
+ghost use Rattle.std.specs.Prelude.{◌≡◌};
+ghost use Rattle.pf_words.specs.declared.request.WordsFault.TheVariants.{NoMemory};
+
+use crate::format::Format;
+use std::alloc::AllocError;
+use thiserror::Error;
+
+/// What the words ask for.
+#[derive(Debug, Drop)]
+pub enum Request {
+    /// To run the script in this format.
+    Run(Format),
+    /// To show this help.
+    Help(String),
+}
+
+/// Why the words ask for nothing.
+#[derive(Debug, Drop, Error)]
+pub enum WordsFault {
+    /// They are not the program's: the text says why, and ends its line.
+    #[error("{0}")]
+    Refused(String),
+    /// The text of `--format` names no format.
+    #[error("unknown format")]
+    UnknownFormat,
+    /// Memory was refused.
+    #[error("out of memory")]
+    NoMemory,
+}
+
+impl From<AllocError> for WordsFault {
+    ghost from_gives = { λ _ f. f ≡ NoMemory };
+
+    fn from(_error: AllocError) -> WordsFault {
+        WordsFault::NoMemory
+    }
+}
