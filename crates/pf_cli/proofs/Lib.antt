@@ -4,3 +4,4 @@ pub mod Replying
 pub mod Scripts
 pub mod ScriptsWorked
 pub mod Sessions
+pub mod WordsAnswered

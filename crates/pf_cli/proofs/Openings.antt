@@ -4,7 +4,7 @@ use Rattle.std.specs.Prelude.{nat_lt}
 use Rattle.pf_script.specs.declared.version.Version.TheVariants.{First, Second}
 use Rattle.pf_script.specs.Grammar.{is_heading, opening_of}
 use Rattle.pf_script.specs.Script.{script_records}
-use Rattle.pf_cli.specs.declared.format.Format.{Format}
+use Rattle.pf_words.specs.declared.format.Format.{Format}
 use Rattle.pf_cli.specs.Meaning.{bad, records_meaning, settings_meaning, opened, script_meaning}
 
 short_meaning : (format : Format) (bytes : List ℕ) → length bytes ≤ 16777216 → script_meaning format bytes ≡ records_meaning format (script_records bytes)

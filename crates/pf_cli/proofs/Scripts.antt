@@ -13,7 +13,7 @@ use Rattle.pf_cli.specs.declared.fault.RunFault.{RunFault}
 use Rattle.pf_cli.specs.declared.fault.RunFault.TheVariants.{BadLine, ReadFault, WriteFault, ScriptTooLong, NoMemory}
 use Rattle.pf_cli.specs.declared.output_fault.OutputFault.{OutputFault}
 use Rattle.pf_cli.specs.declared.output_fault.OutputFault.TheVariants.{Write, Memory}
-use Rattle.pf_cli.specs.declared.format.Format.{Format}
+use Rattle.pf_words.specs.declared.format.Format.{Format}
 use Rattle.pf_cli.specs.declared.session.Session.{Session}
 use Rattle.pf_cli.specs.Answers.{Answers, CountsOutput, CountsWrites, IsPastReading, fault_of_output}
 use Rattle.pf_cli.specs.Meaning.{Meaning, Done, BadRecord, behind, commands_of, course_behind, line_meaning, lines_meaning, settings_meaning, shown, report_text, seen_at}

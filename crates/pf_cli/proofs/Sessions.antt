@@ -11,10 +11,11 @@ use Rattle.pf_desk.specs.declared.reply.Reply.{Reply}
 use Rattle.pf_desk.specs.Machine.{reply_to, state_after}
 use Rattle.pf_desk.specs.Desk.{Shown, Answers, Seen, StandsForHistory}
 use Rattle.pf_stream.specs.Lines.{TookAllBut, TookFront}
-use Rattle.pf_cli.specs.declared.format.Format.{Format}
+use Rattle.pf_words.specs.declared.format.Format.{Format}
 use Rattle.pf_cli.specs.declared.session.Session.{Session}
 use Rattle.pf_cli.specs.Replies.{reply_line}
-use Rattle.pf_cli.specs.Meaning.{Course, course_after, course_behind, has_replies, shown, reply_lines, report_text, seen_at}
+use Rattle.pf_words.specs.Formats.{has_replies}
+use Rattle.pf_cli.specs.Meaning.{Course, course_after, course_behind, shown, reply_lines, report_text, seen_at}
 use Rattle.pf_cli.specs.Session.{course_at, replies_of, HasAnswered}
 
 -- a text is still to come, in whole

@@ -1,7 +1,7 @@
 -- Worked examples of what scripts mean.
 use Rattle.std.specs.Prelude.{◌≡◌, ℕ, List, [], ◌++◌, codes}
-use Rattle.pf_cli.specs.declared.format.Format.{Format}
-use Rattle.pf_cli.specs.declared.format.Format.TheVariants.{Schedule, Tables}
+use Rattle.pf_words.specs.declared.format.Format.{Format}
+use Rattle.pf_words.specs.declared.format.Format.TheVariants.{Schedule, Tables}
 use Rattle.pf_cli.specs.Meaning.{End, Done, BadRecord, script_meaning}
 
 -- in the format, the script is a text and ends so

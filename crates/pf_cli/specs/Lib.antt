@@ -1,12 +1,14 @@
 pub use Rattle.pf_stream.specs.Counted
 pub use Rattle.pf_stream.specs.Failing
 pub use Rattle.pf_stream.specs.Lines
+pub use Rattle.pf_words.specs.Asked
+pub use Rattle.pf_words.specs.CommandLine
+pub use Rattle.pf_words.specs.Formats
 pub use Rattle.pf_script.specs.Fields
 pub use Rattle.pf_script.specs.Grammar
 pub use Rattle.pf_script.specs.Script
 pub mod Answers
 pub mod Examples
-pub mod Formats
 pub mod Meaning
 pub mod Replies
 pub mod Session

@@ -1,5 +1,5 @@
 -- What a script means: a text and an end.
-use Rattle.std.specs.Prelude.{ℕ, ◌+◌, ◌^◌, Bool, true, false, ◌&&◌, nat_le, nat_lt, if◌then◌else◌, Option, None, Some, List, [], ◌∷◌, ◌++◌, codes, length, replicate}
+use Rattle.std.specs.Prelude.{ℕ, ◌+◌, ◌^◌, Bool, ◌&&◌, nat_le, nat_lt, if◌then◌else◌, Option, None, Some, List, [], ◌∷◌, ◌++◌, codes, length, replicate}
 use Rattle.pf_scenario.specs.System.{System}
 use Rattle.pf_engine.specs.RunRows.{rows_in, denials_in}
 use Rattle.pf_desk.specs.declared.command.Command.{Command}
@@ -15,8 +15,9 @@ use Rattle.pf_script.specs.declared.line.Line.TheVariants as line
 use Rattle.pf_script.specs.declared.line.Opening.{Opening}
 use Rattle.pf_script.specs.Script.{script_records}
 use Rattle.pf_script.specs.Grammar.{horizon_of, is_heading, opening_of, line_of}
-use Rattle.pf_cli.specs.declared.format.Format.{Format}
-use Rattle.pf_cli.specs.declared.format.Format.TheVariants.{Schedule, Tables, Json}
+use Rattle.pf_words.specs.declared.format.Format.{Format}
+use Rattle.pf_words.specs.declared.format.Format.TheVariants.{Schedule, Tables, Json}
+use Rattle.pf_words.specs.Formats.{has_replies}
 use Rattle.pf_cli.specs.Replies.{reply_line, line_end}
 
 -- how a script ends: well, at a bad record of this number, or because it is too long
@@ -49,11 +50,7 @@ abbrev pub course_behind : Course → List Command → Course
 course_behind c [] = c
 course_behind c (command ∷ commands) = course_behind (course_after c command) commands
 
--- only the format `schedule` has no reply lines
-abbrev pub has_replies : Format → Bool
-has_replies Schedule = false
-has_replies format = true
-
+-- the text where the format has reply lines, else nothing
 abbrev pub shown : Format → List ℕ → List ℕ
 shown format text = if has_replies format then text else []
 

@@ -1,10 +1,12 @@
 -- The status that the program ends with, and what it did to its streams.
-use Rattle.std.specs.Prelude.{ℕ, ◌≡◌, ◌+◌, List, Option, IfSome, Result, Ok, Err, ◌==◌, if◌then◌else◌, ◌⊎◌, []}
+use Rattle.std.specs.Prelude.{ℕ, ◌≡◌, ◌+◌, List, Option, Some, None, IfSome, Result, Ok, Err, ◌==◌, if◌then◌else◌, ◌⊎◌}
 use Rattle.std.specs.Io.KnownBytes.{Keeps}
 use Rattle.pf_cli.specs.declared.fault.RunFault.{RunFault}
 use Rattle.pf_cli.specs.declared.fault.RunFault.TheVariants.{BadLine, ReadFault, WriteFault, ScriptTooLong, NoMemory}
-use Rattle.pf_cli.specs.declared.format.Format.{Format}
-use Rattle.pf_cli.specs.declared.format.Format.TheVariants.{Tables}
+use Rattle.pf_words.specs.declared.format.Format.{Format}
+use Rattle.pf_words.specs.declared.request.WordsFault.{WordsFault}
+use Rattle.pf_words.specs.declared.request.WordsFault.TheVariants as words
+use Rattle.pf_words.specs.Asked.{format_asked, AsksHelp, IsRefused, NamesNoFormat}
 use Rattle.pf_cli.specs.Answers.{Answers, CountsReads, CountsWrites}
 use Rattle.pf_cli.specs.Meaning.{script_meaning}
 
@@ -16,6 +18,12 @@ status_of (Err ScriptTooLong) = 1
 status_of (Err ReadFault) = 3
 status_of (Err WriteFault) = 3
 status_of (Err NoMemory) = 4
+
+-- 2 words that are refused or name no format, 4 no memory
+abbrev pub status_of_words : WordsFault → ℕ
+status_of_words (words.Refused text) = 2
+status_of_words words.UnknownFormat = 2
+status_of_words words.NoMemory = 4
 
 -- what is seen of the two streams: the bytes that the reader has left and those that the writer holds, where they tell
 -- them, and how often each failed
@@ -41,15 +49,26 @@ abbrev pub RunsScript : Format → ℕ → Streams → Streams → Type 0
 RunsScript format status old new =
     (answer : Result (Unit {0}) RunFault) × (status ≡ status_of answer) × IsAnswer format answer old new
 
--- no script was read: help was written (0) or could not be (3), the words were refused (2), or memory was (4)
-pub record ReadsNothing (status : ℕ) (old new : Streams) : Type 0 where
-  pub ended : (status ≡ 0) ⊎ (status ≡ 2) ⊎ (status ≡ 3) ⊎ (status ≡ 4)
+-- how the program ends where it runs no script: help was asked for, and was written (0) or could not be (3), the words
+-- were refused or name no format (2), or memory was refused (4)
+abbrev pub EndsUnread : List (List ℕ) → ℕ → Type 0
+EndsUnread words status =
+    (AsksHelp words × ((status ≡ 0) ⊎ (status ≡ 3)))
+    ⊎ ((IsRefused words ⊎ NamesNoFormat words) × (status ≡ 2))
+    ⊎ (status ≡ 4)
+
+-- no script was read, and nothing was written but help
+pub record ReadsNothing (words : List (List ℕ)) (status : ℕ) (old new : Streams) : Type 0 where
+  pub ended : EndsUnread words status
   pub input : new.input ≡ old.input
   pub reads : new.failed_reads ≡ old.failed_reads
   pub writes : new.failed_writes ≡ old.failed_writes + (if status == 3 then 1 else 0)
-  pub refused : status ≡ 2 → Keeps old.output new.output
+  pub unwritten : (status ≡ 2) ⊎ (status ≡ 4) → Keeps old.output new.output
 
--- without words a script is run with tables; with words, in some format or not at all
-pub record AnswersWords {A : Type 0} (words : List A) (status : ℕ) (old new : Streams) : Type 0 where
-  pub without : words ≡ [] → RunsScript Tables status old new
-  pub any : ((format : Format) × RunsScript format status old new) ⊎ ReadsNothing status old new
+-- words that ask for this format have the script run in it; where they ask for none, nothing is read
+abbrev pub AnswersAsked : List (List ℕ) → Option Format → ℕ → Streams → Streams → Type 0
+AnswersAsked words (Some format) status old new = RunsScript format status old new
+AnswersAsked words None status old new = ReadsNothing words status old new
+
+abbrev pub AnswersWords : List (List ℕ) → ℕ → Streams → Streams → Type 0
+AnswersWords words status old new = AnswersAsked words (format_asked words) status old new

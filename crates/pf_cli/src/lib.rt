@@ -5,7 +5,6 @@
 #![tactic(auto)]
 
 pub mod fault;
-pub mod format;
 pub mod laws;
 mod output_fault;
 mod replies;
@@ -15,3 +14,4 @@ mod session;
 pub mod words;
 
 pub use pf_stream::{sink, source};
+pub use pf_words::format;

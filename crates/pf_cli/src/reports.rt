@@ -1,13 +1,13 @@
 ghost use Rattle.std.specs.Prelude.{◌≡◌, ◌++◌, IfOk, OnOk};
 ghost use Rattle.pf_cli.specs.Meaning.{report_text, tables_text, titled};
 
-use crate::format::Format;
 use pf_desk::snapshot::Snapshot;
 use pf_report::denials::denials_csv;
 use pf_report::json::report_json;
 use pf_report::lags::lags_csv;
 use pf_report::misses::misses_csv;
 use pf_report::schedule::schedule_csv;
+use pf_words::format::Format;
 use std::alloc::{AllocError, Global};
 
 /// What stands behind all replies.

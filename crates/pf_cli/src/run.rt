@@ -8,7 +8,6 @@ ghost use Rattle.pf_cli.specs.Meaning.{script_meaning, settings_meaning, lines_m
 ghost use Rattle.pf_cli.specs.Session.{course_at};
 
 use crate::fault::RunFault;
-use crate::format::Format;
 use crate::session::Session;
 use csv::ByteRecord;
 use pf_scenario::settings::Settings;
@@ -20,6 +19,7 @@ use pf_script::version::Version;
 use pf_stream::reading::{LONGEST_SCRIPT, read_script};
 use pf_stream::sink::Sink;
 use pf_stream::source::Source;
+use pf_words::format::Format;
 use std::alloc::Global;
 
 // The most slots from one checkpoint to the next.

@@ -7,7 +7,6 @@ ghost use Rattle.pf_cli.specs.Meaning.{shown, commands_of, seen_at, report_text}
 ghost use Rattle.pf_cli.specs.Replies.{line_end};
 ghost use Rattle.pf_cli.specs.Session.{Opened, HasPut, HasAnswered, course_at, replies_of};
 
-use crate::format::Format;
 use crate::output_fault::OutputFault;
 use crate::replies::push_reply;
 use crate::reports::report_text;
@@ -19,6 +18,7 @@ use pf_scenario::settings::Settings;
 use pf_script::line::Line;
 use pf_stream::lines::Lines;
 use pf_stream::sink::Sink;
+use pf_words::format::Format;
 use std::alloc::{AllocError, Global};
 
 // All commands of a script come from the one caller.

@@ -1,2 +1,3 @@
 mod Reading
+pub mod Unasked
 mod Worked

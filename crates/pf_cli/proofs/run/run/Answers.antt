@@ -5,7 +5,7 @@ use Rattle.std.proofs.lemmas.Result.{err_from_is_err_and}
 use Rattle.pf_stream.specs.declared.reading.ReadingFault.{ReadingFault}
 use Rattle.pf_stream.specs.declared.reading.ReadingFault.TheVariants.{Read, TooLong, Memory}
 use Rattle.pf_stream.specs.Reading.{ReadsScript}
-use Rattle.pf_cli.specs.declared.format.Format.{Format}
+use Rattle.pf_words.specs.declared.format.Format.{Format}
 use Rattle.pf_cli.specs.Answers.{Answers, fault_of_reading}
 use Rattle.pf_cli.specs.Meaning.{script_meaning}
 use Rattle.pf_cli.proofs.Sessions.{none_written}
