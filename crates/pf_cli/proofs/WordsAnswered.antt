@@ -13,6 +13,7 @@ use Rattle.pf_cli.specs.Meaning.{script_meaning}
 use Rattle.pf_cli.specs.Status.{AnswersAsked, AnswersWords, ReadsNothing, Streams, status_of_words}
 use Rattle.pf_cli.proofs.Sessions.{none_written}
 
+-- words that ask for no run have nothing read
 nothing_read : (words : List (List ℕ)) (status : ℕ) (old new : Streams) → format_asked words ≡ None → ReadsNothing words status old new
     → AnswersWords words status old new
 nothing_read words status old new none reads = rw none reads
@@ -28,6 +29,7 @@ help_answers words status old new asks shown input reads writes = nothing_read w
   unwritten = λ other. absurd (omega (arith, shown, other));
 })
 
+-- want of memory is an answer to all words
 no_memory : (words : List (List ℕ)) (old : Streams) (asked : Option Format) → AnswersAsked words asked 4 old old
 no_memory words old None = record {
   ended = inr (inr refl);
@@ -60,6 +62,7 @@ mistaken words old are = record {
   unwritten = λ other. Keeps-refl old.output;
 }
 
+-- the same by its cases
 untouched : (words : List (List ℕ)) (why : WordsFault) (old : Streams) → IsAsked words (Err why) → AnswersWords words (status_of_words why) old old
 untouched words (fault.Refused text) old refused =
     nothing_read words 2 old old (untaken_asks_none words _ refused.2) (mistaken words old (inl refused))

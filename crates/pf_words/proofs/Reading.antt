@@ -11,6 +11,7 @@ use Rattle.pf_words.specs.declared.request.WordsFault.TheVariants.{Refused, Unkn
 use Rattle.pf_words.specs.CommandLine.{kinds_of, name_behind_run, name_given, program}
 use Rattle.pf_words.specs.Asked.{IsAsked, ShowsError, format_asked, format_or_tables, run_in, run_of}
 
+-- one function after another over what may be there
 pub option_map-option_map : {X Y Z : Type 0} (f : Y → Z) (g : X → Y) (o : Option X) → option_map f (option_map g o) ≡ option_map (λ x. f (g x)) o
 option_map-option_map f g None = refl
 option_map-option_map f g (Some x) = refl
@@ -24,17 +25,21 @@ behind_run (Some p) rows name here =
     let is_rows : p.1 ≡ rows = cc in
     rw (is_run, is_rows) refl
 
+-- clap's definitions speak of this command line
 pub program_is_simple : (is_simple program ≡ true) × (is_simple_and_free program ≡ true)
 program_is_simple = (refl, refl)
 
+-- words that the grammar takes ask for a run in the format, or name none
 asked_in : (words : List Text) (format : Option Format) → kinds_of words ≡ [] → format_asked words ≡ format → IsAsked words (run_in format)
 asked_in words None taken is = (taken, is)
 asked_in words (Some format) taken is = is
 
+-- the kinds of error by their definition
 pub kinds_are : (words : List Text) → fault_of program words ≡ kinds_of words
 unfolding kinds_of
 kinds_are words = refl
 
+-- the format that is asked for, by what clap found of a subcommand
 taken_format : (words : List Text) (found : Option (Text × List Row)) → kinds_of words ≡ [] → found ≡ subcommand_of program words
     → format_asked words ≡ format_or_tables (name_behind_run found)
 unfolding name_given format_asked

@@ -9,6 +9,7 @@ use Rattle.pf_words.specs.declared.format.Format.{Format}
 use Rattle.pf_words.specs.CommandLine.{kinds_of, name_given}
 use Rattle.pf_words.specs.Asked.{format_asked, format_or_tables}
 
+-- where a kind may come, there is some
 none_among : (kinds : Kinds) (kind : ErrorKind) (format : Option Format) → IsAmong kind kinds → (if is_empty kinds then format else None) ≡ None
 none_among [] kind format here = absurd here
 none_among (first ∷ rest) kind format here =
