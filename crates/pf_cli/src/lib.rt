@@ -1,8 +1,8 @@
 //! The program's scripts, and its words carried out. A whole input is read from a reader and taken apart into records;
-//! each is a line of the script, which a desk answers; replies and reports go to a writer through a small buffer. The one
-//! contract of this crate: what `run` writes, and how it ends, is what the script's bytes mean, or a front of that text
-//! where the writer failed or memory was refused. Words that ask for a run, and no others, have `main_words` run the
-//! script, in the format that they ask for.
+//! each is a line of the script, which a desk answers; replies and reports go to a writer through a small buffer. The
+//! one contract of this crate: what `run` writes, and how it ends, is what the script's bytes mean, or a front of that
+//! text where the writer failed or memory was refused. Words that ask for a run, and no others, have `main_words` run
+//! the script, in the format that they ask for.
 #![tactic(auto)]
 
 pub mod fault;

@@ -13,8 +13,8 @@ use std::convert::AsStr;
 
 /// What the program's words ask for, its own name not among them. No words ask for a run with tables, and so does
 /// `run` alone; `run --format NAME` asks for one in the format of that name. Answers `Refused` where the words are not
-/// the program's, `UnknownFormat` where the text of `--format` names no format, and `NoMemory` where memory was refused,
-/// in place of any answer.
+/// the program's, `UnknownFormat` where the text of `--format` names no format, and `NoMemory`, in place of any answer,
+/// where memory was refused.
 pub fn read_words<S: AsStr>(alloc: Global, words: &[S]) -> Result<Request, WordsFault>
     ensures { IsAsked (map S.text words.now) result }
 {
