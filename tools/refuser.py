@@ -1,39 +1,81 @@
 """Runs a program with one of its allocations refused.
 
-A library that counts the calls of malloc and realloc and refuses one of them is loaded before the C library. It is
-compiled here, by `cc`.
+A library that counts the calls of the C library that give memory (malloc, calloc, realloc, reallocarray, aligned_alloc,
+memalign and posix_memalign), and refuses one of them, is loaded before the C library. It is compiled here, by `cc`.
 """
 import itertools
 import os
 import subprocess
+import sys
+
+from programs import run_to_end
 
 SOURCE = r"""
 #define _GNU_SOURCE
 #include <dlfcn.h>
+#include <errno.h>
 #include <fcntl.h>
+#include <stdatomic.h>
 #include <stdlib.h>
 #include <unistd.h>
 
-static long calls;
+static atomic_long calls;
+static _Thread_local int looks_up;
 
 static int is_refused(void) {
     const char *nth = getenv("REFUSED");
-    calls += 1;
-    if (!nth || calls != atol(nth)) return 0;
+    long call = atomic_fetch_add(&calls, 1) + 1;
+    if (!nth || call != atol(nth)) return 0;
     close(creat(getenv("REFUSED_MARK"), 0600));
+    errno = ENOMEM;
     return 1;
 }
 
+static void *real(const char *name) {
+    looks_up = 1;
+    void *found = dlsym(RTLD_NEXT, name);
+    looks_up = 0;
+    if (!found) abort();
+    return found;
+}
+
 void *malloc(size_t size) {
-    static void *(*real)(size_t);
-    if (!real) real = dlsym(RTLD_NEXT, "malloc");
-    return is_refused() ? NULL : real(size);
+    void *(*give)(size_t) = real("malloc");
+    return is_refused() ? NULL : give(size);
+}
+
+/* Some C libraries ask calloc in dlsym, and do without what it does not give. */
+void *calloc(size_t count, size_t size) {
+    if (looks_up) return NULL;
+    void *(*give)(size_t, size_t) = real("calloc");
+    return is_refused() ? NULL : give(count, size);
 }
 
 void *realloc(void *old, size_t size) {
-    static void *(*real)(void *, size_t);
-    if (!real) real = dlsym(RTLD_NEXT, "realloc");
-    return is_refused() ? NULL : real(old, size);
+    void *(*give)(void *, size_t) = real("realloc");
+    return is_refused() ? NULL : give(old, size);
+}
+
+void *reallocarray(void *old, size_t count, size_t size) {
+    size_t bytes;
+    if (!__builtin_mul_overflow(count, size, &bytes)) return realloc(old, bytes);
+    errno = ENOMEM;
+    return NULL;
+}
+
+void *aligned_alloc(size_t alignment, size_t size) {
+    void *(*give)(size_t, size_t) = real("aligned_alloc");
+    return is_refused() ? NULL : give(alignment, size);
+}
+
+void *memalign(size_t alignment, size_t size) {
+    void *(*give)(size_t, size_t) = real("memalign");
+    return is_refused() ? NULL : give(alignment, size);
+}
+
+int posix_memalign(void **place, size_t alignment, size_t size) {
+    int (*give)(void **, size_t, size_t) = real("posix_memalign");
+    return is_refused() ? ENOMEM : give(place, alignment, size);
 }
 """
 
@@ -42,11 +84,13 @@ def compile_refuser(folder):
     """The library, compiled into this folder."""
     source, library = folder / "refuser.c", folder / "refuser.so"
     source.write_text(SOURCE)
-    subprocess.run(["cc", "-shared", "-fPIC", "-o", library, source, "-ldl"], check=True)
+    done = subprocess.run(["cc", "-shared", "-fPIC", "-o", library, source, "-ldl"])
+    if done.returncode != 0:
+        sys.exit("cc does not compile the library that refuses allocations")
     return library
 
 
-def refuse_each(library, words, **how):
+def refuse_each(library, words, what, **how):
     """Runs these words with the first allocation refused, then the second, until there is none left to refuse.
 
     Gives each run's number, whether an allocation was refused in it (in all but the last), and how it ended.
@@ -55,7 +99,7 @@ def refuse_each(library, words, **how):
     for nth in itertools.count(1):
         mark.unlink(missing_ok=True)
         env = {**os.environ, "LD_PRELOAD": str(library), "REFUSED": str(nth), "REFUSED_MARK": str(mark)}
-        done = subprocess.run(words, capture_output=True, env=env, **how)
+        done = run_to_end(words, f"{what}, allocation {nth}", env=env, **how)
         was_refused = mark.exists()
         yield nth, was_refused, done
         if not was_refused:
