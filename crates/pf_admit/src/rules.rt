@@ -1,4 +1,4 @@
-ghost use Rattle.std.specs.Prelude.{◌≡◌, ◌<◌, ◌+◌, ◌^◌};
+ghost use Rattle.std.specs.Prelude.{◌≡◌, ◌<◌};
 ghost use Rattle.std.specs.Result.{result_err};
 ghost use Rattle.std.specs.Option.{ForSome, option_copied};
 ghost use Rattle.pf_admit.specs.Member.{IsMember, free_from};
@@ -8,20 +8,26 @@ use crate::denial::Denial;
 use crate::member::Member;
 use pf_window::{bit, deadline, group, release};
 
-/// Whether a task of these units may join: denied as `OverCapacity` where the load and the units are above the cap.
-/// All three are in 1/h.
+/// Whether a task of these units may join, for any load, units and cap, all three in 1/h.
+///
+/// # Errors
+///
+/// `OverCapacity` where the load and the units together are above the cap.
 pub fn may_join(load: u64, units: u64, cap: u64) -> Result<(), Denial>
-    requires { load + units < 2 ^ 64 }
     ensures { result_err result ≡ join_denial load units cap }
 {
-    if load + units > cap {
-        return Err(Denial::OverCapacity);
+    match load.checked_add(units) {
+        Some(sum) if sum <= cap => Ok(()),
+        _ => Err(Denial::OverCapacity),
     }
-    Ok(())
 }
 
-/// Whether a task may leave in the slot: denied as `NotInside` where there is no such member, and as `TooEarly`
-/// where the slot is before the one in which its last subtask lets it go.
+/// Whether a task may leave in the slot. A member's `done` must be below 2^24, its `shift` and `last` below 2^40.
+///
+/// # Errors
+///
+/// `NotInside` where there is no such member, and `TooEarly` where the slot is before the one in which its last subtask
+/// lets it go.
 pub fn may_leave(slot: u64, member: Option<&Member>) -> Result<(), Denial>
     requires { ForSome member (λ m. IsMember m.now) }
     ensures { result_err result ≡ leave_denial slot (option_copied member.entry) }
@@ -35,8 +41,12 @@ pub fn may_leave(slot: u64, member: Option<&Member>) -> Result<(), Denial>
     Ok(())
 }
 
-/// Whether a task's next subtask may be delayed in the slot: denied as `NotInside` where there is no such member,
-/// and as `Released` where the subtask's release is below the slot.
+/// Whether a task's next subtask may be delayed in the slot. A member's `done` must be below 2^24, its `shift` and `last`
+/// below 2^40.
+///
+/// # Errors
+///
+/// `NotInside` where there is no such member, and `Released` where the subtask's release is below the slot.
 pub fn may_delay(slot: u64, member: Option<&Member>) -> Result<(), Denial>
     requires { ForSome member (λ m. IsMember m.now) }
     ensures { result_err result ≡ delay_denial slot (option_copied member.entry) }
