@@ -33,6 +33,10 @@ impl Model for Engine {
 
 impl Engine {
     /// An engine before any slot: it fits each scenario with these settings and the empty run.
+    ///
+    /// # Errors
+    ///
+    /// Where memory is refused.
     pub fn new(alloc: Global, settings: Settings) -> Result<Self, AllocError>
         ensures value { IfOk result (λ e. e ≡ kept_after settings [] []) }
         ensures fits { IfOk result (λ e. (s : Plan) → s.settings ≡ settings → Fits s [] e) }
@@ -57,6 +61,10 @@ impl Engine {
     }
 
     /// An engine that keeps the same.
+    ///
+    /// # Errors
+    ///
+    /// Where memory is refused.
     pub fn copy(&self) -> Result<Self, AllocError>
         ensures { IfOk result (λ e. e ≡ self.now) }
     {
@@ -65,9 +73,15 @@ impl Engine {
         })
     }
 
-    /// Takes the next slot, with its events in run order, and counts one slot: of each scenario and run that the
-    /// engine fits, the outcome is the next slot, and the engine then fits the longer run. Where memory is wanted
-    /// for it, the engine stays as it was.
+    /// Takes the slot `now()` and counts one slot: of each scenario and run that the engine fits, the outcome is the
+    /// next slot, and the engine then fits the longer run.
+    ///
+    /// The events must be all those of that slot in a scenario that the engine fits, in run order, and the slot must be
+    /// below the scenario's horizon.
+    ///
+    /// # Errors
+    ///
+    /// Where memory is refused: the engine stays as it was, and no slot is counted.
     pub fn slot(&mut self, meter: &mut Meter, events: &[Numbered]) -> Result<Outcome, AllocError>
         requires { CanTake self.old events.now }
         ensures slot { (s : Plan) → (r : List Slot) → IsScenario s → Fits s r self.old

@@ -8,8 +8,11 @@ use std::alloc::{AllocError, Global};
 /// The memory of a slot, which is taken before anything changes.
 #[derive(Drop)]
 pub struct Room {
+    /// For the slot's denials.
     pub denials: Vec<Denied>,
+    /// For the keys of the subtasks that may run.
     pub keys: Vec<Key>,
+    /// For the subtasks that run.
     pub picks: Vec<Pick>,
 }
 
@@ -17,6 +20,10 @@ impl Room {
     ghost use Rattle.pf_engine.specs.Rooms.{HasRoom};
 
     /// Room for this many denials, keys and picks.
+    ///
+    /// # Errors
+    ///
+    /// Where memory is refused.
     pub fn new(alloc: Global, denials: usize, keys: usize, picks: usize) -> Result<Self, AllocError>
         ensures { IfOk result (HasRoom denials keys picks) }
     {

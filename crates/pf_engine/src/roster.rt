@@ -34,6 +34,10 @@ impl Model for Roster {
 
 impl Roster {
     /// No task.
+    ///
+    /// # Errors
+    ///
+    /// Where memory is refused.
     pub fn new(alloc: Global) -> Result<Self, AllocError>
         ensures { IfOk result (λ r. r.tasks ≡ []) }
     {
@@ -44,6 +48,10 @@ impl Roster {
     }
 
     /// Makes room for this many tasks more.
+    ///
+    /// # Errors
+    ///
+    /// Where memory is refused.
     pub fn reserve(&mut self, more: usize) -> Result<(), AllocError>
         ensures tasks { self.new.tasks ≡ self.old.tasks }
         ensures room { OnOk result (more ≤ self.new.spare) }
@@ -138,6 +146,10 @@ impl Roster {
     }
 
     /// The same tasks.
+    ///
+    /// # Errors
+    ///
+    /// Where memory is refused.
     pub fn copy(&self) -> Result<Self, AllocError>
         ensures { IfOk result (λ r. r.tasks ≡ self.now.tasks) }
     {

@@ -28,12 +28,13 @@ use std::alloc::{AllocError, Global};
 /// What an engine keeps.
 #[derive(Drop)]
 pub struct State {
+    /// What its scenarios are set in.
     pub settings: Settings,
     /// The number of slots that were taken.
     pub slots: u64,
     /// The tasks inside.
     pub tasks: Roster,
-    /// The sum of their units.
+    /// The sum of their units, in 1/h.
     pub load: u64,
     /// How many processors are in use.
     pub count: u32,
@@ -44,6 +45,10 @@ impl State {
     ghost use Rattle.pf_engine.specs.Rooms.{HasRoom};
 
     /// Before any slot.
+    ///
+    /// # Errors
+    ///
+    /// Where memory is refused.
     #[tactic(auto, unfolding(crate::specs::Fits::kept_after, crate::specs::Inside::inside, crate::specs::Inside::load_of, crate::specs::Inside::count_of))]
     pub fn new(alloc: Global, settings: Settings) -> Result<Self, AllocError>
         ensures { IfOk result (λ s. kept_of s ≡ kept_after settings [] []) }
@@ -58,6 +63,10 @@ impl State {
     }
 
     /// The same state.
+    ///
+    /// # Errors
+    ///
+    /// Where memory is refused.
     pub fn copy(&self) -> Result<Self, AllocError>
         ensures { IfOk result (λ s. kept_of s ≡ kept_of self.now) }
     {
@@ -71,6 +80,10 @@ impl State {
     }
 
     /// Makes room for a slot of this many events. What is kept stays as it was.
+    ///
+    /// # Errors
+    ///
+    /// Where memory is refused.
     pub fn prepare(&mut self, events: usize) -> Result<Room, AllocError>
         requires few { length self.old.tasks.tasks + events < 2 ^ 64 }
         ensures same { kept_of self.new ≡ kept_of self.old }
@@ -133,6 +146,7 @@ impl State {
         }
     }
 
+    /// Takes a join.
     fn join(
         &mut self,
         slot: u64,
@@ -166,6 +180,7 @@ impl State {
         Ok(())
     }
 
+    /// Takes a leave.
     fn leave(&mut self, slot: u64, task: u64) -> Result<(), Denial>
         requires { CanJudgeOne (kept_of self.old) (Event.Leave slot task) }
         ensures denial { result_err result ≡ denial_at (kept_of self.old) (Event.Leave slot task) }
@@ -181,6 +196,7 @@ impl State {
         Ok(())
     }
 
+    /// Takes a delay.
     fn delay(&mut self, slot: u64, task: u64, by: u64) -> Result<(), Denial>
         requires { CanJudgeOne (kept_of self.old) (Event.Delay slot task by) }
         ensures denial { result_err result ≡ denial_at (kept_of self.old) (Event.Delay slot task by) }

@@ -1,4 +1,5 @@
--- The order of PD2: Anderson and Srinivasan, "Early-release fair scheduling", 2000; ties go to the lower task number.
+-- The order of PD2: Anderson and Srinivasan, "Early-release fair scheduling", ECRTS 2000; ties go to the lower task
+-- number.
 use Rattle.std.specs.Prelude.{◌≡◌, ℕ, ◌<◌, ◌≤◌, ◌^◌, ◌⊎◌, Bool}
 use Rattle.std.specs.declared.cmp.Ordering.{Ordering}
 use Rattle.std.specs.Ordering.{nat_cmp, on, flip_args, then_cmp, is_lt}

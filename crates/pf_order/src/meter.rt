@@ -34,7 +34,7 @@ impl Meter {
     /// Whether x precedes y in the order of PD2: by the earlier deadline, then the bit 1 before the bit 0, then for
     /// two bits of 1 the later group deadline, then the lower task number. Counts one comparison.
     ///
-    /// Source: Anderson and Srinivasan, "Early-release fair scheduling", 2000.
+    /// Source: Anderson and Srinivasan, "Early-release fair scheduling", ECRTS 2000.
     #[tactic(auto, unfolding(crate::specs::Priority::priority_cmp))]
     pub fn before(&mut self, x: &Key, y: &Key) -> bool
         ensures order { IsTrue result ↔ Precedes x.now y.now }

@@ -24,6 +24,10 @@ impl Model for Row {
 
 impl Row {
     /// The row of m idle processors. It stands before slot 0.
+    ///
+    /// # Errors
+    ///
+    /// Where memory is refused.
     pub fn idle(alloc: Global, m: u32) -> Result<Self, AllocError>
         ensures row { IfOk result (λ row. row ≡ idle_row m) }
         ensures empty { IfOk result (λ row. sitters row ≡ []) }
@@ -35,6 +39,13 @@ impl Row {
     /// The row of a slot in which `picks` run on the processors below `count`, where `before` is the row of the
     /// slot before. A task that ran there keeps its processor where that is in use; the other picks, in order, take
     /// the lowest free ones in use.
+    ///
+    /// Of the m processors at most m may be in use, `before` must be a row of m, the picks must be at most `count`, and
+    /// neither they nor `before` may have a task twice.
+    ///
+    /// # Errors
+    ///
+    /// Where memory is refused.
     pub fn place(
         alloc: Global,
         m: u32,
@@ -60,7 +71,7 @@ impl Row {
         Ok(Row { places })
     }
 
-    /// How many processors the row has, busy or idle.
+    /// How many processors m the row has, busy or idle.
     pub fn processors(&self) -> usize
         ensures { result ≡ length self.now }
     {
@@ -74,7 +85,7 @@ impl Row {
         *self.places.get(processor as usize)?
     }
 
-    /// Takes over another row of as many places; it takes no memory.
+    /// Takes over another row, which must have as many places; it takes no memory.
     pub fn assign(&mut self, other: &Row)
         requires { length self.old ≡ length other.now }
         ensures { self.new ≡ other.now }
@@ -83,6 +94,10 @@ impl Row {
     }
 
     /// An equal row.
+    ///
+    /// # Errors
+    ///
+    /// Where memory is refused.
     pub fn copy(&self) -> Result<Self, AllocError>
         ensures { IfOk result (λ row. row ≡ self.now) }
     {

@@ -31,7 +31,11 @@ impl Rows {
         }
     }
 
-    /// Appends the row of the next slot. Where memory is refused the rows are as before.
+    /// Appends the row of the next slot.
+    ///
+    /// # Errors
+    ///
+    /// Where memory is refused: the rows are as before.
     pub fn push(&mut self, row: Row) -> Result<(), AllocError>
         ensures ok { OnOk result (self.new ≡ self.old ++ row ∷ []) }
         ensures err { OnErr result (self.new ≡ self.old) }
@@ -69,6 +73,10 @@ impl Rows {
     }
 
     /// Equal rows.
+    ///
+    /// # Errors
+    ///
+    /// Where memory is refused.
     pub fn copy(&self) -> Result<Self, AllocError>
         ensures { IfOk result (λ rows. rows ≡ self.now) }
     {

@@ -20,7 +20,11 @@ fn push_denied(table: &mut Table, denied: Denied) -> Result<(), AllocError>
     table.end_record()
 }
 
-/// The denials of the slots below now, in run order.
+/// The denials of the slots below now as a table, in run order.
+///
+/// # Errors
+///
+/// Where memory is refused.
 pub fn denials_csv(alloc: Global, snapshot: &Snapshot) -> Result<Vec<u8>, AllocError>
     ensures { IfOk result (λ text. text.items ≡ denials_text snapshot.now) }
 {

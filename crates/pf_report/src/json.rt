@@ -158,7 +158,12 @@ fn report_value(alloc: Global, snapshot: &Snapshot) -> Result<Value, AllocError>
     object_value(alloc, denials, entries, lags, misses, now, schedule)
 }
 
-/// The whole report as one JSON object, compact, its keys in byte order. While it is made a pick takes about 160 bytes.
+/// The whole report as one JSON object, compact, its keys in byte order. While it is made, an object of the whole
+/// schedule is in memory.
+///
+/// # Errors
+///
+/// Where memory is refused.
 pub fn report_json(alloc: Global, snapshot: &Snapshot) -> Result<Vec<u8>, AllocError>
     ensures { IfOk result (λ text. text.items ≡ json_text snapshot.now) }
 {

@@ -20,7 +20,11 @@ fn push_lag(table: &mut Table, lag: Lag) -> Result<(), AllocError>
     table.end_record()
 }
 
-/// How far each task inside is from its fair share, by task number.
+/// How far each task inside is from its fair share, as a table, by task number.
+///
+/// # Errors
+///
+/// Where memory is refused.
 pub fn lags_csv(alloc: Global, snapshot: &Snapshot) -> Result<Vec<u8>, AllocError>
     ensures { IfOk result (λ text. text.items ≡ lags_text snapshot.now) }
 {

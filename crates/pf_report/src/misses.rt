@@ -22,7 +22,11 @@ fn push_miss(table: &mut Table, miss: Miss) -> Result<(), AllocError>
     table.end_record()
 }
 
-/// The missed windows, by deadline, then by task number.
+/// The missed windows as a table, by deadline, then by task number.
+///
+/// # Errors
+///
+/// Where memory is refused.
 pub fn misses_csv(alloc: Global, snapshot: &Snapshot) -> Result<Vec<u8>, AllocError>
     ensures { IfOk result (λ text. text.items ≡ misses_text snapshot.now) }
 {

@@ -45,7 +45,11 @@ fn push_row(table: &mut Table, t: u64, processors: u32, row: &Row) -> Result<(),
     table.end_record()
 }
 
-/// The schedule: a line for each slot below now, a column for each processor.
+/// The schedule as a table: a line for each slot below now, a column for each processor.
+///
+/// # Errors
+///
+/// Where memory is refused.
 pub fn schedule_csv(alloc: Global, snapshot: &Snapshot) -> Result<Vec<u8>, AllocError>
     ensures { IfOk result (λ text. text.items ≡ schedule_text snapshot.now) }
 {

@@ -45,7 +45,11 @@ impl Index {
         }
     }
 
-    /// Puts an event in its place. Where memory is refused the events are as before.
+    /// Puts an event in its place.
+    ///
+    /// # Errors
+    ///
+    /// Where memory is refused: the events are as before.
     pub fn put(&mut self, x: Numbered) -> Result<(), AllocError>
         requires { IsNew x self.old }
         ensures ok { OnOk result (self.new ≡ put_in_time x self.old) }
@@ -68,7 +72,11 @@ impl Index {
         note(&mut self.joins, &mut self.leaves, &x.event, 0);
     }
 
-    /// Takes the event `was` out and puts x in its place. Where memory is refused the events are as before.
+    /// Takes the event `was` out and puts x in its place.
+    ///
+    /// # Errors
+    ///
+    /// Where memory is refused: the events are as before.
     pub fn replace(&mut self, was: Numbered, x: Numbered) -> Result<(), AllocError>
         requires held { Contains self.old was }
         requires new { IsNew x (without was.id self.old) }
@@ -109,6 +117,10 @@ impl Index {
     }
 
     /// The events of slot t, in time order.
+    ///
+    /// # Errors
+    ///
+    /// Where memory is refused.
     pub fn of_slot(&self, t: u64) -> Result<Vec<Numbered>, AllocError>
         ensures { IfOk result (λ v. v.items ≡ filter (is_of t) self.now) }
     {
@@ -117,6 +129,10 @@ impl Index {
     }
 
     /// An equal index.
+    ///
+    /// # Errors
+    ///
+    /// Where memory is refused.
     pub fn copy(&self) -> Result<Self, AllocError>
         ensures { IfOk result (λ i. i ≡ self.now) }
     {

@@ -29,7 +29,7 @@ pub fn slot_of(event: &Event) -> u64
     }
 }
 
-/// Refused where the task is not 1 to 4,095.
+/// `TaskOutOfRange` where the task is not 1 to 4,095.
 fn check_task(task: u64) -> Result<(), EditFault>
     ensures { result_err result ≡ unless (is_within 4095 task) EditFault.TaskOutOfRange }
 {
@@ -39,7 +39,11 @@ fn check_task(task: u64) -> Result<(), EditFault>
     Ok(())
 }
 
-/// Why an event is out of its limits, if it is: the first test that fails, in the order of `EditFault`.
+/// Whether an event is within its limits.
+///
+/// # Errors
+///
+/// The first test that fails, in the order of `EditFault`.
 pub fn check_limits(settings: Settings, event: &Event) -> Result<(), EditFault>
     ensures { result_err result ≡ event_fault settings [] event.now }
 {

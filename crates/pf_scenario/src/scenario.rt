@@ -61,7 +61,11 @@ impl Scenario {
         }
     }
 
-    /// Why the change is refused, if it is: the first test that fails, in the order of `EditFault`.
+    /// Whether the change can be made.
+    ///
+    /// # Errors
+    ///
+    /// Why it is refused: the first test that fails, in the order of `EditFault`.
     pub fn check(&self, change: &Change) -> Result<(), EditFault>
         ensures value { result_err result ≡ edit_fault self.now change.now }
         ensures scenario { IsScenario self.now }
@@ -132,7 +136,11 @@ impl Scenario {
         self.index.leaves_beside(id, event)
     }
 
-    /// Makes the change and gives the number of the event that it concerns. After an `Err` the scenario is as before.
+    /// Makes the change and gives the number of the event that it concerns.
+    ///
+    /// # Errors
+    ///
+    /// `Refused` where `check` refuses the change, and `NoMemory` where memory is refused: the scenario is as before.
     pub fn apply(&mut self, change: Change) -> Result<u64, ApplyFault>
         ensures ok { IfOk result (λ id. (id ≡ concerned self.old change) × (self.new ≡ changed self.old change)) }
 
@@ -157,6 +165,7 @@ impl Scenario {
         }
     }
 
+    /// Holds a new event under the next number.
     fn insert(&mut self, event: Event) -> Result<u64, AllocError>
         requires { edit_fault self.old (Insert event) ≡ None }
         ensures ok { IfOk result (λ id. (id ≡ self.old.next) × (self.new ≡ changed self.old (Insert event))) }
@@ -177,6 +186,7 @@ impl Scenario {
         Ok(x.id)
     }
 
+    /// Puts the event in place of the one of this number.
     fn alter(&mut self, id: u64, event: Event) -> Result<(), AllocError>
         requires { edit_fault self.old (Alter id event) ≡ None }
         ensures ok { OnOk result (self.new ≡ changed self.old (Alter id event)) }
@@ -193,6 +203,7 @@ impl Scenario {
         Ok(())
     }
 
+    /// Drops the event of this number.
     fn strike(&mut self, id: u64)
         requires { edit_fault self.old (Strike id) ≡ None }
         ensures value { self.new ≡ changed self.old (Strike id) }
@@ -236,7 +247,11 @@ impl Scenario {
         self.events.as_slice()
     }
 
-    /// The events of slot t, in the order in which a run takes them.
+    /// The events of slot t, in the order in which a run takes them; none where t is not below the horizon.
+    ///
+    /// # Errors
+    ///
+    /// Where memory is refused.
     pub fn slot_events(&self, t: u64) -> Result<Vec<Numbered>, AllocError>
         ensures value { IfOk result (λ v. v.items ≡ events_of self.now t) }
         ensures scenario { IsScenario self.now }
@@ -262,6 +277,10 @@ impl Scenario {
     }
 
     /// An equal scenario.
+    ///
+    /// # Errors
+    ///
+    /// Where memory is refused.
     pub fn copy(&self) -> Result<Self, AllocError>
         ensures value { IfOk result (λ s. s ≡ self.now) }
         ensures scenario { IsScenario self.now }

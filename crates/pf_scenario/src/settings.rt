@@ -12,10 +12,10 @@ const MOST_PROCESSORS: u64 = 64;
 const LARGEST_CAP: u64 = 1 << 44;
 
 /// The horizon of ordinary settings, in slots.
-const NEAR_HORIZON: u64 = 1 << 20;
+pub const NEAR_HORIZON: u64 = 1 << 20;
 
 /// The horizon of wide settings, in slots.
-const WIDE_HORIZON: u64 = 1 << 22;
+pub const WIDE_HORIZON: u64 = 1 << 22;
 
 /// What a scenario is set in: the processors, the base of its weights, the cap on the load, and the horizon.
 #[derive(Clone, Copy, Debug, PartialEq, Eq)]
@@ -39,8 +39,12 @@ impl Model for Settings {
 }
 
 impl Settings {
-    /// Settings of m processors (1 to 64), the base h (1 to 2^30), a cap in 1/h (1 to 2^44) and the horizon 2^20.
-    /// Refused where one of the three is out of its limits.
+    /// Settings of m processors (1 to 64), the base h (1 to 2^30), a cap in 1/h (1 to 2^44) and the horizon
+    /// `NEAR_HORIZON`.
+    ///
+    /// # Errors
+    ///
+    /// `BadSettings` where one of the three is out of its limits.
     pub fn new(m: u64, h: u64, cap: u64) -> Result<Self, BadSettings>
         ensures in_limits { IsOk result ↔ IsInLimits m h cap }
         ensures value { IfOk result (λ s. s ≡ record { processors = m; base = h; cap = cap; horizon = near_horizon }) }
@@ -48,7 +52,11 @@ impl Settings {
         Settings::with_horizon(m, h, cap, NEAR_HORIZON)
     }
 
-    /// The same with the horizon 2^22.
+    /// The same with the horizon `WIDE_HORIZON`.
+    ///
+    /// # Errors
+    ///
+    /// `BadSettings` where one of the three is out of its limits.
     pub fn wide(m: u64, h: u64, cap: u64) -> Result<Self, BadSettings>
         ensures in_limits { IsOk result ↔ IsInLimits m h cap }
         ensures value { IfOk result (λ s. s ≡ record { processors = m; base = h; cap = cap; horizon = wide_horizon }) }
@@ -56,6 +64,7 @@ impl Settings {
         Settings::with_horizon(m, h, cap, WIDE_HORIZON)
     }
 
+    /// Settings with this horizon.
     fn with_horizon(m: u64, h: u64, cap: u64, horizon: u64) -> Result<Self, BadSettings>
         requires { (horizon ≡ near_horizon) ⊎ (horizon ≡ wide_horizon) }
         ensures in_limits { IsOk result ↔ IsInLimits m h cap }
@@ -99,7 +108,7 @@ impl Settings {
         self.cap
     }
 
-    /// The number of slots: 2^20, or 2^22 in wide settings.
+    /// The number of slots: `NEAR_HORIZON`, or `WIDE_HORIZON` in wide settings.
     pub fn horizon(self) -> u64
         ensures value { result ≡ self.horizon }
         ensures settings { IsSystem self }

@@ -125,3 +125,10 @@ records_left-next a b found fields set reads goes none =
           let after : source_of (λ s. Some s.now) b ≡ pending_of (Some b.rdr.now) b = rw r.1 refl in
           rw after (records_after-next a.state b.state _ _ found fields known.0 known.1 (rw s.config at r.0))
     ]
+
+-- the same of a script that isn't at its end, and is at its end where no record was read
+pub records-next : (ended found : Bool) (a b : Reader (Bor (List ℕ))) (fields : List (List ℕ)) → ended ≡ false
+    → records_left a ≡ (if found then fields ∷ records_left b else [])
+    → (if ended then [] else records_left a) ≡ (if found then fields ∷ (if not found then [] else records_left b) else [])
+records-next ended true a b fields goes next = rw goes next
+records-next ended false a b fields goes next = rw goes next

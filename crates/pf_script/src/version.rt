@@ -1,6 +1,8 @@
 ghost use Rattle.std.specs.Prelude.{◌≡◌};
 ghost use Rattle.pf_script.specs.Grammar.{horizon_of, has_limits};
 
+use pf_scenario::settings::{NEAR_HORIZON, WIDE_HORIZON};
+
 /// Which records a script may have, and how far it may step.
 #[derive(Clone, Copy, Debug, PartialEq, Eq)]
 pub enum Version {
@@ -11,13 +13,13 @@ pub enum Version {
 }
 
 impl Version {
-    /// The number of slots: 2^20, or 2^22 in the second version.
+    /// The number of slots: that of ordinary settings, or in the second version that of wide ones.
     pub fn horizon(self) -> u64
         ensures { result ≡ horizon_of self }
     {
         match self {
-            Version::First => 1 << 20,
-            Version::Second => 1 << 22,
+            Version::First => NEAR_HORIZON,
+            Version::Second => WIDE_HORIZON,
         }
     }
 

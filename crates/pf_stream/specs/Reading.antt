@@ -5,11 +5,15 @@ use Rattle.std.specs.declared.alloc.Global.{Global}
 use Rattle.pf_stream.specs.declared.reading.ReadingFault.{ReadingFault}
 use Rattle.pf_stream.specs.declared.reading.ReadingFault.TheVariants.{Read, TooLong, Memory}
 
--- the answer to an input of these bytes: the bytes themselves, or `TooLong` where they are more than 16,777,216;
+-- the greatest length of a script, in bytes
+abbrev pub longest_script : ℕ
+longest_script = 16777216
+
+-- the answer to an input of these bytes: the bytes themselves, or `TooLong` where they are more than a script may be;
 -- a failing reader and want of memory come in between
 abbrev pub ReadsScript : List ℕ → Result (Vec ℕ Global) ReadingFault → Type 0
-ReadsScript bytes (Ok text) = (text.items ≡ bytes) × (length bytes ≤ 16777216)
-ReadsScript bytes (Err TooLong) = 16777216 < length bytes
+ReadsScript bytes (Ok text) = (text.items ≡ bytes) × (length bytes ≤ longest_script)
+ReadsScript bytes (Err TooLong) = longest_script < length bytes
 ReadsScript bytes (Err Read) = ⊤
 ReadsScript bytes (Err Memory) = ⊤
 

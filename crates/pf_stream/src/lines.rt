@@ -13,8 +13,12 @@ pub const MOST_WAITING: usize = 65_536;
 #[derive(Clone, Copy, Debug, PartialEq, Eq)]
 pub struct WriteFault;
 
-/// Writes a whole text, by as many writes as the writer needs. After a fault the writer has a front of the text. Its
-/// count of failures must be below `u64::MAX` before the call.
+/// Writes a whole text, by as many writes as the writer needs. Its count of failures must be below `u64::MAX` before the
+/// call.
+///
+/// # Errors
+///
+/// Where a write fails: the writer has a front of the text.
 pub fn write_out<W: Sink>(writer: &mut W, text: &[u8]) -> Result<(), WriteFault>
     requires { W.failed writer.old < 2 ^ 64 - 1 }
     ensures ok { OnOk result (Appends (W.contents writer.old) (W.contents writer.new) text.now) }
@@ -57,6 +61,10 @@ impl Lines {
     ghost use Rattle.pf_stream.specs.Lines.{TookAllBut, TookFront};
 
     /// No text yet. The memory for what waits is taken here, and none later.
+    ///
+    /// # Errors
+    ///
+    /// Where memory is refused.
     pub fn new(alloc: Global) -> Result<Self, AllocError>
         ensures { IfOk result (λ lines. lines ≡ []) }
     {
@@ -65,9 +73,12 @@ impl Lines {
         })
     }
 
-    /// Adds a text behind what waits, and writes what waits where it grows too long. After a fault the writer has the
-    /// front of the text put so far, and nothing more may be put. The writer's count of failures must be below
-    /// `u64::MAX` before the call.
+    /// Adds a text behind what waits, and writes what waits where it grows too long. The writer's count of failures must
+    /// be below `u64::MAX` before the call.
+    ///
+    /// # Errors
+    ///
+    /// Where a write fails: the writer has the front of the text put so far, and nothing more may be put.
     pub fn put<W: Sink>(&mut self, writer: &mut W, text: &[u8]) -> Result<(), WriteFault>
         requires { W.failed writer.old < 2 ^ 64 - 1 }
         ensures ok { OnOk result
@@ -89,8 +100,11 @@ impl Lines {
         Ok(())
     }
 
-    /// Writes what waits. After a fault the writer has the front of the text put so far. The writer's count of failures
-    /// must be below `u64::MAX` before the call.
+    /// Writes what waits. The writer's count of failures must be below `u64::MAX` before the call.
+    ///
+    /// # Errors
+    ///
+    /// Where a write fails: the writer has the front of the text put so far.
     pub fn finish<W: Sink>(self, writer: &mut W) -> Result<(), WriteFault>
         requires { W.failed writer.old < 2 ^ 64 - 1 }
         ensures ok { OnOk result (Appends (W.contents writer.old) (W.contents writer.new) self) }

@@ -1,5 +1,5 @@
 ghost use Rattle.std.specs.Prelude.{◌≡◌, ◌+◌, ◌-◌, ◌^◌, ◌<◌, ◌≤◌, IfSome, IfOk, vec_len};
-ghost use Rattle.pf_stream.specs.Reading.{ReadsScript, TakesAtMost, CountsRead};
+ghost use Rattle.pf_stream.specs.Reading.{longest_script, ReadsScript, TakesAtMost, CountsRead};
 
 use crate::source::Source;
 use std::alloc::Global;
@@ -21,15 +21,19 @@ pub enum ReadingFault {
     Memory,
 }
 
-/// All bytes that the reader has left, at most `LONGEST_SCRIPT` of them. `TooLong` where there are more: one byte more
-/// is read, and the reader is not asked again. `Read` where a read fails. The reader's count of failures must be below
+/// All bytes that the reader has left, at most `LONGEST_SCRIPT` of them. The reader's count of failures must be below
 /// `u64::MAX` before the call.
+///
+/// # Errors
+///
+/// `TooLong` where there are more: one byte more is read, and the reader is not asked again. `Read` where a read fails,
+/// `Memory` where memory is refused.
 pub fn read_script<S: Source>(alloc: Global, reader: &mut S) -> Result<Vec<u8>, ReadingFault>
     requires { S.failed reader.old < 2 ^ 64 - 1 }
     ensures bytes { IfSome (S.remaining reader.old) (λ bytes. ReadsScript bytes result) }
-    ensures taken { TakesAtMost (S.remaining reader.old) (S.remaining reader.new) (LONGEST_SCRIPT + 1) }
+    ensures taken { TakesAtMost (S.remaining reader.old) (S.remaining reader.new) (longest_script + 1) }
     ensures count { CountsRead result (S.failed reader.old) (S.failed reader.new) }
-    ensures short { IfOk result (λ text. vec_len text ≤ LONGEST_SCRIPT) }
+    ensures short { IfOk result (λ text. vec_len text ≤ longest_script) }
 {
     let mut text = Vec::new(alloc);
     let mut piece = [0; PIECE];

@@ -71,7 +71,7 @@ fn has_failed(outcome: &io::Result<usize>, buf: &[u8]) -> bool
 impl<W: Write> Write for CountedWriter<W> {
     ghost use Rattle.std.specs.Prelude.{◌≡◌, ◌+◌, ◌-◌, ◌^◌, min, if◌then◌else◌};
     ghost use Rattle.std.specs.Io.{WritesAtMost};
-    ghost use Rattle.std.specs.Io.KnownBytes.{WriteAppends};
+    ghost use Rattle.std.specs.Io.KnownBytes.{WriteAppends, Keeps};
     ghost use Rattle.pf_stream.specs.Counted.{writer_under, write_failures};
     ghost use Rattle.pf_stream.specs.Failing.{is_failed_write};
 
@@ -90,7 +90,10 @@ impl<W: Write> Write for CountedWriter<W> {
         outcome
     }
 
-    fn flush(&mut self) -> io::Result<()> {
+    fn flush(&mut self) -> io::Result<()>
+        ensures bytes { Keeps (W.contents (writer_under self.old)) (W.contents (writer_under self.new)) }
+        ensures count { write_failures self.new ≡ write_failures self.old }
+    {
         self.writer.flush()
     }
 }

@@ -60,10 +60,12 @@ fn lag_of_task(
     Ok(lag_at(task, clock, ran.len() as u64))
 }
 
-/// The lags of the tasks inside after the slots of these rows, by task number. The rows and the denials are those of
-/// the scenario's run.
+/// The lags of the tasks inside after the slots of these rows, by task number. The rows and the denials must be
+/// those of the scenario's run.
 ///
-/// Fails only where memory is refused.
+/// # Errors
+///
+/// Where memory is refused.
 pub fn lags(
     alloc: Global,
     scenario: &Scenario,

@@ -84,9 +84,11 @@ fn note_task(
 }
 
 /// The missed windows of the tasks admitted in the slots of these rows, those that left too, by deadline and then by
-/// task number. The rows and the denials are those of the scenario's run.
+/// task number. The rows and the denials must be those of the scenario's run.
 ///
-/// Fails only where memory is refused.
+/// # Errors
+///
+/// Where memory is refused.
 pub fn misses(
     alloc: Global,
     scenario: &Scenario,

@@ -24,7 +24,11 @@ impl Model for Base {
 }
 
 impl Base {
-    /// The base h. Refused where h is not 1 to 2^30.
+    /// The base h, 1 to 2^30.
+    ///
+    /// # Errors
+    ///
+    /// `BaseOutOfRange` where h is not 1 to 2^30.
     pub fn new(h: u64) -> Result<Self, BaseOutOfRange>
         ensures in_range { IsOk result ↔ IsBase h }
         ensures value { IfOk result (λ base. base ≡ h) }

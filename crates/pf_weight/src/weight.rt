@@ -27,8 +27,12 @@ impl Model for Weight {
 }
 
 impl Weight {
-    /// The weight `cost`/`period` over the base. The faults are tried in the order of `WeightFault`: no cost, a
-    /// cost above the period, a period that does not divide the base.
+    /// The weight `cost`/`period` over the base.
+    ///
+    /// # Errors
+    ///
+    /// The first of these that is true, in the order of `WeightFault`: no cost, a cost above the period, a period that
+    /// does not divide the base.
     pub fn new(base: Base, cost: u64, period: u64) -> Result<Self, WeightFault>
         ensures value { result ≡ weighed base cost period }
         ensures zero_cost { (result ≡ Err WeightFault.ZeroCost) ↔ (cost ≡ 0) }

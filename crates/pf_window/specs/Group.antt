@@ -1,4 +1,5 @@
--- Group deadlines: Anderson and Srinivasan, "Mixed Pfair/ERfair scheduling of asynchronous periodic tasks", 2001.
+-- Group deadlines: Anderson and Srinivasan, "Mixed Pfair/ERfair scheduling of asynchronous periodic tasks", JCSS 68,
+-- 2004.
 -- In a heavy task's run of short windows, one subtask scheduled in its last slot forces the next ones into theirs,
 -- up to the group deadline, where the run ends.
 use Rattle.std.specs.Prelude.{◌≡◌, ℕ, ◌+◌, ◌-◌, ◌*◌, ◌≤◌, ◌⊎◌, ◌==◌, true, false, if◌then◌else◌}

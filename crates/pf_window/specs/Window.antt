@@ -1,4 +1,5 @@
--- The windows of a periodic task: Baruah, Cohen, Plaxton and Varvel, "Proportionate progress", 1996.
+-- The windows of a periodic task: Baruah, Cohen, Plaxton and Varvel, "Proportionate progress: a notion of fairness in
+-- resource allocation", Algorithmica 15, 1996.
 -- Subtasks are numbered from 1. Times are slots, counted from the task's start.
 use Rattle.std.specs.Prelude.{ℕ, ◌-◌, ◌*◌, ◌/◌}
 use Rattle.std.specs.Int.{div_ceil}
