@@ -15,6 +15,7 @@ use Rattle.pf_engine.specs.Kept.{changed_at, delayed, new_task, denial_at, accep
 use Rattle.pf_engine.specs.Taking.{tasks_of, CanJudge}
 use Rattle.pf_engine.specs.Choice.{OneOfEach}
 use Rattle.pf_engine.proofs.Counting.{count_by-cons}
+use Rattle.pf_engine.proofs.Turns.{unless_same}
 
 -- each event brings one task at most
 accepted_few : (e : Kept) (event : Event) → length (accepted e event).tasks ≤ length e.tasks + 1
@@ -67,12 +68,8 @@ accepted_settings e (Leave slot task) = refl
 accepted_settings e (Delay slot task by) = refl
 accepted_settings e (Limit slot count) = refl
 
-unless_settings : (o : Option Denial) (e after : Kept) → after.settings ≡ e.settings → (unless_denied o e after).settings ≡ e.settings
-unless_settings None e after same = same
-unless_settings (Some denial) e after same = refl
-
 pub judged_settings : (e : Kept) (xs : List Numbered) → (judged e xs).settings ≡ e.settings
 judged_settings e [] = refl
 judged_settings e (x ∷ xs) =
     judged_settings (after_event e x.event) xs
-    ∙ unless_settings (denial_at e x.event) e (accepted e x.event) (accepted_settings e x.event)
+    ∙ unless_same (λ k. k.settings) (denial_at e x.event) e (accepted e x.event) (accepted_settings e x.event)

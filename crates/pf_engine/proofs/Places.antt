@@ -49,6 +49,11 @@ position_at p xs i e within =
 position_past : (p : KeptTask → Bool) (xs : List KeptTask) → length xs ≤ position_or_len p xs → position p xs ≡ None
 position_past p xs past = ap (λ b. cond b (Some (position_or_len p xs)) None) (le-ltb (position_or_len p xs) (length xs) past)
 
+-- what was read of the table, in the words of the lemmas below
+pub place_read : (places : List ℕ) (entries : List Entry) (task place read : ℕ) → IsListed places entries → task ≤ 4095 →
+    place ≡ read → read ≡ get_or places task read → place ≡ slice_index places task
+place_read places entries task place read is within same at = same ∙ get_or_read places task read (omega (arith, is.long, within)) at 0
+
 pub place_found : (places : List ℕ) (entries : List Entry) (task place : ℕ) (d : Entry) → IsListed places entries →
     place ≡ slice_index places task → place < length entries → (get_or entries place d).task ≡ task →
     Some place ≡ position (has_number task) (tasks_of_entries entries)

@@ -52,9 +52,12 @@ judge_one e x xs can =
     }
 
 -- the events that are left after some
-pub judge_all : (e : Kept) (xs : List Numbered) → CanJudge e xs → CanJudge (judged e xs) []
+judge_all : (e : Kept) (xs : List Numbered) → CanJudge e xs → CanJudge (judged e xs) []
 judge_all e [] can = can
 judge_all e (x ∷ xs) can = judge_all (after_event e x.event) xs (judge_more e x xs can)
+
+pub judged_all : (e e' : Kept) (xs : List Numbered) → e' ≡ judged e xs → CanJudge e xs → CanJudge e' []
+judged_all e e' xs same can = subst (λ k. CanJudge k []) (sym same) (judge_all e xs can)
 
 -- an event takes no time
 accepted_now : (e : Kept) (event : Event) → (accepted e event).now ≡ e.now
@@ -63,12 +66,13 @@ accepted_now e (Leave slot task) = refl
 accepted_now e (Delay slot task by) = refl
 accepted_now e (Limit slot count) = refl
 
-unless_now : (o : Option Denial) (e after : Kept) → after.now ≡ e.now → (unless_denied o e after).now ≡ e.now
-unless_now None e after same = same
-unless_now (Some denial) e after same = refl
+-- what an accepted event leaves the same stays the same
+pub unless_same : {A : Type 0} (f : Kept → A) (o : Option Denial) (e after : Kept) → f after ≡ f e → f (unless_denied o e after) ≡ f e
+unless_same f None e after same = same
+unless_same f (Some denial) e after same = refl
 
 pub after_now : (e : Kept) (event : Event) → (after_event e event).now ≡ e.now
-after_now e event = unless_now (denial_at e event) e (accepted e event) (accepted_now e event)
+after_now e event = unless_same (λ k. k.now) (denial_at e event) e (accepted e event) (accepted_now e event)
 
 -- one event more is taken
 pub judged_more : (e e' : Kept) (events : List Numbered) (i : ℕ) (d : Numbered) → i < length events →

@@ -31,6 +31,7 @@ fn member(weight: Weight, done: u64) -> Member
 fn joins(rt: HostRuntime) {
     assert_eq!(rt; may_join(11, 1, 12), Ok(()));
     assert_eq!(rt; may_join(12, 1, 12), Err(Denial::OverCapacity));
+    assert_eq!(rt; may_join(u64::MAX, 1, u64::MAX), Err(Denial::OverCapacity));
 }
 
 #[test]

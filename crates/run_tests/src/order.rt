@@ -19,6 +19,13 @@ fn key(rt: &impl Abort, task: u32, cost: u64, period: u64, i: u32) -> Key
     Key::of(weight, 0, i, task)
 }
 
+/// The key x, which stands at this place, precedes those behind it and no others.
+fn precedes_those_behind(rt: &impl Abort, meter: &mut Meter, order: &[Key], place: usize, x: &Key) {
+    for (other, y) in order.iter().enumerate() {
+        assert_eq!(rt; meter.before(x, y), place < other);
+    }
+}
+
 #[test]
 fn six_keys_in_order(rt: HostRuntime) {
     let a = key(&rt, 1, 3, 7, 1);
@@ -31,9 +38,7 @@ fn six_keys_in_order(rt: HostRuntime) {
     let order = [c, f, e, b, a, g];
     let order = &order[..];
     for (place, x) in order.iter().enumerate() {
-        for (other, y) in order.iter().enumerate() {
-            assert_eq!(rt; meter.before(x, y), place < other);
-        }
+        precedes_those_behind(&rt, &mut meter, order, place, x);
     }
     assert_eq!(rt; meter.compared(), 36);
 }

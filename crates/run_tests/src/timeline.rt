@@ -119,6 +119,12 @@ fn the_distance_of_checkpoints_has_limits(rt: HostRuntime) -> Result<(), Fail> {
         let refused = Timeline::new(rt.alloc(), settings, every);
         assert_eq!(rt; refused.err(), Some(NewFault::BadSettings));
     }
+    Ok(())
+}
+
+#[test]
+fn checkpoints_may_be_at_each_limit(rt: HostRuntime) -> Result<(), Fail> {
+    let settings = Settings::new(1, 1, 1)?;
     for every in [1, 4096] {
         let timeline = Timeline::new(rt.alloc(), settings, every)?;
         assert_eq!(rt; timeline.now(), 0);

@@ -2,22 +2,17 @@ use Rattle.std.proofs.Common.{◌≡◌, ◌++◌, [], length, vec_len, sym, ap,
 use Rattle.pf_scenario.specs.System.{System}
 use Rattle.pf_engine.specs.Fits.{Kept}
 use Rattle.pf_engine.specs.Kept.{ready_keys}
-use Rattle.pf_engine.specs.Taking.{CanJudge}
 use Rattle.pf_engine.specs.Choice.{OneOfEach}
 use Rattle.pf_engine.specs.Keeping.{kept_of}
-use Rattle.pf_engine.proofs.Turns.{judge_all}
+use Rattle.pf_engine.proofs.Turns.{judged_all}
 use Rattle.pf_engine.proofs.Advancing.{judged_few, judged_settings, one_key_each}
 use Rattle.pf_engine.proofs.state.State.advance.Goals as goal
 
 pub ready-requires-clause-below : goal.ready-requires-clause-below
-ready-requires-clause-below c =
-    let can = subst (λ e. CanJudge e []) (sym c.take_events.ensures.state) (judge_all (kept_of c.args.self.now) c.args.events.now c.requires.can) in
-    can.below
+ready-requires-clause-below c = (judged_all _ _ c.args.events.now c.take_events.ensures.state c.requires.can).below
 
 pub ready-requires-clause-tasks : goal.ready-requires-clause-tasks
-ready-requires-clause-tasks c =
-    let can = subst (λ e. CanJudge e []) (sym c.take_events.ensures.state) (judge_all (kept_of c.args.self.now) c.args.events.now c.requires.can) in
-    can.tasks
+ready-requires-clause-tasks c = (judged_all _ _ c.args.events.now c.take_events.ensures.state c.requires.can).tasks
 
 pub ready-requires-clause-room : goal.ready-requires-clause-room
 ready-requires-clause-room c =
@@ -28,18 +23,16 @@ ready-requires-clause-room c =
 
 pub choose-requires : goal.choose-requires
 choose-requires c =
-    let can = subst (λ e. CanJudge e []) (sym c.take_events.ensures.state) (judge_all (kept_of c.args.self.now) c.args.events.now c.requires.can) in
+    let can = judged_all _ _ c.args.events.now c.take_events.ensures.state c.requires.can in
     let keys = c.ready.ensures ∙ ap (λ ks. ks ++ ready_keys (kept_of c.take_events.new.self)) c.requires.room.no_keys in
     subst OneOfEach (sym keys) (one_key_each (kept_of c.take_events.new.self) can)
 
 pub run-requires-clause-below : goal.run-requires-clause-below
-run-requires-clause-below c =
-    let can = subst (λ e. CanJudge e []) (sym c.take_events.ensures.state) (judge_all (kept_of c.args.self.now) c.args.events.now c.requires.can) in
-    can.below
+run-requires-clause-below c = (judged_all _ _ c.args.events.now c.take_events.ensures.state c.requires.can).below
 
 pub run-requires-clause-room : goal.run-requires-clause-room
 run-requires-clause-room c =
-    let can = subst (λ e. CanJudge e []) (sym c.take_events.ensures.state) (judge_all (kept_of c.args.self.now) c.args.events.now c.requires.can) in
+    let can = judged_all _ _ c.args.events.now c.take_events.ensures.state c.requires.can in
     let none : vec_len c.args.room.picks ≡ 0 = omega (arith, ap length c.requires.room.no_picks, c.args.room.picks.ok.0) in
     let same = ap (λ (e : Kept). e.settings.processors) c.take_events.ensures.state
     ∙ ap (λ (s : System). s.processors) (judged_settings (kept_of c.args.self.now) c.args.events.now) in
