@@ -1,6 +1,7 @@
 pub use Rattle.pf_stream.specs.Counted
 pub use Rattle.pf_stream.specs.Failing
 pub use Rattle.pf_stream.specs.Lines
+pub use Rattle.pf_stream.specs.Reading
 pub use Rattle.pf_words.specs.Asked
 pub use Rattle.pf_words.specs.CommandLine
 pub use Rattle.pf_words.specs.Formats

@@ -13,6 +13,7 @@ use Rattle.pf_script.specs.declared.version.Version.TheVariants.{First, Second}
 use Rattle.pf_script.specs.declared.line.Line.{Line}
 use Rattle.pf_script.specs.declared.line.Line.TheVariants as line
 use Rattle.pf_script.specs.declared.line.Opening.{Opening}
+use Rattle.pf_stream.specs.Reading.{longest_script}
 use Rattle.pf_script.specs.Script.{script_records}
 use Rattle.pf_script.specs.Grammar.{horizon_of, is_heading, opening_of, line_of}
 use Rattle.pf_words.specs.declared.format.Format.{Format}
@@ -136,10 +137,6 @@ records_meaning format [] = bad 1
 records_meaning format (fields ∷ records) =
     if is_heading fields then opening_meaning format Second 2 records
     else opening_meaning format First 1 (fields ∷ records)
-
--- the longest script, in bytes
-abbrev pub longest_script : ℕ
-longest_script = 16777216
 
 -- what a script's bytes mean in a format
 unfoldable pub script_meaning : Format → List ℕ → Meaning

@@ -1,6 +1,7 @@
 ghost use Rattle.std.specs.Prelude.{◌≡◌, ◌+◌, ◌-◌, ◌^◌, ◌<◌, ◌≤◌, length, IfSome, IfErr, Err};
 ghost use Rattle.std.specs.Io.KnownBytes.{Keeps};
 ghost use Rattle.csv.specs.Records.{fields_of};
+ghost use Rattle.pf_stream.specs.Reading.{longest_script, TakesAtMost};
 ghost use Rattle.pf_script.specs.Grammar.{opening_of};
 ghost use Rattle.pf_cli.specs.declared.fault.RunFault.TheVariants.{ReadFault};
 ghost use Rattle.pf_cli.specs.Answers.{Answers, CountsReads, CountsWrites, IsPastReading};
@@ -16,7 +17,7 @@ use pf_script::grammar::{read_heading, read_line, read_opening};
 use pf_script::line::Opening;
 use pf_script::script::Script;
 use pf_script::version::Version;
-use pf_stream::reading::{LONGEST_SCRIPT, read_script};
+use pf_stream::reading::read_script;
 use pf_stream::sink::Sink;
 use pf_stream::source::Source;
 use pf_words::format::Format;
@@ -26,9 +27,14 @@ use std::alloc::Global;
 const MOST_EVERY: u64 = 4096;
 
 /// Reads a whole script, carries it out, and writes its replies and its report in the format: what it writes, and how
-/// it ends, is what the script's bytes mean. `BadLine` comes after the replies to the records before the bad one;
-/// after `ReadFault` and `ScriptTooLong` nothing was written, and after `WriteFault` and `NoMemory` a front of the
-/// text. The counts of failures of reader and writer must be below `u64::MAX` before the call.
+/// it ends, is what the script's bytes mean. Of a reader that has more than a script may, one byte more is taken. The
+/// counts of failures of reader and writer must be below `u64::MAX` before the call.
+///
+/// # Errors
+///
+/// `BadLine` at a record that is none of the script's, behind the replies to the records before it. `ReadFault` where the
+/// reader fails and `ScriptTooLong` where it has more bytes than a script may: nothing was written. `WriteFault` where the
+/// writer fails or takes nothing, and `NoMemory` where memory is refused: a front of the text was written.
 pub fn run<R: Source, W: Sink>(
     alloc: Global,
     reader: &mut R,
@@ -40,6 +46,7 @@ pub fn run<R: Source, W: Sink>(
     ensures meaning { IfSome (R.remaining reader.old)
         (λ bytes. Answers (script_meaning format bytes) result (W.contents writer.old) (W.contents writer.new)) }
     ensures unwritten { result ≡ Err ReadFault → Keeps (W.contents writer.old) (W.contents writer.new) }
+    ensures taken { TakesAtMost (R.remaining reader.old) (R.remaining reader.new) (longest_script + 1) }
     ensures reads { CountsReads result (R.failed reader.old) (R.failed reader.new) }
     ensures writes { CountsWrites result (W.failed writer.old) (W.failed writer.new) }
 {
@@ -54,7 +61,7 @@ fn carry_out<W: Sink>(
     writer: &mut W,
     format: Format,
 ) -> Result<(), RunFault>
-    requires short { length bytes.now ≤ LONGEST_SCRIPT }
+    requires short { length bytes.now ≤ longest_script }
     requires writes { W.failed writer.old < 2 ^ 64 - 1 }
     ensures meaning { Answers (script_meaning format bytes.now) result (W.contents writer.old) (W.contents writer.new) }
     ensures read { IsPastReading result }

@@ -18,7 +18,7 @@ const LESSON: &str = "A script is a list of comma-separated records, one a line:
   join,SLOT,TASK,COST,PERIOD,EARLY    a task of weight COST/PERIOD joins, each quantum up to EARLY slots early
   leave,SLOT,TASK                     it leaves
   delay,SLOT,TASK,BY                  its next quanta come BY slots later
-  alter,ID,..                         event ID becomes this join, leave or delay
+  alter,ID,..                         event ID becomes this join, leave, delay or limit
   strike,ID                           event ID never was
   strict,..                           any of these changes, refused where it would leave a denial
   step                                one slot passes; step,N: N slots

@@ -4,7 +4,7 @@ use Rattle.std.proofs.KnownBytes.{Appends-nil, Keeps-refl}
 use Rattle.std.proofs.lemmas.Result.{err_from_is_err_and}
 use Rattle.pf_stream.specs.declared.reading.ReadingFault.{ReadingFault}
 use Rattle.pf_stream.specs.declared.reading.ReadingFault.TheVariants.{Read, TooLong, Memory}
-use Rattle.pf_stream.specs.Reading.{ReadsScript}
+use Rattle.pf_stream.specs.Reading.{longest_script, ReadsScript}
 use Rattle.pf_words.specs.declared.format.Format.{Format}
 use Rattle.pf_cli.specs.Answers.{Answers, fault_of_reading}
 use Rattle.pf_cli.specs.Meaning.{script_meaning}
@@ -16,7 +16,7 @@ unread : (A : Type 0) (format : Format) (bytes : List ℕ) (fault : ReadingFault
     → Answers {A = A} (script_meaning format bytes) (Err (fault_of_reading fault)) x x
 unfolding script_meaning
 unread A format bytes Read x h = Keeps-refl x
-unread A format bytes TooLong x h = let long : nat_lt 16777216 (length bytes) ≡ true = search (rules, tests) in rw long (refl, Appends-nil x)
+unread A format bytes TooLong x h = let long : nat_lt longest_script (length bytes) ≡ true = search (rules, tests) in rw long (refl, Appends-nil x)
 unread A format bytes Memory x h = none_written x _
 
 unread_if : (A : Type 0) (format : Format) (o : Option (List ℕ)) (fault : ReadingFault) (x : Option (List ℕ)) → IfSome o (λ bytes. ReadsScript bytes (Err fault))
