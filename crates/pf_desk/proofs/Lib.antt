@@ -4,3 +4,4 @@ pub mod Pasts
 pub mod Entering
 pub mod Stepping
 pub mod Batches
+pub mod Metered

@@ -56,6 +56,11 @@ IsUncounted st Step = st.now ≡ st.plan.settings.horizon
 IsUncounted st (Edit change strict) =
     IsSome (edit_fault st.plan change) ⊎ IfSome (touched_slot st.plan change) (λ t. st.now ≤ t)
 
+-- how many slots a command may count: a step one, an edit as many as were stepped
+abbrev pub most_slots : State → Command → ℕ
+most_slots st Step = 1
+most_slots st (Edit change strict) = st.now
+
 -- a snapshot: how many entries the history had, and what the desk showed then
 pub record Seen : Type 0 where
   pub version : ℕ

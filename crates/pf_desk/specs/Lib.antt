@@ -9,6 +9,8 @@ pub use Rattle.pf_engine.specs.Computed
 pub use Rattle.pf_engine.specs.Laws
 pub use Rattle.pf_engine.specs.RunRows
 pub use Rattle.pf_timeline.specs.Timeline
+pub use Rattle.pf_timeline.specs.Checkpoints
+pub use Rattle.pf_timeline.specs.Counted
 pub use Rattle.pf_tally.specs.Lags
 pub use Rattle.pf_tally.specs.Misses
 pub mod Machine

@@ -1,6 +1,7 @@
 ghost use Rattle.std.specs.Prelude.{◌≡◌, ◌<◌, None, IfOk};
 ghost use Rattle.pf_scenario.specs.Scenario.{changed, concerned, touched_slot};
 ghost use Rattle.pf_scenario.specs.Edit.{edit_fault};
+ghost use Rattle.pf_timeline.specs.Counted.{CountsAtMost};
 ghost use Rattle.pf_timeline.specs.Timeline.{StandsFor};
 
 use pf_order::meter::Meter;
@@ -22,7 +23,12 @@ pub struct Candidate {
 }
 
 impl Candidate {
-    /// The candidate of a change without a fault, whose least touched slot `from` is below now.
+    /// The candidate of a change without a fault, whose least touched slot `from` is below now, where the timeline stands
+    /// for the scenario. Counts at most as many slots as the timeline has, with an error too.
+    ///
+    /// # Errors
+    ///
+    /// Where memory is refused.
     pub fn after(
         meter: &mut Meter,
         scenario: &Scenario,
@@ -37,6 +43,7 @@ impl Candidate {
         ensures id { IfOk result (λ c. c.id ≡ concerned scenario.now change) }
         ensures scenario { IfOk result (λ c. c.scenario ≡ changed scenario.now change) }
         ensures stands { IfOk result (λ c. StandsFor c.scenario timeline.now.engine.now c.timeline) }
+        ensures at_most { CountsAtMost timeline.now.engine.now meter.old meter.new }
     {
         let mut changed = scenario.copy()?;
         let id = match changed.apply(change) {

@@ -1,4 +1,4 @@
-ghost use Rattle.std.specs.Prelude.{ℕ, if◌then◌else◌, ◌≡◌, ◌⊎◌, ◌<◌, ◌≤◌, ◌+◌, ◌↔◌, [], length, take, None, IfOk, IfSome, OnOk, OnErr, Some, Err};
+ghost use Rattle.std.specs.Prelude.{ℕ, if◌then◌else◌, ◌≡◌, ◌⊎◌, ◌<◌, ◌≤◌, ◌+◌, ◌*◌, ◌↔◌, max, [], length, take, All, None, IfOk, IfSome, OnOk, OnErr, Some, Err};
 ghost use Rattle.std.specs.List.{slice_get, slice_index_or};
 ghost use Rattle.pf_order.specs.Counts.{one_more};
 ghost use Rattle.pf_scenario.specs.Scenario.{touched_slot};
@@ -6,13 +6,14 @@ ghost use Rattle.pf_scenario.specs.Edit.{edit_fault};
 ghost use Rattle.pf_engine.specs.Computed.{run_of};
 ghost use Rattle.pf_tally.specs.Lags.{lags_of};
 ghost use Rattle.pf_tally.specs.Misses.{misses_of};
-ghost use Rattle.pf_timeline.specs.Counted.{CountsAtMostOneSlot};
+ghost use Rattle.pf_timeline.specs.Checkpoints.{largest_distance};
+ghost use Rattle.pf_timeline.specs.Counted.{CountsAtMost};
 ghost use Rattle.pf_desk.specs.declared.fault.OpenFault.TheVariants.{BadSettings};
 ghost use Rattle.pf_desk.specs.declared.command.Command.TheVariants.{Edit, Step};
 ghost use Rattle.pf_desk.specs.declared.reply.Reply.TheVariants.{Refused};
 ghost use Rattle.pf_desk.specs.declared.reply.Fault.TheVariants.{WouldDeny};
 ghost use Rattle.pf_desk.specs.Machine.{opening_state, reply_to, IsStepped};
-ghost use Rattle.pf_desk.specs.Desk.{IsDesk, Answers, AnswersAll, LeavesRest, IsUncounted, StandsForHistory};
+ghost use Rattle.pf_desk.specs.Desk.{IsDesk, Answers, AnswersAll, LeavesRest, IsUncounted, most_slots, StandsForHistory};
 
 use crate::candidate::Candidate;
 use crate::command::Command;
@@ -57,9 +58,13 @@ impl Model for Desk {
 
 impl Desk {
     /// A desk with these settings, no event, no slot stepped and no history, which keeps a checkpoint at each `every`
-    /// slots (1 to 4,096).
+    /// slots, 1 to `LARGEST_DISTANCE` of pf_timeline.
+    ///
+    /// # Errors
+    ///
+    /// `BadSettings` for any other `every`; `NoMemory` where memory is refused.
     pub fn open(alloc: Global, settings: Settings, every: u64) -> Result<Self, OpenFault>
-        ensures bad_settings { (result ≡ Err BadSettings) ↔ ((every ≡ 0) ⊎ (4096 < every)) }
+        ensures bad_settings { (result ≡ Err BadSettings) ↔ ((every ≡ 0) ⊎ (largest_distance < every)) }
         ensures value { IfOk result
             (λ d. d ≡ record { state = opening_state settings; rows = []; denials = []; history = [] }) }
         ensures desk { IfOk result (λ d. IsDesk d) }
@@ -76,9 +81,13 @@ impl Desk {
         })
     }
 
-    /// Answers the caller's command as the machine does, and enters it. After an `Err` the desk is as before. A step
-    /// counts one slot, with want of memory at most one and at the horizon none; an edit that is refused for its fault,
-    /// or that touches no slot below now, counts none.
+    /// Answers the caller's command as the machine does, and enters it. A step counts one slot, with want of memory at
+    /// most one and at the horizon none. An edit counts at most as many slots as were stepped, with want of memory too;
+    /// one that is refused for its fault, or that touches no slot below now, counts none.
+    ///
+    /// # Errors
+    ///
+    /// Where memory is refused: the desk is as before.
     pub fn apply(
         &mut self,
         meter: &mut Meter,
@@ -90,9 +99,9 @@ impl Desk {
         ensures desk { IsDesk self.new }
         ensures refused { IfOk result (λ reply. LeavesRest reply self.old self.new) }
 
-        // A slot that was taken counts one, and a step never counts more.
+        // A slot that was taken counts one.
         ensures counted { IfOk result (λ reply. IsStepped reply → meter.new.slots ≡ one_more meter.old.slots) }
-        ensures at_most { command ≡ Step → CountsAtMostOneSlot meter.old meter.new }
+        ensures at_most { CountsAtMost (most_slots self.old.state command) meter.old meter.new }
         ensures uncounted { IsUncounted self.old.state command → meter.new ≡ meter.old }
     {
         match command {
@@ -101,7 +110,12 @@ impl Desk {
         }
     }
 
-    /// Answers the caller's commands one after another, up to the first want of memory.
+    /// Answers the caller's commands one after another. Counts at most one slot for each command where all are steps,
+    /// else at most as many for each as are stepped in the end, or one where none is.
+    ///
+    /// # Errors
+    ///
+    /// Where memory is refused: the commands before that one were answered.
     pub fn apply_all(
         &mut self,
         meter: &mut Meter,
@@ -112,6 +126,8 @@ impl Desk {
         ensures err { OnErr result
             ((k : ℕ) × (k < length commands.now) × AnswersAll caller (take k commands.now) self.old self.new) }
         ensures desk { IsDesk self.new }
+        ensures at_most { CountsAtMost (length commands.now * max 1 self.new.state.now) meter.old meter.new }
+        ensures steps { All (λ c. c ≡ Step) commands.now → CountsAtMost (length commands.now) meter.old meter.new }
     {
         // A field is read, so that what holds of every desk is known also where there is no command.
         let _ = &self.history;
@@ -123,7 +139,8 @@ impl Desk {
 
     /// What is planned.
     pub fn scenario(&self) -> &Scenario
-        ensures { result.now ≡ self.now.state.plan }
+        ensures value { result.now ≡ self.now.state.plan }
+        ensures desk { IsDesk self.now }
     {
         &self.scenario
     }
@@ -138,14 +155,16 @@ impl Desk {
 
     /// The rows of the slots below now.
     pub fn schedule(&self) -> &Rows
-        ensures { result.now ≡ self.now.rows }
+        ensures value { result.now ≡ self.now.rows }
+        ensures desk { IsDesk self.now }
     {
         self.timeline.rows()
     }
 
     /// The denials of the slots below now, in run order.
     pub fn denials(&self) -> &[Denied]
-        ensures { result.now ≡ self.now.denials }
+        ensures value { result.now ≡ self.now.denials }
+        ensures desk { IsDesk self.now }
     {
         self.timeline.denials()
     }
@@ -159,6 +178,10 @@ impl Desk {
     }
 
     /// How far each task inside is from its fair share, by task number.
+    ///
+    /// # Errors
+    ///
+    /// Where memory is refused.
     pub fn lags(&self) -> Result<Vec<Lag>, AllocError>
         ensures { IfOk result (λ v. v.items ≡ lags_of self.now.state.plan (run_of self.now.state.plan self.now.state.now)) }
     {
@@ -171,6 +194,10 @@ impl Desk {
     }
 
     /// The missed windows, by deadline, then by task number.
+    ///
+    /// # Errors
+    ///
+    /// Where memory is refused.
     pub fn misses(&self) -> Result<Vec<Miss>, AllocError>
         ensures { IfOk result (λ v. v.items ≡ misses_of self.now.state.plan (run_of self.now.state.plan self.now.state.now)) }
     {
@@ -183,6 +210,10 @@ impl Desk {
     }
 
     /// What the desk shows now.
+    ///
+    /// # Errors
+    ///
+    /// Where memory is refused.
     pub fn snapshot(&self) -> Result<Snapshot, AllocError>
         ensures stands { IfOk result (λ s. StandsForHistory self.now.history s) }
         ensures shown { IfOk result
@@ -204,7 +235,7 @@ impl Desk {
         ensures desk { IsDesk self.new }
         ensures refused { IfOk result (λ reply. LeavesRest reply self.old self.new) }
         ensures counted { IfOk result (λ reply. IsStepped reply → meter.new.slots ≡ one_more meter.old.slots) }
-        ensures at_most { CountsAtMostOneSlot meter.old meter.new }
+        ensures at_most { CountsAtMost 1 meter.old meter.new }
         ensures uncounted { self.old.state.now ≡ self.old.state.plan.settings.horizon → meter.new ≡ meter.old }
     {
         if self.timeline.now() == self.scenario.settings().horizon() {
@@ -244,6 +275,7 @@ impl Desk {
         ensures desk { IsDesk self.new }
         ensures refused { IfOk result (λ reply. LeavesRest reply self.old self.new) }
         ensures edited { IfOk result (λ reply. ¬ IsStepped reply) }
+        ensures at_most { CountsAtMost self.old.state.now meter.old meter.new }
         ensures uncounted { IsUncounted self.old.state (Edit change strict) → meter.new ≡ meter.old }
     {
         if let Err(fault) = self.scenario.check(&change) {
@@ -303,6 +335,7 @@ impl Desk {
         ensures desk { IsDesk self.new }
         ensures refused { IfOk result (λ reply. LeavesRest reply self.old self.new) }
         ensures edited { IfOk result (λ reply. ¬ IsStepped reply) }
+        ensures at_most { CountsAtMost self.old.state.now meter.old meter.new }
     {
         let candidate = Candidate::after(meter, &self.scenario, &self.timeline, from, change)?;
         let command = Command::Edit { change, strict };

@@ -1,10 +1,11 @@
+use pf_timeline::timeline::LARGEST_DISTANCE;
 use std::error::Error;
 use std::fmt;
 
 /// Why a desk is not opened.
 #[derive(Clone, Copy, Debug, PartialEq, Eq)]
 pub enum OpenFault {
-    /// The checkpoint distance is not 1 to 4,096.
+    /// The distance of the checkpoints is not 1 to `LARGEST_DISTANCE` slots.
     BadSettings,
     /// Memory was refused.
     NoMemory,
@@ -12,10 +13,13 @@ pub enum OpenFault {
 
 impl fmt::Display for OpenFault {
     fn fmt<W: fmt::Write>(&self, f: &mut fmt::Formatter<W>) -> fmt::Result {
-        f.write_str(match self {
-            OpenFault::BadSettings => "the checkpoint distance is not 1 to 4096",
-            OpenFault::NoMemory => "memory was refused",
-        })
+        match self {
+            OpenFault::BadSettings => write!(
+                f,
+                "the checkpoint distance is not 1 to {LARGEST_DISTANCE}"
+            ),
+            OpenFault::NoMemory => f.write_str("memory was refused"),
+        }
     }
 }
 

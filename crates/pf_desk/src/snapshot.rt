@@ -40,7 +40,12 @@ impl Model for Snapshot {
 }
 
 impl Snapshot {
-    /// The snapshot of a history of `version` entries that ends in this scenario with these rows and denials.
+    /// The snapshot of a history of `version` entries that ends in this scenario with these rows and denials, those of
+    /// its run.
+    ///
+    /// # Errors
+    ///
+    /// Where memory is refused.
     pub(crate) fn of(
         alloc: Global,
         version: u64,
@@ -107,6 +112,10 @@ impl Snapshot {
     }
 
     /// How far each task inside is from its fair share, by task number.
+    ///
+    /// # Errors
+    ///
+    /// Where memory is refused.
     pub fn lags(&self) -> Result<Vec<Lag>, AllocError>
         ensures { IfOk result (λ v. v.items ≡ lags_of self.now.state.plan (run_of self.now.state.plan self.now.state.now)) }
     {
@@ -119,6 +128,10 @@ impl Snapshot {
     }
 
     /// The missed windows, by deadline, then by task number.
+    ///
+    /// # Errors
+    ///
+    /// Where memory is refused.
     pub fn misses(&self) -> Result<Vec<Miss>, AllocError>
         ensures { IfOk result (λ v. v.items ≡ misses_of self.now.state.plan (run_of self.now.state.plan self.now.state.now)) }
     {

@@ -1,7 +1,8 @@
--- What a step counts.
-use Rattle.std.specs.Prelude.{◌≡◌, ◌⊎◌}
-use Rattle.pf_order.specs.Counts.{Counts, one_more}
+-- What a call counts.
+use Rattle.std.specs.Prelude.{◌≡◌, ◌⊎◌, ℕ, zero, suc}
+use Rattle.pf_order.specs.Counts.{Counts, slot_once}
 
--- one slot was counted, or none
-abbrev pub CountsAtMostOneSlot : Counts → Counts → Type 0
-CountsAtMostOneSlot old new = (new.slots ≡ old.slots) ⊎ (new.slots ≡ one_more old.slots)
+-- at most n slots were counted, one after another
+abbrev pub CountsAtMost : ℕ → Counts → Counts → Type 0
+CountsAtMost zero old new = new.slots ≡ old.slots
+CountsAtMost (suc n) old new = CountsAtMost n old new ⊎ CountsAtMost n (slot_once old) new

@@ -12,3 +12,4 @@ pub mod Seated
 pub mod Timeline
 pub mod Laws
 pub mod Counted
+pub mod Checkpoints

@@ -9,7 +9,7 @@ use std::fmt;
 /// Why a timeline is not made.
 #[derive(Clone, Copy, Debug, PartialEq, Eq)]
 pub enum NewFault {
-    /// The distance of the checkpoints is not 1 to 4,096 slots.
+    /// The distance of the checkpoints is not 1 to `LARGEST_DISTANCE` slots.
     BadSettings,
     /// Memory was refused.
     NoMemory,

@@ -3,7 +3,8 @@ ghost use Rattle.pf_order.specs.Counts.{one_more};
 ghost use Rattle.pf_place.specs.Occupancy.{row_of, idle_row};
 ghost use Rattle.pf_scenario.specs.Scenario.{Plan};
 ghost use Rattle.pf_scenario.specs.Edit.{IsScenario};
-ghost use Rattle.pf_timeline.specs.Counted.{CountsAtMostOneSlot};
+ghost use Rattle.pf_timeline.specs.Checkpoints.{largest_distance};
+ghost use Rattle.pf_timeline.specs.Counted.{CountsAtMost};
 ghost use Rattle.pf_timeline.specs.Seated.{IsTurn, IsRow, last_row};
 ghost use Rattle.pf_timeline.specs.Timeline.{StandsFor, StoodFor};
 ghost use Rattle.pf_timeline.specs.declared.fault.StepFault.TheVariants.{AtHorizon};
@@ -22,7 +23,7 @@ use std::alloc::{AllocError, Global};
 use std::marker::Model;
 
 /// The greatest distance of two checkpoints, in slots.
-const LARGEST_DISTANCE: u64 = 4096;
+pub const LARGEST_DISTANCE: u64 = 4096;
 
 /// The kept run of a scenario: the rows and the denials of its first slots.
 #[derive(Drop)]
@@ -41,9 +42,13 @@ impl Model for Timeline {
 }
 
 impl Timeline {
-    /// A timeline of no slots. Its checkpoints lie `every` slots apart, 1 to 4,096; any other number is `BadSettings`.
+    /// A timeline of no slots. Its checkpoints lie `every` slots apart, 1 to `LARGEST_DISTANCE`.
+    ///
+    /// # Errors
+    ///
+    /// `BadSettings` for any other `every`; `NoMemory` where memory is refused.
     pub fn new(alloc: Global, settings: Settings, every: u64) -> Result<Self, NewFault>
-        ensures bad_settings { (result ≡ Err BadSettings) ↔ ((every ≡ 0) ⊎ (4096 < every)) }
+        ensures bad_settings { (result ≡ Err BadSettings) ↔ ((every ≡ 0) ⊎ (largest_distance < every)) }
         ensures stands { IfOk result (λ t. (s : Plan) → s.settings ≡ settings → IsScenario s → StandsFor s 0 t) }
     {
         if every == 0 || every > LARGEST_DISTANCE {
@@ -53,6 +58,7 @@ impl Timeline {
         Ok(start)
     }
 
+    /// A timeline of no slots in these settings.
     fn at_start(alloc: Global, settings: Settings) -> Result<Self, AllocError>
         ensures { IfOk result (λ t. (s : Plan) → s.settings ≡ settings → IsScenario s → StandsFor s 0 t) }
     {
@@ -64,15 +70,19 @@ impl Timeline {
         })
     }
 
-    /// Takes the next slot of the scenario. `AtHorizon` where there is none. After an `Err` the timeline is as before.
-    /// Counts one slot; with `NoMemory` at most one, with `AtHorizon` none.
+    /// Takes the next slot of the scenario that the timeline stands for. Counts one slot; with `NoMemory` at most one,
+    /// with `AtHorizon` none.
+    ///
+    /// # Errors
+    ///
+    /// `AtHorizon` where there is no next slot; `NoMemory` where memory is refused. The timeline is as before.
     pub fn step(&mut self, meter: &mut Meter, scenario: &Scenario) -> Result<(), StepFault>
         requires { StandsFor scenario.now self.old.engine.now self.old }
         ensures ok { OnOk result (StandsFor scenario.now (self.old.engine.now + 1) self.new) }
         ensures horizon { (result ≡ Err AtHorizon) ↔ (self.old.engine.now ≡ scenario.now.settings.horizon) }
         ensures err { OnErr result (self.new ≡ self.old) }
         ensures counted { OnOk result (meter.new.slots ≡ one_more meter.old.slots) }
-        ensures at_most { CountsAtMostOneSlot meter.old meter.new }
+        ensures at_most { CountsAtMost 1 meter.old meter.new }
         ensures uncounted { result ≡ Err AtHorizon → meter.new ≡ meter.old }
     {
         if self.engine.now() == scenario.settings().horizon() {
@@ -86,7 +96,7 @@ impl Timeline {
         Ok(())
     }
 
-    /// Takes the next slot. After an `Err` the engine may have moved on.
+    /// Takes the next slot, which is below the horizon. After an `Err` the engine may have moved on.
     fn advance(&mut self, meter: &mut Meter, scenario: &Scenario) -> Result<(), AllocError>
         requires stands { StandsFor scenario.now self.old.engine.now self.old }
         requires below { self.old.engine.now < scenario.now.settings.horizon }
@@ -94,7 +104,7 @@ impl Timeline {
         ensures rows { OnErr result (self.new.rows ≡ self.old.rows) }
         ensures denials { OnErr result (self.new.denials ≡ self.old.denials) }
         ensures counted { OnOk result (meter.new.slots ≡ one_more meter.old.slots) }
-        ensures at_most { CountsAtMostOneSlot meter.old meter.new }
+        ensures at_most { CountsAtMost 1 meter.old meter.new }
     {
         let events = scenario.slot_events(self.engine.now())?;
         let taken = self.engine.slot(meter, &events)?;
@@ -109,14 +119,18 @@ impl Timeline {
         }
     }
 
-    /// A candidate one slot longer. `AtHorizon` where there is no next slot. Counts one slot; with `NoMemory` at most
-    /// one, with `AtHorizon` none.
+    /// A candidate one slot longer, for the scenario that this timeline stands for. Counts one slot; with `NoMemory` at
+    /// most one, with `AtHorizon` none.
+    ///
+    /// # Errors
+    ///
+    /// `AtHorizon` where there is no next slot; `NoMemory` where memory is refused.
     pub fn stepped(&self, meter: &mut Meter, scenario: &Scenario) -> Result<Self, StepFault>
         requires { StandsFor scenario.now self.now.engine.now self.now }
         ensures ok { IfOk result (λ t. StandsFor scenario.now (self.now.engine.now + 1) t) }
         ensures horizon { (result ≡ Err AtHorizon) ↔ (self.now.engine.now ≡ scenario.now.settings.horizon) }
         ensures counted { OnOk result (meter.new.slots ≡ one_more meter.old.slots) }
-        ensures at_most { CountsAtMostOneSlot meter.old meter.new }
+        ensures at_most { CountsAtMost 1 meter.old meter.new }
         ensures uncounted { result ≡ Err AtHorizon → meter.new ≡ meter.old }
     {
         if self.engine.now() == scenario.settings().horizon() {
@@ -127,8 +141,13 @@ impl Timeline {
         Ok(longer)
     }
 
-    /// A candidate of as many slots for a scenario that differs from that of this timeline on the slots from `from` on
-    /// only. It is made apart from this one.
+    /// A candidate of as many slots for a scenario with the same settings that differs from that of this timeline on the
+    /// slots from `from` on only, where `from` is below now. It is made apart from this one. Counts at most as many slots
+    /// as this timeline has, with an error too.
+    ///
+    /// # Errors
+    ///
+    /// Where memory is refused.
     pub fn rewritten(
         &self,
         meter: &mut Meter,
@@ -137,8 +156,10 @@ impl Timeline {
     ) -> Result<Self, AllocError>
         requires below { from < length self.now.rows }
         requires stood { StoodFor scenario.now from (length self.now.rows) self.now }
-        ensures { IfOk result (λ t. StandsFor scenario.now (length self.now.rows) t) }
+        ensures stands { IfOk result (λ t. StandsFor scenario.now (length self.now.rows) t) }
+        ensures at_most { CountsAtMost (length self.now.rows) meter.old meter.new }
     {
+        // No engine of an earlier slot is kept to start from, so `from` serves the contract alone.
         let _ = from;
         let alloc = *self.denials.allocator();
         let mut fresh = Timeline::at_start(alloc, scenario.settings())?;

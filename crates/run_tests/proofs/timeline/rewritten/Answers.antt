@@ -19,4 +19,4 @@ returns c =
     let s = c.args.scenario.now in
     IfOk-weaker c.rewritten.result _ (λ t. StandsFor s t.engine.now t)
     (λ t stands. stands_now s (length c.args.kept.now.rows) t stands)
-    c.rewritten.ensures
+    c.rewritten.ensures.stands

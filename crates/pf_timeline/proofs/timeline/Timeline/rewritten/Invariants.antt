@@ -1,5 +1,9 @@
+use Rattle.pf_timeline.specs.Counted.{CountsAtMost}
 use Rattle.pf_timeline.specs.Timeline.{StandsFor}
 use Rattle.pf_timeline.proofs.timeline.Timeline.rewritten.Given as goal
 
 abbrev pub invariant-loop : goal.invariant-loop
-invariant-loop l = StandsFor l.scenario l.counter l.fresh
+invariant-loop l = record {
+  stands : StandsFor l.scenario l.counter l.fresh;
+  counted : CountsAtMost l.counter l.initial.meter l.meter;
+}
