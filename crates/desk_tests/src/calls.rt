@@ -48,6 +48,7 @@ fn a_refused_strict_edit_is_an_entry(rt: HostRuntime) -> Result<(), Fail> {
     Ok(())
 }
 
+/// A line of the snapshot's numbers.
 fn tell_numbers(text: &mut String, snapshot: &Snapshot) -> Result<(), AllocError> {
     let (version, now) = (snapshot.version(), snapshot.now());
     let (cap, events) = (snapshot.settings().cap(), snapshot.events().len());
@@ -57,6 +58,7 @@ fn tell_numbers(text: &mut String, snapshot: &Snapshot) -> Result<(), AllocError
     )
 }
 
+/// A line of its rows and denials.
 fn tell_run(text: &mut String, snapshot: &Snapshot) -> Result<(), AllocError> {
     let (first, second) = (snapshot.row(0).is_some(), snapshot.row(1).is_some());
     writeln!(
@@ -66,6 +68,7 @@ fn tell_run(text: &mut String, snapshot: &Snapshot) -> Result<(), AllocError> {
     )
 }
 
+/// A line of how many lags and misses it has.
 fn tell_tally(text: &mut String, snapshot: &Snapshot) -> Result<(), AllocError> {
     let (lags, misses) = (snapshot.lags()?.len(), snapshot.misses()?.len());
     writeln!(text, "{lags} lags, {misses} misses")

@@ -34,6 +34,7 @@ fn struck(alloc: Global) -> Result<Snapshot, Fail> {
     }
 }
 
+/// The table of rows. A caller that needs no clause of `schedule_csv` calls this.
 fn schedule(alloc: Global, snapshot: &Snapshot) -> Result<Vec<u8>, AllocError> {
     schedule_csv(alloc, snapshot)
 }
@@ -53,6 +54,7 @@ fn the_schedule(rt: HostRuntime) -> Result<(), Fail> {
     Ok(())
 }
 
+/// The table of lags. A caller that needs no clause of `lags_csv` calls this.
 fn lags(alloc: Global, snapshot: &Snapshot) -> Result<Vec<u8>, AllocError> {
     lags_csv(alloc, snapshot)
 }
@@ -72,6 +74,7 @@ fn the_lags(rt: HostRuntime) -> Result<(), Fail> {
     Ok(())
 }
 
+/// The table of missed windows. A caller that needs no clause of `misses_csv` calls this.
 fn misses(alloc: Global, snapshot: &Snapshot) -> Result<Vec<u8>, AllocError> {
     misses_csv(alloc, snapshot)
 }
@@ -90,6 +93,7 @@ fn no_misses(rt: HostRuntime) -> Result<(), Fail> {
     Ok(())
 }
 
+/// The table of denials. A caller that needs no clause of `denials_csv` calls this.
 fn denials(alloc: Global, snapshot: &Snapshot) -> Result<Vec<u8>, AllocError> {
     denials_csv(alloc, snapshot)
 }
@@ -108,6 +112,7 @@ fn no_denials(rt: HostRuntime) -> Result<(), Fail> {
     Ok(())
 }
 
+/// The whole report as JSON. A caller that needs no clause of `report_json` calls this.
 fn object(alloc: Global, snapshot: &Snapshot) -> Result<Vec<u8>, AllocError> {
     report_json(alloc, snapshot)
 }

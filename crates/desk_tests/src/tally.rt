@@ -31,6 +31,7 @@ fn miss(task: u32, sub: u32, ran: Option<u64>) -> Miss {
     }
 }
 
+/// The desk's lags, though memory may be refused once.
 fn lags_of(rt: &impl Print, desk: &Desk) -> Result<Vec<Lag>, Fail> {
     match desk.lags() {
         Ok(lags) => Ok(lags),
@@ -41,6 +42,7 @@ fn lags_of(rt: &impl Print, desk: &Desk) -> Result<Vec<Lag>, Fail> {
     }
 }
 
+/// The desk's missed windows, though memory may be refused once.
 fn misses_of(rt: &impl Print, desk: &Desk) -> Result<Vec<Miss>, Fail> {
     match desk.misses() {
         Ok(misses) => Ok(misses),

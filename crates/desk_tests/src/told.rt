@@ -101,6 +101,7 @@ fn tell_desk(text: &mut String, desk: &Desk) -> Result<(), AllocError> {
     tell_denials(text, desk)
 }
 
+/// The lags, a line each.
 fn tell_lags(text: &mut String, desk: &Desk) -> Result<(), AllocError> {
     for lag in &desk.lags()? {
         writeln!(
@@ -124,6 +125,7 @@ pub(crate) fn tell_rows(text: &mut String, desk: &Desk) -> Result<(), AllocError
     writeln!(text)
 }
 
+/// The missed windows, a line each.
 fn tell_misses(text: &mut String, desk: &Desk) -> Result<(), AllocError> {
     for miss in &desk.misses()? {
         writeln!(
@@ -135,6 +137,7 @@ fn tell_misses(text: &mut String, desk: &Desk) -> Result<(), AllocError> {
     Ok(())
 }
 
+/// The denials, a line each.
 pub(crate) fn tell_denials(text: &mut String, desk: &Desk) -> Result<(), AllocError> {
     for denied in desk.denials() {
         writeln!(

@@ -13,10 +13,12 @@ use std::fmt::Write;
 use std::process::Abort;
 use std::test::Fail;
 
+/// How many entries the history has.
 fn entries(desk: &Desk) -> usize {
     desk.history().len()
 }
 
+/// The number of the next event.
 fn next_number(desk: &Desk) -> u64 {
     desk.scenario().next_number()
 }
@@ -29,6 +31,7 @@ fn tell_kept(text: &mut String, desk: &Desk) -> Result<(), AllocError> {
     tell_denials(text, desk)
 }
 
+/// What a want of memory leaves, as text.
 fn kept(alloc: Global, desk: &Desk) -> Result<String, AllocError> {
     let mut text = String::new(alloc);
     tell_kept(&mut text, desk)?;
