@@ -1,6 +1,6 @@
-ghost use Rattle.std.specs.Prelude.{◌≡◌, map, IfOk};
+ghost use Rattle.std.specs.Prelude.{◌≡◌, map, All, IfOk};
 ghost use Rattle.pf_desk.specs.Desk.{IsDesk};
-ghost use Rattle.first_desk.specs.Planned.{join_of, planned};
+ghost use Rattle.first_desk.specs.Planned.{join_of, planner, planned_settings, planned};
 
 use pf_desk::command::Command;
 use pf_desk::desk::Desk;
@@ -50,7 +50,9 @@ fn join(task: u64) -> Command
 /// A desk of two processors on which three tasks join and three slots are stepped; then the third task is struck out.
 pub fn plan(alloc: Global) -> Result<Desk, PlanFault>
     ensures desk { IfOk result (λ desk. IsDesk desk) }
+    ensures settings { IfOk result (λ desk. desk.state.plan.settings ≡ planned_settings) }
     ensures asked { IfOk result (λ desk. map (λ e. e.command) desk.history ≡ planned) }
+    ensures callers { IfOk result (λ desk. All (λ e. e.caller ≡ planner) desk.history) }
 {
     let mut desk = Desk::open(alloc, Settings::new(2, 3, 6)?, 64)?;
     let mut meter = Meter::new();
