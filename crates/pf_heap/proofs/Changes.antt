@@ -1,16 +1,16 @@
--- Arenas after an insert, a meld, a pop.
+-- Arenas after an insert and a meld.
 use Rattle.std.proofs.Common.{◌≡◌, ◌≢◌, ℕ, ◌+◌, ◌-◌, ◌^◌, ◌<◌, ◌≤◌, inl, inr, List, [], ◌∷◌, ◌++◌, map, length, get_or, set, refl, sym, ap, ◌∙◌, subst, arith, ⊎_elim, get_or-set_same, get_or-set_other, length-append}
-use Rattle.std.proofs.lemmas.List.{map-set, set-set, get_or_at}
+use Rattle.std.proofs.lemmas.List.{map-set, get_or_at}
 use Rattle.std.proofs.lemmas.Bool.{cases_lt}
 use Rattle.std.proofs.Math.ListN.{length-set}
 use Rattle.std.specs.FinSet as fin
 use Rattle.pf_order.specs.Priority.{Priority}
 use Rattle.pf_order.specs.Counts.{Counts}
 use Rattle.pf_heap.specs.declared.node.Node.{Node}
-use Rattle.pf_heap.specs.Forest.{Forest, none, tree, nowhere, head, weigh, same, one_each, at_place, of_task, size, HasRoot}
-use Rattle.pf_heap.specs.Memory.{no_node, node_at, Part, root, weigh_all, StandAll, Parts}
+use Rattle.pf_heap.specs.Forest.{Forest, none, tree, nowhere, head, weigh, same, one_each, at_place, of_task, size}
+use Rattle.pf_heap.specs.Memory.{no_node, node_at, Stands, Part, root, weigh_all, Parts}
 use Rattle.pf_heap.specs.Steps.{HasTwoHeaps, IsMerged}
-use Rattle.pf_heap.specs.Pops.{IsChain, CanPop, IsPopped}
+use Rattle.pf_heap.specs.Pops.{IsChain}
 use Rattle.pf_heap.specs.Keys.{Heaps, list_of, with_list, IsHeld}
 use Rattle.pf_heap.specs.View.{keys, lists_at}
 use Rattle.pf_heap.specs.Digits.{digits}
@@ -18,10 +18,10 @@ use Rattle.pf_heap.specs.Invariant.{IsArena, all_roots, misplaced, HasSpares, Is
 use Rattle.pf_heap.proofs.Forests.{same-self, same-other, same-le, equal_from_same}
 use Rattle.pf_heap.proofs.Standing.{stands-set, stand_all-set, unused_elsewhere}
 use Rattle.pf_heap.proofs.Sums.{none_from_link}
-use Rattle.pf_heap.proofs.Sets.{keys_union, keys_insert, keys_remove}
+use Rattle.pf_heap.proofs.Sets.{keys_union, keys_insert}
 use Rattle.pf_heap.proofs.Digits.{paid-le-digits}
-use Rattle.pf_heap.proofs.Lists.{weigh_all-set, stands_in, stand_all-put, rises_in, all_rise-set, weigh_all-ext_but, stand_all-push, all_past}
-use Rattle.pf_heap.proofs.Whole.{held_once, heap_once, lists_are, now_lists, now_spare, list_is, as_many, len_is, held_from_weigh, past_places}
+use Rattle.pf_heap.proofs.Lists.{weigh_all-set, stands_in, stand_all-put, rises_in, all_rise-set, parts_put, same_place, replaced, stand_all-push, all_past}
+use Rattle.pf_heap.proofs.Whole.{lists_are, now_lists, now_spare, list_is, len_is, held_from_weigh, small_lent, parts_lent, heap_in, link_is, IsArenaAfter}
 
 -- ---- a node for a new key
 
@@ -110,47 +110,37 @@ module _ {nodes : List Node} {heads places : List ℕ} {free room capacity : ℕ
       let empty : a.spares ≡ none = none_from_link nodes nowhere free a.spares a.small a.parts.stand.0 a.free_is e in
       omega (arith, a.filled, ap size empty)
 
-  module _ (now : Heaps) (seen : ◌≡◌ {A = Heaps} (record { lists = lists_at nodes heads; spare = room }) now) where
+  module _ {now : Heaps} (seen : ◌≡◌ {A = Heaps} (record { lists = lists_at nodes heads; spare = room }) now) where
     -- ---- meld
 
-    module _ (into from first second : ℕ) (into_in : into < length now.lists) (from_in : from < length now.lists) (differ : into ≢ from)
-        (first_is : first ≡ head (get_or a.heaps into none)) (second_is : second ≡ head (get_or a.heaps from none)) where
-      pub in_heaps : (h : ℕ) → h < length now.lists → h < length a.heaps
-      in_heaps h within = omega (arith, as_many a now seen)
-
+    module _ {into from i j first second : ℕ} (i_is : i ≡ into) (j_is : j ≡ from) (into_in : into < length now.lists) (from_in : from < length now.lists) (differ : into ≢ from)
+        (first_read : first ≡ get_or heads i first) (second_read : second ≡ get_or heads j second) where
       pub in_rest : into < length (set a.heaps from none)
-      in_rest = omega (arith, in_heaps into into_in, length-set a.heaps from none)
+      in_rest = omega (arith, heap_in a seen i_is into_in first_read, length-set a.heaps from none)
 
       pub other_kept : get_or (set a.heaps from none) into none ≡ get_or a.heaps into none
       other_kept = get_or-set_other a.heaps from into none none differ
 
-      abbrev pub meld_heaps : HasTwoHeaps nodes first second
-      meld_heaps = record {
+      abbrev pub meld_heaps : {lent : List Node} → lent ≡ nodes → HasTwoHeaps lent first second
+      meld_heaps {lent} e = record {
         first = get_or a.heaps into none;
         second = get_or a.heaps from none;
         others = root a.spares ∷ all_roots (set (set a.heaps from none) into none);
-        first_is = first_is;
-        second_is = second_is;
+        first_is = link_is a seen i_is into_in first_read;
+        second_is = link_is a seen j_is from_in second_read;
         first_rises = rises_in a.heaps into a.rise;
         second_rises = rises_in a.heaps from a.rise;
-        small = a.small;
-        parts = record {
+        small = small_lent a e;
+        parts = let p = parts_lent a e from (heap_in a seen j_is from_in second_read) in record {
           stand = (
-            stands_in nodes a.heaps into a.parts.stand.1,
-            (
-              stands_in nodes a.heaps from a.parts.stand.1,
-              (
-                a.parts.stand.0,
-                stand_all-put nodes (set a.heaps from none) into none (stand_all-put nodes a.heaps from none a.parts.stand.1 tt) tt,
-              ),
-            ),
+            subst (λ f. Stands lent nowhere f) other_kept (stands_in lent (set a.heaps from none) into p.stand.1.1),
+            (p.stand.0, (p.stand.1.0, stand_all-put lent (set a.heaps from none) into none p.stand.1.1 tt)),
           );
-          once = λ i. omega (
+          once = λ k. omega (
             arith,
-            a.parts.once i,
-            weigh_all-set (at_place i) a.heaps from none (in_heaps from from_in),
-            weigh_all-set (at_place i) (set a.heaps from none) into none in_rest,
-            ap (λ f. weigh (at_place i) f) other_kept,
+            p.once k,
+            weigh_all-set (at_place k) (set a.heaps from none) into none in_rest,
+            ap (λ f. weigh (at_place k) f) other_kept,
           );
         };
       }
@@ -163,12 +153,12 @@ module _ {nodes : List Node} {heads places : List ℕ} {free room capacity : ℕ
             omega (
               arith,
               m.kept w,
-              weigh_all-set w a.heaps from none (in_heaps from from_in),
+              weigh_all-set w a.heaps from none (heap_in a seen j_is from_in second_read),
               weigh_all-set w (set a.heaps from none) into m.heap in_rest,
               ap (λ f. weigh w f) other_kept,
             )
 
-        pub melded_arena : IsArena new (set (set heads from nowhere) into link) places free room capacity
+        melded_arena : IsArena new (set (set heads from nowhere) into link) places free room capacity
         melded_arena = record {
           heaps = set (set a.heaps from none) into m.heap;
           spares = a.spares;
@@ -181,14 +171,7 @@ module _ {nodes : List Node} {heads places : List ℕ} {free room capacity : ℕ
           chain = a.chain;
           rise = all_rise-set (set a.heaps from none) into m.heap (all_rise-set a.heaps from none a.rise tt) m.rises;
           small = omega (arith, a.small);
-          parts = record {
-            stand = (
-              m.parts.stand.1.0,
-              subst (λ l. StandAll new (all_roots l)) (set-set (set a.heaps from none) into none m.heap)
-                  (stand_all-put new (set (set a.heaps from none) into none) into m.heap m.parts.stand.1.1 m.parts.stand.0),
-            );
-            once = λ i. omega (arith, a.parts.once i, melded_weighs (at_place i));
-          };
+          parts = parts_put a.spares (set a.heaps from none) into in_rest m.heap m.parts;
           filled = omega (arith, a.filled, melded_weighs one_each);
           fits = omega (arith, a.fits, melded_weighs one_each);
           places_long = a.places_long;
@@ -196,263 +179,148 @@ module _ {nodes : List Node} {heads places : List ℕ} {free room capacity : ℕ
           held = λ t. melded_weighs (of_task t) ∙ a.held t;
         }
 
-        pub melded_view : ◌≡◌ {A = Heaps} (record { lists = lists_at new (set (set heads from nowhere) into link); spare = room })
+        melded_after : IsArenaAfter new (set (set heads from nowhere) into link) places free room capacity
             (with_list (with_list now from fin.empty) into (fin.union (list_of now into) (list_of now from)))
+            (digits (fin.len (list_of now into) + fin.len (list_of now from))) before after
         unfolding melded_arena
-        melded_view =
+        melded_after =
             let u : keys m.heap ≡ fin.union (list_of now into) (list_of now from) =
             keys_union m.heap (get_or a.heaps into none) (get_or a.heaps from none) m.kept
-            ∙ (λ i. fin.union (sym (list_is a now seen into) i) (sym (list_is a now seen from) i)) in
+            ∙ (λ k. fin.union (sym (list_is a seen into) k) (sym (list_is a seen from) k)) in
             let e : lists_at new (set (set heads from nowhere) into link) ≡ set (set now.lists from fin.empty) into (fin.union (list_of now into) (list_of now from)) =
             lists_are melded_arena
             ∙ map-set keys (set a.heaps from none) into m.heap
             ∙ ap (λ l. set l into (keys m.heap)) (map-set keys a.heaps from none)
-            ∙ ap (λ l. set (set l from fin.empty) into (keys m.heap)) (sym (now_lists a now seen))
+            ∙ ap (λ l. set (set l from fin.empty) into (keys m.heap)) (sym (now_lists a seen))
             ∙ ap (λ k. set (set now.lists from fin.empty) into k) u in
-            λ i. record { lists = e i; spare = sym (now_spare a now seen) i }
+            let sizes : digits (fin.len (list_of now into) + fin.len (list_of now from)) ≡ digits (size (get_or a.heaps into none) + size (get_or a.heaps from none)) =
+            λ k. digits (len_is a seen into k + len_is a seen from k) in
+            record {
+              arena = melded_arena;
+              view = λ k. record { lists = e k; spare = sym (now_spare a seen) k };
+              compared = omega (arith, m.compared, sizes, paid-le-digits m.made (size (get_or a.heaps into none) + size (get_or a.heaps from none)) m.made_paid);
+              slots = m.slots;
+            }
 
-        pub melded_compared : after.compared ≤ before.compared + digits (fin.len (list_of now into) + fin.len (list_of now from))
-        melded_compared =
-            let e : digits (fin.len (list_of now into) + fin.len (list_of now from)) ≡ digits (size (get_or a.heaps into none) + size (get_or a.heaps from none)) =
-            λ i. digits (len_is a now seen into i + len_is a now seen from i) in
-            omega (arith, m.compared, e, paid-le-digits m.made (size (get_or a.heaps into none) + size (get_or a.heaps from none)) m.made_paid)
+      pub melded : {lent new : List Node} {link : ℕ} {before after : Counts} → lent ≡ nodes →
+          ((can : HasTwoHeaps lent first second) → IsMerged new can.first can.second can.others link before after) → length new ≡ length nodes →
+          IsArenaAfter new (set (set heads from nowhere) into link) places free room capacity
+          (with_list (with_list now from fin.empty) into (fin.union (list_of now into) (list_of now from)))
+          (digits (fin.len (list_of now into) + fin.len (list_of now from))) before after
+      melded e merges long = melded_after (merges (meld_heaps e)) long
 
     -- ---- insert
 
-    -- a task's place alone changes
-    replaced : (t at : ℕ) (heaps : List Forest) → weigh_all (of_task t) (all_roots heaps) ≡ 0 → weigh_all (misplaced places) (all_roots heaps) ≡ 0 →
-        weigh_all (misplaced (set places t at)) (all_roots heaps) ≡ 0
-    replaced t at heaps absent placed =
-        weigh_all-ext_but t (misplaced (set places t at)) (misplaced places) (all_roots heaps)
-        (λ i key differ. ap (λ x. 1 - same x i) (get_or-set_other places t key.task at nowhere differ)) absent
-        ∙ placed
+    module _ {h index link : ℕ} {key : Priority} (is : index ≡ h) (within : h < length now.lists) (read : link ≡ get_or heads index link)
+        (low : key.task ≤ 4095) (absent : IsHeld now.lists key.task → ⊥) (some : 1 ≤ now.spare)
+        {mid : List Node} {at next : ℕ} (settled : (can : HasSpares nodes free) → IsSettled nodes mid can.spares can.others key at next) where
+      abbrev pub s : IsSettled nodes mid a.spares (all_roots a.heaps) key at next
+      s = settled has_spares
 
-    module _ (h : ℕ) (key : Priority) (within : h < length now.lists) (low : key.task < 4096) (absent : IsHeld now.lists key.task → ⊥) (some : 1 ≤ room) where
       none_held : weigh_all (of_task key.task) (all_roots a.heaps) ≡ 0
-      none_held = ⊎_elim (λ lt. absurd (absent (held_from_weigh a now seen key.task (omega (arith, lt))))) (λ le. omega (arith, le))
+      none_held = ⊎_elim (λ lt. absurd (absent (held_from_weigh a seen key.task (omega (arith, lt))))) (λ le. omega (arith, le))
           (cases_lt 0 (weigh_all (of_task key.task) (all_roots a.heaps)))
 
-      module _ {mid : List Node} {at next link : ℕ} (s : IsSettled nodes mid a.spares (all_roots a.heaps) key at next) (is : link ≡ head (get_or a.heaps h none)) where
-        pub h_in : h < length a.heaps
-        h_in = omega (arith, within, as_many a now seen)
+      pub h_in : h < length a.heaps
+      h_in = heap_in a seen is within read
 
-        abbrev pub insert_heaps : HasTwoHeaps mid at link
-        insert_heaps = record {
-          first = single at key;
-          second = get_or a.heaps h none;
-          others = root s.left ∷ all_roots (set a.heaps h none);
-          first_is = refl;
-          second_is = is;
-          first_rises = (omega arith, refl, tt);
-          second_rises = rises_in a.heaps h a.rise;
-          small = s.small;
-          parts = record {
-            stand = (
-              s.parts.stand.0,
-              (
-                stands_in mid a.heaps h s.parts.stand.1.1,
-                (s.parts.stand.1.0, stand_all-put mid a.heaps h none s.parts.stand.1.1 tt),
-              ),
-            );
-            once = λ i. omega (arith, s.parts.once i, weigh_all-set (at_place i) a.heaps h none h_in);
-          };
+      abbrev pub insert_heaps : {lent : List Node} → lent ≡ mid → HasTwoHeaps lent at link
+      insert_heaps {lent} e = record {
+        first = single at key;
+        second = get_or a.heaps h none;
+        others = root s.left ∷ all_roots (set a.heaps h none);
+        first_is = refl;
+        second_is = link_is a seen is within read;
+        first_rises = (omega arith, refl, tt);
+        second_rises = rises_in a.heaps h a.rise;
+        small = omega (arith, ap length e, s.small);
+        parts = let p : Parts lent (root (single at key) ∷ root s.left ∷ all_roots a.heaps) = subst (λ ns. Parts ns (root (single at key) ∷ root s.left ∷ all_roots a.heaps)) (sym e) s.parts in record {
+          stand = (
+            p.stand.0,
+            (stands_in lent a.heaps h p.stand.1.1, (p.stand.1.0, stand_all-put lent a.heaps h none p.stand.1.1 tt)),
+          );
+          once = λ i. omega (arith, p.once i, weigh_all-set (at_place i) a.heaps h none h_in);
+        };
+      }
+
+      module _ {new : List Node} {result : ℕ} {before after : Counts}
+          (m : IsMerged new (single at key) (get_or a.heaps h none) (root s.left ∷ all_roots (set a.heaps h none)) result before after)
+          (long : length new ≡ length mid) where
+        inserted_weighs : (w : ℕ → Priority → ℕ) → weigh_all w (all_roots (set a.heaps h m.heap)) ≡ weigh_all w (all_roots a.heaps) + w at key
+        inserted_weighs w = omega (arith, m.kept w, weigh_all-set w a.heaps h m.heap h_in)
+
+        task_in : key.task < length places
+        task_in = omega (arith, low, a.places_long)
+
+        inserted_held : (t : ℕ) → weigh_all (of_task t) (all_roots (set a.heaps h m.heap)) ≡ 1 - same (get_or (set places key.task at) t nowhere) nowhere
+        inserted_held t =
+            ⊎_elim
+            (λ here.
+            let e : t ≡ key.task = equal_from_same t key.task (omega (arith, here)) in
+            let p : get_or (set places key.task at) t nowhere ≡ at =
+            ap (λ x. get_or (set places key.task at) x nowhere) e ∙ get_or-set_same places key.task at nowhere task_in in
+            let q : same (get_or (set places key.task at) t nowhere) nowhere ≡ 0 =
+            ap (λ x. same x nowhere) p ∙ same-other at nowhere (λ z. absurd (omega (arith, s.somewhere, z))) in
+            omega (arith, q, inserted_weighs (of_task t), none_held, ap (λ x. weigh_all (of_task x) (all_roots a.heaps)) e, same-le t key.task, here))
+            (λ other. omega (arith, same_place places t key.task at (omega (arith, other)), other, inserted_weighs (of_task t), a.held t))
+            (cases_lt 0 (same t key.task))
+
+        own_place : misplaced (set places key.task at) at key ≡ 0
+        own_place =
+            let p : same (get_or (set places key.task at) key.task nowhere) at ≡ 1 =
+            ap (λ x. same x at) (get_or-set_same places key.task at nowhere task_in) ∙ same-self at in
+            omega (arith, p)
+
+        inserted_arena : {newer : ℕ} → newer ≡ capacity → IsArena new (set heads h result) (set places key.task at) next (room - 1) newer
+        inserted_arena same_capacity = record {
+          heaps = set a.heaps h m.heap;
+          spares = s.left;
+          heads_are = (λ i. set (a.heads_are i) h (m.heap_is i)) ∙ sym (map-set head a.heaps h m.heap);
+          free_is = s.left_is;
+          chain = s.chain;
+          rise = all_rise-set a.heaps h m.heap a.rise m.rises;
+          small = omega (arith, s.small);
+          parts = parts_put s.left a.heaps h h_in m.heap m.parts;
+          filled = omega (arith, a.filled, s.filled, inserted_weighs one_each);
+          fits = omega (arith, a.fits, inserted_weighs one_each, some, now_spare a seen);
+          places_long = length-set places key.task at ∙ a.places_long;
+          placed = omega (
+            arith,
+            inserted_weighs (misplaced (set places key.task at)),
+            own_place,
+            replaced places key.task at (all_roots a.heaps) none_held,
+            a.placed,
+          );
+          held = inserted_held;
         }
 
-        module _ {new : List Node} {result : ℕ} {before after : Counts}
-            (m : IsMerged new (single at key) (get_or a.heaps h none) (root s.left ∷ all_roots (set a.heaps h none)) result before after)
-            (long : length new ≡ length mid) where
-          inserted_weighs : (w : ℕ → Priority → ℕ) → weigh_all w (all_roots (set a.heaps h m.heap)) ≡ weigh_all w (all_roots a.heaps) + w at key
-          inserted_weighs w = omega (arith, m.kept w, weigh_all-set w a.heaps h m.heap h_in)
-
-          inserted_once : (i : ℕ) → weigh_all (at_place i) (root s.left ∷ all_roots (set a.heaps h m.heap)) ≤ 1
-          inserted_once i = omega (arith, s.parts.once i, inserted_weighs (at_place i))
-
-          task_in : key.task < length places
-          task_in = omega (arith, low, a.places_long)
-
-          inserted_held : (t : ℕ) → weigh_all (of_task t) (all_roots (set a.heaps h m.heap)) ≡ 1 - same (get_or (set places key.task at) t nowhere) nowhere
-          inserted_held t =
-              ⊎_elim
-              (λ here.
-              let e : t ≡ key.task = equal_from_same t key.task (omega (arith, here)) in
-              let p : get_or (set places key.task at) t nowhere ≡ at =
-              ap (λ x. get_or (set places key.task at) x nowhere) e ∙ get_or-set_same places key.task at nowhere task_in in
-              let q : same (get_or (set places key.task at) t nowhere) nowhere ≡ 0 =
-              ap (λ x. same x nowhere) p ∙ same-other at nowhere (λ z. absurd (omega (arith, s.somewhere, z))) in
-              omega (arith, q, inserted_weighs (of_task t), none_held, ap (λ x. weigh_all (of_task x) (all_roots a.heaps)) e, same-le t key.task, here))
-              (λ other.
-              let differ : t ≢ key.task = λ e. absurd (omega (arith, other, same-self t, ap (λ x. same t x) e)) in
-              let p : same (get_or (set places key.task at) t nowhere) nowhere ≡ same (get_or places t nowhere) nowhere =
-              ap (λ x. same x nowhere) (get_or-set_other places key.task t at nowhere differ) in
-              omega (arith, p, other, inserted_weighs (of_task t), a.held t))
-              (cases_lt 0 (same t key.task))
-
-          own_place : misplaced (set places key.task at) at key ≡ 0
-          own_place =
-              let p : same (get_or (set places key.task at) key.task nowhere) at ≡ 1 =
-              ap (λ x. same x at) (get_or-set_same places key.task at nowhere task_in) ∙ same-self at in
-              omega (arith, p)
-
-          pub inserted_arena : {newer : ℕ} → newer ≡ capacity → IsArena new (set heads h result) (set places key.task at) next (room - 1) newer
-          inserted_arena same_capacity = record {
-            heaps = set a.heaps h m.heap;
-            spares = s.left;
-            heads_are = (λ i. set (a.heads_are i) h (m.heap_is i)) ∙ sym (map-set head a.heaps h m.heap);
-            free_is = s.left_is;
-            chain = s.chain;
-            rise = all_rise-set a.heaps h m.heap a.rise m.rises;
-            small = omega (arith, s.small);
-            parts = record {
-              stand = (
-                m.parts.stand.1.0,
-                subst (λ l. StandAll new (all_roots l)) (set-set a.heaps h none m.heap)
-                    (stand_all-put new (set a.heaps h none) h m.heap m.parts.stand.1.1 m.parts.stand.0),
-              );
-              once = inserted_once;
-            };
-            filled = omega (arith, a.filled, s.filled, inserted_weighs one_each);
-            fits = omega (arith, a.fits, inserted_weighs one_each);
-            places_long = length-set places key.task at ∙ a.places_long;
-            placed = omega (arith, inserted_weighs (misplaced (set places key.task at)), own_place, replaced key.task at a.heaps none_held a.placed);
-            held = inserted_held;
-          }
-
-          pub inserted_view : {newer : ℕ} (e : newer ≡ capacity) → ◌≡◌ {A = Heaps} (record { lists = lists_at new (set heads h result); spare = room - 1 })
-              (record (with_list now h (fin.insert (list_of now h) key)) { spare = now.spare - 1 })
-          unfolding inserted_arena
-          inserted_view same_capacity =
-              let u : keys m.heap ≡ fin.insert (list_of now h) key =
-              keys_insert m.heap (get_or a.heaps h none) at key (λ w. omega (arith, m.kept w))
-              ∙ ap (λ k. fin.insert k key) (sym (list_is a now seen h)) in
-              let e : lists_at new (set heads h result) ≡ set now.lists h (fin.insert (list_of now h) key) =
-              lists_are (inserted_arena same_capacity)
-              ∙ map-set keys a.heaps h m.heap
-              ∙ ap (λ l. set l h (keys m.heap)) (sym (now_lists a now seen))
-              ∙ ap (λ k. set now.lists h k) u in
-              λ i. record { lists = e i; spare = sym (now_spare a now seen) i - 1 }
-
-          pub inserted_compared : after.compared ≤ before.compared + digits (fin.len (list_of now h) + 1)
-          inserted_compared =
-              let e : digits (fin.len (list_of now h) + 1) ≡ digits (size (get_or a.heaps h none) + 1) = λ i. digits (len_is a now seen h i + 1) in
-              omega (
+        inserted_after : {newer : ℕ} → newer ≡ capacity → IsArenaAfter new (set heads h result) (set places key.task at) next (room - 1) newer
+            (record (with_list now h (fin.insert (list_of now h) key)) { spare = now.spare - 1 }) (digits (fin.len (list_of now h) + 1)) before after
+        unfolding inserted_arena
+        inserted_after same_capacity =
+            let u : keys m.heap ≡ fin.insert (list_of now h) key =
+            keys_insert m.heap (get_or a.heaps h none) at key (λ w. omega (arith, m.kept w))
+            ∙ ap (λ k. fin.insert k key) (sym (list_is a seen h)) in
+            let e : lists_at new (set heads h result) ≡ set now.lists h (fin.insert (list_of now h) key) =
+            lists_are (inserted_arena same_capacity)
+            ∙ map-set keys a.heaps h m.heap
+            ∙ ap (λ l. set l h (keys m.heap)) (sym (now_lists a seen))
+            ∙ ap (λ k. set now.lists h k) u in
+            let sizes : digits (fin.len (list_of now h) + 1) ≡ digits (size (get_or a.heaps h none) + 1) = λ i. digits (len_is a seen h i + 1) in
+            record {
+              arena = inserted_arena same_capacity;
+              view = λ i. record { lists = e i; spare = sym (now_spare a seen) i - 1 };
+              compared = omega (
                 arith,
                 m.compared,
-                e,
-                paid-le-digits m.made (size (get_or a.heaps h none) + 1)
-                    (⊎_elim (λ z. inl z) (λ z. inr (omega (arith, z))) m.made_paid),
-              )
-
-    -- ---- pop
-
-    module _ (h link : ℕ) (within : h < length now.lists) (is : link ≡ head (get_or a.heaps h none)) where
-      pub popped_in : h < length a.heaps
-      popped_in = omega (arith, within, as_many a now seen)
-
-      module _ (at : ℕ) (key : Priority) (rank : ℕ) (kids : Forest) (has : HasRoot at key rank kids (get_or a.heaps h none)) where
-        abbrev pub can_pop : CanPop nodes link at free
-        can_pop = record {
-          heap = get_or a.heaps h none;
-          spares = a.spares;
-          others = all_roots (set a.heaps h none);
-          key = key;
-          rank = rank;
-          kids = kids;
-          heap_is = is;
-          free_is = a.free_is;
-          has = has;
-          rises = rises_in a.heaps h a.rise;
-          small = a.small;
-          parts = record {
-            stand = (stands_in nodes a.heaps h a.parts.stand.1, (a.parts.stand.0, stand_all-put nodes a.heaps h none a.parts.stand.1 tt));
-            once = λ i. omega (arith, a.parts.once i, weigh_all-set (at_place i) a.heaps h none popped_in);
-          };
-        }
-
-        module _ {new : List Node} {result : ℕ} {before after : Counts}
-            (p : IsPopped new (get_or a.heaps h none) a.spares (all_roots (set a.heaps h none)) at key result before after)
-            (long : length new ≡ length nodes) where
-          popped_weighs : (w : ℕ → Priority → ℕ) → w at key + weigh_all w (all_roots (set a.heaps h p.heap)) ≡ weigh_all w (all_roots a.heaps)
-          popped_weighs w = omega (arith, p.kept w, weigh_all-set w a.heaps h p.heap popped_in)
-
-          popped_once : (i : ℕ) → weigh_all (at_place i) (root (tree at key 0 none a.spares) ∷ all_roots (set a.heaps h p.heap)) ≤ 1
-          popped_once i = omega (arith, a.parts.once i, popped_weighs (at_place i))
-
-          none_left : weigh_all (of_task key.task) (all_roots (set a.heaps h p.heap)) ≡ 0
-          none_left = omega (arith, popped_weighs (of_task key.task), held_once a key.task, same-self key.task)
-
-          pub task_low : key.task < 4096
-          task_low =
-              ⊎_elim (λ lt. lt)
-              (λ ge. absurd (omega (
-                arith,
-                popped_weighs (of_task key.task),
-                same-self key.task,
-                a.held key.task,
-                same-self nowhere,
-                ap (λ x. same x nowhere) (past_places a key.task ge),
-              )))
-              (cases_lt key.task 4096)
-
-          popped_held : (t : ℕ) → weigh_all (of_task t) (all_roots (set a.heaps h p.heap)) ≡ 1 - same (get_or (set places key.task nowhere) t nowhere) nowhere
-          popped_held t =
-              ⊎_elim
-              (λ here.
-              let e : t ≡ key.task = equal_from_same t key.task (omega (arith, here)) in
-              let q : get_or (set places key.task nowhere) t nowhere ≡ nowhere =
-              ap (λ x. get_or (set places key.task nowhere) x nowhere) e
-              ∙ get_or-set_same places key.task nowhere nowhere (omega (arith, task_low, a.places_long)) in
-              omega (arith, ap (λ x. same x nowhere) q, same-self nowhere, none_left, ap (λ x. weigh_all (of_task x) (all_roots (set a.heaps h p.heap))) e))
-              (λ other.
-              let differ : t ≢ key.task = λ e. absurd (omega (arith, other, same-self t, ap (λ x. same t x) e)) in
-              let q : same (get_or (set places key.task nowhere) t nowhere) nowhere ≡ same (get_or places t nowhere) nowhere =
-              ap (λ x. same x nowhere) (get_or-set_other places key.task t nowhere nowhere differ) in
-              omega (arith, q, other, popped_weighs (of_task t), a.held t))
-              (cases_lt 0 (same t key.task))
-
-          pub popped_arena : {newer : ℕ} → newer ≡ capacity → IsArena new (set heads h result) (set places key.task nowhere) at (room + 1) newer
-          popped_arena same_capacity = record {
-            heaps = set a.heaps h p.heap;
-            spares = tree at key 0 none a.spares;
-            heads_are = (λ i. set (a.heads_are i) h (p.heap_is i)) ∙ sym (map-set head a.heaps h p.heap);
-            free_is = refl;
-            chain = (refl, refl, a.chain);
-            rise = all_rise-set a.heaps h p.heap a.rise p.rises;
-            small = omega (arith, a.small);
-            parts = record {
-              stand = (
-                p.parts.stand.1.0,
-                subst (λ l. StandAll new (all_roots l)) (set-set a.heaps h none p.heap)
-                    (stand_all-put new (set a.heaps h none) h p.heap p.parts.stand.1.1 p.parts.stand.0),
+                sizes,
+                paid-le-digits m.made (size (get_or a.heaps h none) + 1) (⊎_elim (λ z. inl z) (λ z. inr (omega (arith, z))) m.made_paid),
               );
-              once = popped_once;
-            };
-            filled = omega (arith, a.filled, popped_weighs one_each);
-            fits = omega (arith, a.fits, popped_weighs one_each);
-            places_long = length-set places key.task nowhere ∙ a.places_long;
-            placed = replaced key.task nowhere (set a.heaps h p.heap) none_left (omega (arith, a.placed, popped_weighs (misplaced places)));
-            held = popped_held;
-          }
+              slots = m.slots;
+            }
 
-          pub popped_lists : {newer : ℕ} (e : newer ≡ capacity) → lists_at new (set heads h result) ≡ set now.lists h (keys p.heap)
-          unfolding popped_arena
-          popped_lists same_capacity =
-              lists_are (popped_arena same_capacity)
-              ∙ map-set keys a.heaps h p.heap
-              ∙ ap (λ l. set l h (keys p.heap)) (sym (now_lists a now seen))
-
-          pub popped_view : {newer : ℕ} (e : newer ≡ capacity) → ◌≡◌ {A = Heaps} (record { lists = lists_at new (set heads h result); spare = room + 1 })
-              (record (with_list now h (fin.remove (list_of now h) key)) { spare = now.spare + 1 })
-          popped_view same_capacity =
-              let u : keys p.heap ≡ fin.remove (list_of now h) key =
-              keys_remove p.heap (get_or a.heaps h none) at key (heap_once a h) p.kept
-              ∙ ap (λ k. fin.remove k key) (sym (list_is a now seen h)) in
-              let e : lists_at new (set heads h result) ≡ set now.lists h (fin.remove (list_of now h) key) =
-              popped_lists same_capacity ∙ ap (λ k. set now.lists h k) u in
-              λ i. record { lists = e i; spare = sym (now_spare a now seen) i + 1 }
-
-          pub popped_compared : after.compared ≤ before.compared + digits (fin.len (list_of now h))
-          popped_compared =
-              omega (arith, p.compared, ap digits (len_is a now seen h), paid-le-digits p.made (size (get_or a.heaps h none)) p.made_paid)
-
-          pub popped_room : room + 1 ≤ capacity
-          popped_room = omega (arith, a.fits, popped_weighs one_each)
+      pub inserted : {lent new : List Node} {result newer : ℕ} {before after : Counts} → lent ≡ mid →
+          ((can : HasTwoHeaps lent at link) → IsMerged new can.first can.second can.others result before after) → length new ≡ length mid → newer ≡ capacity →
+          IsArenaAfter new (set heads h result) (set places key.task at) next (room - 1) newer
+          (record (with_list now h (fin.insert (list_of now h) key)) { spare = now.spare - 1 }) (digits (fin.len (list_of now h) + 1)) before after
+      inserted e merges long same_capacity = inserted_after (merges (insert_heaps e)) long same_capacity

@@ -1,15 +1,15 @@
 -- The list of an arena's heaps.
-use Rattle.std.proofs.Common.{◌≡◌, ◌≢◌, ℕ, zero, suc, ◌+◌, ◌<◌, ◌≤◌, List, [], ◌∷◌, ◌++◌, map, length, get_or, set, take, drop, refl, sym, ap, ◌∙◌, arith, ⊎_elim, length-append, eqb, ltb, get_or-set_other}
+use Rattle.std.proofs.Common.{◌≡◌, ◌≢◌, ℕ, zero, suc, ◌+◌, ◌-◌, ◌<◌, ◌≤◌, List, [], ◌∷◌, ◌++◌, map, length, get_or, set, take, drop, refl, sym, ap, ◌∙◌, subst, arith, ⊎_elim, length-append, eqb, ltb, get_or-set_other}
 use Rattle.std.specs.Prelude.{IsTrue, not}
 use Rattle.std.proofs.lemmas.Bool.Decides.{nat_tests}
 use Rattle.std.proofs.lemmas.Bool.{cases_lt}
-use Rattle.std.proofs.lemmas.List.{get_or_append_left}
+use Rattle.std.proofs.lemmas.List.{get_or_append_left, set-set}
 use Rattle.std.proofs.Math.ListN.{replicate}
 use Rattle.std.proofs.Math.Seq.{take-append_seam}
 use Rattle.pf_order.specs.Priority.{Priority}
 use Rattle.pf_heap.specs.declared.node.Node.{Node}
 use Rattle.pf_heap.specs.Forest.{Forest, none, tree, nowhere, weigh, same, one_each, at_place, of_task, size, Rises}
-use Rattle.pf_heap.specs.Memory.{no_node, node_at, Stands, Part, weigh_all, StandAll}
+use Rattle.pf_heap.specs.Memory.{no_node, node_at, Stands, Part, root, weigh_all, StandAll, Parts}
 use Rattle.pf_heap.specs.Invariant.{AllRise, all_roots, misplaced}
 use Rattle.pf_heap.proofs.Forests.{same-self, same-other, equal_from_same}
 use Rattle.pf_heap.proofs.Weights.{upto, upto-below, pigeonhole}
@@ -59,10 +59,22 @@ all_rise-set [] k g r t = tt
 all_rise-set (f ∷ fs) zero g r t = (t, r.1)
 all_rise-set (f ∷ fs) (suc k) g r t = (r.0, all_rise-set fs k g r.1 t)
 
--- a heap is taken out of the list, and put back
-pub taken : (nodes : List Node) (ps : List Part) (fs : List Forest) (k : ℕ) → k < length fs → StandAll nodes (all_roots fs) →
-    StandAll nodes (all_roots (set fs k none))
-taken nodes ps fs k h s = stand_all-put nodes fs k none s tt
+-- a heap beside the others and the free nodes, and back among them
+module _ {nodes : List Node} (spares : Forest) (fs : List Forest) (k : ℕ) (within : k < length fs) where
+  pub parts_apart : Parts nodes (root spares ∷ all_roots fs) → Parts nodes (root (get_or fs k none) ∷ root spares ∷ all_roots (set fs k none))
+  parts_apart parts = record {
+    stand = (stands_in nodes fs k parts.stand.1, (parts.stand.0, stand_all-put nodes fs k none parts.stand.1 tt));
+    once = λ i. omega (arith, parts.once i, weigh_all-set (at_place i) fs k none within);
+  }
+
+  pub parts_put : (f : Forest) → Parts nodes (root f ∷ root spares ∷ all_roots (set fs k none)) → Parts nodes (root spares ∷ all_roots (set fs k f))
+  parts_put f parts = record {
+    stand = (
+      parts.stand.1.0,
+      subst (λ l. StandAll nodes (all_roots l)) (set-set fs k none f) (stand_all-put nodes (set fs k none) k f parts.stand.1.1 parts.stand.0),
+    );
+    once = λ i. omega (arith, parts.once i, weigh_all-set (at_place i) fs k none within, weigh_all-set (at_place i) fs k f within);
+  }
 
 -- ---- weights that differ at one task alone
 
@@ -76,6 +88,20 @@ pub weigh_all-ext_but : (t : ℕ) (v w : ℕ → Priority → ℕ) (ps : List Pa
 weigh_all-ext_but t v w [] e h = refl
 weigh_all-ext_but t v w (p ∷ ps) e h =
     omega (arith, weigh-ext_but t v w p.1 e (omega (arith, h)), weigh_all-ext_but t v w ps e (omega (arith, h)))
+
+-- ---- one task's place is written
+
+-- the places of the other tasks are as before
+pub same_place : (places : List ℕ) (u t at : ℕ) → same u t ≡ 0 → same (get_or (set places t at) u nowhere) nowhere ≡ same (get_or places u nowhere) nowhere
+same_place places u t at other =
+    let differ : u ≢ t = λ e. absurd (omega (arith, other, same-self u, ap (λ x. same u x) e)) in
+    ap (λ x. same x nowhere) (get_or-set_other places t u at nowhere differ)
+
+-- where the task isn't held, as many keys are misplaced as before
+pub replaced : (places : List ℕ) (t at : ℕ) (ps : List Part) → weigh_all (of_task t) ps ≡ 0 → weigh_all (misplaced (set places t at)) ps ≡ weigh_all (misplaced places) ps
+replaced places t at ps absent =
+    weigh_all-ext_but t (misplaced (set places t at)) (misplaced places) ps
+    (λ i key differ. ap (λ x. 1 - same x i) (get_or-set_other places t key.task at nowhere differ)) absent
 
 -- ---- as many keys as tasks at most
 

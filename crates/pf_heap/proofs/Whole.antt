@@ -1,5 +1,5 @@
 -- Arenas: the invariant and the view after each call.
-use Rattle.std.proofs.Common.{◌≡◌, ◌≢◌, ℕ, ◌+◌, ◌-◌, ◌^◌, ◌<◌, ◌≤◌, true, List, [], ◌∷◌, ◌++◌, map, length, get_or, set, take, drop, refl, sym, ap, ◌∙◌, subst, arith, ⊎_elim}
+use Rattle.std.proofs.Common.{◌≡◌, ◌≢◌, ℕ, ◌+◌, ◌-◌, ◌^◌, ◌<◌, ◌≤◌, true, List, [], ◌∷◌, ◌++◌, map, length, get_or, set, refl, sym, ap, ◌∙◌, subst, arith, ⊎_elim}
 use Rattle.std.proofs.lemmas.List.{get_or_read, get_or_past, map-append}
 use Rattle.std.proofs.lemmas.Bool.{cases_lt}
 use Rattle.std.proofs.Math.ListN.{replicate, length-replicate}
@@ -8,9 +8,8 @@ use Rattle.pf_order.specs.Priority.{Priority}
 use Rattle.pf_order.specs.Counts.{Counts}
 use Rattle.pf_heap.specs.declared.node.Node.{Node}
 use Rattle.pf_heap.specs.Forest.{Forest, none, nowhere, head, weigh, same, one_each, at_place, of_task, of_key, size}
-use Rattle.pf_heap.specs.Memory.{root, weigh_all, Parts}
-use Rattle.pf_heap.specs.Steps.{HasTwoHeaps}
-use Rattle.pf_heap.specs.Pops.{roots, HasHeap, IsLeastRoot, CanPop}
+use Rattle.pf_heap.specs.Memory.{no_node, root, weigh_all, Parts}
+use Rattle.pf_heap.specs.Pops.{roots, HasHeap, IsLeastRoot}
 use Rattle.pf_heap.specs.Keys.{Heaps, list_of, IsHeld, IsFirst}
 use Rattle.pf_heap.specs.View.{keys, forest_from, lists_at}
 use Rattle.pf_heap.specs.Digits.{digits}
@@ -21,7 +20,7 @@ use Rattle.pf_heap.proofs.Sums.{none_from_link}
 use Rattle.pf_heap.proofs.Views.{lists_at-heads}
 use Rattle.pf_heap.proofs.Sets.{len-keys, weigh_from_contains, contains_from_weigh, below_in, key_of_task, of_key-self, key-le-task}
 use Rattle.pf_heap.proofs.Digits.{below-digits}
-use Rattle.pf_heap.proofs.Lists.{get_or-map_at, length-map_at, weigh_all-set, weigh-le-all, stands_in, stand_all-put, rises_in, few_keys, some_heap, written_back, all_nowhere, weigh_all-none, all_rise-none, stand_all-none}
+use Rattle.pf_heap.proofs.Lists.{get_or-map_at, length-map_at, weigh-le-all, stands_in, rises_in, parts_apart, few_keys, some_heap, all_nowhere, weigh_all-none, all_rise-none, stand_all-none}
 
 some_head : (nodes : List Node) (heads : List ℕ) (heaps : List Forest) (h x : ℕ) → heads ≡ map head heaps → h < length heaps → x ≡ get_or heads h x → x ≡ head (get_or heaps h none)
 some_head nodes heads heaps h x heads_are within read =
@@ -46,7 +45,17 @@ module _ {nodes : List Node} {heads places : List ℕ} {free room capacity : ℕ
   few = few_keys (all_roots a.heaps) held_once
       (λ t h. omega (arith, a.held t, same-self nowhere, ap (λ x. same x nowhere) (past_places t h)))
 
-  module _ (now : Heaps) (seen : ◌≡◌ {A = Heaps} (record { lists = lists_at nodes heads; spare = room }) now) where
+  -- the nodes may be lent as a slice
+  module _ {lent : List Node} (e : lent ≡ nodes) where
+    pub small_lent : length lent < 2 ^ 32
+    small_lent = omega (arith, ap length e, a.small)
+
+    pub parts_lent : (h : ℕ) → h < length a.heaps → Parts lent (root (get_or a.heaps h none) ∷ root a.spares ∷ all_roots (set a.heaps h none))
+    parts_lent h within =
+        subst (λ ns. Parts ns (root (get_or a.heaps h none) ∷ root a.spares ∷ all_roots (set a.heaps h none))) (sym e)
+        (parts_apart a.spares a.heaps h within a.parts)
+
+  module _ {now : Heaps} (seen : ◌≡◌ {A = Heaps} (record { lists = lists_at nodes heads; spare = room }) now) where
     pub now_lists : now.lists ≡ map keys a.heaps
     now_lists = ap (λ (n : Heaps). n.lists) (sym seen) ∙ lists_are
 
@@ -62,8 +71,9 @@ module _ {nodes : List Node} {heads places : List ℕ} {free room capacity : ℕ
     pub heads_long : length heads ≡ length now.lists
     heads_long = ap length a.heads_are ∙ length-map_at head a.heaps ∙ sym as_many
 
-    pub link_is : (h x : ℕ) → h < length now.lists → x ≡ get_or heads h x → x ≡ head (get_or a.heaps h none)
-    link_is h x within read = some_head nodes heads a.heaps h x a.heads_are (omega (arith, as_many)) read
+    -- the index that names heap h is below the length of the heads
+    pub name_within : {h index long : ℕ} → index ≡ h → long ≡ length heads → h < length now.lists → index < long
+    name_within is whole within = omega (arith, is, whole, within, heads_long)
 
     pub len_is : (h : ℕ) → fin.len (list_of now h) ≡ size (get_or a.heaps h none)
     len_is h = ap fin.len (list_is h) ∙ len-keys (get_or a.heaps h none) (heap_once h)
@@ -99,36 +109,46 @@ module _ {nodes : List Node} {heads places : List ℕ} {free room capacity : ℕ
     pub place_from_held : (t : ℕ) → IsHeld now.lists t → get_or places t nowhere ≢ nowhere
     place_from_held t h e = absurd (omega (arith, a.held t, weigh_from_held t h, same-self nowhere, ap (λ x. same x nowhere) e))
 
-    -- ---- least
+    -- ---- heap h and its link
 
-    module _ (h link : ℕ) (within : h < length now.lists) (is : link ≡ head (get_or a.heaps h none)) where
-      abbrev pub has_heap : HasHeap nodes link
-      has_heap = record {
+    module _ {h index link : ℕ} (is : index ≡ h) (within : h < length now.lists) (read : link ≡ get_or heads index link) where
+      pub heap_in : h < length a.heaps
+      heap_in = omega (arith, within, as_many)
+
+      pub link_is : link ≡ head (get_or a.heaps h none)
+      link_is = some_head nodes heads a.heaps h link a.heads_are heap_in (read ∙ ap (λ x. get_or heads x link) is)
+
+      abbrev pub has_heap : {lent : List Node} → lent ≡ nodes → HasHeap lent link
+      has_heap e = record {
         heap = get_or a.heaps h none;
         others = root a.spares ∷ all_roots (set a.heaps h none);
-        heap_is = is;
+        heap_is = link_is;
         rises = rises_in a.heaps h a.rise;
-        small = a.small;
-        parts = record {
-          stand = (stands_in nodes a.heaps h a.parts.stand.1, (a.parts.stand.0, stand_all-put nodes a.heaps h none a.parts.stand.1 tt));
-          once = λ i. omega (arith, a.parts.once i, weigh_all-set (at_place i) a.heaps h none (omega (arith, as_many)));
-        };
+        small = small_lent e;
+        parts = parts_lent e h heap_in;
       }
 
       pub no_keys : link ≡ nowhere → list_of now h ≡ fin.empty
-      no_keys e =
-          list_is h ∙ ap keys (none_from_link nodes nowhere link (get_or a.heaps h none) a.small (stands_in nodes a.heaps h a.parts.stand.1) is e)
+      no_keys e = list_is h ∙ ap keys (none_from_link nodes nowhere link (get_or a.heaps h none) a.small (stands_in nodes a.heaps h a.parts.stand.1) link_is e)
 
-      module _ {at : ℕ} {before after : Counts} (l : IsLeastRoot (get_or a.heaps h none) at before after) where
-        pub least_node : IsRootNode nodes at l.key l.rank l.kids
-        least_node = root_stands nodes nowhere at l.key l.rank l.kids (get_or a.heaps h none) (stands_in nodes a.heaps h a.parts.stand.1) l.has
+      -- ---- least
 
-        pub is_first : IsFirst (list_of now h) l.key
-        is_first = subst (λ s. IsFirst s l.key) (sym (list_is h)) (
-          contains_from_weigh (get_or a.heaps h none) l.key
-              (omega (arith, root_weighs (of_key l.key) at l.key l.rank l.kids (get_or a.heaps h none) l.has, of_key-self l.key at)),
-          λ q c. below_in l.key q (get_or a.heaps h none) l.least (weigh_from_contains (get_or a.heaps h none) q c),
-        )
+      module _ {lent : List Node} (e : lent ≡ nodes) {at : ℕ} {before after : Counts} (least : (can : HasHeap lent link) → IsLeastRoot can.heap at before after) where
+        abbrev pub least_of : IsLeastRoot (get_or a.heaps h none) at before after
+        least_of = least (has_heap e)
+
+        pub least_node : IsRootNode nodes at least_of.key least_of.rank least_of.kids
+        least_node = root_stands nodes nowhere at least_of.key least_of.rank least_of.kids (get_or a.heaps h none) (stands_in nodes a.heaps h a.parts.stand.1) least_of.has
+
+        pub least_key : {node : Node} → node ≡ get_or nodes at node → node.key ≡ least_of.key
+        least_key {node} found = ap (λ (n : Node). n.key) (get_or_read nodes at node least_node.within found no_node) ∙ least_node.key_is
+
+        pub is_first : {node : Node} → node ≡ get_or nodes at node → IsFirst (list_of now h) node.key
+        is_first found = subst (λ k. IsFirst (list_of now h) k) (sym (least_key found)) (subst (λ s. IsFirst s least_of.key) (sym (list_is h)) (
+          contains_from_weigh (get_or a.heaps h none) least_of.key
+              (omega (arith, root_weighs (of_key least_of.key) at least_of.key least_of.rank least_of.kids (get_or a.heaps h none) least_of.has, of_key-self least_of.key at)),
+          λ q c. below_in least_of.key q (get_or a.heaps h none) least_of.least (weigh_from_contains (get_or a.heaps h none) q c),
+        ))
 
         -- one comparison for each root but one
         roots_few : 1 ≤ roots (get_or a.heaps h none) → roots (get_or a.heaps h none) ≤ digits (size (get_or a.heaps h none))
@@ -143,65 +163,27 @@ module _ {nodes : List Node} {heads places : List ℕ} {free room capacity : ℕ
         pub least_compared : after.compared ≤ before.compared + digits (fin.len (list_of now h))
         least_compared =
             ⊎_elim
-            (λ some. omega (arith, l.compared, roots_few some, ap digits (len_is h)))
-            (λ lack. omega (arith, l.compared))
+            (λ some. omega (arith, least_of.compared, roots_few some, ap digits (len_is h)))
+            (λ lack. omega (arith, least_of.compared))
             (cases_lt 0 (roots (get_or a.heaps h none)))
 
--- ---- the same, where the nodes are lent as a slice
+-- ---- after a call
 
-abbrev pub lent_two : {nodes lent : List Node} {x y : ℕ} → lent ≡ nodes → HasTwoHeaps nodes x y → HasTwoHeaps lent x y
-lent_two e can = record {
-  first = can.first;
-  second = can.second;
-  others = can.others;
-  first_is = can.first_is;
-  second_is = can.second_is;
-  first_rises = can.first_rises;
-  second_rises = can.second_rises;
-  small = subst (λ ns. length ns < 2 ^ 32) (sym e) can.small;
-  parts = subst (λ ns. Parts ns (root can.first ∷ root can.second ∷ can.others)) (sym e) can.parts;
-}
+-- an arena that stands for these heaps, after so many comparisons at most
+pub record IsArenaAfter (nodes : List Node) (heads places : List ℕ) (free room capacity : ℕ) (heaps : Heaps) (made : ℕ) (before after : Counts) : Type 0 where
+  pub arena : IsArena nodes heads places free room capacity
+  pub view : ◌≡◌ {A = Heaps} (record { lists = lists_at nodes heads; spare = room }) heaps
+  pub compared : after.compared ≤ before.compared + made
+  pub slots : after.slots ≡ before.slots
 
-abbrev pub lent_heap : {nodes lent : List Node} {x : ℕ} → lent ≡ nodes → HasHeap nodes x → HasHeap lent x
-lent_heap e can = record {
-  heap = can.heap;
-  others = can.others;
-  heap_is = can.heap_is;
-  rises = can.rises;
-  small = subst (λ ns. length ns < 2 ^ 32) (sym e) can.small;
-  parts = subst (λ ns. Parts ns (root can.heap ∷ can.others)) (sym e) can.parts;
-}
+-- the same, as the code has the lists
+pub arena_as : {nodes items : List Node} {heads links places spots : List ℕ} {free room capacity made : ℕ} {heaps : Heaps} {before after : Counts} →
+    items ≡ nodes → links ≡ heads → spots ≡ places →
+    IsArenaAfter nodes heads places free room capacity heaps made before after → IsArenaAfter items links spots free room capacity heaps made before after
+arena_as {free = free} {room = room} {capacity = capacity} {made = made} {heaps = heaps} {before = before} {after = after} e f g a =
+    subst (λ (l : List Node × List ℕ × List ℕ). IsArenaAfter l.0 l.1 l.2 free room capacity heaps made before after) (λ i. (sym e i, sym f i, sym g i)) a
 
-abbrev pub lent_pop : {nodes lent : List Node} {x at free : ℕ} → lent ≡ nodes → CanPop nodes x at free → CanPop lent x at free
-lent_pop e can = record {
-  heap = can.heap;
-  spares = can.spares;
-  others = can.others;
-  key = can.key;
-  rank = can.rank;
-  kids = can.kids;
-  heap_is = can.heap_is;
-  free_is = can.free_is;
-  has = can.has;
-  rises = can.rises;
-  small = subst (λ ns. length ns < 2 ^ 32) (sym e) can.small;
-  parts = subst (λ ns. Parts ns (root can.heap ∷ root can.spares ∷ can.others)) (sym e) can.parts;
-}
-
--- the lent nodes are back in their Vec
-module _ {heads places : List ℕ} {free room capacity : ℕ} (new items : List Node) (n : ℕ) (same_length : length new ≡ length items) (whole : n ≡ length items) where
-  pub arena_back : IsArena new heads places free room capacity → IsArena (take n (new ++ drop (length new) items)) heads places free room capacity
-  arena_back a = subst (λ ns. IsArena ns heads places free room capacity) (sym (written_back new items n same_length whole)) a
-
-pub view_back : (heads : List ℕ) (room : ℕ) (h : Heaps) (new items : List Node) (n : ℕ) → length new ≡ length items → n ≡ length items →
-    ◌≡◌ {A = Heaps} (record { lists = lists_at new heads; spare = room }) h →
-    ◌≡◌ {A = Heaps} (record { lists = lists_at (take n (new ++ drop (length new) items)) heads; spare = room }) h
-view_back heads room h new items n same_length whole e =
-    (λ i. record { lists = lists_at (written_back new items n same_length whole i) heads; spare = room }) ∙ e
-
-pub arena_places : {nodes : List Node} {heads : List ℕ} {free room capacity : ℕ} (places : List ℕ) (t u x : ℕ) → t ≡ u →
-    IsArena nodes heads (set places u x) free room capacity → IsArena nodes heads (set places t x) free room capacity
-arena_places {nodes} {heads} {free} {room} {capacity} places t u x e a = subst (λ z. IsArena nodes heads (set places z x) free room capacity) (sym e) a
+-- ---- the first arena, and one more heap
 
 pub arena_begun : (places : List ℕ) (capacity : ℕ) → places ≡ replicate 4096 nowhere → IsArena [] [] places nowhere 0 capacity
 arena_begun places capacity e = record {
@@ -245,12 +227,12 @@ heap_added {nodes} {heads} {more} {places} a e =
     }
 
 pub heap_added_view : {nodes : List Node} {heads more places : List ℕ} {free room capacity : ℕ} (a : IsArena nodes heads places free room capacity) →
-    (e : more ≡ heads ++ nowhere ∷ []) (now : Heaps) → ◌≡◌ {A = Heaps} (record { lists = lists_at nodes heads; spare = room }) now →
+    (e : more ≡ heads ++ nowhere ∷ []) {now : Heaps} → ◌≡◌ {A = Heaps} (record { lists = lists_at nodes heads; spare = room }) now →
     ◌≡◌ {A = Heaps} (record { lists = lists_at nodes more; spare = room }) (record now { lists = now.lists ++ fin.empty ∷ [] })
 unfolding heap_added
-heap_added_view a e now seen =
-    let l = lists_are (heap_added a e) ∙ map-append keys a.heaps (none ∷ []) ∙ ap (λ k. k ++ fin.empty ∷ []) (sym (now_lists a now seen)) in
-    λ i. record { lists = l i; spare = sym (now_spare a now seen) i }
+heap_added_view a e {now} seen =
+    let l = lists_are (heap_added a e) ∙ map-append keys a.heaps (none ∷ []) ∙ ap (λ k. k ++ fin.empty ∷ []) (sym (now_lists a seen)) in
+    λ i. record { lists = l i; spare = sym (now_spare a seen) i }
 
 pub begun_in : {nodes : List Node} {heads places : List ℕ} {free room capacity : ℕ} → nodes ≡ [] → heads ≡ [] →
     IsArena [] [] places free room capacity → IsArena nodes heads places free room capacity

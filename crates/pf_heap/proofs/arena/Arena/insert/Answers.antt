@@ -1,10 +1,13 @@
-use Rattle.std.proofs.Common.{◌≡◌, ◌<◌, ◌≤◌, ◌+◌, ◌-◌, length, ap, ◌∙◌, arith}
+use Rattle.std.proofs.Common.{◌≡◌, ◌+◌, ◌-◌, length, ap, arith, set, take, drop, ◌++◌}
+use Rattle.std.specs.Vec.{vec_capacity}
 use Rattle.std.specs.FinSet as fin
 use Rattle.pf_heap.specs.Keys.{list_of, with_list}
 use Rattle.pf_heap.specs.Digits.{digits}
-use Rattle.pf_heap.proofs.Whole.{heads_long, link_is, now_spare, few, lent_two, arena_back, view_back, arena_places}
-use Rattle.pf_heap.proofs.Changes.{has_spares, all_used, insert_heaps, inserted_arena, inserted_view, inserted_compared}
+use Rattle.pf_heap.proofs.Lists.{written_back}
+use Rattle.pf_heap.proofs.Whole.{name_within, now_spare, few, IsArenaAfter, arena_as}
+use Rattle.pf_heap.proofs.Changes.{has_spares, all_used, insert_heaps, inserted}
 use Rattle.pf_heap.proofs.arena.Arena.insert.Goals as goal
+use Rattle.pf_heap.proofs.arena.Arena.insert.Goals.{After-merge-heap}
 
 pub settle-at-requires-clause-can : goal.settle-at-requires-clause-can
 settle-at-requires-clause-can c = has_spares c.self.invariant
@@ -12,7 +15,7 @@ settle-at-requires-clause-can c = has_spares c.self.invariant
 pub settle-at-requires-clause-room : goal.settle-at-requires-clause-room
 settle-at-requires-clause-room c = λ e.
     let a = c.self.invariant in
-    omega (arith, all_used a e, a.fits, c.requires.room, now_spare a c.args.self.now c.self.view_is, c.self.inside.nodes.ok.0)
+    omega (arith, all_used a e, a.fits, c.requires.room, now_spare a c.self.view_is, c.self.inside.nodes.ok.0)
 
 pub settle-at-requires-clause-low : goal.settle-at-requires-clause-low
 settle-at-requires-clause-low c = λ e.
@@ -20,85 +23,39 @@ settle-at-requires-clause-low c = λ e.
     omega (arith, all_used a e, few a, c.self.inside.nodes.ok.0)
 
 pub index-requires : goal.index-requires
-index-requires c =
-    omega (arith, c.h.view_is, heads_long c.self.invariant c.args.self.now c.self.view_is, c.self.inside.heads.ok.0, c.requires.heap)
-
-pub merge-heap-requires : goal.merge-heap-requires
-merge-heap-requires c =
-    let a = c.self.invariant in
-    let now = c.args.self.now in
-    let seen = c.self.view_is in
-    let within : c.h.inside.index < length now.lists = omega (arith, c.h.view_is, c.requires.heap) in
-    let low : c.args.key.task < 4096 = omega (arith, c.task-task.ensures.key.task_within) in
-    let some : 1 ≤ c.self.inside.room = omega (arith, c.requires.room, now_spare a now seen) in
-    let is = link_is a now seen c.h.inside.index _ within c.index.ensures in
-    let s = c.settle-at.ensures.settled (has_spares a) in
-    record { can = lent_two c.deref_mut.ensures.value (insert_heaps a now seen c.h.inside.index c.args.key within low c.requires.absent some s is) }
+index-requires c = name_within c.self.invariant c.self.view_is c.h.view_is c.self.inside.heads.ok.0 c.requires.heap
 
 pub index_mut-requires : goal.index_mut-requires
-index_mut-requires c =
-    omega (arith, c.h.view_is, heads_long c.self.invariant c.args.self.now c.self.view_is, c.self.inside.heads.ok.0, c.requires.heap)
+index_mut-requires c = name_within c.self.invariant c.self.view_is c.h.view_is c.self.inside.heads.ok.0 c.requires.heap
+
+pub merge-heap-requires : goal.merge-heap-requires
+merge-heap-requires c = record {
+  can = insert_heaps c.self.invariant c.self.view_is c.h.view_is c.requires.heap c.index.ensures c.task-task.ensures.key.task_within c.requires.absent
+      c.requires.room c.settle-at.ensures.settled c.deref_mut.ensures.value;
+}
+
+-- the arena after the insert
+done : (c : After-merge-heap) →
+    IsArenaAfter (take c.settle-at.new.nodes.len (c.merge-heap.new.nodes ++ drop (length c.merge-heap.new.nodes) c.settle-at.new.nodes.items))
+    (set c.self.inside.heads.items c.h.inside.index c.merge-heap.result) (set c.self.inside.places.items c.task-task.result c.settle-at.result.0)
+    c.settle-at.result.1 (c.self.inside.room - 1) (vec_capacity c.settle-at.new.nodes)
+    (record (with_list c.args.self.now c.args.h (fin.insert (list_of c.args.self.now c.args.h) c.args.key)) { spare = c.args.self.now.spare - 1 })
+    (digits (fin.len (list_of c.args.self.now c.args.h) + 1)) c.args.meter.now c.merge-heap.new.meter
+done c =
+    let long : length c.merge-heap.new.nodes ≡ length c.settle-at.new.nodes.items = omega (arith, ap length c.deref_mut.ensures.value) in
+    arena_as (written_back c.merge-heap.new.nodes c.settle-at.new.nodes.items c.settle-at.new.nodes.len long (omega (arith, c.settle-at.new.nodes.ok.0)))
+    (ap (λ x. set c.self.inside.heads.items x c.merge-heap.result) c.h.view_is) (ap (λ x. set c.self.inside.places.items x c.settle-at.result.0) c.task-task.ensures.value)
+    (inserted c.self.invariant c.self.view_is c.h.view_is c.requires.heap c.index.ensures c.task-task.ensures.key.task_within c.requires.absent
+    c.requires.room c.settle-at.ensures.settled c.deref_mut.ensures.value c.merge-heap.ensures long c.settle-at.ensures.capacity)
 
 pub invariant_of-self : goal.invariant_of-self
-invariant_of-self c =
-    let a = c.self.invariant in
-    let now = c.args.self.now in
-    let seen = c.self.view_is in
-    let within : c.h.inside.index < length now.lists = omega (arith, c.h.view_is, c.requires.heap) in
-    let low : c.args.key.task < 4096 = omega (arith, c.task-task.ensures.key.task_within) in
-    let some : 1 ≤ c.self.inside.room = omega (arith, c.requires.room, now_spare a now seen) in
-    let is = link_is a now seen c.h.inside.index _ within c.index.ensures in
-    let s = c.settle-at.ensures.settled (has_spares a) in
-    let m = c.merge-heap.ensures (lent_two c.deref_mut.ensures.value (insert_heaps a now seen c.h.inside.index c.args.key within low c.requires.absent some s is)) in
-    let long : length c.merge-heap.new.nodes ≡ length c.settle-at.new.nodes.items = omega (arith, ap length c.deref_mut.ensures.value) in
-    arena_back c.merge-heap.new.nodes c.settle-at.new.nodes.items c.settle-at.new.nodes.len long (omega (arith, c.settle-at.new.nodes.ok.0))
-    (arena_places c.self.inside.places.items _ _ _ c.task-task.ensures.value
-    (inserted_arena a now seen c.h.inside.index c.args.key within low c.requires.absent some s is m long c.settle-at.ensures.capacity))
+invariant_of-self c = (done (goal.at.invariant_of-self c).After-merge-heap).arena
 
 pub returns-clause-inserted : goal.returns-clause-inserted
-returns-clause-inserted c =
-    let a = c.self.invariant in
-    let now = c.args.self.now in
-    let seen = c.self.view_is in
-    let within : c.h.inside.index < length now.lists = omega (arith, c.h.view_is, c.requires.heap) in
-    let low : c.args.key.task < 4096 = omega (arith, c.task-task.ensures.key.task_within) in
-    let some : 1 ≤ c.self.inside.room = omega (arith, c.requires.room, now_spare a now seen) in
-    let is = link_is a now seen c.h.inside.index _ within c.index.ensures in
-    let s = c.settle-at.ensures.settled (has_spares a) in
-    let m = c.merge-heap.ensures (lent_two c.deref_mut.ensures.value (insert_heaps a now seen c.h.inside.index c.args.key within low c.requires.absent some s is)) in
-    let long : length c.merge-heap.new.nodes ≡ length c.settle-at.new.nodes.items = omega (arith, ap length c.deref_mut.ensures.value) in
-    view_back _ _ _ c.merge-heap.new.nodes c.settle-at.new.nodes.items c.settle-at.new.nodes.len long (omega (arith, c.settle-at.new.nodes.ok.0))
-    (inserted_view a now seen c.h.inside.index c.args.key within low c.requires.absent some s is m long c.settle-at.ensures.capacity)
-    ∙ (λ i. record (with_list now (c.h.view_is i) (fin.insert (list_of now (c.h.view_is i)) c.args.key)) { spare = now.spare - 1 })
+returns-clause-inserted c = (done (goal.at.returns-clause-inserted c).After-merge-heap).view
 
 pub returns-clause-comparisons : goal.returns-clause-comparisons
-returns-clause-comparisons c =
-    let a = c.self.invariant in
-    let now = c.args.self.now in
-    let seen = c.self.view_is in
-    let within : c.h.inside.index < length now.lists = omega (arith, c.h.view_is, c.requires.heap) in
-    let low : c.args.key.task < 4096 = omega (arith, c.task-task.ensures.key.task_within) in
-    let some : 1 ≤ c.self.inside.room = omega (arith, c.requires.room, now_spare a now seen) in
-    let is = link_is a now seen c.h.inside.index _ within c.index.ensures in
-    let s = c.settle-at.ensures.settled (has_spares a) in
-    let m = c.merge-heap.ensures (lent_two c.deref_mut.ensures.value (insert_heaps a now seen c.h.inside.index c.args.key within low c.requires.absent some s is)) in
-    let long : length c.merge-heap.new.nodes ≡ length c.settle-at.new.nodes.items = omega (arith, ap length c.deref_mut.ensures.value) in
-    omega (
-      arith,
-      inserted_compared a now seen c.h.inside.index c.args.key within low c.requires.absent some s is m long,
-      ap (λ x. digits (fin.len (list_of now x) + 1)) c.h.view_is,
-    )
+returns-clause-comparisons c = (done (goal.at.returns-clause-comparisons c).After-merge-heap).compared
 
 pub returns-clause-slots : goal.returns-clause-slots
-returns-clause-slots c =
-    let a = c.self.invariant in
-    let now = c.args.self.now in
-    let seen = c.self.view_is in
-    let within : c.h.inside.index < length now.lists = omega (arith, c.h.view_is, c.requires.heap) in
-    let low : c.args.key.task < 4096 = omega (arith, c.task-task.ensures.key.task_within) in
-    let some : 1 ≤ c.self.inside.room = omega (arith, c.requires.room, now_spare a now seen) in
-    let is = link_is a now seen c.h.inside.index _ within c.index.ensures in
-    let s = c.settle-at.ensures.settled (has_spares a) in
-    let m = c.merge-heap.ensures (lent_two c.deref_mut.ensures.value (insert_heaps a now seen c.h.inside.index c.args.key within low c.requires.absent some s is)) in
-    let long : length c.merge-heap.new.nodes ≡ length c.settle-at.new.nodes.items = omega (arith, ap length c.deref_mut.ensures.value) in
-    m.slots
+returns-clause-slots c = (done (goal.at.returns-clause-slots c).After-merge-heap).slots

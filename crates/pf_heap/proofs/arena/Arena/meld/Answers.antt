@@ -1,97 +1,55 @@
-use Rattle.std.proofs.Common.{◌≡◌, ◌≢◌, ◌<◌, length, sym, ap, ◌∙◌, arith, ◌+◌}
+use Rattle.std.proofs.Common.{◌≡◌, ◌+◌, ◌++◌, length, set, take, drop, refl, ap, arith}
+use Rattle.std.specs.Vec.{vec_capacity}
 use Rattle.std.specs.FinSet as fin
+use Rattle.pf_heap.specs.Forest.{nowhere}
 use Rattle.pf_heap.specs.Keys.{list_of, with_list}
 use Rattle.pf_heap.specs.Digits.{digits}
-use Rattle.pf_heap.proofs.Whole.{heads_long, link_is, lent_two, arena_back, view_back}
-use Rattle.pf_heap.proofs.Changes.{meld_heaps, melded_arena, melded_view, melded_compared}
+use Rattle.pf_heap.proofs.Lists.{written_back}
+use Rattle.pf_heap.proofs.Whole.{name_within, IsArenaAfter, arena_as}
+use Rattle.pf_heap.proofs.Changes.{meld_heaps, melded}
+use Rattle.pf_heap.proofs.arena.Arena.meld.Goals.{After-merge-heap}
 use Rattle.pf_heap.proofs.arena.Arena.meld.Goals as goal
 
 pub index-first-requires : goal.index-first-requires
-index-first-requires c =
-    omega (arith, c.into.view_is, heads_long c.self.invariant c.args.self.now c.self.view_is, c.self.inside.heads.ok.0, c.requires.first)
+index-first-requires c = name_within c.self.invariant c.self.view_is c.into.view_is c.self.inside.heads.ok.0 c.requires.first
 
 pub index-second-requires : goal.index-second-requires
-index-second-requires c =
-    omega (arith, c.from.view_is, heads_long c.self.invariant c.args.self.now c.self.view_is, c.self.inside.heads.ok.0, c.requires.second)
+index-second-requires c = name_within c.self.invariant c.self.view_is c.from.view_is c.self.inside.heads.ok.0 c.requires.second
 
 pub merge-heap-requires : goal.merge-heap-requires
-merge-heap-requires c =
-    let a = c.self.invariant in
-    let now = c.args.self.now in
-    let seen = c.self.view_is in
-    let into_in : c.into.inside.index < length now.lists = omega (arith, c.into.view_is, c.requires.first) in
-    let from_in : c.from.inside.index < length now.lists = omega (arith, c.from.view_is, c.requires.second) in
-    let differ : c.into.inside.index ≢ c.from.inside.index = λ e. c.requires.differ (sym c.into.view_is ∙ e ∙ c.from.view_is) in
-    record {
-      can = lent_two c.deref_mut.ensures.value
-          (meld_heaps a now seen c.into.inside.index c.from.inside.index c.index-first.result.now c.index-second.result.now into_in from_in differ
-          (link_is a now seen c.into.inside.index _ into_in c.index-first.ensures)
-          (link_is a now seen c.from.inside.index _ from_in c.index-second.ensures));
-    }
+merge-heap-requires c = record {
+  can = meld_heaps c.self.invariant c.self.view_is c.into.view_is c.from.view_is c.requires.first c.requires.second c.requires.differ c.index-first.ensures
+      c.index-second.ensures c.deref_mut.ensures.value;
+}
 
 pub index_mut-requires : goal.index_mut-requires
-index_mut-requires c =
-    omega (arith, c.from.view_is, heads_long c.self.invariant c.args.self.now c.self.view_is, c.self.inside.heads.ok.0, c.requires.second)
+index_mut-requires c = name_within c.self.invariant c.self.view_is c.from.view_is c.self.inside.heads.ok.0 c.requires.second
 
 pub index_mut-requires-2 : goal.index_mut-requires-2
-index_mut-requires-2 c =
-    omega (arith, c.into.view_is, heads_long c.self.invariant c.args.self.now c.self.view_is, c.self.inside.heads.ok.0, c.requires.first)
+index_mut-requires-2 c = name_within c.self.invariant c.self.view_is c.into.view_is c.self.inside.heads.ok.0 c.requires.first
+
+-- the arena after the meld
+done : (c : After-merge-heap) →
+    IsArenaAfter (take c.self.inside.nodes.len (c.merge-heap.new.nodes ++ drop (length c.merge-heap.new.nodes) c.self.inside.nodes.items))
+    (set (set c.self.inside.heads.items c.from.inside.index nowhere) c.into.inside.index c.merge-heap.result) c.self.inside.places.items
+    c.self.inside.free c.self.inside.room (vec_capacity c.self.inside.nodes)
+    (with_list (with_list c.args.self.now c.args.from fin.empty) c.args.into (fin.union (list_of c.args.self.now c.args.into) (list_of c.args.self.now c.args.from)))
+    (digits (fin.len (list_of c.args.self.now c.args.into) + fin.len (list_of c.args.self.now c.args.from))) c.args.meter.now c.merge-heap.new.meter
+done c =
+    let long : length c.merge-heap.new.nodes ≡ length c.self.inside.nodes.items = omega (arith, ap length c.deref_mut.ensures.value) in
+    arena_as (written_back c.merge-heap.new.nodes c.self.inside.nodes.items c.self.inside.nodes.len long (omega (arith, c.self.inside.nodes.ok.0)))
+    (λ i. set (set c.self.inside.heads.items (c.from.view_is i) nowhere) (c.into.view_is i) c.merge-heap.result) refl
+    (melded c.self.invariant c.self.view_is c.into.view_is c.from.view_is c.requires.first c.requires.second c.requires.differ c.index-first.ensures
+    c.index-second.ensures c.deref_mut.ensures.value c.merge-heap.ensures long)
 
 pub invariant_of-self : goal.invariant_of-self
-invariant_of-self c =
-    let a = c.self.invariant in
-    let now = c.args.self.now in
-    let seen = c.self.view_is in
-    let into_in : c.into.inside.index < length now.lists = omega (arith, c.into.view_is, c.requires.first) in
-    let from_in : c.from.inside.index < length now.lists = omega (arith, c.from.view_is, c.requires.second) in
-    let differ : c.into.inside.index ≢ c.from.inside.index = λ e. c.requires.differ (sym c.into.view_is ∙ e ∙ c.from.view_is) in
-    let first_is = link_is a now seen c.into.inside.index _ into_in c.index-first.ensures in
-    let second_is = link_is a now seen c.from.inside.index _ from_in c.index-second.ensures in
-    let m = c.merge-heap.ensures (lent_two c.deref_mut.ensures.value (meld_heaps a now seen c.into.inside.index c.from.inside.index _ _ into_in from_in differ first_is second_is)) in
-    let long : length c.merge-heap.new.nodes ≡ length c.self.inside.nodes.items = omega (arith, ap length c.deref_mut.ensures.value) in
-    arena_back c.merge-heap.new.nodes c.self.inside.nodes.items c.self.inside.nodes.len long (omega (arith, c.self.inside.nodes.ok.0))
-    (melded_arena a now seen c.into.inside.index c.from.inside.index _ _ into_in from_in differ first_is second_is m long)
+invariant_of-self c = (done (goal.at.invariant_of-self c).After-merge-heap).arena
 
 pub returns-clause-melded : goal.returns-clause-melded
-returns-clause-melded c =
-    let a = c.self.invariant in
-    let now = c.args.self.now in
-    let seen = c.self.view_is in
-    let into_in : c.into.inside.index < length now.lists = omega (arith, c.into.view_is, c.requires.first) in
-    let from_in : c.from.inside.index < length now.lists = omega (arith, c.from.view_is, c.requires.second) in
-    let differ : c.into.inside.index ≢ c.from.inside.index = λ e. c.requires.differ (sym c.into.view_is ∙ e ∙ c.from.view_is) in
-    let first_is = link_is a now seen c.into.inside.index _ into_in c.index-first.ensures in
-    let second_is = link_is a now seen c.from.inside.index _ from_in c.index-second.ensures in
-    let m = c.merge-heap.ensures (lent_two c.deref_mut.ensures.value (meld_heaps a now seen c.into.inside.index c.from.inside.index _ _ into_in from_in differ first_is second_is)) in
-    let long : length c.merge-heap.new.nodes ≡ length c.self.inside.nodes.items = omega (arith, ap length c.deref_mut.ensures.value) in
-    view_back _ _ _ c.merge-heap.new.nodes c.self.inside.nodes.items c.self.inside.nodes.len long (omega (arith, c.self.inside.nodes.ok.0))
-    (melded_view a now seen c.into.inside.index c.from.inside.index _ _ into_in from_in differ first_is second_is m long)
-    ∙ (λ i. with_list (with_list now (c.from.view_is i) fin.empty) (c.into.view_is i) (fin.union (list_of now (c.into.view_is i)) (list_of now (c.from.view_is i))))
+returns-clause-melded c = (done (goal.at.returns-clause-melded c).After-merge-heap).view
 
 pub returns-clause-comparisons : goal.returns-clause-comparisons
-returns-clause-comparisons c =
-    let a = c.self.invariant in
-    let now = c.args.self.now in
-    let seen = c.self.view_is in
-    let into_in : c.into.inside.index < length now.lists = omega (arith, c.into.view_is, c.requires.first) in
-    let from_in : c.from.inside.index < length now.lists = omega (arith, c.from.view_is, c.requires.second) in
-    let differ : c.into.inside.index ≢ c.from.inside.index = λ e. c.requires.differ (sym c.into.view_is ∙ e ∙ c.from.view_is) in
-    let first_is = link_is a now seen c.into.inside.index _ into_in c.index-first.ensures in
-    let second_is = link_is a now seen c.from.inside.index _ from_in c.index-second.ensures in
-    let m = c.merge-heap.ensures (lent_two c.deref_mut.ensures.value (meld_heaps a now seen c.into.inside.index c.from.inside.index _ _ into_in from_in differ first_is second_is)) in
-    let long : length c.merge-heap.new.nodes ≡ length c.self.inside.nodes.items = omega (arith, ap length c.deref_mut.ensures.value) in
-    let e : digits (fin.len (list_of now c.into.inside.index) + fin.len (list_of now c.from.inside.index)) ≡ digits (fin.len (list_of now c.args.into) + fin.len (list_of now c.args.from)) =
-    λ i. digits (fin.len (list_of now (c.into.view_is i)) + fin.len (list_of now (c.from.view_is i))) in
-    omega (arith, e, melded_compared a now seen c.into.inside.index c.from.inside.index _ _ into_in from_in differ first_is second_is m long)
+returns-clause-comparisons c = (done (goal.at.returns-clause-comparisons c).After-merge-heap).compared
 
 pub returns-clause-slots : goal.returns-clause-slots
-returns-clause-slots c =
-    let a = c.self.invariant in
-    let now = c.args.self.now in
-    let seen = c.self.view_is in
-    let into_in : c.into.inside.index < length now.lists = omega (arith, c.into.view_is, c.requires.first) in
-    let from_in : c.from.inside.index < length now.lists = omega (arith, c.from.view_is, c.requires.second) in
-    let differ : c.into.inside.index ≢ c.from.inside.index = λ e. c.requires.differ (sym c.into.view_is ∙ e ∙ c.from.view_is) in
-    let first_is = link_is a now seen c.into.inside.index _ into_in c.index-first.ensures in
-    let second_is = link_is a now seen c.from.inside.index _ from_in c.index-second.ensures in
-    (c.merge-heap.ensures (lent_two c.deref_mut.ensures.value (meld_heaps a now seen c.into.inside.index c.from.inside.index _ _ into_in from_in differ first_is second_is))).slots
+returns-clause-slots c = (done (goal.at.returns-clause-slots c).After-merge-heap).slots

@@ -1,123 +1,63 @@
-use Rattle.std.proofs.Common.{◌≡◌, ◌<◌, ◌+◌, length, refl, sym, ap, ◌∙◌, subst, arith}
+use Rattle.std.proofs.Common.{◌≡◌, ◌+◌, ◌*◌, ◌++◌, length, set, take, drop, refl, ap, arith}
+use Rattle.std.specs.Vec.{vec_capacity}
 use Rattle.std.specs.FinSet as fin
-use Rattle.std.proofs.lemmas.List.{get_or_read}
-use Rattle.pf_order.specs.Priority.{Priority}
-use Rattle.pf_heap.specs.declared.node.Node.{Node}
-use Rattle.pf_heap.specs.Memory.{no_node}
-use Rattle.pf_heap.specs.Keys.{list_of, with_list, IsFirst}
+use Rattle.pf_heap.specs.Forest.{nowhere}
+use Rattle.pf_heap.specs.Keys.{list_of, with_list}
 use Rattle.pf_heap.specs.Digits.{digits}
-use Rattle.pf_heap.proofs.Whole.{heads_long, link_is, no_keys, has_heap, lent_heap, lent_pop, least_node, is_first, least_compared, arena_back, view_back, arena_places}
-use Rattle.pf_heap.proofs.Changes.{can_pop, popped_arena, popped_view, popped_compared}
+use Rattle.pf_heap.proofs.Lists.{written_back}
+use Rattle.pf_heap.proofs.Whole.{name_within, no_keys, has_heap, least_node, is_first, IsArenaAfter, arena_as}
+use Rattle.pf_heap.proofs.Removal.{can_pop, popped}
+use Rattle.pf_heap.proofs.arena.Arena.pop.Goals.{After-task}
 use Rattle.pf_heap.proofs.arena.Arena.pop.Goals as goal
 
 pub index-head-requires : goal.index-head-requires
-index-head-requires c =
-    omega (arith, c.h.view_is, heads_long c.self.invariant c.args.self.now c.self.view_is, c.self.inside.heads.ok.0, c.requires)
+index-head-requires c = name_within c.self.invariant c.self.view_is c.h.view_is c.self.inside.heads.ok.0 c.requires
 
 pub returns-then-head-clause-popped : goal.returns-then-head-clause-popped
-returns-then-head-clause-popped c =
-    let a = c.self.invariant in
-    let now = c.args.self.now in
-    let seen = c.self.view_is in
-    let within : c.h.inside.index < length now.lists = omega (arith, c.h.view_is, c.requires) in
-    let is = link_is a now seen c.h.inside.index _ within c.index-head.ensures in
-    (ap (λ x. list_of now x) (sym c.h.view_is) ∙ no_keys a now seen c.h.inside.index _ within is c.if-head.true, refl)
+returns-then-head-clause-popped c = (no_keys c.self.invariant c.self.view_is c.h.view_is c.requires c.index-head.ensures c.if-head.true, refl)
 
 pub least_root-at-requires-clause-can : goal.least_root-at-requires-clause-can
-least_root-at-requires-clause-can c =
-    let a = c.self.invariant in
-    let now = c.args.self.now in
-    let seen = c.self.view_is in
-    let within : c.h.inside.index < length now.lists = omega (arith, c.h.view_is, c.requires) in
-    let is = link_is a now seen c.h.inside.index _ within c.index-head.ensures in
-    lent_heap c.deref.ensures.value (has_heap a now seen c.h.inside.index _ within is)
+least_root-at-requires-clause-can c = has_heap c.self.invariant c.self.view_is c.h.view_is c.requires c.index-head.ensures c.deref.ensures.value
 
 pub index-requires : goal.index-requires
 index-requires c =
-    let a = c.self.invariant in
-    let now = c.args.self.now in
-    let seen = c.self.view_is in
-    let within : c.h.inside.index < length now.lists = omega (arith, c.h.view_is, c.requires) in
-    let is = link_is a now seen c.h.inside.index _ within c.index-head.ensures in
-    let l = c.least_root-at.ensures (lent_heap c.deref.ensures.value (has_heap a now seen c.h.inside.index _ within is)) in
-    omega (arith, c.self.inside.nodes.ok.0, (least_node a now seen c.h.inside.index _ within is l).within)
+    let node = least_node c.self.invariant c.self.view_is c.h.view_is c.requires c.index-head.ensures c.deref.ensures.value c.least_root-at.ensures in
+    omega (arith, c.self.inside.nodes.ok.0, node.within)
 
 pub pop_root-requires : goal.pop_root-requires
-pop_root-requires c =
-    let a = c.self.invariant in
-    let now = c.args.self.now in
-    let seen = c.self.view_is in
-    let within : c.h.inside.index < length now.lists = omega (arith, c.h.view_is, c.requires) in
-    let is = link_is a now seen c.h.inside.index _ within c.index-head.ensures in
-    let l = c.least_root-at.ensures (lent_heap c.deref.ensures.value (has_heap a now seen c.h.inside.index _ within is)) in
-    record { can = lent_pop c.deref_mut.ensures.value (can_pop a now seen c.h.inside.index _ within is c.least_root-at.result l.key l.rank l.kids l.has) }
+pop_root-requires c = record {
+  can = can_pop c.self.invariant c.self.view_is c.h.view_is c.requires c.index-head.ensures c.deref.ensures.value c.least_root-at.ensures
+      c.deref_mut.ensures.value;
+}
 
 pub index_mut-requires : goal.index_mut-requires
-index_mut-requires c =
-    omega (arith, c.h.view_is, heads_long c.self.invariant c.args.self.now c.self.view_is, c.self.inside.heads.ok.0, c.requires)
+index_mut-requires c = name_within c.self.invariant c.self.view_is c.h.view_is c.self.inside.heads.ok.0 c.requires
+
+-- the arena after the pop
+done : (c : After-task) →
+    IsArenaAfter (take c.self.inside.nodes.len (c.pop_root.new.nodes ++ drop (length c.pop_root.new.nodes) c.self.inside.nodes.items))
+    (set c.self.inside.heads.items c.h.inside.index c.pop_root.result) (set c.self.inside.places.items c.task.result nowhere)
+    c.least_root-at.result (c.self.inside.room + 1) (vec_capacity c.self.inside.nodes)
+    (record (with_list c.args.self.now c.args.h (fin.remove (list_of c.args.self.now c.args.h) c.index.result.now.key)) { spare = c.args.self.now.spare + 1 })
+    (2 * digits (fin.len (list_of c.args.self.now c.args.h))) c.args.meter.now c.pop_root.new.meter
+done c =
+    let long : length c.pop_root.new.nodes ≡ length c.self.inside.nodes.items = omega (arith, ap length c.deref_mut.ensures.value) in
+    arena_as (written_back c.pop_root.new.nodes c.self.inside.nodes.items c.self.inside.nodes.len long (omega (arith, c.self.inside.nodes.ok.0)))
+    (ap (λ x. set c.self.inside.heads.items x c.pop_root.result) c.h.view_is) (ap (λ t. set c.self.inside.places.items t nowhere) c.task.ensures.value)
+    (popped c.self.invariant c.self.view_is c.h.view_is c.requires c.index-head.ensures c.deref.ensures.value c.least_root-at.ensures
+    c.deref_mut.ensures.value c.pop_root.ensures long c.index.ensures)
 
 pub invariant_of-self : goal.invariant_of-self
-invariant_of-self c =
-    let a = c.self.invariant in
-    let now = c.args.self.now in
-    let seen = c.self.view_is in
-    let within : c.h.inside.index < length now.lists = omega (arith, c.h.view_is, c.requires) in
-    let is = link_is a now seen c.h.inside.index _ within c.index-head.ensures in
-    let l = c.least_root-at.ensures (lent_heap c.deref.ensures.value (has_heap a now seen c.h.inside.index _ within is)) in
-    let p = c.pop_root.ensures (lent_pop c.deref_mut.ensures.value (can_pop a now seen c.h.inside.index _ within is c.least_root-at.result l.key l.rank l.kids l.has)) in
-    let long : length c.pop_root.new.nodes ≡ length c.self.inside.nodes.items = omega (arith, ap length c.deref_mut.ensures.value) in
-    let node = least_node a now seen c.h.inside.index _ within is l in
-    let key_is : c.index.result.now.key ≡ l.key =
-    ap (λ (n : Node). n.key) (get_or_read c.self.inside.nodes.items c.least_root-at.result c.index.result.now node.within c.index.ensures no_node) ∙ node.key_is in
-    arena_back c.pop_root.new.nodes c.self.inside.nodes.items c.self.inside.nodes.len long (omega (arith, c.self.inside.nodes.ok.0))
-    (arena_places c.self.inside.places.items _ _ _ (c.task.ensures.value ∙ ap (λ (k : Priority). k.task) key_is)
-    (popped_arena a now seen c.h.inside.index _ within is c.least_root-at.result l.key l.rank l.kids l.has p long refl))
+invariant_of-self c = (done (goal.at.invariant_of-self c).After-task).arena
 
 pub returns-clause-popped : goal.returns-clause-popped
-returns-clause-popped c =
-    let a = c.self.invariant in
-    let now = c.args.self.now in
-    let seen = c.self.view_is in
-    let within : c.h.inside.index < length now.lists = omega (arith, c.h.view_is, c.requires) in
-    let is = link_is a now seen c.h.inside.index _ within c.index-head.ensures in
-    let l = c.least_root-at.ensures (lent_heap c.deref.ensures.value (has_heap a now seen c.h.inside.index _ within is)) in
-    let p = c.pop_root.ensures (lent_pop c.deref_mut.ensures.value (can_pop a now seen c.h.inside.index _ within is c.least_root-at.result l.key l.rank l.kids l.has)) in
-    let long : length c.pop_root.new.nodes ≡ length c.self.inside.nodes.items = omega (arith, ap length c.deref_mut.ensures.value) in
-    let node = least_node a now seen c.h.inside.index _ within is l in
-    let key_is : c.index.result.now.key ≡ l.key =
-    ap (λ (n : Node). n.key) (get_or_read c.self.inside.nodes.items c.least_root-at.result c.index.result.now node.within c.index.ensures no_node) ∙ node.key_is in (
-      subst (λ k. IsFirst (list_of now c.args.h) k) (sym key_is)
-          (subst (λ x. IsFirst (list_of now x) l.key) c.h.view_is (is_first a now seen c.h.inside.index _ within is l)),
-      view_back _ _ _ c.pop_root.new.nodes c.self.inside.nodes.items c.self.inside.nodes.len long (omega (arith, c.self.inside.nodes.ok.0))
-          (popped_view a now seen c.h.inside.index _ within is c.least_root-at.result l.key l.rank l.kids l.has p long refl)
-          ∙ (λ i. record (with_list now (c.h.view_is i) (fin.remove (list_of now (c.h.view_is i)) (sym key_is i))) { spare = now.spare + 1 }),
-    )
+returns-clause-popped c = (
+  is_first c.self.invariant c.self.view_is c.h.view_is c.requires c.index-head.ensures c.deref.ensures.value c.least_root-at.ensures c.index.ensures,
+  (done (goal.at.returns-clause-popped c).After-task).view,
+)
 
 pub returns-clause-comparisons : goal.returns-clause-comparisons
-returns-clause-comparisons c =
-    let a = c.self.invariant in
-    let now = c.args.self.now in
-    let seen = c.self.view_is in
-    let within : c.h.inside.index < length now.lists = omega (arith, c.h.view_is, c.requires) in
-    let is = link_is a now seen c.h.inside.index _ within c.index-head.ensures in
-    let l = c.least_root-at.ensures (lent_heap c.deref.ensures.value (has_heap a now seen c.h.inside.index _ within is)) in
-    let p = c.pop_root.ensures (lent_pop c.deref_mut.ensures.value (can_pop a now seen c.h.inside.index _ within is c.least_root-at.result l.key l.rank l.kids l.has)) in
-    let long : length c.pop_root.new.nodes ≡ length c.self.inside.nodes.items = omega (arith, ap length c.deref_mut.ensures.value) in
-    omega (
-      arith,
-      popped_compared a now seen c.h.inside.index _ within is c.least_root-at.result l.key l.rank l.kids l.has p long,
-      least_compared a now seen c.h.inside.index _ within is l,
-      ap (λ x. digits (fin.len (list_of now x))) c.h.view_is,
-    )
+returns-clause-comparisons c = (done (goal.at.returns-clause-comparisons c).After-task).compared
 
 pub returns-clause-slots : goal.returns-clause-slots
-returns-clause-slots c =
-    let a = c.self.invariant in
-    let now = c.args.self.now in
-    let seen = c.self.view_is in
-    let within : c.h.inside.index < length now.lists = omega (arith, c.h.view_is, c.requires) in
-    let is = link_is a now seen c.h.inside.index _ within c.index-head.ensures in
-    let l = c.least_root-at.ensures (lent_heap c.deref.ensures.value (has_heap a now seen c.h.inside.index _ within is)) in
-    let p = c.pop_root.ensures (lent_pop c.deref_mut.ensures.value (can_pop a now seen c.h.inside.index _ within is c.least_root-at.result l.key l.rank l.kids l.has)) in
-    let long : length c.pop_root.new.nodes ≡ length c.self.inside.nodes.items = omega (arith, ap length c.deref_mut.ensures.value) in
-    p.slots ∙ l.slots
+returns-clause-slots c = (done (goal.at.returns-clause-slots c).After-task).slots
