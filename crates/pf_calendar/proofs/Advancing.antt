@@ -1,6 +1,7 @@
 -- The due lists are merged into the ready one.
-use Rattle.std.proofs.Common.{◌≡◌, ◌≢◌, ℕ, ◌+◌, ◌<◌, ◌≤◌, true, cond, eqb, ltb, leb, List, [], ◌∷◌, ◌++◌, map, length, get_or, take, drop, refl, sym, ap, ◌∙◌, subst, arith, ⊎_elim}
+use Rattle.std.proofs.Common.{◌≡◌, ◌≢◌, ℕ, ◌+◌, ◌-◌, ◌*◌, ◌<◌, ◌≤◌, true, cond, eqb, ltb, leb, List, [], ◌∷◌, ◌++◌, map, length, get_or, take, drop, refl, sym, ap, ◌∙◌, subst, arith, ⊎_elim}
 use Rattle.std.specs.Prelude.{sum_by, All}
+use Rattle.std.proofs.Math.Nat.{mul-le-mul_left}
 use Rattle.std.proofs.lemmas.Bool.{cases_lt, cases_eq, le-leb, lt-leb, lt-ltb, le-ltb, ne_eqb, eq-eqb}
 use Rattle.std.proofs.lemmas.List.{take-map, drop-map, length-take-le, length-drop, length-append, get_or-take, get_or-drop, get_or_default, get_or-map, length-map}
 use Rattle.std.proofs.lemmas.List.Elements.{All-append, All-drop, All-take}
@@ -12,8 +13,10 @@ use Rattle.std.specs.FinMap as finmap
 use Rattle.std.specs.FinMap.Entries.{is_sorted}
 use Rattle.pf_order.specs.Priority.{Priority, key_cmp}
 use Rattle.pf_heap.specs.Keys.{Keys, Heaps, list_of}
+use Rattle.pf_heap.specs.Digits.{digits}
+use Rattle.pf_heap.proofs.Digits.{digits-mono}
 use Rattle.pf_calendar.specs.declared.entry.Entry.{Entry}
-use Rattle.pf_calendar.specs.Queues.{all_of, until, later, due, count_of}
+use Rattle.pf_calendar.specs.Queues.{Queues, all_of, until, later, due, count_of}
 use Rattle.pf_calendar.specs.Invariant.{lists_in, waiting_in, names_of, times, IsLaidOut}
 use Rattle.pf_calendar.specs.Steps.{MergesAll}
 use Rattle.pf_calendar.proofs.Naming.{no_entry, times-cons, times-append, times-take-drop, at_named, named_at, name_at, length-names, lists_same, length-lists, slot_at, one_of}
@@ -23,7 +26,7 @@ use Rattle.pf_calendar.proofs.Slots.{where_front, where_back}
 use Rattle.pf_calendar.proofs.Maps.{in_order, retained_in, entries_in}
 use Rattle.pf_calendar.proofs.Merging.{CanMergeAll}
 use Rattle.pf_calendar.proofs.Arranged.{ready_listed, entry_listed, entry_apart, once, split_names, unused_apart}
-use Rattle.pf_calendar.proofs.Whole.{seen, waiting_is, count_is, sum_counts}
+use Rattle.pf_calendar.proofs.Whole.{seen, waiting_is, count_is, sum_counts, IsCalendarAfter, entries_as}
 
 -- the first n entries are due at slot t, and no other
 pub record AreDue (es : List Entry) (t n : ℕ) : Type 0 where
@@ -136,12 +139,22 @@ module _ {heaps : Heaps} {ready : ℕ} {es : List Entry} {unused : List ℕ} {he
   pub due_is : due t (waiting_in heaps es) ≡ all_of (map (list_of heaps) (names_of front))
   due_is = ap (λ l. all_of (map (λ e. e.1) l)) entries_until ∙ ap all_of (values_front front)
 
-  pub merged_count : finmap.len (until t (waiting_in heaps es)) ≡ n
+  merged_count : finmap.len (until t (waiting_in heaps es)) ≡ n
   merged_count = finmap.len-entries (until t (waiting_in heaps es)) ∙ ap length entries_until ∙ length-lists heaps front ∙ long_front
 
-  pub merged_size : (m : ℕ) → fin.len (list_of heaps ready) + sum_by (λ (e : Entry). fin.len (list_of heaps e.heap)) front ≤ count_of (seen heaps ready es m)
+  merged_size : (m : ℕ) → fin.len (list_of heaps ready) + sum_by (λ (e : Entry). fin.len (list_of heaps e.heap)) front ≤ count_of (seen heaps ready es m)
   merged_size m =
       omega (arith, count_is laid m, sum_counts laid es laid.counted, sum_by-take-drop (λ (e : Entry). fin.len (list_of heaps e.heap)) es n)
+
+  -- what the merges cost, on what contracts see
+  pub merges_cost : {m : ℕ} {now : Queues} → seen heaps ready es m ≡ now →
+      length front * digits (fin.len (list_of heaps ready) + sum_by (λ (e : Entry). fin.len (list_of heaps e.heap)) front) ≤ finmap.len (until t now.waiting) * digits (count_of now)
+  merges_cost {m} {now} view =
+      let size = fin.len (list_of heaps ready) + sum_by (λ (e : Entry). fin.len (list_of heaps e.heap)) front in
+      let more : n * digits size ≤ n * digits (count_of now) =
+      mul-le-mul_left n (digits-mono size (count_of now) (omega (arith, merged_size m, ap count_of view))) in
+      let counted : finmap.len (until t now.waiting) ≡ n = ap (λ (q : Queues). finmap.len (until t q.waiting)) (sym view) ∙ merged_count in
+      omega (arith, more, ap (λ k. k * digits size) long_front, ap (λ k. k * digits (count_of now)) counted)
 
   -- ---- after the merges
 
@@ -149,7 +162,7 @@ module _ {heaps : Heaps} {ready : ℕ} {es : List Entry} {unused : List ℕ} {he
     back_same : lists_in heaps' back ≡ lists_in heaps back
     back_same = lists_same heaps heaps' back (λ k lt. merges.others (get_or back k no_entry).heap (back_apart k lt) (back_unmerged k lt))
 
-    pub advanced_seen : (m : ℕ) → seen heaps' ready back m ≡ record (seen heaps ready es m) {
+    advanced_seen : (m : ℕ) → seen heaps' ready back m ≡ record (seen heaps ready es m) {
       ready = fin.union (list_of heaps ready) (due t (waiting_in heaps es));
       waiting = later t (waiting_in heaps es);
     }
@@ -193,7 +206,7 @@ module _ {heaps : Heaps} {ready : ℕ} {es : List Entry} {unused : List ℕ} {he
         (cases_lt (times i (names_of front)) 1))
         (cases_eq i ready)
 
-    pub advanced_laid : (unused' : List ℕ) → unused' ≡ unused ++ names_of front → IsLaidOut heaps' ready back unused' held limit room unused_room
+    advanced_laid : (unused' : List ℕ) → unused' ≡ unused ++ names_of front → IsLaidOut heaps' ready back unused' held limit room unused_room
     advanced_laid unused' names =
         let long_names : length unused' ≡ length unused + n = omega (arith, ap length names, length-append unused (names_of front), length-names front, long_front) in
         let emptied : All (λ h. list_of heaps' h ≡ fin.empty) (unused ++ names_of front) =
@@ -241,3 +254,12 @@ module _ {heaps : Heaps} {ready : ℕ} {es : List Entry} {unused : List ℕ} {he
           room_is = omega (arith, laid.room_is, long_names, long_back);
           unused_room_is = omega (arith, laid.unused_room_is, long_names, long_back);
         }
+
+    -- the calendar after the merges, as the code has its lists
+    pub advanced : {now : Queues} → seen heaps ready es (limit - held) ≡ now → {es' : List Entry} {unused' : List ℕ} → es' ≡ back → unused' ≡ unused ++ names_of front → All (λ e. 1 ≤ e.count) es →
+        IsCalendarAfter heaps' ready es' unused' held limit room unused_room (record now { ready = fin.union now.ready (due t now.waiting); waiting = later t now.waiting })
+    advanced view {es'} {unused'} left names some =
+        entries_as left (record {
+          calendar = record { laid = advanced_laid unused' names; some = All-drop (λ (e : Entry). 1 ≤ e.count) n es some };
+          view = advanced_seen (limit - held) ∙ ap (λ (q : Queues). record q { ready = fin.union q.ready (due t q.waiting); waiting = later t q.waiting }) view;
+        })

@@ -15,6 +15,8 @@ use Rattle.std.specs.FinMap as finmap
 use Rattle.pf_order.specs.Priority.{Priority, key_cmp}
 use Rattle.pf_heap.specs.Keys as keys
 use Rattle.pf_heap.specs.Keys.{Keys, Heaps, list_of, with_list}
+use Rattle.pf_heap.specs.Digits.{digits}
+use Rattle.pf_heap.proofs.Digits.{digits-mono}
 use Rattle.pf_calendar.specs.declared.entry.Entry.{Entry}
 use Rattle.pf_calendar.specs.Queues.{Queues, list_at, count_of, IsHeld}
 use Rattle.pf_calendar.specs.Invariant.{lists_in, waiting_in, AreApart, IsLaidOut, IsCalendar}
@@ -33,6 +35,17 @@ seen heaps ready es n = record { ready = list_of heaps ready; waiting = waiting_
 pub waiting_is : (heaps : Heaps) (es : List Entry) → waiting_in heaps es ≡ finmap.from_sorted (lists_in heaps es)
 unfolding waiting_in
 waiting_is heaps es = refl
+
+-- after a call: a calendar that stands for these queues
+pub record IsCalendarAfter (heaps : Heaps) (ready : ℕ) (entries : List Entry) (unused : List ℕ) (held limit room unused_room : ℕ) (queues : Queues) : Type 0 where
+  pub calendar : IsCalendar heaps ready entries unused held limit room unused_room
+  pub view : seen heaps ready entries (limit - held) ≡ queues
+
+-- the same, as the code has the entries
+pub entries_as : {heaps : Heaps} {ready : ℕ} {es es' : List Entry} {unused : List ℕ} {held limit room unused_room : ℕ} {queues : Queues} → es' ≡ es →
+    IsCalendarAfter heaps ready es unused held limit room unused_room queues → IsCalendarAfter heaps ready es' unused held limit room unused_room queues
+entries_as {heaps} {ready} {es} {es'} {unused} {held} {limit} {room} {unused_room} {queues} e cal =
+    subst (λ (l : List Entry). IsCalendarAfter heaps ready l unused held limit room unused_room queues) (sym e) cal
 
 -- ---- no task has two keys, after a change of one list
 
@@ -83,12 +96,8 @@ module _ {heaps : Heaps} {ready : ℕ} {es : List Entry} {unused : List ℕ} {he
   pub count_is : (n : ℕ) → count_of (seen heaps ready es n) ≡ fin.len (list_of heaps ready) + sum_by (λ (e : Entry). e.count) es
   count_is n = ap (λ m. fin.len (list_of heaps ready) + m) (sum_in heaps es laid.rise ∙ sum_counts es laid.counted)
 
-  -- the keys that wait are held
-  pub waiting_within : (n : ℕ) → sum_by (λ (e : Entry). fin.len (list_of heaps e.heap)) es ≤ count_of (seen heaps ready es n)
-  waiting_within n = omega (arith, count_is n, sum_counts es laid.counted)
-
   -- a task that isn't held has no key in a heap
-  pub absent_below : (n task : ℕ) → ¬ (IsHeld (seen heaps ready es n) task) → ¬ (keys.IsHeld heaps.lists task)
+  absent_below : (n task : ℕ) → ¬ (IsHeld (seen heaps ready es n) task) → ¬ (keys.IsHeld heaps.lists task)
   absent_below n task free w =
       ⊎_elim
       (λ e. free (record { key = w.key; has = inl (ap (λ i. fin.contains (list_of heaps i) w.key) e ∙ w.has); of_task = w.of_task }))
@@ -106,9 +115,23 @@ module _ {heaps : Heaps} {ready : ℕ} {es : List Entry} {unused : List ℕ} {he
       (λ none. has_none w.key (sym (ap (λ l. fin.contains l w.key) none) ∙ w.has)))
       (list_cases laid w.list w.listed)
 
+  module _ {n : ℕ} {now : Queues} (view : seen heaps ready es n ≡ now) where
+    pub absent_from : (task : ℕ) → ¬ (IsHeld now task) → ¬ (keys.IsHeld heaps.lists task)
+    absent_from task absent = absent_below n task (subst (λ (q : Queues). ¬ (IsHeld q task)) (sym view) absent)
+
+    -- the keys that are ready are held, and those that wait
+    pub ready_digits : digits (fin.len (list_of heaps ready)) ≤ digits (count_of now)
+    ready_digits = digits-mono (fin.len (list_of heaps ready)) (count_of now) (omega (arith, ap count_of view, count_is n))
+
+    pub waiting_within : sum_by (λ (e : Entry). fin.len (list_of heaps e.heap)) es ≤ count_of now
+    waiting_within = omega (arith, ap count_of view, count_is n, sum_counts es laid.counted)
+
+  pub some_free : {now : Queues} → seen heaps ready es (limit - held) ≡ now → 1 ≤ now.spare → held < limit
+  some_free view some = omega (arith, some, ap (λ (q : Queues). q.spare) view)
+
   -- ---- the first ready key is taken out
 
-  pub popped_laid : (heaps' : Heaps) (key : Priority) → fin.contains (list_of heaps ready) key ≡ true →
+  popped_laid : (heaps' : Heaps) (key : Priority) → fin.contains (list_of heaps ready) key ≡ true →
       heaps' ≡ record (with_list heaps ready (fin.remove (list_of heaps ready) key)) { spare = heaps.spare + 1 } →
       (1 ≤ held) × IsLaidOut heaps' ready es unused (held - 1) limit room unused_room
   popped_laid heaps' key has is =
@@ -120,7 +143,7 @@ module _ {heaps : Heaps} {ready : ℕ} {es : List Entry} {unused : List ℕ} {he
             (omega (arith, some, less, laid.few)) (omega (arith, laid.within)) (omega (arith, some, laid.few, laid.spare, ap (λ h. h.spare) is)),
       )
 
-  pub popped_seen : (heaps' : Heaps) (key : Priority) → fin.contains (list_of heaps ready) key ≡ true →
+  popped_seen : (heaps' : Heaps) (key : Priority) → fin.contains (list_of heaps ready) key ≡ true →
       heaps' ≡ record (with_list heaps ready (fin.remove (list_of heaps ready) key)) { spare = heaps.spare + 1 } →
       seen heaps' ready es (limit - (held - 1))
       ≡ record (seen heaps ready es (limit - held)) { ready = fin.remove (list_of heaps ready) key; spare = (limit - held) + 1 }
@@ -132,6 +155,19 @@ module _ {heaps : Heaps} {ready : ℕ} {es : List Entry} {unused : List ℕ} {he
       let waits : waiting_in heaps' es ≡ waiting_in heaps es = waiting_is heaps' es ∙ ap finmap.from_sorted others ∙ sym (waiting_is heaps es) in
       let places : limit - (held - 1) ≡ (limit - held) + 1 = omega (arith, some_has (list_of heaps ready) key has, laid.few, laid.within) in
       λ i. record { ready = here i; waiting = waits i; spare = places i }
+
+pub popped : {heaps heaps' : Heaps} {ready : ℕ} {es : List Entry} {unused : List ℕ} {held limit room unused_room : ℕ} {now : Queues} →
+    IsCalendar heaps ready es unused held limit room unused_room → seen heaps ready es (limit - held) ≡ now → (key : Priority) → fin.contains (list_of heaps ready) key ≡ true →
+    heaps' ≡ record (with_list heaps ready (fin.remove (list_of heaps ready) key)) { spare = heaps.spare + 1 } →
+    (1 ≤ held) × IsCalendarAfter heaps' ready es unused (held - 1) limit room unused_room (record now { ready = fin.remove now.ready key; spare = now.spare + 1 })
+popped {heaps' = heaps'} cal view key has is =
+    let p = popped_laid cal.laid heaps' key has is in (
+      p.0,
+      record {
+        calendar = record { laid = p.1; some = cal.some };
+        view = popped_seen cal.laid heaps' key has is ∙ ap (λ (q : Queues). record q { ready = fin.remove q.ready key; spare = q.spare + 1 }) view;
+      },
+    )
 
 -- ---- a calendar that holds nothing
 
@@ -175,6 +211,22 @@ new_seen heaps ready es lists first no_entries =
     λ i. record { ready = here i; waiting = waits i; spare = 0 }
 
 -- ---- a key is put
+
+-- the entry as the code writes it
+entry_written : (es : List Entry) (at : ℕ) (e f : Entry) → at < length es → e ≡ get_or es at e → f ≡ get_or es at f → (n : ℕ → ℕ) →
+    set es at (record { slot = f.slot; heap = f.heap; count = n e.count }) ≡ set es at (record (get_or es at no_entry) { count = n (get_or es at no_entry).count })
+entry_written es at e f lt read_e read_f n =
+    let p : e ≡ get_or es at no_entry = get_or_read es at e lt read_e no_entry in
+    let q : f ≡ get_or es at no_entry = get_or_read es at f lt read_f no_entry in
+    λ i. set es at (record { slot = (q i).slot; heap = (q i).heap; count = n (p i).count })
+
+-- what an insert says, at the entry as it is read
+put_into : (heaps heaps' : Heaps) (es : List Entry) (at : ℕ) (e : Entry) (key : Priority) → at < length es → e ≡ get_or es at e →
+    heaps' ≡ record (with_list heaps e.heap (fin.insert (list_of heaps e.heap) key)) { spare = heaps.spare - 1 } →
+    heaps' ≡ record (with_list heaps (get_or es at no_entry).heap (fin.insert (list_of heaps (get_or es at no_entry).heap) key)) { spare = heaps.spare - 1 }
+put_into heaps heaps' es at e key lt read is =
+    let p : e ≡ get_or es at no_entry = get_or_read es at e lt read no_entry in
+    is ∙ (λ i. record (with_list heaps (p i).heap (fin.insert (list_of heaps (p i).heap) key)) { spare = heaps.spare - 1 })
 
 module _ {heaps : Heaps} {ready : ℕ} {es : List Entry} {unused : List ℕ} {held limit room unused_room : ℕ} (laid : IsLaidOut heaps ready es unused held limit room unused_room)
     {es1 : List Entry} {left : List ℕ} {slot at : ℕ} (opens : Opens es es1 unused left slot at) where
@@ -272,7 +324,7 @@ module _ {heaps : Heaps} {ready : ℕ} {es : List Entry} {unused : List ℕ} {he
       (λ w. omega (arith, ap (λ (e : Entry). fin.len (list_of heaps e.heap)) (entry_is w.0 w.3), ap fin.len (fresh_empty w.0 w.2), len-empty key_cmp))
       opens.ways
 
-  pub opened_some : (e : Entry) → 1 ≤ e.count → All (λ e. 1 ≤ e.count) es → All (λ e. 1 ≤ e.count) (set es1 at e)
+  opened_some : (e : Entry) → 1 ≤ e.count → All (λ e. 1 ≤ e.count) es → All (λ e. 1 ≤ e.count) (set es1 at e)
   opened_some e some all =
       ⊎_elim
       (λ w. subst (λ (l : List Entry). All (λ e. 1 ≤ e.count) (set l at e)) (sym w.1) (All-set (λ (e : Entry). 1 ≤ e.count) es at e some all))
@@ -286,7 +338,7 @@ module _ {heaps : Heaps} {ready : ℕ} {es : List Entry} {unused : List ℕ} {he
   PutInto heaps' key =
       heaps' ≡ record (with_list heaps (get_or es1 at no_entry).heap (fin.insert (list_of heaps (get_or es1 at no_entry).heap) key)) { spare = heaps.spare - 1 }
 
-  pub put_laid : (heaps' : Heaps) (key : Priority) → ¬ (keys.IsHeld heaps.lists key.task) → held < limit → PutInto heaps' key →
+  put_laid : (heaps' : Heaps) (key : Priority) → ¬ (keys.IsHeld heaps.lists key.task) → held < limit → PutInto heaps' key →
       IsLaidOut heaps' ready (set es1 at (record (get_or es1 at no_entry) { count = (get_or es1 at no_entry).count + 1 })) left (held + 1) limit room unused_room
   put_laid heaps' key absent free is =
       let e = get_or es1 at no_entry in
@@ -299,7 +351,7 @@ module _ {heaps : Heaps} {ready : ℕ} {es : List Entry} {unused : List ℕ} {he
       (subst AreApart (sym (ap (λ h. h.lists) is)) (apart_insert heaps.lists e.heap key absent laid.apart))
       (omega arith) (omega (arith, free)) (omega (arith, free, laid.spare, ap (λ h. h.spare) is))
 
-  pub put_seen : (heaps' : Heaps) (key : Priority) → ¬ (keys.IsHeld heaps.lists key.task) → held < limit → PutInto heaps' key →
+  put_seen : (heaps' : Heaps) (key : Priority) → ¬ (keys.IsHeld heaps.lists key.task) → held < limit → PutInto heaps' key →
       seen heaps' ready (set es1 at (record (get_or es1 at no_entry) { count = (get_or es1 at no_entry).count + 1 })) (limit - (held + 1))
       ≡ record (seen heaps ready es (limit - held)) {
         waiting = finmap.insert (waiting_in heaps es) slot (fin.insert (list_at (waiting_in heaps es) slot) key);
@@ -323,6 +375,25 @@ module _ {heaps : Heaps} {ready : ℕ} {es : List Entry} {unused : List ℕ} {he
       let places : limit - (held + 1) ≡ (limit - held) - 1 = omega (arith, free) in
       λ i. record { ready = here i; waiting = waits i; spare = places i }
 
+  -- the calendar after the put, as the code reads and writes the entry
+  pub put_done : {now : Queues} → seen heaps ready es (limit - held) ≡ now → 1 ≤ now.spare → (key : Priority) → ¬ (IsHeld now key.task) →
+      {heaps' : Heaps} {e f : Entry} → e ≡ get_or es1 at e → f ≡ get_or es1 at f →
+      heaps' ≡ record (with_list heaps e.heap (fin.insert (list_of heaps e.heap) key)) { spare = heaps.spare - 1 } → All (λ x. 1 ≤ x.count) es →
+      IsCalendarAfter heaps' ready (set es1 at (record { slot = f.slot; heap = f.heap; count = e.count + 1 })) left (held + 1) limit room unused_room
+      (record now { waiting = finmap.insert now.waiting slot (fin.insert (list_at now.waiting slot) key); spare = now.spare - 1 })
+  put_done view some_room key absent {heaps'} {e} {f} read again inserted some =
+      let free : held < limit = some_free laid view some_room in
+      let none = absent_from laid view key.task absent in
+      let into = put_into heaps heaps' es1 at e key opened_within read inserted in
+      entries_as (entry_written es1 at e f opened_within read again (λ n. n + 1)) (record {
+        calendar = record {
+          laid = put_laid heaps' key none free into;
+          some = opened_some (record (get_or es1 at no_entry) { count = (get_or es1 at no_entry).count + 1 }) (omega arith) some;
+        };
+        view = put_seen heaps' key none free into
+            ∙ ap (λ (q : Queues). record q { waiting = finmap.insert q.waiting slot (fin.insert (list_at q.waiting slot) key); spare = q.spare - 1 }) view;
+      })
+
 each_one : (es : List Entry) → All (λ e. 1 ≤ e.count) es → length es ≤ sum_by (λ (e : Entry). e.count) es
 each_one [] h = omega arith
 each_one (e ∷ es) h =
@@ -344,25 +415,9 @@ slots_rise {heaps} {es = es} laid i j d le lt =
     (λ ge. omega (arith, ap (λ k. (get_or es k d).slot) (let s : i ≡ j = omega (arith, le, ge) in s)))
     (cases_lt i j)
 
--- the entry as the code writes it
-pub entry_written : (es : List Entry) (at : ℕ) (e f : Entry) → at < length es → e ≡ get_or es at e → f ≡ get_or es at f → (n : ℕ → ℕ) →
-    set es at (record { slot = f.slot; heap = f.heap; count = n e.count }) ≡ set es at (record (get_or es at no_entry) { count = n (get_or es at no_entry).count })
-entry_written es at e f lt read_e read_f n =
-    let p : e ≡ get_or es at no_entry = get_or_read es at e lt read_e no_entry in
-    let q : f ≡ get_or es at no_entry = get_or_read es at f lt read_f no_entry in
-    λ i. set es at (record { slot = (q i).slot; heap = (q i).heap; count = n (p i).count })
-
 -- under the room that its Vecs have now
 pub with_room : {heaps : Heaps} {ready : ℕ} {es : List Entry} {unused : List ℕ} {held limit : ℕ} (room unused_room room' unused_room' : ℕ) → room' ≡ room → unused_room' ≡ unused_room →
     IsCalendar heaps ready es unused held limit room unused_room → IsCalendar heaps ready es unused held limit room' unused_room'
 with_room {heaps} {ready} {es} {unused} {held} {limit} room unused_room room' unused_room' e f cal =
     subst (λ (n : ℕ). IsCalendar heaps ready es unused held limit n unused_room') (sym e)
     (subst (λ (n : ℕ). IsCalendar heaps ready es unused held limit room n) (sym f) cal)
-
--- what an insert says, at the entry as it is read
-pub put_into : (heaps heaps' : Heaps) (es : List Entry) (at : ℕ) (e : Entry) (key : Priority) → at < length es → e ≡ get_or es at e →
-    heaps' ≡ record (with_list heaps e.heap (fin.insert (list_of heaps e.heap) key)) { spare = heaps.spare - 1 } →
-    heaps' ≡ record (with_list heaps (get_or es at no_entry).heap (fin.insert (list_of heaps (get_or es at no_entry).heap) key)) { spare = heaps.spare - 1 }
-put_into heaps heaps' es at e key lt read is =
-    let p : e ≡ get_or es at no_entry = get_or_read es at e lt read no_entry in
-    is ∙ (λ i. record (with_list heaps (p i).heap (fin.insert (list_of heaps (p i).heap) key)) { spare = heaps.spare - 1 })

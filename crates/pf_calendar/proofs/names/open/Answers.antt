@@ -6,7 +6,7 @@ use Rattle.std.proofs.lemmas.List.Sorted.{IsPartitionPoint-from_clause, IsPartit
 use Rattle.pf_calendar.specs.declared.entry.Entry.{Entry}
 use Rattle.pf_calendar.specs.Steps.{IsPlace, HasEntry}
 use Rattle.pf_calendar.proofs.names.open.Goals as goal
-use Rattle.pf_calendar.proofs.names.open.Goals.{else-at-len-via-then-at-len+else-index-slot, else-at-len-via-else-at-len}
+use Rattle.pf_calendar.proofs.names.open.Goals.{After-partition_point-at, else-at-len-via-then-at-len+else-index-slot, else-at-len-via-else-at-len}
 
 place_from : (es : List Entry) (slot at : ℕ) → at ≤ length es → IsPartitionPoint (λ e. ltb e.slot slot ≡ true) (λ e. ltb e.slot slot ≡ false) es at → IsPlace es slot at
 place_from es slot at le p = record {
@@ -15,27 +15,27 @@ place_from es slot at le p = record {
   after = λ k d ge lt. ltb-false (get_or es k d).slot slot (p.1 k d ge lt);
 }
 
+-- the partition point is the slot's place
+place : (c : After-partition_point-at) → IsPlace c.args.entries.now.items c.args.slot c.partition_point-at.result
+place c =
+    let at = c.partition_point-at.result in
+    let rise = subst (λ l. IsNonDecreasingBy (λ (e : Entry). e.slot) l) (sym c.deref.ensures.value) c.requires.rise in
+    let p = IsPartitionPoint-from_clause (λ (e : Entry). ltb e.slot c.args.slot) c.deref.result.now at c.partition_point-at.ensures.partitioned
+    (IsPartitionedBy-ltb (λ (e : Entry). e.slot) c.deref.result.now c.args.slot rise) (λ a r g h. search rules) in
+    subst (λ l. IsPlace l c.args.slot at) c.deref.ensures.value (place_from c.deref.result.now c.args.slot at c.partition_point-at.ensures.bound p)
+
 pub returns-then-index-slot-clause-opened : goal.returns-then-index-slot-clause-opened
 returns-then-index-slot-clause-opened c =
     let es = c.args.entries.now.items in
     let at = c.partition_point-at.result in
-    let p = IsPartitionPoint-from_clause (λ (e : Entry). ltb e.slot c.args.slot) c.deref.result.now at c.partition_point-at.ensures.partitioned
-    (IsPartitionedBy-ltb (λ (e : Entry). e.slot) c.deref.result.now c.args.slot (subst (λ l. IsNonDecreasingBy (λ (e : Entry). e.slot) l) (sym c.deref.ensures.value) c.requires.rise))
-    (λ a r g h. search rules) in
     let within : at < length es = omega (arith, c.if-at-len.true, c.len.ensures, c.args.entries.now.ok.0) in
     let here : HasEntry es c.args.slot at = (within, λ d. ap (λ (e : Entry). e.slot) (sym (get_or_read es at c.index.result.now within c.index.ensures d)) ∙ c.if-index-slot.true) in
-    record {
-      place = subst (λ l. IsPlace l c.args.slot at) c.deref.ensures.value (place_from c.deref.result.now c.args.slot at c.partition_point-at.ensures.bound p);
-      ways = inl (here, refl, refl);
-    }
+    record { place = place (goal.at.returns-then-index-slot-clause-opened c).After-partition_point-at; ways = inl (here, refl, refl) }
 
 pub returns-clause-opened : goal.returns-clause-opened
 returns-clause-opened c =
     let es = c.args.entries.now.items in
     let at = c.partition_point-at.result in
-    let p = IsPartitionPoint-from_clause (λ (e : Entry). ltb e.slot c.args.slot) c.deref.result.now at c.partition_point-at.ensures.partitioned
-    (IsPartitionedBy-ltb (λ (e : Entry). e.slot) c.deref.result.now c.args.slot (subst (λ l. IsNonDecreasingBy (λ (e : Entry). e.slot) l) (sym c.deref.ensures.value) c.requires.rise))
-    (λ a r g h. search rules) in
     let none : ¬ (HasEntry es c.args.slot at) = λ here.
     elim c.else-at-len.branch [
       | else-at-len-via-then-at-len+else-index-slot w ↦
@@ -43,6 +43,6 @@ returns-clause-opened c =
       | else-at-len-via-else-at-len w ↦ absurd (omega (arith, here.0, w.if-at-len.false, c.len.ensures, c.args.entries.now.ok.0))
     ] in
     record {
-      place = subst (λ l. IsPlace l c.args.slot at) c.deref.ensures.value (place_from c.deref.result.now c.args.slot at c.partition_point-at.ensures.bound p);
+      place = place (goal.at.returns-clause-opened c).After-partition_point-at;
       ways = inr (c.in-Some.heap, none, c.in-Some.ensures.items, c.in-Ok.ensures.items);
     }

@@ -1,78 +1,76 @@
-use Rattle.std.proofs.Common.{◌+◌, ◌-◌, ◌++◌, sym, ap, ◌∙◌, arith, OnErr, Result, Ok, Err}
+use Rattle.std.proofs.Common.{◌≡◌, ℕ, ◌+◌, ◌-◌, ◌≤◌, length, ◌++◌, sym, ap, ◌∙◌, arith, OnErr, Result, Ok, Err}
 use Rattle.std.specs.Prelude.{replicate}
 use Rattle.std.specs.FinSet as set
+use Rattle.std.specs.Vec.{vec_capacity}
 use Rattle.pf_calendar.specs.Queues.{Queues}
+use Rattle.pf_calendar.specs.Invariant.{IsCalendar}
+use Rattle.pf_calendar.specs.Steps.{AddsHeaps}
 use Rattle.pf_calendar.proofs.Merging.{append_none}
+use Rattle.pf_calendar.proofs.Whole.{seen}
 use Rattle.pf_calendar.proofs.Growing.{reserved_seen, reserved}
+use Rattle.pf_calendar.proofs.calendar.Calendar.reserve.Goals.{After-reserve-2, After-add_heaps}
 use Rattle.pf_calendar.proofs.calendar.Calendar.reserve.Goals as goal
 
 on_err : {T E : Type 0} (r : Result T E) (P : Type 0) → P → OnErr r P
 on_err (Ok x) P p = tt
 on_err (Err e) P p = p
 
+-- what contracts see is as before, with more room and with more empty heaps
+roomier : (c : After-reserve-2) → seen c.reserve.new.self c.self.inside.ready c.reserve-2.new.self.items (c.self.inside.limit - c.self.inside.held) ≡ c.args.self.now
+roomier c =
+    reserved_seen c.self.invariant.laid c.reserve.new.self c.reserve-2.new.self.items 0 (c.self.inside.limit - c.self.inside.held)
+    (c.in_ok-reserve.ensures.lists ∙ sym (append_none c.self.inside.heaps.lists)) c.reserve-2.ensures.items ∙ c.self.view_is
+
+grown : (c : After-add_heaps) → seen c.add_heaps.new.heaps c.self.inside.ready c.reserve-2.new.self.items (c.self.inside.limit - c.self.inside.held) ≡ c.args.self.now
+grown c =
+    let a = c.add_heaps.ensures.added in
+    reserved_seen c.self.invariant.laid c.add_heaps.new.heaps c.reserve-2.new.self.items a.0 (c.self.inside.limit - c.self.inside.held)
+    (a.2.lists ∙ ap (λ l. l ++ replicate a.0 set.empty) c.in_ok-reserve.ensures.lists) c.reserve-2.ensures.items ∙ c.self.view_is
+
+-- the calendar with n more heaps, under a limit that they are enough for
+enough : (c : After-add_heaps) (n limit : ℕ) → n ≤ c.saturating_sub-more.result → AddsHeaps c.reserve.new.self c.add_heaps.new.heaps c.reserve-3.new.self.items c.add_heaps.new.names.items n →
+    c.self.inside.held ≤ limit → limit ≤ length c.self.inside.waiting.items + length c.self.inside.unused.items + n → limit ≤ c.self.inside.held + c.reserve.new.self.spare →
+    IsCalendar c.add_heaps.new.heaps c.self.inside.ready c.reserve-2.new.self.items c.add_heaps.new.names.items c.self.inside.held limit
+    (vec_capacity c.reserve-2.new.self) (vec_capacity c.add_heaps.new.names)
+enough c n limit made adds within few spare =
+    let laid = c.self.invariant.laid in
+    reserved c.self.invariant c.reserve.new.self c.add_heaps.new.heaps c.reserve-2.new.self.items c.reserve-3.new.self.items c.add_heaps.new.names.items n limit _ _
+    c.in_ok-reserve.ensures.lists c.reserve-2.ensures.items c.reserve-3.ensures.items adds within few spare
+    (omega (arith, made, c.self.inside.waiting.ok.0, c.self.inside.unused.ok.0, c.len.ensures, c.len-2.ensures, c.saturating_sub-more.ensures, laid.small, laid.within, c.if-n-self-2.false))
+    (omega (arith, made, c.self.inside.waiting.ok.0, c.self.inside.unused.ok.0, c.len.ensures, c.len-2.ensures, c.saturating_sub-more.ensures, c.len-3.ensures, c.in_ok-reserve-2.ensures.ok, c.reserve-2.ensures.len))
+    (omega (arith, made, c.self.inside.waiting.ok.0, c.self.inside.unused.ok.0, c.len.ensures, c.len-2.ensures, c.saturating_sub-more.ensures, c.len-4.ensures, c.in_ok-reserve-3.ensures.ok, c.reserve-3.ensures.len, c.reserve-2.ensures.len, c.add_heaps.ensures.capacity))
+
 pub returns-in_err-reserve-2-clause-waiting : goal.returns-in_err-reserve-2-clause-waiting
-returns-in_err-reserve-2-clause-waiting c =
-    ap (λ (q : Queues). q.waiting)
-    (reserved_seen c.self.invariant.laid c.reserve.new.self c.reserve-2.new.self.items 0 (c.self.inside.limit - c.self.inside.held)
-    (c.in_ok-reserve.ensures.lists ∙ sym (append_none c.self.inside.heaps.lists)) c.reserve-2.ensures.items ∙ c.self.view_is)
+returns-in_err-reserve-2-clause-waiting c = ap (λ (q : Queues). q.waiting) (roomier (goal.at.returns-in_err-reserve-2-clause-waiting c).After-reserve-2)
 
 pub returns-in_err-reserve-2-clause-err : goal.returns-in_err-reserve-2-clause-err
-returns-in_err-reserve-2-clause-err c =
-    on_err _ _
-    (reserved_seen c.self.invariant.laid c.reserve.new.self c.reserve-2.new.self.items 0 (c.self.inside.limit - c.self.inside.held)
-    (c.in_ok-reserve.ensures.lists ∙ sym (append_none c.self.inside.heaps.lists)) c.reserve-2.ensures.items ∙ c.self.view_is)
+returns-in_err-reserve-2-clause-err c = on_err _ _ (roomier (goal.at.returns-in_err-reserve-2-clause-err c).After-reserve-2)
 
 pub returns-in_err-reserve-3-clause-waiting : goal.returns-in_err-reserve-3-clause-waiting
-returns-in_err-reserve-3-clause-waiting c =
-    ap (λ (q : Queues). q.waiting)
-    (reserved_seen c.self.invariant.laid c.reserve.new.self c.reserve-2.new.self.items 0 (c.self.inside.limit - c.self.inside.held)
-    (c.in_ok-reserve.ensures.lists ∙ sym (append_none c.self.inside.heaps.lists)) c.reserve-2.ensures.items ∙ c.self.view_is)
+returns-in_err-reserve-3-clause-waiting c = ap (λ (q : Queues). q.waiting) (roomier (goal.at.returns-in_err-reserve-3-clause-waiting c).After-reserve-2)
 
 pub returns-in_err-reserve-3-clause-err : goal.returns-in_err-reserve-3-clause-err
-returns-in_err-reserve-3-clause-err c =
-    on_err _ _
-    (reserved_seen c.self.invariant.laid c.reserve.new.self c.reserve-2.new.self.items 0 (c.self.inside.limit - c.self.inside.held)
-    (c.in_ok-reserve.ensures.lists ∙ sym (append_none c.self.inside.heaps.lists)) c.reserve-2.ensures.items ∙ c.self.view_is)
+returns-in_err-reserve-3-clause-err c = on_err _ _ (roomier (goal.at.returns-in_err-reserve-3-clause-err c).After-reserve-2)
 
 pub invariant_of-self-in_err-add_heaps : goal.invariant_of-self-in_err-add_heaps
 invariant_of-self-in_err-add_heaps c =
     let laid = c.self.invariant.laid in
     let a = c.add_heaps.ensures.added in
-    reserved c.self.invariant c.reserve.new.self c.add_heaps.new.heaps c.reserve-2.new.self.items c.reserve-3.new.self.items c.add_heaps.new.names.items a.0 c.self.inside.limit _ _
-    c.in_ok-reserve.ensures.lists c.reserve-2.ensures.items c.reserve-3.ensures.items a.2
-    laid.within (omega (arith, laid.enough)) (omega (arith, laid.spare, c.in_ok-reserve.ensures.grows))
-    (omega (arith, a.1, c.self.inside.waiting.ok.0, c.self.inside.unused.ok.0, c.len.ensures, c.len-2.ensures, c.saturating_sub-more.ensures, laid.small, laid.within, c.if-n-self-2.false))
-    (omega (arith, a.1, c.self.inside.waiting.ok.0, c.self.inside.unused.ok.0, c.len.ensures, c.len-2.ensures, c.saturating_sub-more.ensures, c.len-3.ensures, c.in_ok-reserve-2.ensures.ok, c.reserve-2.ensures.len))
-    (omega (arith, a.1, c.self.inside.waiting.ok.0, c.self.inside.unused.ok.0, c.len.ensures, c.len-2.ensures, c.saturating_sub-more.ensures, c.len-4.ensures, c.in_ok-reserve-3.ensures.ok, c.reserve-3.ensures.len, c.reserve-2.ensures.len, c.add_heaps.ensures.capacity))
+    enough (goal.at.invariant_of-self-in_err-add_heaps c).After-add_heaps a.0 c.self.inside.limit a.1 a.2 laid.within (omega (arith, laid.enough))
+    (omega (arith, laid.spare, c.in_ok-reserve.ensures.grows))
 
 pub returns-in_err-add_heaps-clause-waiting : goal.returns-in_err-add_heaps-clause-waiting
-returns-in_err-add_heaps-clause-waiting c =
-    let a = c.add_heaps.ensures.added in
-    ap (λ (q : Queues). q.waiting)
-    (reserved_seen c.self.invariant.laid c.add_heaps.new.heaps c.reserve-2.new.self.items a.0 (c.self.inside.limit - c.self.inside.held)
-    (a.2.lists ∙ ap (λ l. l ++ replicate a.0 set.empty) c.in_ok-reserve.ensures.lists) c.reserve-2.ensures.items ∙ c.self.view_is)
+returns-in_err-add_heaps-clause-waiting c = ap (λ (q : Queues). q.waiting) (grown (goal.at.returns-in_err-add_heaps-clause-waiting c).After-add_heaps)
 
 pub returns-in_err-add_heaps-clause-err : goal.returns-in_err-add_heaps-clause-err
-returns-in_err-add_heaps-clause-err c =
-    let a = c.add_heaps.ensures.added in
-    on_err _ _
-    (reserved_seen c.self.invariant.laid c.add_heaps.new.heaps c.reserve-2.new.self.items a.0 (c.self.inside.limit - c.self.inside.held)
-    (a.2.lists ∙ ap (λ l. l ++ replicate a.0 set.empty) c.in_ok-reserve.ensures.lists) c.reserve-2.ensures.items ∙ c.self.view_is)
+returns-in_err-add_heaps-clause-err c = on_err _ _ (grown (goal.at.returns-in_err-add_heaps-clause-err c).After-add_heaps)
 
 pub invariant_of-self-2 : goal.invariant_of-self-2
 invariant_of-self-2 c =
-    let laid = c.self.invariant.laid in
     let a = c.in_ok-add_heaps.ensures.added in
-    reserved c.self.invariant c.reserve.new.self c.add_heaps.new.heaps c.reserve-2.new.self.items c.reserve-3.new.self.items c.add_heaps.new.names.items a.0 (c.self.inside.held + c.args.n) _ _
-    c.in_ok-reserve.ensures.lists c.reserve-2.ensures.items c.reserve-3.ensures.items a.2
-    (omega arith) (omega (arith, a.3, c.self.inside.waiting.ok.0, c.self.inside.unused.ok.0, c.len.ensures, c.len-2.ensures, c.saturating_sub-more.ensures)) (omega (arith, c.in_ok-reserve.ensures.ok))
-    (omega (arith, a.1, c.self.inside.waiting.ok.0, c.self.inside.unused.ok.0, c.len.ensures, c.len-2.ensures, c.saturating_sub-more.ensures, laid.small, laid.within, c.if-n-self-2.false))
-    (omega (arith, a.1, c.self.inside.waiting.ok.0, c.self.inside.unused.ok.0, c.len.ensures, c.len-2.ensures, c.saturating_sub-more.ensures, c.len-3.ensures, c.in_ok-reserve-2.ensures.ok, c.reserve-2.ensures.len))
-    (omega (arith, a.1, c.self.inside.waiting.ok.0, c.self.inside.unused.ok.0, c.len.ensures, c.len-2.ensures, c.saturating_sub-more.ensures, c.len-4.ensures, c.in_ok-reserve-3.ensures.ok, c.reserve-3.ensures.len, c.reserve-2.ensures.len, c.add_heaps.ensures.capacity))
+    enough (goal.at.invariant_of-self-2 c).After-add_heaps a.0 (c.self.inside.held + c.args.n) a.1 a.2 (omega arith)
+    (omega (arith, a.3, c.self.inside.waiting.ok.0, c.self.inside.unused.ok.0, c.len.ensures, c.len-2.ensures, c.saturating_sub-more.ensures))
+    (omega (arith, c.in_ok-reserve.ensures.ok))
 
 pub returns-clause-waiting : goal.returns-clause-waiting
-returns-clause-waiting c =
-    let a = c.in_ok-add_heaps.ensures.added in
-    ap (λ (q : Queues). q.waiting)
-    (reserved_seen c.self.invariant.laid c.add_heaps.new.heaps c.reserve-2.new.self.items a.0 (c.self.inside.limit - c.self.inside.held)
-    (a.2.lists ∙ ap (λ l. l ++ replicate a.0 set.empty) c.in_ok-reserve.ensures.lists) c.reserve-2.ensures.items ∙ c.self.view_is)
+returns-clause-waiting c = ap (λ (q : Queues). q.waiting) (grown (goal.at.returns-clause-waiting c).After-add_heaps)

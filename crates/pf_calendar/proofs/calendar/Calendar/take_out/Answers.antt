@@ -1,6 +1,7 @@
 use Rattle.std.proofs.Common.{◌≡◌, ℕ, ◌+◌, ◌-◌, ◌*◌, ◌<◌, ◌≤◌, List, length, get_or, inl, sym, ap, ◌∙◌, subst, arith}
 use Rattle.std.specs.Prelude.{All, sum_by}
 use Rattle.std.specs.FinSet as set
+use Rattle.std.specs.Vec.{vec_capacity}
 use Rattle.std.proofs.lemmas.List.{get_or_default}
 use Rattle.pf_order.specs.Counts.{Counts}
 use Rattle.pf_heap.specs.Keys.{Heaps, list_of, HasNone}
@@ -11,8 +12,9 @@ use Rattle.pf_calendar.specs.Queues.{Queues, count_of, IsHeld, TakesOut}
 use Rattle.pf_calendar.specs.Steps.{RemovesAt}
 use Rattle.pf_calendar.proofs.Naming.{no_entry}
 use Rattle.pf_calendar.proofs.Arranged.{ready_listed, entry_listed}
-use Rattle.pf_calendar.proofs.Whole.{count_is, waiting_within, popped_laid, popped_seen, seen, with_room}
+use Rattle.pf_calendar.proofs.Whole.{IsCalendarAfter, ready_digits, waiting_within, popped, seen, with_room}
 use Rattle.pf_calendar.proofs.Leaving.{ready_removed, not_held, some_held, discounted_calendar, takes_out}
+use Rattle.pf_calendar.proofs.calendar.Calendar.take_out.Goals.{In-Some, In-Some-remove_waiting}
 use Rattle.pf_calendar.proofs.calendar.Calendar.take_out.Goals as goal
 
 -- the first look compared nothing, and changed no list
@@ -29,18 +31,19 @@ waiting_made first second third heaps same es lent k idle lists value le made =
 pub remove-requires : goal.remove-requires
 remove-requires c = ready_listed c.self.invariant.laid
 
-pub overflow_sub-self : goal.overflow_sub-self
-overflow_sub-self c =
+-- the calendar after a removal from the ready list
+from_ready : (c : In-Some) → (1 ≤ c.self.inside.held) × IsCalendarAfter c.remove.new.self c.self.inside.ready c.self.inside.waiting.items c.self.inside.unused.items
+    (c.self.inside.held - 1) c.self.inside.limit (vec_capacity c.self.inside.waiting) (vec_capacity c.self.inside.unused)
+    (record c.args.self.now { ready = set.remove c.args.self.now.ready c.in-Some.key; spare = c.args.self.now.spare + 1 })
+from_ready c =
     let r = c.in-Some.ensures.removed in
-    (popped_laid c.self.invariant.laid c.remove.new.self c.in-Some.key r.0 (ready_removed c.self.invariant.laid c.remove.new.self c.args.task c.in-Some.key r.1 r.0 r.2)).0
+    popped c.self.invariant c.self.view_is c.in-Some.key r.0 (ready_removed c.self.invariant.laid c.remove.new.self c.args.task c.in-Some.key r.1 r.0 r.2)
+
+pub overflow_sub-self : goal.overflow_sub-self
+overflow_sub-self c = (from_ready (goal.at.overflow_sub-self c).In-Some).0
 
 pub invariant_of-self : goal.invariant_of-self
-invariant_of-self c =
-    let r = c.in-Some.ensures.removed in
-    record {
-      laid = (popped_laid c.self.invariant.laid c.remove.new.self c.in-Some.key r.0 (ready_removed c.self.invariant.laid c.remove.new.self c.args.task c.in-Some.key r.1 r.0 r.2)).1;
-      some = c.self.invariant.some;
-    }
+invariant_of-self c = (from_ready (goal.at.invariant_of-self c).In-Some).1.calendar
 
 pub returns-in-Some-clause-taken : goal.returns-in-Some-clause-taken
 returns-in-Some-clause-taken c =
@@ -48,19 +51,12 @@ returns-in-Some-clause-taken c =
       r.1,
       inl (
         ap (λ (q : Queues). set.contains q.ready c.in-Some.key) (sym c.self.view_is) ∙ r.0,
-        popped_seen c.self.invariant.laid c.remove.new.self c.in-Some.key r.0 (ready_removed c.self.invariant.laid c.remove.new.self c.args.task c.in-Some.key r.1 r.0 r.2)
-            ∙ ap (λ (q : Queues). record q { ready = set.remove q.ready c.in-Some.key; spare = q.spare + 1 }) c.self.view_is,
+        (from_ready (goal.at.returns-in-Some-clause-taken c).In-Some).1.view,
       ),
     )
 
 pub returns-in-Some-clause-comparisons : goal.returns-in-Some-clause-comparisons
-returns-in-Some-clause-comparisons c =
-    omega (
-      arith,
-      c.in-Some.ensures.comparisons,
-      digits-mono (set.len (list_of c.self.inside.heaps c.self.inside.ready)) (count_of c.args.self.now)
-          (omega (arith, ap count_of c.self.view_is, count_is c.self.invariant.laid (c.self.inside.limit - c.self.inside.held))),
-    )
+returns-in-Some-clause-comparisons c = omega (arith, c.in-Some.ensures.comparisons, ready_digits c.self.invariant.laid c.self.view_is)
 
 pub remove_waiting-requires : goal.remove_waiting-requires
 remove_waiting-requires c = λ k d lt.
@@ -86,48 +82,42 @@ returns-in_default-remove_waiting-clause-taken c =
 pub returns-in_default-remove_waiting-clause-comparisons : goal.returns-in_default-remove_waiting-clause-comparisons
 returns-in_default-remove_waiting-clause-comparisons c =
     waiting_made _ c.remove.new.meter c.remove_waiting.new.meter _ c.remove.new.self _ c.deref.result.now (count_of c.args.self.now) c.in_default.ensures.unfound c.in_default.ensures.removed.1 c.deref.ensures.value
-    (omega (arith, ap count_of c.self.view_is, waiting_within c.self.invariant.laid (c.self.inside.limit - c.self.inside.held)))
+    (waiting_within c.self.invariant.laid c.self.view_is)
     c.in_default-remove_waiting.ensures.comparisons
+
+-- the key is out of an entry's list
+removes : (c : In-Some-remove_waiting) →
+    RemovesAt c.self.inside.heaps c.remove_waiting.new.heaps c.self.inside.waiting.items c.args.task c.in-Some-remove_waiting.found.0 c.in-Some-remove_waiting.found.1
+removes c =
+    let found = c.in-Some-remove_waiting.found in
+    subst (λ (h : Heaps). RemovesAt h c.remove_waiting.new.heaps c.self.inside.waiting.items c.args.task found.0 found.1) c.in_default.ensures.removed.1
+    (subst (λ (l : List Entry). RemovesAt c.remove.new.self c.remove_waiting.new.heaps l c.args.task found.0 found.1) c.deref.ensures.value
+    c.in-Some-remove_waiting.ensures.removed)
 
 pub overflow_sub-self-2 : goal.overflow_sub-self-2
 overflow_sub-self-2 c =
-    let heaps = c.self.inside.heaps in
-    let es = c.self.inside.waiting.items in
-    let removes : RemovesAt heaps c.remove_waiting.new.heaps es c.args.task c.in-Some-remove_waiting.found.0 c.in-Some-remove_waiting.found.1 =
-    subst (λ (h : Heaps). RemovesAt h c.remove_waiting.new.heaps es c.args.task c.in-Some-remove_waiting.found.0 c.in-Some-remove_waiting.found.1) c.in_default.ensures.removed.1
-    (subst (λ (l : List Entry). RemovesAt c.remove.new.self c.remove_waiting.new.heaps l c.args.task c.in-Some-remove_waiting.found.0 c.in-Some-remove_waiting.found.1) c.deref.ensures.value
-    c.in-Some-remove_waiting.ensures.removed) in
-    some_held c.self.invariant.laid c.remove_waiting.new.heaps c.args.task c.in-Some-remove_waiting.found.0 c.in-Some-remove_waiting.found.1 removes
+    some_held c.self.invariant.laid c.remove_waiting.new.heaps c.args.task c.in-Some-remove_waiting.found.0 c.in-Some-remove_waiting.found.1
+    (removes (goal.at.overflow_sub-self-2 c).In-Some-remove_waiting)
 
 pub invariant_of-self-2 : goal.invariant_of-self-2
 invariant_of-self-2 c =
-    let heaps = c.self.inside.heaps in
-    let es = c.self.inside.waiting.items in
-    let removes : RemovesAt heaps c.remove_waiting.new.heaps es c.args.task c.in-Some-remove_waiting.found.0 c.in-Some-remove_waiting.found.1 =
-    subst (λ (h : Heaps). RemovesAt h c.remove_waiting.new.heaps es c.args.task c.in-Some-remove_waiting.found.0 c.in-Some-remove_waiting.found.1) c.in_default.ensures.removed.1
-    (subst (λ (l : List Entry). RemovesAt c.remove.new.self c.remove_waiting.new.heaps l c.args.task c.in-Some-remove_waiting.found.0 c.in-Some-remove_waiting.found.1) c.deref.ensures.value
-    c.in-Some-remove_waiting.ensures.removed) in
     with_room _ _ _ _ c.discount.ensures.capacity c.discount.ensures.unused_capacity
-    (discounted_calendar c.self.invariant.laid c.remove_waiting.new.heaps c.args.task c.in-Some-remove_waiting.found.0 c.in-Some-remove_waiting.found.1 removes
-    c.discount.new.entries.items c.discount.new.unused.items c.self.invariant.some c.discount.ensures.discounted)
+    (discounted_calendar c.self.invariant.laid c.remove_waiting.new.heaps c.args.task c.in-Some-remove_waiting.found.0 c.in-Some-remove_waiting.found.1
+    (removes (goal.at.invariant_of-self-2 c).In-Some-remove_waiting) c.discount.new.entries.items c.discount.new.unused.items c.self.invariant.some
+    c.discount.ensures.discounted)
 
 pub returns-clause-taken : goal.returns-clause-taken
 returns-clause-taken c =
-    let heaps = c.self.inside.heaps in
-    let es = c.self.inside.waiting.items in
-    let removes : RemovesAt heaps c.remove_waiting.new.heaps es c.args.task c.in-Some-remove_waiting.found.0 c.in-Some-remove_waiting.found.1 =
-    subst (λ (h : Heaps). RemovesAt h c.remove_waiting.new.heaps es c.args.task c.in-Some-remove_waiting.found.0 c.in-Some-remove_waiting.found.1) c.in_default.ensures.removed.1
-    (subst (λ (l : List Entry). RemovesAt c.remove.new.self c.remove_waiting.new.heaps l c.args.task c.in-Some-remove_waiting.found.0 c.in-Some-remove_waiting.found.1) c.deref.ensures.value
-    c.in-Some-remove_waiting.ensures.removed) in (
-      removes.of_task,
+    let r = removes (goal.at.returns-clause-taken c).In-Some-remove_waiting in (
+      r.of_task,
       subst (λ (q : Queues). TakesOut q (seen c.remove_waiting.new.heaps c.self.inside.ready c.discount.new.entries.items (c.self.inside.limit - (c.self.inside.held - 1)))
           c.in-Some-remove_waiting.found.1) c.self.view_is
-          (takes_out c.self.invariant.laid c.remove_waiting.new.heaps c.args.task c.in-Some-remove_waiting.found.0 c.in-Some-remove_waiting.found.1 removes
+          (takes_out c.self.invariant.laid c.remove_waiting.new.heaps c.args.task c.in-Some-remove_waiting.found.0 c.in-Some-remove_waiting.found.1 r
           c.discount.new.entries.items c.discount.new.unused.items c.discount.ensures.discounted),
     )
 
 pub returns-clause-comparisons : goal.returns-clause-comparisons
 returns-clause-comparisons c =
     waiting_made _ c.remove.new.meter c.remove_waiting.new.meter _ c.remove.new.self _ c.deref.result.now (count_of c.args.self.now) c.in_default.ensures.unfound c.in_default.ensures.removed.1 c.deref.ensures.value
-    (omega (arith, ap count_of c.self.view_is, waiting_within c.self.invariant.laid (c.self.inside.limit - c.self.inside.held)))
+    (waiting_within c.self.invariant.laid c.self.view_is)
     c.in-Some-remove_waiting.ensures.comparisons
