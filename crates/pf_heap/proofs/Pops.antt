@@ -1,9 +1,10 @@
 -- Taking a root out of a heap.
-use Rattle.std.proofs.Common.{◌≡◌, ◌≢◌, ℕ, zero, suc, ◌+◌, ◌-◌, ◌^◌, ◌<◌, ◌≤◌, ◌⊎◌, inl, inr, List, ◌∷◌, length, refl, sym, ap, ◌∙◌, subst, arith, get_or-set_same, ⊎_elim}
+use Rattle.std.proofs.Common.{◌≡◌, ◌≢◌, ℕ, zero, suc, ◌+◌, ◌-◌, ◌^◌, ◌<◌, ◌≤◌, ◌⊎◌, inl, inr, List, ◌∷◌, length, get_or, refl, sym, ap, ◌∙◌, subst, arith, get_or-set_same, ⊎_elim}
 use Rattle.std.proofs.Math.ListN.{length-set}
 use Rattle.std.proofs.Math.Pow.{pow_mono}
 use Rattle.std.proofs.lemmas.Nat.{pow_pos}
 use Rattle.std.proofs.lemmas.Bool.{cases_lt}
+use Rattle.std.proofs.lemmas.List.{get_or_default}
 use Rattle.pf_order.specs.Priority.{Priority, precedes}
 use Rattle.pf_order.specs.Counts.{Counts}
 use Rattle.pf_heap.specs.declared.node.Node.{Node}
@@ -12,10 +13,10 @@ use Rattle.pf_heap.specs.Memory.{no_node, node_at, Stands, Part, root, Parts, re
 use Rattle.pf_heap.specs.Steps.{CanTurn, IsTurned, HasTwoHeaps, IsMerged}
 use Rattle.pf_heap.specs.Pops.{roots, IsEarlier, IsSeeking, IsLeastRoot, HasHeapAndRoot, IsParting, IsParted, released, CanPop, IsPopped}
 use Rattle.pf_heap.proofs.Forests.{same-self, double, size_from_falls, size_from_rises, below-trans, below-itself, below_from_precedes, all_below-trans, all_below_from_falls}
-use Rattle.pf_heap.proofs.Standing.{stands-set, stand_all-set, cut_parts}
+use Rattle.pf_heap.proofs.Standing.{stands-set, stand_all-set, turn_parts, cut_parts}
 use Rattle.pf_heap.proofs.Steps.{sinks_more}
 use Rattle.pf_heap.proofs.Weights.{sizes-le-length}
-use Rattle.pf_heap.proofs.Sums.{rises_less, turn_parts}
+use Rattle.pf_heap.proofs.Sums.{rises_less}
 
 -- ---- roots
 
@@ -129,41 +130,29 @@ module _ (nodes : List Node) (heap : Forest) (best result link next steps : ℕ)
       let test : precedes (node_at nodes link).key (node_at nodes best).key ≡ precedes k key = λ j. precedes (link_key j) (best_node.key_is j) in
       let next_at : next ≡ head rest = next_is ∙ ap (λ z. (node_at nodes z).sibling) is ∙ ap (λ (n : Node). n.sibling) s.1 in
       let later : Rises (steps + 1) rest = rises_less (r + 1) (steps + 1) rest (omega (arith, rises.0)) rises.2 in
+      let found : (k' : Priority) (r' : ℕ) (f' : Forest) → HasRoot result k' r' f' heap → ((p : Priority) → IsBelow p k' → AllBelow p rest → AllBelow p heap) →
+      IsSeeking nodes heap result next (steps + 1) before after = λ k' r' f' there closes_more. record {
+        rest = rest;
+        rest_is = next_at;
+        stands = s.3;
+        rises = later;
+        smaller = omega (arith, smaller);
+        key = k';
+        rank = r';
+        kids = f';
+        has = there;
+        into = λ i k2 r2 f2 m. into i k2 r2 f2 (inr m);
+        closes = closes_more;
+        compared = omega (arith, compared, compared_one);
+        slots = slots_same ∙ slots;
+      } in
       ⊎_elim
-      (λ h. record {
-        rest = rest;
-        rest_is = next_at;
-        stands = s.3;
-        rises = later;
-        smaller = omega (arith, smaller);
-        key = key;
-        rank = rank;
-        kids = kids;
-        has = subst (λ z. HasRoot z key rank kids heap) (sym h.0) has;
-        into = λ i k' r' f' m. into i k' r' f' (inr m);
-        closes = λ p below all.
-            let here = below-trans p key k below (sym test ∙ h.1) in
-            closes p below (here, all_below-trans p k f here (all_below_from_falls k r f rises.1), all);
-        compared = omega (arith, compared, compared_one);
-        slots = slots_same ∙ slots;
-      })
-      (λ h. record {
-        rest = rest;
-        rest_is = next_at;
-        stands = s.3;
-        rises = later;
-        smaller = omega (arith, smaller);
-        key = k;
-        rank = r;
-        kids = f;
-        has = subst (λ z. HasRoot z k r f heap) (sym (h.0 ∙ is)) (into at k r f (inl (refl, refl, refl, refl)));
-        into = λ i k' r' f' m. into i k' r' f' (inr m);
-        closes = λ p below all.
-            closes p (below-trans p k key below (below_from_precedes k key (sym test ∙ h.1)))
-            (below, all_below-trans p k f below (all_below_from_falls k r f rises.1), all);
-        compared = omega (arith, compared, compared_one);
-        slots = slots_same ∙ slots;
-      })
+      (λ h. found key rank kids (subst (λ z. HasRoot z key rank kids heap) (sym h.0) has) (λ p below all.
+      let here = below-trans p key k below (sym test ∙ h.1) in
+      closes p below (here, all_below-trans p k f here (all_below_from_falls k r f rises.1), all)))
+      (λ h. found k r f (subst (λ z. HasRoot z k r f heap) (sym (h.0 ∙ is)) (into at k r f (inl (refl, refl, refl, refl)))) (λ p below all.
+      closes p (below-trans p k key below (below_from_precedes k key (sym test ∙ h.1)))
+      (below, all_below-trans p k f below (all_below_from_falls k r f rises.1), all)))
       earlier
 
   pub seek_step : IsSeeking nodes heap best link steps before between → IsSeeking nodes heap result next (steps + 1) before after
@@ -369,11 +358,14 @@ heap_and_root can = record {
 }
 
 module _ {old mid : List Node} {link at free stay : ℕ} (can : CanPop old link at free)
-    (d : IsParted mid can.heap (root can.spares ∷ can.others) at can.key can.rank can.kids stay) where
+    (parts_them : (c : HasHeapAndRoot old link at) → IsParted mid c.heap c.others at c.key c.rank c.kids stay) where
+  abbrev parted : IsParted mid can.heap (root can.spares ∷ can.others) at can.key can.rank can.kids stay
+  parted = parts_them (heap_and_root can)
+
   pub alone_node : IsRootNode mid at can.key can.rank can.kids
   alone_node =
       let here : HasRoot at can.key can.rank can.kids (tree at can.key can.rank can.kids none) = inl (refl, refl, refl, refl) in
-      root_stands mid nowhere at can.key can.rank can.kids (tree at can.key can.rank can.kids none) d.parts.stand.1.0 here
+      root_stands mid nowhere at can.key can.rank can.kids (tree at can.key can.rank can.kids none) parted.parts.stand.1.0 here
 
   kids_fall : Falls can.key can.rank can.kids
   kids_fall = root_falls 0 at can.key can.rank can.kids can.heap can.rises can.has
@@ -381,65 +373,71 @@ module _ {old mid : List Node} {link at free stay : ℕ} (can : CanPop old link 
   pub kids_sink : length mid < 2 ^ 32 → Sinks 32 can.kids
   kids_sink small =
       sinks_bounded can.rank can.kids (sinks_from_falls can.key can.rank can.kids kids_fall)
-      (omega (arith, sizes-le-length mid _ d.parts))
+      (omega (arith, sizes-le-length mid _ parted.parts))
 
   module _ {freed : List Node} (written : freed ≡ released mid at free) (mid_small : length mid < 2 ^ 32) (freed_small : length freed < 2 ^ 32) where
-    pub freed_parts : Parts freed (root d.stay ∷ (at, can.kids) ∷ root (tree at can.key 0 none can.spares) ∷ can.others)
+    pub freed_parts : Parts freed (root parted.stay ∷ (at, can.kids) ∷ root (tree at can.key 0 none can.spares) ∷ can.others)
     freed_parts =
-        subst (λ ns. Parts ns (root d.stay ∷ (at, can.kids) ∷ root (tree at can.key 0 none can.spares) ∷ can.others))
+        subst (λ ns. Parts ns (root parted.stay ∷ (at, can.kids) ∷ root (tree at can.key 0 none can.spares) ∷ can.others))
         (sym (written ∙ ap (λ z. released mid at z) can.free_is))
-        (release_parts mid at can.key can.rank can.kids d.stay can.spares can.others d.parts)
+        (release_parts mid at can.key can.rank can.kids parted.stay can.spares can.others parted.parts)
 
     abbrev pub stay_turns : CanTurn freed stay
     stay_turns = record {
       up = nowhere;
-      list = d.stay;
+      list = parted.stay;
       others = (at, can.kids) ∷ root (tree at can.key 0 none can.spares) ∷ can.others;
-      link_is = d.stay_is;
-      sinks = d.sinks;
+      link_is = parted.stay_is;
+      sinks = parted.sinks;
       small = freed_small;
       parts = freed_parts;
     }
 
-    module _ {next : List Node} {heap child : ℕ} (t : IsTurned next d.stay ((at, can.kids) ∷ root (tree at can.key 0 none can.spares) ∷ can.others) heap)
-        (child_is : child ≡ head can.kids) (next_small : length next < 2 ^ 32) where
-      abbrev pub kids_turn : CanTurn next child
+    module _ {next : List Node} {heap : ℕ} (turns : (c : CanTurn freed stay) → IsTurned next c.list c.others heap) (node : Node) (next_small : length next < 2 ^ 32) where
+      abbrev turned : IsTurned next parted.stay ((at, can.kids) ∷ root (tree at can.key 0 none can.spares) ∷ can.others) heap
+      turned = turns stay_turns
+
+      pub child_is : (get_or mid at node).child ≡ head can.kids
+      child_is = ap (λ (n : Node). n.child) (get_or_default mid at node no_node alone_node.within) ∙ alone_node.child_is
+
+      abbrev pub kids_turn : CanTurn next (get_or mid at node).child
       kids_turn = record {
         up = at;
         list = can.kids;
-        others = root t.heap ∷ root (tree at can.key 0 none can.spares) ∷ can.others;
+        others = root turned.heap ∷ root (tree at can.key 0 none can.spares) ∷ can.others;
         link_is = child_is;
         sinks = kids_sink mid_small;
         small = next_small;
-        parts = let s = t.parts.stand in record { stand = (s.1.0, (s.0, s.1.1)); once = λ i. omega (arith, t.parts.once i) };
+        parts = let s = turned.parts.stand in record { stand = (s.1.0, (s.0, s.1.1)); once = λ i. omega (arith, turned.parts.once i) };
       }
 
-      module _ {last : List Node} {kids : ℕ} (u : IsTurned last can.kids (root t.heap ∷ root (tree at can.key 0 none can.spares) ∷ can.others) kids)
-          (last_small : length last < 2 ^ 32) where
+      module _ {last : List Node} {kids : ℕ} (turns_kids : (c : CanTurn next (get_or mid at node).child) → IsTurned last c.list c.others kids) (last_small : length last < 2 ^ 32) where
+        abbrev kids_turned : IsTurned last can.kids (root turned.heap ∷ root (tree at can.key 0 none can.spares) ∷ can.others) kids
+        kids_turned = turns_kids kids_turn
+
         abbrev pub two_heaps : HasTwoHeaps last heap kids
         two_heaps = record {
-          first = t.heap;
-          second = u.heap;
+          first = turned.heap;
+          second = kids_turned.heap;
           others = root (tree at can.key 0 none can.spares) ∷ can.others;
-          first_is = t.heap_is;
-          second_is = u.heap_is;
-          first_rises = t.rises;
-          second_rises = u.rises;
+          first_is = turned.heap_is;
+          second_is = kids_turned.heap_is;
+          first_rises = turned.rises;
+          second_rises = kids_turned.rises;
           small = last_small;
-          parts = let s = u.parts.stand in record { stand = (s.1.0, (s.0, s.1.1)); once = λ i. omega (arith, u.parts.once i) };
+          parts = let s = kids_turned.parts.stand in record { stand = (s.1.0, (s.0, s.1.1)); once = λ i. omega (arith, kids_turned.parts.once i) };
         }
 
         pub popped : {new : List Node} {result : ℕ} {before after : Counts} →
-            IsMerged new t.heap u.heap (root (tree at can.key 0 none can.spares) ∷ can.others) result before after →
-            IsPopped new can.heap can.spares can.others at can.key result before after
-        popped m = record {
+            ((c : HasTwoHeaps last heap kids) → IsMerged new c.first c.second c.others result before after) → IsPopped new can.heap can.spares can.others at can.key result before after
+        popped merges = let m = merges two_heaps in record {
           heap = m.heap;
           heap_is = m.heap_is;
           rises = m.rises;
           parts = m.parts;
-          kept = λ w. omega (arith, m.kept w, t.kept w, u.kept w, d.kept w);
+          kept = λ w. omega (arith, m.kept w, turned.kept w, kids_turned.kept w, parted.kept w);
           made = m.made;
-          made_paid = ⊎_elim (λ h. inl h) (λ h. inr (omega (arith, t.kept one_each, u.kept one_each, d.kept one_each))) m.made_paid;
+          made_paid = ⊎_elim (λ h. inl h) (λ h. inr (omega (arith, turned.kept one_each, kids_turned.kept one_each, parted.kept one_each))) m.made_paid;
           compared = m.compared;
           slots = m.slots;
         }

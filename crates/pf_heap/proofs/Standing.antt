@@ -47,43 +47,42 @@ unused_elsewhere nodes up at key rank kids rest ps parts =
 
 -- ---- steps
 
+-- the first tree of a list goes to the front of another one
+pub turn_parts : (nodes : List Node) (up at : ℕ) (key : Priority) (rank : ℕ) (kids rest turned : Forest) (ps : List Part) →
+    Parts nodes ((up, tree at key rank kids rest) ∷ root turned ∷ ps) →
+    Parts (relinked nodes at (head turned)) ((up, rest) ∷ root (tree at key rank kids turned) ∷ ps)
+turn_parts nodes up at key rank kids rest turned ps parts =
+    let s = parts.stand.0 in
+    let v : Node = record (node_at nodes at) { parent = nowhere; sibling = head turned } in
+    let u = unused_elsewhere nodes up at key rank kids rest (root turned ∷ ps) parts in
+    record {
+      stand = (
+        stands-set nodes at v up rest u.1 s.3,
+        (
+          (
+            omega (arith, s.0, length-set nodes at v),
+            get_or-set_same nodes at v no_node s.0 ∙ ap (λ (n : Node). record n { parent = nowhere; sibling = head turned }) s.1,
+            stands-set nodes at v at kids u.0 s.2,
+            stands-set nodes at v nowhere turned (omega (arith, u.2)) parts.stand.1.0,
+          ),
+          stand_all-set nodes at v ps (omega (arith, u.2)) parts.stand.1.1,
+        ),
+      );
+      once = λ i. omega (arith, parts.once i);
+    }
+
 -- the first tree is cut off
 pub cut_parts : (nodes : List Node) (up at : ℕ) (key : Priority) (rank : ℕ) (kids rest : Forest) (ps : List Part) →
     Parts nodes ((up, tree at key rank kids rest) ∷ ps) →
     Parts (relinked nodes at nowhere) (root (tree at key rank kids none) ∷ (up, rest) ∷ ps)
 cut_parts nodes up at key rank kids rest ps parts =
-    let s = parts.stand.0 in
-    let u = unused_elsewhere nodes up at key rank kids rest ps parts in
-    record {
-      stand = (
-        (
-          omega (arith, s.0, length-set nodes at (record (node_at nodes at) { parent = nowhere; sibling = nowhere })),
-          get_or-set_same nodes at _ no_node s.0 ∙ ap (λ (n : Node). record n { parent = nowhere; sibling = nowhere }) s.1,
-          stands-set nodes at _ at kids u.0 s.2,
-          tt,
-        ),
-        (stands-set nodes at _ up rest u.1 s.3, stand_all-set nodes at _ ps u.2 parts.stand.1),
-      );
-      once = λ i. omega (arith, parts.once i);
-    }
+    let p = turn_parts nodes up at key rank kids rest none ps (record { stand = (parts.stand.0, (tt, parts.stand.1)); once = λ i. omega (arith, parts.once i) }) in
+    record { stand = (p.stand.1.0, (p.stand.0, p.stand.1.1)); once = λ i. omega (arith, p.once i) }
 
 -- a tree is put in front of a list
 pub push_parts : (nodes : List Node) (up at : ℕ) (key : Priority) (rank : ℕ) (kids front : Forest) (ps : List Part) →
     Parts nodes ((up, tree at key rank kids none) ∷ root front ∷ ps) →
     Parts (relinked nodes at (head front)) (root (tree at key rank kids front) ∷ ps)
 push_parts nodes up at key rank kids front ps parts =
-    let s = parts.stand.0 in
-    let v : Node = record (node_at nodes at) { parent = nowhere; sibling = head front } in
-    let u = unused_elsewhere nodes up at key rank kids none (root front ∷ ps) parts in
-    record {
-      stand = (
-        (
-          omega (arith, s.0, length-set nodes at v),
-          get_or-set_same nodes at v no_node s.0 ∙ ap (λ (n : Node). record n { parent = nowhere; sibling = head front }) s.1,
-          stands-set nodes at v at kids u.0 s.2,
-          stands-set nodes at v nowhere front (omega (arith, u.2)) parts.stand.1.0,
-        ),
-        stand_all-set nodes at v ps (omega (arith, u.2)) parts.stand.1.1,
-      );
-      once = λ i. omega (arith, parts.once i);
-    }
+    let p = turn_parts nodes up at key rank kids none front ps parts in
+    record { stand = p.stand.1; once = λ i. omega (arith, p.once i) }

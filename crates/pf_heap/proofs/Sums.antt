@@ -1,6 +1,5 @@
 -- Merging by addition in base two, and turning a list round.
-use Rattle.std.proofs.Common.{◌≡◌, ◌≢◌, ℕ, ◌+◌, ◌^◌, ◌<◌, ◌≤◌, inl, inr, List, [], ◌∷◌, length, refl, sym, ap, ◌∙◌, subst, arith, get_or-set_same, ⊎_elim}
-use Rattle.std.proofs.Math.ListN.{length-set}
+use Rattle.std.proofs.Common.{◌≡◌, ◌≢◌, ℕ, ◌+◌, ◌^◌, ◌<◌, ◌≤◌, ◌⊎◌, inl, inr, List, [], ◌∷◌, length, refl, sym, ap, ◌∙◌, subst, arith, ⊎_elim}
 use Rattle.std.proofs.Math.Pow.{pow_mono}
 use Rattle.std.proofs.lemmas.Nat.{pow_pos}
 use Rattle.pf_order.specs.Priority.{Priority}
@@ -8,10 +7,10 @@ use Rattle.pf_order.specs.Counts.{Counts}
 use Rattle.pf_heap.specs.declared.node.Node.{Node}
 use Rattle.pf_heap.specs.declared.adding.Sum.{Sum}
 use Rattle.pf_heap.specs.Forest.{Forest, none, tree, nowhere, head, weigh, one_each, size, some, Rises, Sinks, IsTreeOrNone}
-use Rattle.pf_heap.specs.Memory.{no_node, node_at, Stands, Part, root, Parts, relinked}
+use Rattle.pf_heap.specs.Memory.{node_at, Stands, Part, root, Parts, relinked}
 use Rattle.pf_heap.specs.Steps.{HasRoots, HasTwo, HasTwoTrees, HasThreeTrees, IsCut, IsAdded, IsPushed, IsMerging, CanAddRank, HasTwoHeaps, IsMerged, CanTurn, IsTurning, IsTurned}
 use Rattle.pf_heap.proofs.Forests.{double, size_from_tree, size_from_rises}
-use Rattle.pf_heap.proofs.Standing.{stands-set, stand_all-set, unused_elsewhere}
+use Rattle.pf_heap.proofs.Standing.{turn_parts}
 use Rattle.pf_heap.proofs.Weights.{sizes-le-length}
 
 pub none_from_link : (nodes : List Node) (up link : ℕ) (f : Forest) → length nodes < 2 ^ 32 → Stands nodes up f → link ≡ head f → link ≡ nowhere → f ≡ none
@@ -111,148 +110,121 @@ module _ {old : List Node} {rank : ℕ} {x y : Forest} {others : List Part} {lin
     parts = m.parts;
   }
 
-  module _ {mid : List Node} {first left : ℕ} (d : IsCut mid rank m.left (root m.right ∷ root m.carry ∷ root m.done ∷ others) first left) (mid_small : length mid < 2 ^ 32) where
+  module _ {mid : List Node} {first left : ℕ} (cuts : (can : HasRoots old links.left) → Rises rank can.list → IsCut mid rank can.list can.others first left) (mid_small : length mid < 2 ^ 32) where
+    abbrev first_cut : IsCut mid rank m.left (root m.right ∷ root m.carry ∷ root m.done ∷ others) first left
+    first_cut = cuts left_list m.left_rises
+
     abbrev pub right_list : HasRoots mid links.right
     right_list = record {
       list = m.right;
-      others = root d.first ∷ root d.rest ∷ root m.carry ∷ root m.done ∷ others;
+      others = root first_cut.first ∷ root first_cut.rest ∷ root m.carry ∷ root m.done ∷ others;
       link_is = m.right_is;
       small = mid_small;
       parts = record {
-        stand = (d.parts.stand.1.1.0, (d.parts.stand.0, (d.parts.stand.1.0, d.parts.stand.1.1.1)));
-        once = λ i. omega (arith, d.parts.once i);
+        stand = (first_cut.parts.stand.1.1.0, (first_cut.parts.stand.0, (first_cut.parts.stand.1.0, first_cut.parts.stand.1.1.1)));
+        once = λ i. omega (arith, first_cut.parts.once i);
       };
     }
 
-    module _ {next : List Node} {second right : ℕ} (e : IsCut next rank m.right (root d.first ∷ root d.rest ∷ root m.carry ∷ root m.done ∷ others) second right) (next_small : length next < 2 ^ 32) where
+    module _ {next : List Node} {second right : ℕ} (cuts_next : (can : HasRoots mid links.right) → Rises rank can.list → IsCut next rank can.list can.others second right)
+        (next_small : length next < 2 ^ 32) where
+      abbrev second_cut : IsCut next rank m.right (root first_cut.first ∷ root first_cut.rest ∷ root m.carry ∷ root m.done ∷ others) second right
+      second_cut = cuts_next right_list m.right_rises
+
       abbrev pub three_trees : HasThreeTrees next rank first second links.carry
       three_trees = record {
-        first = d.first;
-        second = e.first;
+        first = first_cut.first;
+        second = second_cut.first;
         third = m.carry;
-        others = root d.rest ∷ root e.rest ∷ root m.done ∷ others;
-        first_is = d.first_is;
-        second_is = e.first_is;
+        others = root first_cut.rest ∷ root second_cut.rest ∷ root m.done ∷ others;
+        first_is = first_cut.first_is;
+        second_is = second_cut.first_is;
         third_is = m.carry_is;
-        first_tree = d.first_tree;
-        second_tree = e.first_tree;
+        first_tree = first_cut.first_tree;
+        second_tree = second_cut.first_tree;
         third_tree = m.carry_tree;
         small = next_small;
-        parts = let s = e.parts.stand in record {
+        parts = let s = second_cut.parts.stand in record {
           stand = (s.1.1.0, (s.0, (s.1.1.1.1.0, (s.1.1.1.0, (s.1.0, s.1.1.1.1.1)))));
-          once = λ i. omega (arith, e.parts.once i);
+          once = λ i. omega (arith, second_cut.parts.once i);
         };
       }
 
       module _ {last : List Node} {sum carry : ℕ} {after : Counts}
-          (a : IsAdded last rank (root d.first ∷ root e.first ∷ root m.carry ∷ []) (root d.rest ∷ root e.rest ∷ root m.done ∷ others) sum carry between after)
+          (adds : (can : HasThreeTrees next rank first second links.carry) →
+          IsAdded last rank (root can.first ∷ root can.second ∷ root can.third ∷ []) can.others sum carry between after)
           (last_small : length last < 2 ^ 32) where
+        abbrev added : IsAdded last rank (root first_cut.first ∷ root second_cut.first ∷ root m.carry ∷ []) (root first_cut.rest ∷ root second_cut.rest ∷ root m.done ∷ others) sum carry between after
+        added = adds three_trees
+
         abbrev pub tree_and_done : HasTwo last sum links.done
         tree_and_done = record {
-          first = a.sum;
+          first = added.sum;
           second = m.done;
-          others = root a.carry ∷ root d.rest ∷ root e.rest ∷ others;
-          first_is = a.sum_is;
+          others = root added.carry ∷ root first_cut.rest ∷ root second_cut.rest ∷ others;
+          first_is = added.sum_is;
           second_is = m.done_is;
           small = last_small;
-          parts = let s = a.parts.stand in record {
+          parts = let s = added.parts.stand in record {
             stand = (s.0, (s.1.1.1.1.0, (s.1.0, (s.1.1.0, (s.1.1.1.0, s.1.1.1.1.1)))));
-            once = λ i. omega (arith, a.parts.once i);
+            once = λ i. omega (arith, added.parts.once i);
           };
         }
 
-        module _ {new : List Node} {done : ℕ} (p : IsPushed new rank a.sum m.done (root a.carry ∷ root d.rest ∷ root e.rest ∷ others) done) (new_small : length new < 2 ^ 32) where
-          kept_all : (w : ℕ → Priority → ℕ) → weigh w d.rest + (weigh w e.rest + (weigh w a.carry + weigh w p.list)) ≡ weigh w x + weigh w y
-          kept_all w = omega (arith, m.kept w, d.kept w, e.kept w, a.kept w, p.kept w)
+        module _ {new : List Node} {done : ℕ}
+            (pushes : (can : HasTwo last sum links.done) (r : ℕ) → IsTreeOrNone r can.first → Sinks r can.second → IsPushed new r can.first can.second can.others done)
+            (new_small : length new < 2 ^ 32) where
+          abbrev pushed : IsPushed new rank added.sum m.done (root added.carry ∷ root first_cut.rest ∷ root second_cut.rest ∷ others) done
+          pushed = pushes tree_and_done rank added.sum_tree m.done_sinks
 
-          no_less : size m.carry + size m.done ≤ size a.carry + size p.list
-          no_less = omega (arith, d.kept one_each, e.kept one_each, a.kept one_each, p.kept one_each)
-
-          uncarried : a.carry ≡ none → IsMerging new (rank + 1) x y others (record { left = left; right = right; carry = carry; done = done }) before after
-          uncarried e0 = record {
-            left = d.rest;
-            right = e.rest;
-            carry = a.carry;
-            done = p.list;
-            left_is = d.rest_is;
-            right_is = e.rest_is;
-            carry_is = a.carry_is;
-            done_is = p.list_is;
-            left_rises = d.rises;
-            right_rises = e.rises;
-            carry_tree = a.carry_tree;
-            done_sinks = p.sinks;
+          -- after n comparisons, all paid for
+          added_by : (n : ℕ) → n ≤ rank + 1 → (n ≡ 0) ⊎ (2 ^ n ≤ size added.carry + size pushed.list) → after.compared ≤ before.compared + n →
+              IsMerging new (rank + 1) x y others (record { left = left; right = right; carry = carry; done = done }) before after
+          added_by n low paid compared = record {
+            left = first_cut.rest;
+            right = second_cut.rest;
+            carry = added.carry;
+            done = pushed.list;
+            left_is = first_cut.rest_is;
+            right_is = second_cut.rest_is;
+            carry_is = added.carry_is;
+            done_is = pushed.list_is;
+            left_rises = first_cut.rises;
+            right_rises = second_cut.rises;
+            carry_tree = added.carry_tree;
+            done_sinks = pushed.sinks;
             small = new_small;
-            parts = let s = p.parts.stand in record {
+            parts = let s = pushed.parts.stand in record {
               stand = (s.1.1.0, (s.1.1.1.0, (s.1.0, (s.0, s.1.1.1.1))));
-              once = λ i. omega (arith, p.parts.once i);
+              once = λ i. omega (arith, pushed.parts.once i);
             };
-            kept = kept_all;
-            made = m.made;
-            made_low = omega (arith, m.made_low);
-            made_paid = ⊎_elim (λ h. inl h) (λ h. inr (omega (arith, no_less))) m.made_paid;
-            compared = omega (arith, m.compared, a.compared, ap some e0);
-            slots = a.slots ∙ m.slots;
+            kept = λ w. omega (arith, m.kept w, first_cut.kept w, second_cut.kept w, added.kept w, pushed.kept w);
+            made = n;
+            made_low = low;
+            made_paid = paid;
+            compared = compared;
+            slots = added.slots ∙ m.slots;
           }
 
-          carried : size a.carry ≡ 2 ^ (rank + 1) → some a.carry ≤ 1 → IsMerging new (rank + 1) x y others (record { left = left; right = right; carry = carry; done = done }) before after
-          carried full one = record {
-            left = d.rest;
-            right = e.rest;
-            carry = a.carry;
-            done = p.list;
-            left_is = d.rest_is;
-            right_is = e.rest_is;
-            carry_is = a.carry_is;
-            done_is = p.list_is;
-            left_rises = d.rises;
-            right_rises = e.rises;
-            carry_tree = a.carry_tree;
-            done_sinks = p.sinks;
-            small = new_small;
-            parts = let s = p.parts.stand in record {
-              stand = (s.1.1.0, (s.1.1.1.0, (s.1.0, (s.0, s.1.1.1.1))));
-              once = λ i. omega (arith, p.parts.once i);
-            };
-            kept = kept_all;
-            made = m.made + 1;
-            made_low = omega (arith, m.made_low);
-            made_paid = let le : m.made + 1 ≤ rank + 1 = omega (arith, m.made_low) in inr (omega (arith, pow_mono le, full));
-            compared = omega (arith, m.compared, a.compared, one);
-            slots = a.slots ∙ m.slots;
-          }
+          no_less : size m.carry + size m.done ≤ size added.carry + size pushed.list
+          no_less = omega (arith, first_cut.kept one_each, second_cut.kept one_each, added.kept one_each, pushed.kept one_each)
 
+          -- where a tree is carried it cost a comparison, and pays for it
           pub rank_added : IsMerging new (rank + 1) x y others (record { left = left; right = right; carry = carry; done = done }) before after
-          rank_added = ⊎_elim (λ h. uncarried h) (λ h. carried h (some-le a.carry)) (size_from_tree (rank + 1) a.carry a.carry_tree)
+          rank_added =
+              ⊎_elim
+              (λ empty. added_by m.made (omega (arith, m.made_low)) (⊎_elim (λ h. inl h) (λ h. inr (omega (arith, no_less))) m.made_paid)
+              (omega (arith, m.compared, added.compared, ap some empty)))
+              (λ full.
+              let le : m.made + 1 ≤ rank + 1 = omega (arith, m.made_low) in
+              added_by (m.made + 1) le (inr (omega (arith, pow_mono le, full))) (omega (arith, m.compared, added.compared, some-le added.carry)))
+              (size_from_tree (rank + 1) added.carry added.carry_tree)
 
 -- ---- turning a list round
 
 pub rises_less : (r s : ℕ) (f : Forest) → s ≤ r → Rises r f → Rises s f
 rises_less r s none le h = tt
 rises_less r s (tree at key rank kids rest) le h = (omega (arith, h.0), h.1, h.2)
-
-pub turn_parts : (nodes : List Node) (up at : ℕ) (key : Priority) (rank : ℕ) (kids rest turned : Forest) (ps : List Part) →
-    Parts nodes ((up, tree at key rank kids rest) ∷ root turned ∷ ps) →
-    Parts (relinked nodes at (head turned)) ((up, rest) ∷ root (tree at key rank kids turned) ∷ ps)
-turn_parts nodes up at key rank kids rest turned ps parts =
-    let s = parts.stand.0 in
-    let v : Node = record (node_at nodes at) { parent = nowhere; sibling = head turned } in
-    let u = unused_elsewhere nodes up at key rank kids rest (root turned ∷ ps) parts in
-    record {
-      stand = (
-        stands-set nodes at v up rest u.1 s.3,
-        (
-          (
-            omega (arith, s.0, length-set nodes at v),
-            get_or-set_same nodes at v no_node s.0 ∙ ap (λ (n : Node). record n { parent = nowhere; sibling = head turned }) s.1,
-            stands-set nodes at v at kids u.0 s.2,
-            stands-set nodes at v nowhere turned (omega (arith, u.2)) parts.stand.1.0,
-          ),
-          stand_all-set nodes at v ps (omega (arith, u.2)) parts.stand.1.1,
-        ),
-      );
-      once = λ i. omega (arith, parts.once i);
-    }
 
 pub turn_begun : (nodes : List Node) (link : ℕ) (can : CanTurn nodes link) → IsTurning nodes can.up can.list can.others link nowhere 0
 turn_begun nodes link can = record {
