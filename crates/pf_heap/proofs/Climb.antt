@@ -10,13 +10,13 @@ use Rattle.pf_heap.specs.Memory.{no_node, node_at, Stands, Part, root, Parts}
 use Rattle.pf_heap.specs.Invariant.{misplaced}
 use Rattle.pf_heap.specs.Hoist.{pushed, lowered, with_upper_key, IsClimbing, CanHoist, IsHoisting}
 use Rattle.pf_heap.proofs.Forests.{same-self, same-other, equal_from_same}
-use Rattle.pf_heap.proofs.Standing.{stand_all-set}
+use Rattle.pf_heap.proofs.Standing.{head_within, stand_all-set}
 use Rattle.pf_heap.proofs.Weights.{sizes-le-length}
 use Rattle.pf_order.specs.Counts.{Counts}
 use Rattle.pf_heap.specs.Pops.{HasHeap, CanPop, IsPopped}
 use Rattle.pf_heap.specs.Hoist.{IsLooking, CanCut, IsCutOut}
 use Rattle.pf_heap.proofs.Forests.{size_from_rises, weigh-le}
-use Rattle.pf_heap.proofs.Sums.{rises_less}
+use Rattle.pf_heap.proofs.Sums.{none_from_link, rises_less}
 use Rattle.pf_heap.proofs.Lower.{parent_in, parent_stands_in, node_within, node_weighs, rank_of_rises, inner_parent, IsRootIn, root_with_no_parent, lowered_rises, head-lowered, head-pushed, lowered_places, lowered_weighs, is_node, hit, miss}
 
 -- ---- climbing
@@ -81,12 +81,21 @@ module _ (nodes : List Node) (heap : Forest) (at link next steps : ℕ) (small :
   pub look_found : link ≡ at → IsLooking nodes heap at link steps → 1 ≤ weigh (at_place at) heap
   look_found here t = found_by here t.rest t.rest_is t.into
 
-pub look_missed : (nodes : List Node) (heap : Forest) (at link steps : ℕ) (t : IsLooking nodes heap at link steps) → t.rest ≡ none → 1 ≤ weigh (at_place at) heap → ⊥
-look_missed nodes heap at link steps t done h = absurd (omega (arith, t.out h, ap (λ f. weigh (at_place at) f) done))
+module _ {nodes : List Node} {heap : Forest} {at rest_link steps : ℕ} (t : IsLooking nodes heap at rest_link steps) where
+  pub looking_within : rest_link ≢ nowhere → rest_link < length nodes
+  looking_within some = head_within nodes nowhere t.rest rest_link t.stands t.rest_is some
 
-pub look_ended : (nodes : List Node) (heap : Forest) (others : List Part) (at link : ℕ) → length nodes < 2 ^ 32 → Parts nodes (root heap ∷ others) → (t : IsLooking nodes heap at link 32) → t.rest ≡ none
-look_ended nodes heap others at link small parts t =
-    ⊎_elim (λ h. h) (λ h. absurd (omega (arith, t.smaller, sizes-le-length nodes (root heap ∷ others) parts))) (size_from_rises 32 t.rest t.rises)
+  missed_by : t.rest ≡ none → 1 ≤ weigh (at_place at) heap → ⊥
+  missed_by done h = absurd (omega (arith, t.out h, ap (λ f. weigh (at_place at) f) done))
+
+  -- at the end of the roots, and after as many steps as there are ranks
+  pub missed_out : length nodes < 2 ^ 32 → rest_link ≡ nowhere → 1 ≤ weigh (at_place at) heap → ⊥
+  missed_out small out = missed_by (none_from_link nodes nowhere rest_link t.rest small t.stands t.rest_is out)
+
+  pub missed_all : {others : List Part} → 32 ≤ steps → length nodes < 2 ^ 32 → Parts nodes (root heap ∷ others) → 1 ≤ weigh (at_place at) heap → ⊥
+  missed_all {others} all small parts =
+      missed_by
+      (⊎_elim (λ h. h) (λ h. absurd (omega (arith, h, pow_mono all, t.smaller, sizes-le-length nodes (root heap ∷ others) parts))) (size_from_rises steps t.rest t.rises))
 
 -- ---- one node down
 

@@ -13,10 +13,10 @@ use Rattle.pf_heap.specs.Memory.{no_node, node_at, Stands, Part, root, Parts, re
 use Rattle.pf_heap.specs.Steps.{CanTurn, IsTurned, HasTwoHeaps, IsMerged}
 use Rattle.pf_heap.specs.Pops.{roots, IsEarlier, IsSeeking, IsLeastRoot, HasHeapAndRoot, IsParting, IsParted, released, CanPop, IsPopped}
 use Rattle.pf_heap.proofs.Forests.{same-self, double, size_from_falls, size_from_rises, below-trans, below-itself, below_from_precedes, all_below-trans, all_below_from_falls}
-use Rattle.pf_heap.proofs.Standing.{stands-set, stand_all-set, turn_parts, cut_parts}
+use Rattle.pf_heap.proofs.Standing.{head_within, stands-set, stand_all-set, turn_parts, cut_parts}
 use Rattle.pf_heap.proofs.Steps.{sinks_more}
 use Rattle.pf_heap.proofs.Weights.{sizes-le-length}
-use Rattle.pf_heap.proofs.Sums.{rises_less}
+use Rattle.pf_heap.proofs.Sums.{none_from_link, rises_less}
 
 -- ---- roots
 
@@ -158,22 +158,29 @@ module _ (nodes : List Node) (heap : Forest) (best result link next steps : ℕ)
   pub seek_step : IsSeeking nodes heap best link steps before between → IsSeeking nodes heap result next (steps + 1) before after
   seek_step t = seek_by t.rest t.key t.rank t.kids t.rest_is t.stands t.rises t.smaller t.has t.into t.closes t.compared t.slots
 
-pub seek_done : (nodes : List Node) (heap : Forest) (best rest_link steps : ℕ) (before after : Counts) (t : IsSeeking nodes heap best rest_link steps before after) →
-    t.rest ≡ none → IsLeastRoot heap best before after
-seek_done nodes heap best rest_link steps before after t done = record {
-  key = t.key;
-  rank = t.rank;
-  kids = t.kids;
-  has = t.has;
-  least = t.closes t.key (below-itself t.key) (subst (λ f. AllBelow t.key f) (sym done) tt);
-  compared = omega (arith, t.compared);
-  slots = t.slots;
-}
+module _ {nodes : List Node} {heap : Forest} {best rest_link steps : ℕ} {before after : Counts} (t : IsSeeking nodes heap best rest_link steps before after) where
+  pub seeking_within : rest_link ≢ nowhere → rest_link < length nodes
+  seeking_within some = head_within nodes nowhere t.rest rest_link t.stands t.rest_is some
 
-pub seek_ended : (nodes : List Node) (heap : Forest) (others : List Part) (best rest_link : ℕ) (before after : Counts) → length nodes < 2 ^ 32 → Parts nodes (root heap ∷ others) →
-    (t : IsSeeking nodes heap best rest_link 32 before after) → t.rest ≡ none
-seek_ended nodes heap others best rest_link before after small parts t =
-    ⊎_elim (λ h. h) (λ h. absurd (omega (arith, t.smaller, sizes-le-length nodes (root heap ∷ others) parts))) (size_from_rises 32 t.rest t.rises)
+  found_by : t.rest ≡ none → IsLeastRoot heap best before after
+  found_by done = record {
+    key = t.key;
+    rank = t.rank;
+    kids = t.kids;
+    has = t.has;
+    least = t.closes t.key (below-itself t.key) (subst (λ f. AllBelow t.key f) (sym done) tt);
+    compared = omega (arith, t.compared);
+    slots = t.slots;
+  }
+
+  -- at the end of the roots, and after as many steps as there are ranks
+  pub found_out : length nodes < 2 ^ 32 → rest_link ≡ nowhere → IsLeastRoot heap best before after
+  found_out small out = found_by (none_from_link nodes nowhere rest_link t.rest small t.stands t.rest_is out)
+
+  pub found_all : {others : List Part} → 32 ≤ steps → length nodes < 2 ^ 32 → Parts nodes (root heap ∷ others) → IsLeastRoot heap best before after
+  found_all {others} all small parts =
+      found_by
+      (⊎_elim (λ h. h) (λ h. absurd (omega (arith, h, pow_mono all, t.smaller, sizes-le-length nodes (root heap ∷ others) parts))) (size_from_rises steps t.rest t.rises))
 
 -- ---- cutting a root out
 
@@ -278,28 +285,37 @@ sinks_bounded bound none h le = tt
 sinks_bounded bound (tree at key rank kids rest) h le =
     (⊎_elim (λ lt. lt) (λ ge. absurd (omega (arith, pow_mono ge, le, size_from_falls key rank kids h.1))) (cases_lt rank 32), h.1, h.2)
 
-pub part_done : (nodes : List Node) (heap : Forest) (others : List Part) (at : ℕ) (key : Priority) (rank : ℕ) (kids : Forest) (rest_link stay_link steps : ℕ) →
-    length nodes < 2 ^ 32 → (t : IsParting nodes heap others at key rank kids rest_link stay_link steps) →
-    t.rest ≡ none → IsParted nodes heap others at key rank kids stay_link
-part_done nodes heap others at key rank kids rest_link stay_link steps small t done =
-    let all = sizes-le-length nodes (root t.rest ∷ root t.stay ∷ root t.alone ∷ others) t.parts in
-    let p : Parts nodes (root none ∷ root t.stay ∷ root t.alone ∷ others) = subst (λ f. Parts nodes (root f ∷ root t.stay ∷ root t.alone ∷ others)) done t.parts in
-    let no_root : (f : Forest) → f ≡ none → HasRoot at key rank kids f → t.alone ≡ tree at key rank kids none =
-    λ f e h. absurd (omega (arith, root_used at key rank kids f h, ap (λ g. weigh (at_place at) g) e)) in
-    let alone : t.alone ≡ tree at key rank kids none = ⊎_elim (λ h. no_root t.rest done h.1) (λ h. h) t.alone_is in
-    let q : Parts nodes (root none ∷ root t.stay ∷ root (tree at key rank kids none) ∷ others) = subst (λ f. Parts nodes (root none ∷ root t.stay ∷ root f ∷ others)) alone p in
-    record {
-      stay = t.stay;
-      stay_is = t.stay_is;
-      sinks = sinks_bounded t.bound t.stay t.sinks (omega (arith, all));
-      parts = record { stand = q.stand.1; once = λ i. omega (arith, q.once i) };
-      kept = λ w. omega (arith, t.kept w, ap (λ f. weigh w f) done, ap (λ f. weigh w f) alone);
-    }
+module _ {nodes : List Node} {heap : Forest} {others : List Part} {at : ℕ} {key : Priority} {rank : ℕ} {kids : Forest} {rest_link stay_link steps : ℕ}
+    (t : IsParting nodes heap others at key rank kids rest_link stay_link steps) where
+  pub parting_within : rest_link ≢ nowhere → rest_link < length nodes
+  parting_within some = head_within nodes nowhere t.rest rest_link t.parts.stand.0 t.rest_is some
 
-pub part_ended : (nodes : List Node) (heap : Forest) (others : List Part) (at : ℕ) (key : Priority) (rank : ℕ) (kids : Forest) (rest_link stay_link : ℕ) →
-    length nodes < 2 ^ 32 → (t : IsParting nodes heap others at key rank kids rest_link stay_link 32) → t.rest ≡ none
-part_ended nodes heap others at key rank kids rest_link stay_link small t =
-    ⊎_elim (λ h. h) (λ h. absurd (omega (arith, pow_mono t.low, sizes-le-length nodes (root t.rest ∷ root t.stay ∷ root t.alone ∷ others) t.parts))) (size_from_rises t.bound t.rest t.rises)
+  parted_by : length nodes < 2 ^ 32 → t.rest ≡ none → IsParted nodes heap others at key rank kids stay_link
+  parted_by small done =
+      let all = sizes-le-length nodes (root t.rest ∷ root t.stay ∷ root t.alone ∷ others) t.parts in
+      let p : Parts nodes (root none ∷ root t.stay ∷ root t.alone ∷ others) = subst (λ f. Parts nodes (root f ∷ root t.stay ∷ root t.alone ∷ others)) done t.parts in
+      let no_root : (f : Forest) → f ≡ none → HasRoot at key rank kids f → t.alone ≡ tree at key rank kids none =
+      λ f e h. absurd (omega (arith, root_used at key rank kids f h, ap (λ g. weigh (at_place at) g) e)) in
+      let alone : t.alone ≡ tree at key rank kids none = ⊎_elim (λ h. no_root t.rest done h.1) (λ h. h) t.alone_is in
+      let q : Parts nodes (root none ∷ root t.stay ∷ root (tree at key rank kids none) ∷ others) = subst (λ f. Parts nodes (root none ∷ root t.stay ∷ root f ∷ others)) alone p in
+      record {
+        stay = t.stay;
+        stay_is = t.stay_is;
+        sinks = sinks_bounded t.bound t.stay t.sinks (omega (arith, all));
+        parts = record { stand = q.stand.1; once = λ i. omega (arith, q.once i) };
+        kept = λ w. omega (arith, t.kept w, ap (λ f. weigh w f) done, ap (λ f. weigh w f) alone);
+      }
+
+  -- at the end of the roots, and after as many steps as there are ranks
+  pub parted_out : length nodes < 2 ^ 32 → rest_link ≡ nowhere → IsParted nodes heap others at key rank kids stay_link
+  parted_out small out = parted_by small (none_from_link nodes nowhere rest_link t.rest small t.parts.stand.0 t.rest_is out)
+
+  pub parted_all : 32 ≤ steps → length nodes < 2 ^ 32 → IsParted nodes heap others at key rank kids stay_link
+  parted_all all small =
+      let le : 32 ≤ t.bound = omega (arith, t.low, all) in
+      parted_by small
+      (⊎_elim (λ h. h) (λ h. absurd (omega (arith, h, pow_mono le, sizes-le-length nodes (root t.rest ∷ root t.stay ∷ root t.alone ∷ others) t.parts)))
+      (size_from_rises t.bound t.rest t.rises))
 
 -- ---- a root is out of its heap and free
 

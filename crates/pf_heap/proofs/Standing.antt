@@ -1,6 +1,7 @@
 -- Forests in memory.
-use Rattle.std.proofs.Common.{◌≡◌, ◌≢◌, ℕ, ◌+◌, ◌^◌, ◌<◌, List, [], ◌∷◌, length, set, refl, ap, ◌∙◌, arith, get_or-set_same, get_or-set_other}
+use Rattle.std.proofs.Common.{◌≡◌, ◌≢◌, ℕ, ◌+◌, ◌^◌, ◌<◌, List, [], ◌∷◌, length, get_or, set, refl, ap, ◌∙◌, arith, get_or-set_same, get_or-set_other}
 use Rattle.std.proofs.Math.ListN.{length-set}
+use Rattle.std.proofs.lemmas.List.{get_or_default}
 use Rattle.pf_order.specs.Priority.{Priority}
 use Rattle.pf_heap.specs.declared.node.Node.{Node}
 use Rattle.pf_heap.specs.Forest.{Forest, none, tree, nowhere, head, weigh, same, at_place}
@@ -35,6 +36,10 @@ head_within nodes up (tree at key rank kids rest) x s e some = omega (arith, e, 
 pub head_somewhere : (nodes : List Node) (up : ℕ) (f : Forest) → length nodes < 2 ^ 32 → Stands nodes up f → f ≢ none → head f < nowhere
 head_somewhere nodes up none small s some = absurd (some refl)
 head_somewhere nodes up (tree at key rank kids rest) small s some = omega (arith, s.0)
+
+-- a link that was read
+pub sibling_at : (nodes : List Node) (i : ℕ) (d : Node) → i < length nodes → (get_or nodes i d).sibling ≡ (node_at nodes i).sibling
+sibling_at nodes i d within = ap (λ (n : Node). n.sibling) (get_or_default nodes i d no_node within)
 
 -- ---- what the parts of memory are in no order
 

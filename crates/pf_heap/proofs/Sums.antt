@@ -10,7 +10,7 @@ use Rattle.pf_heap.specs.Forest.{Forest, none, tree, nowhere, head, weigh, one_e
 use Rattle.pf_heap.specs.Memory.{node_at, Stands, Part, root, Parts, relinked}
 use Rattle.pf_heap.specs.Steps.{HasRoots, HasTwo, HasTwoTrees, HasThreeTrees, IsCut, IsAdded, IsPushed, IsMerging, CanAddRank, HasTwoHeaps, IsMerged, CanTurn, IsTurning, IsTurned}
 use Rattle.pf_heap.proofs.Forests.{double, size_from_tree, size_from_rises}
-use Rattle.pf_heap.proofs.Standing.{turn_parts}
+use Rattle.pf_heap.proofs.Standing.{turn_parts, head_within}
 use Rattle.pf_heap.proofs.Weights.{sizes-le-length}
 
 pub none_from_link : (nodes : List Node) (up link : ℕ) (f : Forest) → length nodes < 2 ^ 32 → Stands nodes up f → link ≡ head f → link ≡ nowhere → f ≡ none
@@ -267,21 +267,27 @@ pub sunk : (f : Forest) → Sinks 0 f → f ≡ none
 sunk none h = refl
 sunk (tree at key rank kids rest) h = absurd (omega (arith, h.0))
 
-pub turn_done : (nodes : List Node) (up : ℕ) (list : Forest) (others : List Part) (rest_link turned_link steps : ℕ) (t : IsTurning nodes up list others rest_link turned_link steps) →
-    t.rest ≡ none → IsTurned nodes list others turned_link
-turn_done nodes up list others rest_link turned_link steps t done = record {
-  heap = t.turned;
-  heap_is = t.turned_is;
-  rises = rises_less t.bound 0 t.turned (omega arith) t.rises;
-  parts = record { stand = t.parts.stand.1; once = λ i. omega (arith, t.parts.once i) };
-  kept = λ w. omega (arith, t.kept w, ap (λ f. weigh w f) done);
-}
+module _ {nodes : List Node} {up : ℕ} {list : Forest} {others : List Part} {rest_link turned_link steps : ℕ} (t : IsTurning nodes up list others rest_link turned_link steps) where
+  pub turning_within : rest_link ≢ nowhere → rest_link < length nodes
+  turning_within some = head_within nodes up t.rest rest_link t.parts.stand.0 t.rest_is some
 
-pub turn_ended : (nodes : List Node) (up : ℕ) (list : Forest) (others : List Part) (rest_link turned_link : ℕ) (t : IsTurning nodes up list others rest_link turned_link 32) →
-    t.rest ≡ none
-turn_ended nodes up list others rest_link turned_link t =
-    let zero_bound : t.bound ≡ 0 = omega (arith, t.low) in
-    sunk t.rest (subst (λ b. Sinks b t.rest) zero_bound t.sinks)
+  turned_by : t.rest ≡ none → IsTurned nodes list others turned_link
+  turned_by done = record {
+    heap = t.turned;
+    heap_is = t.turned_is;
+    rises = rises_less t.bound 0 t.turned (omega arith) t.rises;
+    parts = record { stand = t.parts.stand.1; once = λ i. omega (arith, t.parts.once i) };
+    kept = λ w. omega (arith, t.kept w, ap (λ f. weigh w f) done);
+  }
+
+  -- at the end of the list, and after as many steps as there are ranks
+  pub turned_out : length nodes < 2 ^ 32 → rest_link ≡ nowhere → IsTurned nodes list others turned_link
+  turned_out small out = turned_by (none_from_link nodes up rest_link t.rest small t.parts.stand.0 t.rest_is out)
+
+  pub turned_all : 32 ≤ steps → IsTurned nodes list others turned_link
+  turned_all all =
+      let zero_bound : t.bound ≡ 0 = omega (arith, t.low, all) in
+      turned_by (sunk t.rest (subst (λ b. Sinks b t.rest) zero_bound t.sinks))
 
 -- ---- the whole merge
 
@@ -314,18 +320,18 @@ abbrev pub still_merging : {nodes : List Node} {x y : Forest} {others : List Par
     IsMerging nodes rank x y others links before after → CanAddRank nodes rank links after
 still_merging {x = x} {y = y} {others = others} {before = before} m = record { x = x; y = y; others = others; before = before; now = m }
 
-module _ {nodes : List Node} {x y : Forest} {others : List Part} {links : Sum} {before after : Counts} (m : IsMerging nodes 32 x y others links before after) where
+module _ {nodes : List Node} {x y : Forest} {others : List Part} {links : Sum} {rank : ℕ} {before after : Counts} (m : IsMerging nodes rank x y others links before after) (all : rank ≡ 32) where
   bounded : size m.left + (size m.right + (size m.carry + size m.done)) < 2 ^ 32
   bounded = omega (arith, sizes-le-length nodes _ m.parts, m.small)
 
   left_empty : m.left ≡ none
-  left_empty = ⊎_elim (λ h. h) (λ h. absurd (omega (arith, bounded))) (size_from_rises 32 m.left m.left_rises)
+  left_empty = ⊎_elim (λ h. h) (λ h. absurd (omega (arith, bounded, ap (λ r. 2 ^ r) all))) (size_from_rises rank m.left m.left_rises)
 
   right_empty : m.right ≡ none
-  right_empty = ⊎_elim (λ h. h) (λ h. absurd (omega (arith, bounded))) (size_from_rises 32 m.right m.right_rises)
+  right_empty = ⊎_elim (λ h. h) (λ h. absurd (omega (arith, bounded, ap (λ r. 2 ^ r) all))) (size_from_rises rank m.right m.right_rises)
 
   carry_empty : m.carry ≡ none
-  carry_empty = ⊎_elim (λ h. h) (λ h. absurd (omega (arith, bounded))) (size_from_tree 32 m.carry m.carry_tree)
+  carry_empty = ⊎_elim (λ h. h) (λ h. absurd (omega (arith, bounded, ap (λ r. 2 ^ r) all))) (size_from_tree rank m.carry m.carry_tree)
 
   abbrev pub can_turn : CanTurn nodes links.done
   can_turn = record {
@@ -333,13 +339,14 @@ module _ {nodes : List Node} {x y : Forest} {others : List Part} {links : Sum} {
     list = m.done;
     others = others;
     link_is = m.done_is;
-    sinks = m.done_sinks;
+    sinks = subst (λ r. Sinks r m.done) all m.done_sinks;
     small = m.small;
     parts = record { stand = let s = m.parts.stand in (s.1.1.1.0, s.1.1.1.1); once = λ i. omega (arith, m.parts.once i) };
   }
 
-  pub merged : (new : List Node) (link : ℕ) → IsTurned new m.done others link → IsMerged new x y others link before after
-  merged new link t =
+  pub merged : {new : List Node} {link : ℕ} → ((c : CanTurn nodes links.done) → IsTurned new c.list c.others link) → IsMerged new x y others link before after
+  merged turns =
+      let t = turns can_turn in
       let only_done : (w : ℕ → Priority → ℕ) → weigh w m.done ≡ weigh w x + weigh w y =
       λ w. omega (arith, m.kept w, ap (λ f. weigh w f) left_empty, ap (λ f. weigh w f) right_empty, ap (λ f. weigh w f) carry_empty) in
       record {

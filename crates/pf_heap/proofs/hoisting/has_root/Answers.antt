@@ -1,24 +1,13 @@
-use Rattle.std.proofs.Common.{◌≡◌, refl, ap, subst, arith}
-use Rattle.std.proofs.lemmas.List.{get_or_default}
-use Rattle.pf_heap.specs.declared.node.Node.{Node}
-use Rattle.pf_heap.specs.Forest.{nowhere}
-use Rattle.pf_heap.specs.Memory.{no_node}
-use Rattle.pf_heap.specs.Hoist.{IsLooking}
-use Rattle.pf_heap.proofs.Standing.{head_within}
-use Rattle.pf_heap.proofs.Sums.{none_from_link}
-use Rattle.pf_heap.proofs.Climb.{look_begun, look_step, look_found, look_missed, look_ended}
+use Rattle.std.proofs.Common.{refl, arith}
+use Rattle.pf_heap.proofs.Standing.{sibling_at}
+use Rattle.pf_heap.proofs.Climb.{look_begun, look_step, look_found, looking_within, missed_out, missed_all}
 use Rattle.pf_heap.proofs.hoisting.has_root.Goals as goal
 
 pub loop-step-init : goal.loop-step-init
 loop-step-init c = λ can. look_begun _ _ _ can
 
 pub returns-then-rest : goal.returns-then-rest
-returns-then-rest c = λ can.
-    let t = c.loop-step.invariant can in (
-      λ h. cc,
-      λ h. absurd (look_missed c.args.nodes.now can.heap _ _ c.loop-step.step t
-          (none_from_link c.args.nodes.now nowhere _ t.rest can.small t.stands t.rest_is c.if-rest.true) h),
-    )
+returns-then-rest c = λ can. (λ h. cc, λ h. absurd (missed_out (c.loop-step.invariant can) can.small c.if-rest.true h))
 
 pub returns-then-rest-at : goal.returns-then-rest-at
 returns-then-rest-at c = λ can.
@@ -28,24 +17,16 @@ returns-then-rest-at c = λ can.
     )
 
 pub bounds-nodes-rest : goal.bounds-nodes-rest
-bounds-nodes-rest c =
-    let t = c.loop-step.invariant c.requires.can in
-    head_within c.args.nodes.now nowhere t.rest _ t.stands t.rest_is c.if-rest.false
+bounds-nodes-rest c = looking_within (c.loop-step.invariant c.requires.can) c.if-rest.false
 
 pub bounds-nodes-rest-else-rest-at : goal.bounds-nodes-rest-else-rest-at
-bounds-nodes-rest-else-rest-at c =
-    let t = c.loop-step.invariant c.requires.can in
-    head_within c.args.nodes.now nowhere t.rest _ t.stands t.rest_is c.if-rest.false
+bounds-nodes-rest-else-rest-at c = looking_within (c.loop-step.invariant c.requires.can) c.if-rest.false
 
 pub loop-step-preserved : goal.loop-step-preserved
 loop-step-preserved c = λ can.
     let t = c.loop-step.invariant can in
-    let within = head_within c.args.nodes.now nowhere t.rest _ t.stands t.rest_is c.if-rest.false in
     look_step c.args.nodes.now can.heap c.args.at c.loop-step.rest _ c.loop-step.step can.small c.requires.root c.if-rest.false c.if-rest-at.false
-    (ap (λ (n : Node). n.sibling) (get_or_default c.args.nodes.now c.loop-step.rest c.index-nodes-rest.result no_node within)) t
+    (sibling_at c.args.nodes.now c.loop-step.rest c.index-nodes-rest.result (looking_within t c.if-rest.false)) t
 
 pub returns : goal.returns
-returns c = λ can.
-    let ended : c.loop-step.step ≡ 32 = omega arith in
-    let t = subst (λ s. IsLooking c.args.nodes.now can.heap c.args.at c.loop-step.rest s) ended (c.loop-step.invariant can) in
-    (λ h. cc, λ h. absurd (look_missed c.args.nodes.now can.heap _ _ 32 t (look_ended c.args.nodes.now can.heap can.others _ _ can.small can.parts t) h))
+returns c = λ can. (λ h. cc, λ h. absurd (missed_all (c.loop-step.invariant can) (omega arith) can.small can.parts h))
