@@ -8,6 +8,7 @@ use Rattle.pf_script.specs.declared.line.Opening.{Opening}
 use Rattle.pf_script.specs.declared.version.Version.{Version}
 use Rattle.pf_script.specs.Grammar.{horizon_of}
 use Rattle.pf_cli.specs.Meaning.{is_one_to, system_of}
+use Rattle.pf_timeline.specs.Checkpoints.{largest_distance}
 
 within_of : (most n : ℕ) → is_one_to most n ≡ true → (1 ≤ n) × (n ≤ most)
 within_of most n h =
@@ -19,22 +20,22 @@ is_within most n some few = rw (le-leb 1 n some, le-leb n most few) refl
 
 -- the four tests at once
 abbrev in_limits : Opening → Bool
-in_limits o = is_one_to 64 o.processors && is_one_to (2 ^ 30) o.base && is_one_to (2 ^ 44) o.cap && is_one_to 4096 o.every
+in_limits o = is_one_to 64 o.processors && is_one_to (2 ^ 30) o.base && is_one_to (2 ^ 44) o.cap && is_one_to largest_distance o.every
 
 pub record IsPassed (o : Opening) : Type 0 where
   pub limits : IsInLimits o.processors o.base o.cap
   pub every_some : 1 ≤ o.every
-  pub every_within : o.every ≤ 4096
+  pub every_within : o.every ≤ largest_distance
 
 passed_of : (o : Opening) → in_limits o ≡ true → IsPassed o
 passed_of o h =
-    let a = and_parts (is_one_to 64 o.processors && is_one_to (2 ^ 30) o.base && is_one_to (2 ^ 44) o.cap) (is_one_to 4096 o.every) h in
+    let a = and_parts (is_one_to 64 o.processors && is_one_to (2 ^ 30) o.base && is_one_to (2 ^ 44) o.cap) (is_one_to largest_distance o.every) h in
     let b = and_parts (is_one_to 64 o.processors && is_one_to (2 ^ 30) o.base) (is_one_to (2 ^ 44) o.cap) a.0 in
     let c = and_parts (is_one_to 64 o.processors) (is_one_to (2 ^ 30) o.base) b.0 in
     let m = within_of 64 o.processors c.0 in
     let h = within_of (2 ^ 30) o.base c.1 in
     let cap = within_of (2 ^ 44) o.cap b.1 in
-    let every = within_of 4096 o.every a.1 in
+    let every = within_of largest_distance o.every a.1 in
     record {
       limits = record {
         processors_some = m.0;
@@ -53,7 +54,7 @@ is_passed o p =
       is_within 64 o.processors p.limits.processors_some p.limits.processors_within,
       is_within (2 ^ 30) o.base p.limits.base.some p.limits.base.within,
       is_within (2 ^ 44) o.cap p.limits.cap_some p.limits.cap_within,
-      is_within 4096 o.every p.every_some p.every_within,
+      is_within largest_distance o.every p.every_some p.every_within,
     ) refl
 
 abbrev made : Version → Opening → System
@@ -70,7 +71,7 @@ system_refused version o never = by (in_limits o) (λ h. never (passed_of o h))
     by false never = refl
 
 -- Use: what the settings of an opening are, where the slots between checkpoints are within their limits.
-pub settings_are : {E : Type 0} (version : Version) (o : Opening) (r : Result System E) → 1 ≤ o.every → o.every ≤ 4096
+pub settings_are : {E : Type 0} (version : Version) (o : Opening) (r : Result System E) → 1 ≤ o.every → o.every ≤ largest_distance
     → (IsOk r ↔ IsInLimits o.processors o.base o.cap) → IfOk r (λ s. s ≡ made version o) → result_ok r ≡ system_of version o
 settings_are version o (Ok s) some few limits is =
     ap Some is ∙ sym (system_passed version o (record { limits = limits.0 refl; every_some = some; every_within = few }))

@@ -2,6 +2,7 @@
 use Rattle.std.specs.Prelude.{ℕ, ◌+◌, ◌^◌, Bool, ◌&&◌, nat_le, nat_lt, if◌then◌else◌, Option, None, Some, List, [], ◌∷◌, ◌++◌, codes, length, replicate}
 use Rattle.pf_scenario.specs.System.{System}
 use Rattle.pf_engine.specs.RunRows.{rows_in, denials_in}
+use Rattle.pf_timeline.specs.Checkpoints.{largest_distance}
 use Rattle.pf_desk.specs.declared.command.Command.{Command}
 use Rattle.pf_desk.specs.declared.command.Command.TheVariants as command
 use Rattle.pf_desk.specs.Machine.{State, opening_state, reply_to, state_after}
@@ -111,7 +112,7 @@ is_one_to most n = nat_le 1 n && nat_le n most
 -- the settings of an opening whose numbers are within their limits
 abbrev pub system_of : Version → Opening → Option System
 system_of version o =
-    if is_one_to 64 o.processors && is_one_to (2 ^ 30) o.base && is_one_to (2 ^ 44) o.cap && is_one_to 4096 o.every
+    if is_one_to 64 o.processors && is_one_to (2 ^ 30) o.base && is_one_to (2 ^ 44) o.cap && is_one_to largest_distance o.every
     then Some (record { processors = o.processors; base = o.base; cap = o.cap; horizon = horizon_of version })
     else None
 

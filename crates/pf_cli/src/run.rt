@@ -20,11 +20,9 @@ use pf_script::version::Version;
 use pf_stream::reading::read_script;
 use pf_stream::sink::Sink;
 use pf_stream::source::Source;
+use pf_timeline::timeline::LARGEST_DISTANCE;
 use pf_words::format::Format;
 use std::alloc::Global;
-
-// The most slots from one checkpoint to the next.
-const MOST_EVERY: u64 = 4096;
 
 /// Reads a whole script, carries it out, and writes its replies and its report in the format: what it writes, and how
 /// it ends, is what the script's bytes mean. Of a reader that has more than a script may, one byte more is taken. The
@@ -113,7 +111,7 @@ fn carry_out_from<W: Sink>(
 fn settings(version: Version, opening: Opening) -> Option<Settings>
     ensures { result ≡ system_of version opening }
 {
-    if opening.every == 0 || opening.every > MOST_EVERY {
+    if opening.every == 0 || opening.every > LARGEST_DISTANCE {
         return None;
     }
     let (m, h, cap) = (opening.processors, opening.base, opening.cap);

@@ -1,6 +1,7 @@
 ghost use Rattle.std.specs.Prelude.{◌≡◌, ◌-◌, ◌^◌, ◌<◌, ◌≤◌, ◌++◌, [], ◌∷◌, codes, replicate, IfOk, OnOk, OnErr};
 ghost use Rattle.std.specs.Io.KnownBytes.{Appends};
 ghost use Rattle.pf_desk.specs.declared.command.Command.TheVariants.{Step};
+ghost use Rattle.pf_timeline.specs.Checkpoints.{largest_distance};
 ghost use Rattle.pf_stream.specs.Lines.{TookAllBut, TookFront};
 ghost use Rattle.pf_cli.specs.Answers.{CountsOutput};
 ghost use Rattle.pf_cli.specs.Meaning.{shown, commands_of, seen_at, report_text};
@@ -45,7 +46,7 @@ impl Session {
         format: Format,
     ) -> Result<Self, AllocError>
         requires some { 1 ≤ every }
-        requires within { every ≤ 4096 }
+        requires within { every ≤ largest_distance }
         ensures { IfOk result (λ session. Opened settings format session) }
     {
         let desk = match Desk::open(alloc, settings, every) {
