@@ -56,7 +56,7 @@ fn changes_are_made_again(rt: HostRuntime) -> Result<(), Fail> {
     let first = insert_again(&mut s, &events)?;
     let later = join(3, 4000, 1, 6, 0);
     let second = apply_again(&mut s, Change::Alter(2, later), &events)?;
-    say(&rt, "apply", first || second)?;
+    say(&rt, "Scenario::apply", first || second)?;
     let after = [
         numbered(1, leave(9, 1)),
         numbered(2, later),
@@ -87,7 +87,7 @@ fn slot_again(s: &Scenario, t: u64) -> Result<(Vec<Numbered>, bool), AllocError>
 fn events_of_a_slot_are_listed_again(rt: HostRuntime) -> Result<(), Fail> {
     let s = one_event(rt.alloc(), leave(9, 1))?;
     let (events, refused) = slot_again(&s, 9)?;
-    say(&rt, "slot_events", refused)?;
+    say(&rt, "Scenario::slot_events", refused)?;
     assert_eq!(rt; events.as_slice(), [numbered(1, leave(9, 1))].as_slice());
     assert_eq!(rt; events.as_slice(), s.events());
     Ok(())
@@ -105,7 +105,7 @@ fn copy_again(s: &Scenario) -> Result<(Scenario, bool), AllocError> {
 fn a_join_is_copied_again(rt: HostRuntime) -> Result<(), Fail> {
     let s = one_event(rt.alloc(), join(2, 1, 1, 6, 0))?;
     let (copy, refused) = copy_again(&s)?;
-    say(&rt, "copy", refused)?;
+    say(&rt, "Scenario::copy", refused)?;
     assert_eq!(rt; s.events().len(), 1);
     assert_eq!(rt; copy.events(), s.events());
     let twice = copy.check(&Change::Insert(join(2, 1, 1, 6, 0)));
@@ -117,7 +117,7 @@ fn a_join_is_copied_again(rt: HostRuntime) -> Result<(), Fail> {
 fn a_leave_is_copied_again(rt: HostRuntime) -> Result<(), Fail> {
     let s = one_event(rt.alloc(), leave(9, 1))?;
     let (copy, refused) = copy_again(&s)?;
-    say(&rt, "copy", refused)?;
+    say(&rt, "Scenario::copy", refused)?;
     assert_eq!(rt; s.events().len(), 1);
     assert_eq!(rt; copy.events(), s.events());
     let twice = copy.check(&Change::Insert(leave(9, 1)));
