@@ -145,33 +145,35 @@ module _ {nodes : List Node} {heads places : List ℕ} {free room capacity : ℕ
         };
       }
 
-      module _ {new : List Node} {link : ℕ} {before after : Counts} (m : IsMerged new (get_or a.heaps into none) (get_or a.heaps from none)
-          (root a.spares ∷ all_roots (set (set a.heaps from none) into none)) link before after)
-          (long : length new ≡ length nodes) where
-        melded_weighs : (w : ℕ → Priority → ℕ) → weigh_all w (all_roots (set (set a.heaps from none) into m.heap)) ≡ weigh_all w (all_roots a.heaps)
+      module _ {lent new : List Node} {link : ℕ} {before after : Counts} (e : lent ≡ nodes)
+          (merges : (can : HasTwoHeaps lent first second) → IsMerged new can.first can.second can.others link before after) (long : length new ≡ length nodes) where
+        abbrev meld_merge : IsMerged new (get_or a.heaps into none) (get_or a.heaps from none) (root a.spares ∷ all_roots (set (set a.heaps from none) into none)) link before after
+        meld_merge = merges (meld_heaps e)
+
+        melded_weighs : (w : ℕ → Priority → ℕ) → weigh_all w (all_roots (set (set a.heaps from none) into meld_merge.heap)) ≡ weigh_all w (all_roots a.heaps)
         melded_weighs w =
             omega (
               arith,
-              m.kept w,
+              meld_merge.kept w,
               weigh_all-set w a.heaps from none (heap_in a seen j_is from_in second_read),
-              weigh_all-set w (set a.heaps from none) into m.heap in_rest,
+              weigh_all-set w (set a.heaps from none) into meld_merge.heap in_rest,
               ap (λ f. weigh w f) other_kept,
             )
 
         melded_arena : IsArena new (set (set heads from nowhere) into link) places free room capacity
         melded_arena = record {
-          heaps = set (set a.heaps from none) into m.heap;
+          heaps = set (set a.heaps from none) into meld_merge.heap;
           spares = a.spares;
           heads_are =
               ap (λ l. set (set l from nowhere) into link) a.heads_are
-              ∙ ap (λ x. set (set (map head a.heaps) from nowhere) into x) m.heap_is
-              ∙ ap (λ l. set l into (head m.heap)) (sym (map-set head a.heaps from none))
-              ∙ sym (map-set head (set a.heaps from none) into m.heap);
+              ∙ ap (λ x. set (set (map head a.heaps) from nowhere) into x) meld_merge.heap_is
+              ∙ ap (λ l. set l into (head meld_merge.heap)) (sym (map-set head a.heaps from none))
+              ∙ sym (map-set head (set a.heaps from none) into meld_merge.heap);
           free_is = a.free_is;
           chain = a.chain;
-          rise = all_rise-set (set a.heaps from none) into m.heap (all_rise-set a.heaps from none a.rise tt) m.rises;
+          rise = all_rise-set (set a.heaps from none) into meld_merge.heap (all_rise-set a.heaps from none a.rise tt) meld_merge.rises;
           small = omega (arith, a.small);
-          parts = parts_put a.spares (set a.heaps from none) into in_rest m.heap m.parts;
+          parts = parts_put a.spares (set a.heaps from none) into in_rest meld_merge.heap meld_merge.parts;
           filled = omega (arith, a.filled, melded_weighs one_each);
           fits = omega (arith, a.fits, melded_weighs one_each);
           places_long = a.places_long;
@@ -179,35 +181,28 @@ module _ {nodes : List Node} {heads places : List ℕ} {free room capacity : ℕ
           held = λ t. melded_weighs (of_task t) ∙ a.held t;
         }
 
-        melded_after : IsArenaAfter new (set (set heads from nowhere) into link) places free room capacity
+        pub melded : IsArenaAfter new (set (set heads from nowhere) into link) places free room capacity
             (with_list (with_list now from fin.empty) into (fin.union (list_of now into) (list_of now from)))
             (digits (fin.len (list_of now into) + fin.len (list_of now from))) before after
         unfolding melded_arena
-        melded_after =
-            let u : keys m.heap ≡ fin.union (list_of now into) (list_of now from) =
-            keys_union m.heap (get_or a.heaps into none) (get_or a.heaps from none) m.kept
+        melded =
+            let u : keys meld_merge.heap ≡ fin.union (list_of now into) (list_of now from) =
+            keys_union meld_merge.heap (get_or a.heaps into none) (get_or a.heaps from none) meld_merge.kept
             ∙ (λ k. fin.union (sym (list_is a seen into) k) (sym (list_is a seen from) k)) in
-            let e : lists_at new (set (set heads from nowhere) into link) ≡ set (set now.lists from fin.empty) into (fin.union (list_of now into) (list_of now from)) =
+            let lists : lists_at new (set (set heads from nowhere) into link) ≡ set (set now.lists from fin.empty) into (fin.union (list_of now into) (list_of now from)) =
             lists_are melded_arena
-            ∙ map-set keys (set a.heaps from none) into m.heap
-            ∙ ap (λ l. set l into (keys m.heap)) (map-set keys a.heaps from none)
-            ∙ ap (λ l. set (set l from fin.empty) into (keys m.heap)) (sym (now_lists a seen))
+            ∙ map-set keys (set a.heaps from none) into meld_merge.heap
+            ∙ ap (λ l. set l into (keys meld_merge.heap)) (map-set keys a.heaps from none)
+            ∙ ap (λ l. set (set l from fin.empty) into (keys meld_merge.heap)) (sym (now_lists a seen))
             ∙ ap (λ k. set (set now.lists from fin.empty) into k) u in
             let sizes : digits (fin.len (list_of now into) + fin.len (list_of now from)) ≡ digits (size (get_or a.heaps into none) + size (get_or a.heaps from none)) =
             λ k. digits (len_is a seen into k + len_is a seen from k) in
             record {
               arena = melded_arena;
-              view = λ k. record { lists = e k; spare = sym (now_spare a seen) k };
-              compared = omega (arith, m.compared, sizes, paid-le-digits m.made (size (get_or a.heaps into none) + size (get_or a.heaps from none)) m.made_paid);
-              slots = m.slots;
+              view = λ k. record { lists = lists k; spare = sym (now_spare a seen) k };
+              compared = omega (arith, meld_merge.compared, sizes, paid-le-digits meld_merge.made (size (get_or a.heaps into none) + size (get_or a.heaps from none)) meld_merge.made_paid);
+              slots = meld_merge.slots;
             }
-
-      pub melded : {lent new : List Node} {link : ℕ} {before after : Counts} → lent ≡ nodes →
-          ((can : HasTwoHeaps lent first second) → IsMerged new can.first can.second can.others link before after) → length new ≡ length nodes →
-          IsArenaAfter new (set (set heads from nowhere) into link) places free room capacity
-          (with_list (with_list now from fin.empty) into (fin.union (list_of now into) (list_of now from)))
-          (digits (fin.len (list_of now into) + fin.len (list_of now from))) before after
-      melded e merges long = melded_after (merges (meld_heaps e)) long
 
     -- ---- insert
 
@@ -243,25 +238,27 @@ module _ {nodes : List Node} {heads places : List ℕ} {free room capacity : ℕ
         };
       }
 
-      module _ {new : List Node} {result : ℕ} {before after : Counts}
-          (m : IsMerged new (single at key) (get_or a.heaps h none) (root s.left ∷ all_roots (set a.heaps h none)) result before after)
-          (long : length new ≡ length mid) where
-        inserted_weighs : (w : ℕ → Priority → ℕ) → weigh_all w (all_roots (set a.heaps h m.heap)) ≡ weigh_all w (all_roots a.heaps) + w at key
-        inserted_weighs w = omega (arith, m.kept w, weigh_all-set w a.heaps h m.heap h_in)
+      module _ {lent new : List Node} {result : ℕ} {before after : Counts} (e : lent ≡ mid)
+          (merges : (can : HasTwoHeaps lent at link) → IsMerged new can.first can.second can.others result before after) (long : length new ≡ length mid) where
+        abbrev insert_merge : IsMerged new (single at key) (get_or a.heaps h none) (root s.left ∷ all_roots (set a.heaps h none)) result before after
+        insert_merge = merges (insert_heaps e)
+
+        inserted_weighs : (w : ℕ → Priority → ℕ) → weigh_all w (all_roots (set a.heaps h insert_merge.heap)) ≡ weigh_all w (all_roots a.heaps) + w at key
+        inserted_weighs w = omega (arith, insert_merge.kept w, weigh_all-set w a.heaps h insert_merge.heap h_in)
 
         task_in : key.task < length places
         task_in = omega (arith, low, a.places_long)
 
-        inserted_held : (t : ℕ) → weigh_all (of_task t) (all_roots (set a.heaps h m.heap)) ≡ 1 - same (get_or (set places key.task at) t nowhere) nowhere
+        inserted_held : (t : ℕ) → weigh_all (of_task t) (all_roots (set a.heaps h insert_merge.heap)) ≡ 1 - same (get_or (set places key.task at) t nowhere) nowhere
         inserted_held t =
             ⊎_elim
             (λ here.
-            let e : t ≡ key.task = equal_from_same t key.task (omega (arith, here)) in
+            let own : t ≡ key.task = equal_from_same t key.task (omega (arith, here)) in
             let p : get_or (set places key.task at) t nowhere ≡ at =
-            ap (λ x. get_or (set places key.task at) x nowhere) e ∙ get_or-set_same places key.task at nowhere task_in in
+            ap (λ x. get_or (set places key.task at) x nowhere) own ∙ get_or-set_same places key.task at nowhere task_in in
             let q : same (get_or (set places key.task at) t nowhere) nowhere ≡ 0 =
             ap (λ x. same x nowhere) p ∙ same-other at nowhere (λ z. absurd (omega (arith, s.somewhere, z))) in
-            omega (arith, q, inserted_weighs (of_task t), none_held, ap (λ x. weigh_all (of_task x) (all_roots a.heaps)) e, same-le t key.task, here))
+            omega (arith, q, inserted_weighs (of_task t), none_held, ap (λ x. weigh_all (of_task x) (all_roots a.heaps)) own, same-le t key.task, here))
             (λ other. omega (arith, same_place places t key.task at (omega (arith, other)), other, inserted_weighs (of_task t), a.held t))
             (cases_lt 0 (same t key.task))
 
@@ -273,14 +270,14 @@ module _ {nodes : List Node} {heads places : List ℕ} {free room capacity : ℕ
 
         inserted_arena : {newer : ℕ} → newer ≡ capacity → IsArena new (set heads h result) (set places key.task at) next (room - 1) newer
         inserted_arena same_capacity = record {
-          heaps = set a.heaps h m.heap;
+          heaps = set a.heaps h insert_merge.heap;
           spares = s.left;
-          heads_are = (λ i. set (a.heads_are i) h (m.heap_is i)) ∙ sym (map-set head a.heaps h m.heap);
+          heads_are = (λ i. set (a.heads_are i) h (insert_merge.heap_is i)) ∙ sym (map-set head a.heaps h insert_merge.heap);
           free_is = s.left_is;
           chain = s.chain;
-          rise = all_rise-set a.heaps h m.heap a.rise m.rises;
+          rise = all_rise-set a.heaps h insert_merge.heap a.rise insert_merge.rises;
           small = omega (arith, s.small);
-          parts = parts_put s.left a.heaps h h_in m.heap m.parts;
+          parts = parts_put s.left a.heaps h h_in insert_merge.heap insert_merge.parts;
           filled = omega (arith, a.filled, s.filled, inserted_weighs one_each);
           fits = omega (arith, a.fits, inserted_weighs one_each, some, now_spare a seen);
           places_long = length-set places key.task at ∙ a.places_long;
@@ -294,33 +291,27 @@ module _ {nodes : List Node} {heads places : List ℕ} {free room capacity : ℕ
           held = inserted_held;
         }
 
-        inserted_after : {newer : ℕ} → newer ≡ capacity → IsArenaAfter new (set heads h result) (set places key.task at) next (room - 1) newer
+        pub inserted : {newer : ℕ} → newer ≡ capacity → IsArenaAfter new (set heads h result) (set places key.task at) next (room - 1) newer
             (record (with_list now h (fin.insert (list_of now h) key)) { spare = now.spare - 1 }) (digits (fin.len (list_of now h) + 1)) before after
         unfolding inserted_arena
-        inserted_after same_capacity =
-            let u : keys m.heap ≡ fin.insert (list_of now h) key =
-            keys_insert m.heap (get_or a.heaps h none) at key (λ w. omega (arith, m.kept w))
+        inserted same_capacity =
+            let u : keys insert_merge.heap ≡ fin.insert (list_of now h) key =
+            keys_insert insert_merge.heap (get_or a.heaps h none) at key (λ w. omega (arith, insert_merge.kept w))
             ∙ ap (λ k. fin.insert k key) (sym (list_is a seen h)) in
-            let e : lists_at new (set heads h result) ≡ set now.lists h (fin.insert (list_of now h) key) =
+            let lists : lists_at new (set heads h result) ≡ set now.lists h (fin.insert (list_of now h) key) =
             lists_are (inserted_arena same_capacity)
-            ∙ map-set keys a.heaps h m.heap
-            ∙ ap (λ l. set l h (keys m.heap)) (sym (now_lists a seen))
+            ∙ map-set keys a.heaps h insert_merge.heap
+            ∙ ap (λ l. set l h (keys insert_merge.heap)) (sym (now_lists a seen))
             ∙ ap (λ k. set now.lists h k) u in
             let sizes : digits (fin.len (list_of now h) + 1) ≡ digits (size (get_or a.heaps h none) + 1) = λ i. digits (len_is a seen h i + 1) in
             record {
               arena = inserted_arena same_capacity;
-              view = λ i. record { lists = e i; spare = sym (now_spare a seen) i - 1 };
+              view = λ i. record { lists = lists i; spare = sym (now_spare a seen) i - 1 };
               compared = omega (
                 arith,
-                m.compared,
+                insert_merge.compared,
                 sizes,
-                paid-le-digits m.made (size (get_or a.heaps h none) + 1) (⊎_elim (λ z. inl z) (λ z. inr (omega (arith, z))) m.made_paid),
+                paid-le-digits insert_merge.made (size (get_or a.heaps h none) + 1) (⊎_elim (λ z. inl z) (λ z. inr (omega (arith, z))) insert_merge.made_paid),
               );
-              slots = m.slots;
+              slots = insert_merge.slots;
             }
-
-      pub inserted : {lent new : List Node} {result newer : ℕ} {before after : Counts} → lent ≡ mid →
-          ((can : HasTwoHeaps lent at link) → IsMerged new can.first can.second can.others result before after) → length new ≡ length mid → newer ≡ capacity →
-          IsArenaAfter new (set heads h result) (set places key.task at) next (room - 1) newer
-          (record (with_list now h (fin.insert (list_of now h) key)) { spare = now.spare - 1 }) (digits (fin.len (list_of now h) + 1)) before after
-      inserted e merges long same_capacity = inserted_after (merges (insert_heaps e)) long same_capacity

@@ -228,44 +228,41 @@ module _ {nodes : List Node} {heads places : List ℕ} {free room capacity : ℕ
         parts = parts_lent a f h (heap_in a seen is within read);
       }
 
-      module _ {new : List Node} {result : ℕ} {after : Counts} (p : IsPopped new (get_or a.heaps h none) a.spares (all_roots (set a.heaps h none)) at (least_of a seen is within read e least).key result between after) where
+      module _ {lent_mut new : List Node} {result : ℕ} {after : Counts} (f : lent_mut ≡ nodes)
+          (pops : (can : CanPop lent_mut link at free) → IsPopped new can.heap can.spares can.others at can.key result between after) where
+        abbrev root_popped : IsPopped new (get_or a.heaps h none) a.spares (all_roots (set a.heaps h none)) at (least_of a seen is within read e least).key result between after
+        root_popped = pops (can_pop f)
+
         -- a pop is a removal that leaves the places
         popped_out : IsCutOut nodes places (get_or a.heaps h none) a.spares (all_roots (set a.heaps h none)) at new places result at between after
         popped_out = record {
-          left = p.heap;
+          left = root_popped.heap;
           key = (least_of a seen is within read e least).key;
-          left_is = p.heap_is;
-          rises = p.rises;
-          parts = p.parts;
-          kept = λ v. omega (arith, p.kept (λ _ k. v k), ap v (least_node a seen is within read e least).key_is);
+          left_is = root_popped.heap_is;
+          rises = root_popped.rises;
+          parts = root_popped.parts;
+          kept = λ v. omega (arith, root_popped.kept (λ _ k. v k), ap v (least_node a seen is within read e least).key_is);
           places_long = a.places_long;
-          placed = omega (arith, a.placed, weigh-le-all (misplaced places) a.heaps h, p.kept (misplaced places));
+          placed = omega (arith, a.placed, weigh-le-all (misplaced places) a.heaps h, root_popped.kept (misplaced places));
           other_places = λ _ _. refl;
           as_present = λ _. refl;
-          made = p.made;
-          made_paid = p.made_paid;
-          compared = p.compared;
-          slots = p.slots;
+          made = root_popped.made;
+          made_paid = root_popped.made_paid;
+          compared = root_popped.compared;
+          slots = root_popped.slots;
         }
 
-        popped_after : length new ≡ length nodes → {node : Node} → node ≡ get_or nodes at node →
+        pub popped : length new ≡ length nodes → {node : Node} → node ≡ get_or nodes at node →
             IsArenaAfter new (set heads h result) (set places node.key.task nowhere) at (room + 1) capacity
             (record (with_list now h (fin.remove (list_of now h) node.key)) { spare = now.spare + 1 }) (2 * digits (fin.len (list_of now h))) before after
         unfolding popped_out
-        popped_after long {node} found =
+        popped long {node} found =
             let key_is = least_key a seen is within read e least found in
             removed_by h node.key.task at (heap_in a seen is within read) (ap (λ (k : Priority). k.task) ((least_node a seen is within read e least).key_is ∙ sym key_is)) popped_out long seen
             (fin.remove (list_of now h) node.key)
-            (keys_remove p.heap (get_or a.heaps h none) at (least_of a seen is within read e least).key (heap_once a h) p.kept
+            (keys_remove root_popped.heap (get_or a.heaps h none) at (least_of a seen is within read e least).key (heap_once a h) root_popped.kept
             ∙ (λ i. fin.remove (sym (list_is a seen h) i) (sym key_is i)))
             (least_compared a seen is within read e least) (least_of a seen is within read e least).slots
-
-      pub popped : {lent_mut new : List Node} {result : ℕ} {after : Counts} → lent_mut ≡ nodes →
-          ((can : CanPop lent_mut link at free) → IsPopped new can.heap can.spares can.others at can.key result between after) → length new ≡ length nodes →
-          {node : Node} → node ≡ get_or nodes at node →
-          IsArenaAfter new (set heads h result) (set places node.key.task nowhere) at (room + 1) capacity
-          (record (with_list now h (fin.remove (list_of now h) node.key)) { spare = now.spare + 1 }) (2 * digits (fin.len (list_of now h))) before after
-      popped f pops long found = popped_after (pops (can_pop f)) long found
 
     -- ---- remove
 
