@@ -30,13 +30,6 @@ pub append_none : {X : Type 0} (xs : List X) → xs ++ [] ≡ xs
 append_none [] = refl
 append_none (x ∷ xs) = ap (λ l. x ∷ l) (append_none xs)
 
-pub adds_none : (heaps : Heaps) (names : List ℕ) → AddsHeaps heaps heaps names names 0
-adds_none heaps names = record {
-  lists = sym (append_none heaps.lists);
-  spare = refl;
-  noted = sym (append_none names);
-}
-
 pub adds_more : (old mid new : Heaps) (names noted noted' : List ℕ) (n h : ℕ) → AddsHeaps old mid names noted n →
     h ≡ length mid.lists → new ≡ record mid { lists = mid.lists ++ fin.empty ∷ [] } → noted' ≡ noted ++ h ∷ [] → AddsHeaps old new names noted' (n + 1)
 adds_more old mid new names noted noted' n h a is grown pushed =

@@ -230,9 +230,6 @@ put_into heaps heaps' es at e key lt read is =
 
 module _ {heaps : Heaps} {ready : ℕ} {es : List Entry} {unused : List ℕ} {held limit room unused_room : ℕ} (laid : IsLaidOut heaps ready es unused held limit room unused_room)
     {es1 : List Entry} {left : List ℕ} {slot at : ℕ} (opens : Opens es es1 unused left slot at) where
-  abbrev Fresh : ℕ → Type 0
-  Fresh h = (¬ (HasEntry es slot at)) × (unused ≡ left ++ h ∷ []) × (es1 ≡ insert es at (record { slot = slot; heap = h; count = 0 }))
-
   pub opened : IsLaidOut heaps ready es1 left held limit room unused_room
   opened =
       ⊎_elim

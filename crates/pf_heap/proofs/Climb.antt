@@ -213,9 +213,6 @@ module _ (old nodes new : List Node) (places spots marks : List ℕ) (heap : For
   differ : (node_at nodes hole).parent ≢ hole
   differ e = absurd (omega (arith, up_in.1, ap (λ x. (node_at nodes x).rank) e))
 
-  up_within : (node_at nodes hole).parent < length nodes
-  up_within = node_within nodes nowhere (node_at nodes hole).parent t.now t.parts.stand.0 up_in.0
-
   hole_within : hole < length nodes
   hole_within = node_within nodes nowhere hole t.now t.parts.stand.0 t.has
 

@@ -53,7 +53,3 @@ digits-mono k l h = omega (arith, within-mono k k l h, within-more k l l h)
 -- comparisons that were paid for
 pub paid-le-digits : (made k : ℕ) → (made ≡ 0) ⊎ (2 ^ made ≤ k) → made ≤ digits k
 paid-le-digits made k paid = ⊎_elim (λ h. omega arith) (λ h. omega (arith, below-digits made k h)) paid
-
--- fewer than digits k, where there is something
-pub paid-lt-digits : (made k : ℕ) → 1 ≤ k → (made ≡ 0) ⊎ (2 ^ made ≤ k) → made + 1 ≤ digits k
-paid-lt-digits made k some paid = ⊎_elim (λ h. omega (arith, below-digits 0 k (omega arith))) (λ h. below-digits made k h) paid

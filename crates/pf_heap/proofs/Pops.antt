@@ -65,7 +65,6 @@ root_used i k r g (tree at key rank kids rest) h =
 pub record IsRootNode (nodes : List Node) (i : ℕ) (k : Priority) (r : ℕ) (g : Forest) : Type 0 where
   pub within : i < length nodes
   pub key_is : (node_at nodes i).key ≡ k
-  pub rank_is : (node_at nodes i).rank ≡ r
   pub child_is : (node_at nodes i).child ≡ head g
 
 pub root_stands : (nodes : List Node) (up i : ℕ) (k : Priority) (r : ℕ) (g f : Forest) → Stands nodes up f → HasRoot i k r g f → IsRootNode nodes i k r g
@@ -75,7 +74,6 @@ root_stands nodes up i k r g (tree at key rank kids rest) s h =
     (λ e. record {
       within = omega (arith, s.0, e.0);
       key_is = ap (λ x. (node_at nodes x).key) (sym e.0) ∙ ap (λ (n : Node). n.key) s.1 ∙ e.1;
-      rank_is = ap (λ x. (node_at nodes x).rank) (sym e.0) ∙ ap (λ (n : Node). n.rank) s.1 ∙ e.2;
       child_is = ap (λ x. (node_at nodes x).child) (sym e.0) ∙ ap (λ (n : Node). n.child) s.1 ∙ ap head e.3;
     })
     (λ m. root_stands nodes up i k r g rest s.3 m)

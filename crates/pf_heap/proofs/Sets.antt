@@ -35,9 +35,6 @@ key_alike k = ap is_eq (tied_itself key_cmp_total k)
 
 -- ---- sets by weights
 
-pub keys_empty : (f : Forest) → f ≡ none → keys f ≡ set.empty
-keys_empty f e = ap keys e
-
 joined : (a b c : Bool) (l m n : ℕ) → a ≡ ltb 0 l → b ≡ ltb 0 m → c ≡ ltb 0 n → l ≡ m + n → a ≡ (b || c)
 joined a b c l m n p q r e = rw (p, q, r) (grind (arith, nat_tests))
 
