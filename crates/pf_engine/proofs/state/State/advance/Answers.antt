@@ -1,4 +1,4 @@
-use Rattle.std.proofs.Common.{◌≡◌, ◌++◌, [], length, vec_len, sym, ap, ◌∙◌, subst, arith}
+use Rattle.std.proofs.Common.{◌≡◌, ◌++◌, length, vec_len, sym, ap, ◌∙◌, subst, arith}
 use Rattle.pf_scenario.specs.System.{System}
 use Rattle.pf_engine.specs.Fits.{Kept}
 use Rattle.pf_engine.specs.Kept.{ready_keys}
