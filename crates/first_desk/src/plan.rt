@@ -48,6 +48,10 @@ fn join(task: u64) -> Command
 }
 
 /// A desk of two processors on which three tasks join and three slots are stepped; then the third task is struck out.
+///
+/// # Errors
+///
+/// `Open` or `Memory` where memory is refused; the settings are within their limits.
 pub fn plan(alloc: Global) -> Result<Desk, PlanFault>
     ensures desk { IfOk result (λ desk. IsDesk desk) }
     ensures settings { IfOk result (λ desk. desk.state.plan.settings ≡ planned_settings) }

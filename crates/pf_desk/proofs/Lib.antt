@@ -5,3 +5,4 @@ pub mod Entering
 pub mod Stepping
 pub mod Batches
 pub mod Metered
+pub mod Horizons

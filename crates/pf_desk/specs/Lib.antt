@@ -17,3 +17,4 @@ pub mod Machine
 pub mod History
 pub mod Desk
 pub mod Kept
+pub mod Horizon

@@ -7,5 +7,6 @@ pub mod command;
 pub mod desk;
 pub mod entry;
 pub mod fault;
+pub mod laws;
 pub mod reply;
 pub mod snapshot;
