@@ -40,8 +40,8 @@ impl Row {
     /// slot before. A task that ran there keeps its processor where that is in use; the other picks, in order, take
     /// the lowest free ones in use.
     ///
-    /// Of the m processors at most m may be in use, `before` must be a row of m, the picks must be at most `count`, and
-    /// neither they nor `before` may have a task twice.
+    /// `count` must be at most m, `before` a row of m processors, and the picks at most `count`; neither the picks nor
+    /// `before` may have a task twice.
     ///
     /// # Errors
     ///

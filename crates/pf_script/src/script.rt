@@ -6,7 +6,7 @@ use std::marker::Model;
 #[derive(Drop)]
 pub struct Script<'a> {
     reader: Reader<&'a [u8]>,
-    // Whether the records are at their end. The reader isn't asked again then.
+    // Whether the records are at their end. Nothing is promised of a reader that is asked again there.
     ended: bool,
 }
 

@@ -26,7 +26,7 @@ pub enum ReadingFault {
 ///
 /// # Errors
 ///
-/// `TooLong` where there are more: one byte more is read, and the reader is not asked again. `Read` where a read fails,
+/// `TooLong` where the reader has more bytes: one of them is read, and it is not asked again. `Read` where a read fails,
 /// `Memory` where memory is refused.
 pub fn read_script<S: Source>(alloc: Global, reader: &mut S) -> Result<Vec<u8>, ReadingFault>
     requires { S.failed reader.old < 2 ^ 64 - 1 }
