@@ -1,0 +1,12 @@
+pub mod Rising
+pub mod Sums
+pub mod Flows
+pub mod Windows
+pub mod Quanta
+pub mod Border
+pub mod Holes
+pub mod Borders
+pub mod Relevant
+pub mod Gains
+pub mod Blocks
+pub mod Misses

@@ -1,0 +1,17 @@
+pub mod Sets
+pub mod Firsts
+pub mod Members
+pub mod Slots
+pub mod Points
+pub mod Loads
+pub mod Standing
+pub mod Shifts
+pub mod Leaves
+pub mod Joining
+pub mod Choosing
+pub mod Presence
+pub mod Overloads
+pub mod Ran
+pub mod Counted
+pub mod Promises
+pub mod Settings

@@ -1,0 +1,47 @@
+-- The laws of a run's load and of its windows, each the contract of a public function.
+use Rattle.std.specs.Prelude.{◌≡◌, ℕ, ◌*◌, ◌<◌, ◌≤◌, ◌==◌, List, [], All, count_by, take}
+use Rattle.pf_scenario.specs.System.{System}
+use Rattle.pf_scenario.specs.Scenario.{Plan}
+use Rattle.pf_scenario.specs.Edit.{IsScenario}
+use Rattle.pf_scenario.specs.declared.event.Event.{Event}
+use Rattle.pf_scenario.specs.declared.event.Event.TheVariants.{Limit}
+use Rattle.pf_run.specs.Record.{Slot}
+use Rattle.pf_run.specs.Inside.{load_of}
+use Rattle.pf_run.specs.Run.{standing, IsRun}
+use Rattle.pf_tally.specs.Misses.{misses_of}
+use Rattle.pf_promise.specs.Load.{overload_of, IsWithinRoom}
+
+-- The load never passes the cap, at any point of a run: the events in force before a point are the first so many of
+-- those that are in force at the end.
+abbrev pub LoadIsWithinCap : Type 0
+LoadIsWithinCap = (s : Plan) (n : ℕ) (r : List Slot) (k : ℕ) → IsScenario s → IsRun s n r →
+    load_of s.settings.base (take k (standing s r n)) ≤ s.settings.cap
+
+-- A miss costs a quantum: a run that is overloaded by less than a quantum, in all its slots together, misses no window.
+abbrev pub MissCostsQuantum : Type 0
+MissCostsQuantum = (s : Plan) (n : ℕ) (r : List Slot) → IsScenario s → IsRun s n r →
+    overload_of s r n < s.settings.base → misses_of s r ≡ []
+
+-- Misses cost quanta: where no window with an earlier deadline was missed, as many windows as were missed with the
+-- deadline `due` cost as many quanta of overload in the slots below it.
+abbrev pub MissesCostQuanta : Type 0
+MissesCostQuanta = (s : Plan) (n : ℕ) (r : List Slot) (due : ℕ) → IsScenario s → IsRun s n r →
+    All (λ m. due ≤ m.deadline) (misses_of s r) →
+    s.settings.base * count_by (λ m. m.deadline == due) (misses_of s r) ≤ overload_of s r due
+
+-- No window is missed: a run whose load is within the processors in use, in each slot, misses none.
+abbrev pub NoWindowIsMissed : Type 0
+NoWindowIsMissed = (s : Plan) (n : ℕ) (r : List Slot) → IsScenario s → IsRun s n r → IsWithinRoom s r →
+    misses_of s r ≡ []
+
+-- where an event is a limit, the processors that it leaves in use carry the cap
+abbrev pub LeavesRoom : System → Event → Type 0
+LeavesRoom settings (Limit slot count) = settings.cap ≤ settings.base * count
+LeavesRoom settings event = Unit {0}
+
+-- The settings are enough: where the processors carry the cap, with each limit, no window of any run is missed, whatever
+-- joins, leaves and is delayed.
+abbrev pub SettingsSuffice : Type 0
+SettingsSuffice = (s : Plan) (n : ℕ) (r : List Slot) → IsScenario s → IsRun s n r →
+    s.settings.cap ≤ s.settings.base * s.settings.processors → All (λ x. LeavesRoom s.settings x.event) s.events →
+    misses_of s r ≡ []

@@ -1,0 +1,22 @@
+-- What the tasks inside ask of the slots of a run, beside the processors in use.
+use Rattle.std.specs.Prelude.{ℕ, zero, suc, ◌+◌, ◌-◌, ◌*◌, ◌<◌, ◌≤◌, List, length}
+use Rattle.pf_scenario.specs.Scenario.{Plan}
+use Rattle.pf_run.specs.Record.{Slot}
+use Rattle.pf_run.specs.Inside.{load_of, count_of}
+use Rattle.pf_run.specs.Run.{standing}
+
+-- the load of slot t, in units, where the events of the slots up to t are taken, and the units that its processors have
+abbrev pub load_in : Plan → List Slot → ℕ → ℕ
+load_in s r t = load_of s.settings.base (standing s r (suc t))
+
+abbrev pub room_in : Plan → List Slot → ℕ → ℕ
+room_in s r t = s.settings.base * count_of s.settings.processors (standing s r (suc t))
+
+-- by how many units the load was above the room in the slots below t, in all
+unfoldable pub overload_of : Plan → List Slot → ℕ → ℕ
+overload_of s r zero = 0
+overload_of s r (suc t) = overload_of s r t + (load_in s r t - room_in s r t)
+
+-- no slot has a load above its room
+abbrev pub IsWithinRoom : Plan → List Slot → Type 0
+IsWithinRoom s r = (t : ℕ) → t < length r → load_in s r t ≤ room_in s r t

@@ -1,0 +1,3 @@
+pub mod Weights
+pub mod Serving
+pub mod Timely

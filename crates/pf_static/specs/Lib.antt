@@ -1,0 +1,9 @@
+pub use Rattle.pf_weight.specs.Share
+pub use Rattle.pf_weight.specs.Weighed
+pub use Rattle.pf_window.specs.Window
+pub use Rattle.pf_window.specs.Group
+pub use Rattle.pf_order.specs.Priority
+pub use Rattle.pf_order.specs.KeyOf
+pub mod Periodic
+pub mod Choice
+pub mod Laws
