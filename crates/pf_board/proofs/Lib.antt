@@ -1,0 +1,16 @@
+mod Cells
+mod Closing
+mod Conserving
+mod Digits
+mod Fronts
+mod Gathering
+mod Hands
+pub mod Known
+mod Looks
+mod Prefixes
+mod Reading
+mod Seats
+mod Sums
+mod Takes
+mod Turns
+pub mod Weights

@@ -1,0 +1,10 @@
+pub mod Closed
+pub mod Kept
+pub mod Machine
+pub mod Passes
+pub mod Quanta
+pub mod Seats
+pub mod Takes
+pub mod Told
+pub mod Views
+pub mod Words
