@@ -9,7 +9,6 @@ use pf_report::denials::denials_csv;
 use pf_report::json::report_json;
 use pf_report::lags::lags_csv;
 use pf_report::misses::misses_csv;
-use pf_report::reason::{denial_code, denial_name};
 use pf_report::schedule::schedule_csv;
 use pf_scenario::settings::Settings;
 use std::alloc::{AllocError, Global};
@@ -137,6 +136,6 @@ fn the_json_text(rt: HostRuntime) -> Result<(), Fail> {
 
 #[test]
 fn the_words_of_a_denial(rt: HostRuntime) {
-    assert_eq!(rt; denial_code(Denial::TooEarly), 22);
-    assert_eq!(rt; denial_name(Denial::TooEarly), "TooEarly");
+    assert_eq!(rt; Denial::TooEarly.code(), 22);
+    assert_eq!(rt; Denial::TooEarly.name(), "TooEarly");
 }

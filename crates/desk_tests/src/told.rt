@@ -6,7 +6,7 @@ use pf_desk::fault::OpenFault;
 use pf_desk::reply::Reply;
 use pf_desk::snapshot::Snapshot;
 use pf_order::meter::Meter;
-use pf_place::row::Row;
+use pf_place::row_view::RowView;
 use pf_scenario::settings::Settings;
 use std::alloc::{AllocError, Global};
 use std::fmt::Write;
@@ -86,7 +86,7 @@ pub(crate) fn tell_reply(text: &mut String, reply: &Reply) -> Result<(), AllocEr
         Reply::Edited { id } => writeln!(text, "event {id}"),
         Reply::Stepped { slot, row } => {
             write!(text, "slot {slot}:")?;
-            tell_row(text, row)?;
+            tell_row(text, row.view())?;
             writeln!(text)
         }
         Reply::Refused(fault) => writeln!(text, "refused {fault:?}"),
@@ -150,7 +150,7 @@ pub(crate) fn tell_denials(text: &mut String, desk: &Desk) -> Result<(), AllocEr
 }
 
 /// Who sits on each processor.
-fn tell_row(text: &mut String, row: &Row) -> Result<(), AllocError> {
+fn tell_row(text: &mut String, row: RowView<'_>) -> Result<(), AllocError> {
     for processor in 0..row.processors().min(64) as u32 {
         match row.get(processor) {
             Some(pick) => write!(text, " {}/{}", pick.task, pick.sub)?,

@@ -5,10 +5,10 @@
 mod plan;
 
 use pf_desk::desk::Desk;
-use pf_place::row::Row;
+use pf_place::row_view::RowView;
 
 /// Prints a row: the slot, and who sits on each processor.
-fn print_row(rt: &HostRuntime, slot: u64, row: &Row) -> anyhow::Result<()> {
+fn print_row(rt: &HostRuntime, slot: u64, row: RowView<'_>) -> anyhow::Result<()> {
     print!(rt; "slot {slot}:")?;
     for processor in 0..2 {
         match row.get(processor) {

@@ -8,20 +8,37 @@ use crate::keys::{drawn, key, unshifted};
 use pf_calendar::calendar::Calendar;
 use pf_order::key::Key;
 use pf_order::meter::Meter;
-use std::alloc::Global;
+use std::alloc::{AllocError, Global};
 use std::process::Abort;
 use std::test::Fail;
 use twin::Twin;
 
 /// Puts a key of a task that isn't held.
-fn put(rt: &impl Abort, calendar: &mut Calendar, meter: &mut Meter, slot: u64, key: Key)
+fn put(
+    rt: &impl Abort,
+    calendar: &mut Calendar,
+    meter: &mut Meter,
+    slot: u64,
+    key: Key,
+) -> Result<(), AllocError>
     requires { 1 ≤ calendar.old.spare }
-    ensures { calendar.old.spare ≤ calendar.new.spare + 1 }
+    ensures { OnOk result (calendar.old.spare ≤ calendar.new.spare + 1) }
 {
+    calendar.reserve_task(key.task())?;
     match calendar.take_out(meter, key.task()) {
         Some(_) => assert!(rt; false, "the task is held"),
         None => calendar.put(meter, slot, key),
     }
+    Ok(())
+}
+
+/// Makes room for a few keys more.
+fn reserve(rt: &impl Abort, calendar: &mut Calendar, n: usize) -> Result<(), AllocError>
+    requires { n ≤ 20 }
+    ensures { OnOk result (n ≤ calendar.new.spare) }
+{
+    assert!(rt; calendar.len() <= 4095);
+    calendar.reserve(n)
 }
 
 /// The task of the key that is popped.
@@ -48,10 +65,10 @@ fn drain(rt: &impl Abort, calendar: &mut Calendar, meter: &mut Meter, tasks: &[u
 fn three_keys(rt: HostRuntime) -> Result<(), Fail> {
     let mut meter = Meter::new();
     let mut calendar = Calendar::new(rt.alloc())?;
-    calendar.reserve(3)?;
-    put(&rt, &mut calendar, &mut meter, 2, unshifted(2, 8, 11, 2)?);
-    put(&rt, &mut calendar, &mut meter, 0, unshifted(3, 2, 3, 1)?);
-    put(&rt, &mut calendar, &mut meter, 5, unshifted(1, 3, 7, 1)?);
+    reserve(&rt, &mut calendar, 3)?;
+    put(&rt, &mut calendar, &mut meter, 2, unshifted(2, 8, 11, 2)?)?;
+    put(&rt, &mut calendar, &mut meter, 0, unshifted(3, 2, 3, 1)?)?;
+    put(&rt, &mut calendar, &mut meter, 5, unshifted(1, 3, 7, 1)?)?;
     calendar.advance(&mut meter, 2);
     let mut copy = calendar.copy()?;
     assert_eq!(rt; pop(&mut calendar, &mut meter), Some(3));
@@ -112,9 +129,10 @@ fn reserve_again(
     tasks: &[u32],
     n: usize,
 ) -> Result<(), Fail>
+    requires { n ≤ 20 }
     ensures { OnOk result (n ≤ calendar.new.spare) }
 {
-    match calendar.reserve(n) {
+    match reserve(rt, calendar, n) {
         Ok(()) => Ok(()),
         Err(_) => {
             println!(rt; "refused: Calendar::reserve")?;
@@ -122,7 +140,7 @@ fn reserve_again(
             let mut copy = calendar.copy()?;
             copy.advance(&mut meter, 9);
             drain(rt, &mut copy, &mut meter, tasks);
-            Ok(calendar.reserve(n)?)
+            Ok(reserve(rt, calendar, n)?)
         }
     }
 }
@@ -132,11 +150,11 @@ fn growths_that_are_refused(rt: HostRuntime) -> Result<(), Fail> {
     let mut meter = Meter::new();
     let mut calendar = calendar_again(&rt, rt.alloc())?;
     reserve_again(&rt, &mut calendar, &[], 2)?;
-    put(&rt, &mut calendar, &mut meter, 1, key(1)?);
-    put(&rt, &mut calendar, &mut meter, 0, key(2)?);
+    put(&rt, &mut calendar, &mut meter, 1, key(1)?)?;
+    put(&rt, &mut calendar, &mut meter, 0, key(2)?)?;
     calendar.advance(&mut meter, 0);
     reserve_again(&rt, &mut calendar, &[1, 2], 20)?;
-    put(&rt, &mut calendar, &mut meter, 3, key(3)?);
+    put(&rt, &mut calendar, &mut meter, 3, key(3)?)?;
     let mut copy = copy_again(&rt, &calendar)?;
     drain(&rt, &mut copy, &mut meter, &[2]);
     copy.advance(&mut meter, 3);

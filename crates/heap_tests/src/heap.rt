@@ -25,14 +25,22 @@ fn heap(arena: &mut Arena) -> Result<HeapId, AllocError>
 }
 
 /// Inserts a key of a task that isn't held.
-fn put(rt: &impl Abort, arena: &mut Arena, meter: &mut Meter, h: HeapId, key: Key)
+fn put(
+    rt: &impl Abort,
+    arena: &mut Arena,
+    meter: &mut Meter,
+    h: HeapId,
+    key: Key,
+) -> Result<(), AllocError>
     requires room { 1 ≤ arena.old.spare }
     requires heap { h < length arena.old.lists }
-    ensures lists { length arena.new.lists ≡ length arena.old.lists }
-    ensures spare { arena.new.spare + 1 ≡ arena.old.spare }
+    ensures lists { OnOk result (length arena.new.lists ≡ length arena.old.lists) }
+    ensures spare { OnOk result (arena.new.spare + 1 ≡ arena.old.spare) }
 {
+    arena.reserve_task(key.task())?;
     assert!(rt; !arena.holds(key.task()));
     arena.insert(meter, h, key);
+    Ok(())
 }
 
 /// The task of the key that is popped.
@@ -81,11 +89,11 @@ fn melded(rt: &impl Abort, arena: &mut Arena, meter: &mut Meter) -> Result<(Heap
     let first = heap(arena)?;
     let second = heap(arena)?;
     arena.reserve(5)?;
-    put(rt, arena, meter, first, unshifted(1, 3, 7, 1)?);
-    put(rt, arena, meter, first, unshifted(4, 1, 2, 1)?);
-    put(rt, arena, meter, first, unshifted(5, 2, 3, 1)?);
-    put(rt, arena, meter, second, unshifted(2, 8, 11, 2)?);
-    put(rt, arena, meter, second, unshifted(3, 2, 3, 1)?);
+    put(rt, arena, meter, first, unshifted(1, 3, 7, 1)?)?;
+    put(rt, arena, meter, first, unshifted(4, 1, 2, 1)?)?;
+    put(rt, arena, meter, first, unshifted(5, 2, 3, 1)?)?;
+    put(rt, arena, meter, second, unshifted(2, 8, 11, 2)?)?;
+    put(rt, arena, meter, second, unshifted(3, 2, 3, 1)?)?;
     arena.meld(meter, first, second);
     Ok((first, second))
 }
@@ -115,7 +123,7 @@ fn fifteen_keys(rt: HostRuntime) -> Result<(), Fail> {
     let only = heap(&mut arena)?;
     for less in 0..15 {
         arena.reserve(1)?;
-        put(&rt, &mut arena, &mut meter, only, key(15 - less)?);
+        put(&rt, &mut arena, &mut meter, only, key(15 - less)?)?;
     }
     let before = meter.compared();
     let tasks = [1, 2, 3, 4, 5, 6, 7, 8, 9, 10, 11, 12, 13, 14, 15];
@@ -139,6 +147,7 @@ fn insert(
     ensures same { one.new.heap ≡ one.old.heap }
     ensures lists { length arena.new.lists ≡ length arena.old.lists }
 {
+    arena.reserve_task(task)?;
     if arena.holds(task) {
         return Ok(());
     }
@@ -214,7 +223,7 @@ fn beside_plain_lists(rt: HostRuntime) -> Result<(), Fail> {
 
 /// An arena with no heap, though memory may be refused once.
 fn arena_again(rt: &impl Print, alloc: Global) -> Result<Arena, Fail>
-    ensures { IfOk result (λ a. a ≡ record { lists = []; spare = 0 }) }
+    ensures { IfOk result (λ a. a ≡ record { lists = []; spare = 0; tasks = 0 }) }
 {
     match Arena::new(alloc) {
         Ok(arena) => Ok(arena),
@@ -314,14 +323,14 @@ fn growths_that_are_refused(rt: HostRuntime) -> Result<(), Fail> {
     let mut arena = arena_again(&rt, rt.alloc())?;
     let first = first_again(&rt, &mut arena)?;
     reserve_again(&rt, &mut arena, first, 0, 2)?;
-    put(&rt, &mut arena, &mut meter, first, key(2)?);
-    put(&rt, &mut arena, &mut meter, first, key(1)?);
+    put(&rt, &mut arena, &mut meter, first, key(2)?)?;
+    put(&rt, &mut arena, &mut meter, first, key(1)?)?;
     for _i in 0..9_u32 {
         let more = heap_again(&rt, &mut arena, first, 2)?;
         assert_eq!(rt; least(&arena, &mut meter, more), None);
     }
     reserve_again(&rt, &mut arena, first, 2, 50)?;
-    put(&rt, &mut arena, &mut meter, first, key(3)?);
+    put(&rt, &mut arena, &mut meter, first, key(3)?)?;
     let mut copy = copy_again(&rt, &arena)?;
     drain(&rt, &mut copy, &mut meter, first, &[1, 2, 3]);
     drain(&rt, &mut arena, &mut meter, first, &[1, 2, 3]);

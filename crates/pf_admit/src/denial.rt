@@ -1,3 +1,6 @@
+ghost use Rattle.std.specs.Prelude.{◌≡◌};
+ghost use Rattle.pf_admit.specs.Refusals.{denial_code, denial_name};
+
 use std::error::Error;
 use std::fmt;
 
@@ -12,6 +15,32 @@ pub enum Denial {
     TooEarly,
     /// A delay after the release of the next subtask.
     Released,
+}
+
+impl Denial {
+    /// Its number in the table of refusals, 20 to 23.
+    pub fn code(self) -> u64
+        ensures { result ≡ denial_code self }
+    {
+        match self {
+            Denial::OverCapacity => 20,
+            Denial::NotInside => 21,
+            Denial::TooEarly => 22,
+            Denial::Released => 23,
+        }
+    }
+
+    /// Its name in the table of refusals.
+    pub fn name(self) -> &'static str
+        ensures { result.now ≡ denial_name self }
+    {
+        match self {
+            Denial::OverCapacity => "OverCapacity",
+            Denial::NotInside => "NotInside",
+            Denial::TooEarly => "TooEarly",
+            Denial::Released => "Released",
+        }
+    }
 }
 
 impl fmt::Display for Denial {

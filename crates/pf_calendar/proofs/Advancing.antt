@@ -12,7 +12,7 @@ use Rattle.std.specs.FinSet.{len-empty}
 use Rattle.std.specs.FinMap as finmap
 use Rattle.std.specs.FinMap.Entries.{is_sorted}
 use Rattle.pf_order.specs.Priority.{Priority, key_cmp}
-use Rattle.pf_heap.specs.Keys.{Keys, Heaps, list_of}
+use Rattle.pf_heap.specs.Keys.{Heaps, list_of, EachTaskOnce}
 use Rattle.pf_heap.specs.Digits.{digits}
 use Rattle.pf_heap.proofs.Digits.{digits-mono}
 use Rattle.pf_calendar.specs.declared.entry.Entry.{Entry}
@@ -20,7 +20,7 @@ use Rattle.pf_calendar.specs.Queues.{Queues, all_of, until, later, due, count_of
 use Rattle.pf_calendar.specs.Invariant.{lists_in, waiting_in, names_of, times, IsLaidOut}
 use Rattle.pf_calendar.specs.Steps.{MergesAll}
 use Rattle.pf_calendar.proofs.Naming.{no_entry, times-cons, times-append, times-take-drop, at_named, named_at, name_at, length-names, lists_same, length-lists, slot_at, one_of}
-use Rattle.pf_calendar.proofs.Sets.{has_none, union_cases, some_list, len-union-le}
+use Rattle.pf_calendar.proofs.Sets.{has_none, union_cases, some_list, len-union_apart}
 use Rattle.pf_calendar.proofs.Apart.{Has, apart_by}
 use Rattle.pf_calendar.proofs.Slots.{where_front, where_back}
 use Rattle.pf_calendar.proofs.Maps.{in_order, retained_in, entries_in}
@@ -40,9 +40,23 @@ names-take n es = sym (take-map (λ e. e.heap) n es)
 names-drop : (n : ℕ) (es : List Entry) → names_of (drop n es) ≡ drop n (names_of es)
 names-drop n es = sym (drop-map (λ e. e.heap) n es)
 
-len-all_of-le : (lists : List Keys) → fin.len (all_of lists) ≤ sum_by fin.len lists
-len-all_of-le [] = omega (arith, len-empty key_cmp)
-len-all_of-le (l ∷ lists) = omega (arith, len-union-le l (all_of lists), len-all_of-le lists, sum_by-cons fin.len l lists)
+-- lists that are named once share no key
+len-all_named : (heaps : Heaps) (names : List ℕ) → EachTaskOnce heaps.lists → ((h : ℕ) → times h names ≤ 1) →
+    fin.len (all_of (map (list_of heaps) names)) ≡ sum_by fin.len (map (list_of heaps) names)
+len-all_named heaps [] apart once = len-empty key_cmp
+len-all_named heaps (n ∷ names) apart once =
+    let shared : (q : Priority) → fin.contains (list_of heaps n) q ≡ true → fin.contains (all_of (map (list_of heaps) names)) q ≡ true → ⊥ = λ q here there.
+    let m = some_list (map (list_of heaps) names) q there in
+    let lk : m.0 < length names = omega (arith, m.1, length-map names (list_of heaps)) in
+    let also : fin.contains (list_of heaps (get_or names m.0 0)) q ≡ true = sym (ap (λ l. fin.contains l q) (get_or-map (list_of heaps) names m.0 0 fin.empty lk)) ∙ m.2 in
+    let same : n ≡ get_or names m.0 0 = (apart n (get_or names m.0 0) q q here also refl).0 in
+    absurd (omega (arith, once n, times-cons n n names, one_of n n refl, at_named n names m.0 lk (sym same))) in
+    omega (
+      arith,
+      len-union_apart (list_of heaps n) (all_of (map (list_of heaps) names)) shared,
+      len-all_named heaps names apart (λ h. omega (arith, once h, times-cons h n names)),
+      sum_by-cons fin.len (list_of heaps n) (map (list_of heaps) names),
+    )
 
 sum-named : (heaps : Heaps) (es : List Entry) → sum_by fin.len (map (list_of heaps) (names_of es)) ≡ sum_by (λ (e : Entry). fin.len (list_of heaps e.heap)) es
 sum-named heaps [] = refl
@@ -171,7 +185,7 @@ module _ {heaps : Heaps} {ready : ℕ} {es : List Entry} {unused : List ℕ} {he
         merges.merged ∙ ap (fin.union (list_of heaps ready)) (sym due_is) in
         let waits : waiting_in heaps' back ≡ later t (waiting_in heaps es) =
         waiting_is heaps' back ∙ ap finmap.from_sorted back_same ∙ is_later.1 ∙ ap (later t) (sym (waiting_is heaps es)) in
-        λ i. record { ready = here i; waiting = waits i; spare = m }
+        λ i. record { ready = here i; waiting = waits i; spare = m; tasks = merges.tasks i }
 
     abbrev goes : ℕ → ℕ
     goes j = cond (eqb (times j (names_of front)) 0) j ready
@@ -238,12 +252,13 @@ module _ {heaps : Heaps} {ready : ℕ} {es : List Entry} {unused : List ℕ} {he
               (All-drop (λ (e : Entry). e.count ≡ fin.len (list_of heaps e.heap)) n es laid.counted k no_entry lt
               ∙ ap fin.len (sym (merges.others (get_or back k no_entry).heap (back_apart k lt) (back_unmerged k lt))));
           apart = apart_by heaps.lists heaps'.lists goes comes_from laid.apart;
-          few = omega (
+          held_is = omega (
             arith,
-            laid.few,
+            laid.held_is,
             ap fin.len merges.merged,
-            len-union-le (list_of heaps ready) (all_of (map (list_of heaps) (names_of front))),
-            len-all_of-le (map (list_of heaps) (names_of front)),
+            len-all_named heaps (ready ∷ names_of front) laid.apart
+                (λ h. omega (arith, once laid h, split_times h, times-cons h ready (names_of front))),
+            sum_by-cons fin.len (list_of heaps ready) (map (list_of heaps) (names_of front)),
             sum-named heaps front,
             sum_counts laid front (All-take (λ (e : Entry). e.count ≡ fin.len (list_of heaps e.heap)) n es laid.counted),
             sum_by-take-drop (λ (e : Entry). e.count) es n,

@@ -13,9 +13,9 @@ use Rattle.std.specs.FinMap as finmap
 use Rattle.std.specs.FinSet.{len-empty}
 use Rattle.std.specs.FinMap.Entries.{is_sorted}
 use Rattle.pf_order.specs.Priority.{key_cmp}
-use Rattle.pf_heap.specs.Keys.{Keys, Heaps, list_of}
+use Rattle.pf_heap.specs.Keys.{Keys, Heaps, list_of, EachTaskOnce}
 use Rattle.pf_calendar.specs.declared.entry.Entry.{Entry}
-use Rattle.pf_calendar.specs.Invariant.{lists_in, names_of, times, AreApart, IsLaidOut}
+use Rattle.pf_calendar.specs.Invariant.{lists_in, names_of, times, IsLaidOut}
 use Rattle.pf_calendar.specs.Steps.{IsPlace, HasEntry}
 use Rattle.pf_calendar.proofs.Naming.{no_entry, times-cons, times-append, times-nil, one_of, none_of, named_at, at_named, one_place, name_at, length-names, names-set, times-insert, lists_same, lists_set, lists-insert, length-lists, slot_at}
 use Rattle.pf_calendar.proofs.Maps.{in_order, set_in, insert_in}
@@ -76,8 +76,8 @@ module _ {heaps : Heaps} {ready : ℕ} {es : List Entry} {unused : List ℕ} {he
 
   -- list h becomes these keys, and `count` of them are counted at its entry
   pub entry_changed : (heaps' : Heaps) (at : ℕ) (keys : Keys) (count held' : ℕ) → at < length es →
-      heaps'.lists ≡ set heaps.lists (get_or es at no_entry).heap keys → count ≡ fin.len keys → AreApart heaps'.lists →
-      count + held ≤ held' + (get_or es at no_entry).count → held' ≤ limit → limit ≤ held' + heaps'.spare →
+      heaps'.lists ≡ set heaps.lists (get_or es at no_entry).heap keys → count ≡ fin.len keys → EachTaskOnce heaps'.lists →
+      count + held ≡ held' + (get_or es at no_entry).count → held' ≤ limit → limit ≤ held' + heaps'.spare →
       IsLaidOut heaps' ready (set es at (record (get_or es at no_entry) { count = count })) unused held' limit room unused_room
   entry_changed heaps' at keys count held' lt is counts apart sum within spare =
       let e = get_or es at no_entry in
@@ -105,7 +105,7 @@ module _ {heaps : Heaps} {ready : ℕ} {es : List Entry} {unused : List ℕ} {he
             entries_apart at k lt (omega (arith, lk, long_es)) ne (ap (λ (x : Entry). x.heap) (get_or_default es k no_entry d (omega (arith, lk, long_es))) ∙ i))))))
             (cases_eq k at);
         apart = apart;
-        few = omega (arith, laid.few, sum, sum_by-set (λ (x : Entry). x.count) es at e' no_entry lt, ap fin.len ready_other);
+        held_is = omega (arith, laid.held_is, sum, sum_by-set (λ (x : Entry). x.count) es at e' no_entry lt, ap fin.len ready_other);
         within = within;
         enough = omega (arith, laid.enough, long_es);
         spare = spare;
@@ -114,8 +114,8 @@ module _ {heaps : Heaps} {ready : ℕ} {es : List Entry} {unused : List ℕ} {he
       }
 
   -- the ready list becomes these keys
-  pub ready_changed : (heaps' : Heaps) (keys : Keys) (held' : ℕ) → heaps'.lists ≡ set heaps.lists ready keys → AreApart heaps'.lists →
-      fin.len keys + held ≤ held' + fin.len (list_of heaps ready) → held' ≤ limit → limit ≤ held' + heaps'.spare →
+  pub ready_changed : (heaps' : Heaps) (keys : Keys) (held' : ℕ) → heaps'.lists ≡ set heaps.lists ready keys → EachTaskOnce heaps'.lists →
+      fin.len keys + held ≡ held' + fin.len (list_of heaps ready) → held' ≤ limit → limit ≤ held' + heaps'.spare →
       IsLaidOut heaps' ready es unused held' limit room unused_room
   ready_changed heaps' keys held' is apart sum within spare =
       let here : list_of heaps' ready ≡ keys = ap (λ l. get_or l ready fin.empty) is ∙ get_or-set_same heaps.lists ready keys fin.empty ready_listed in
@@ -132,7 +132,7 @@ module _ {heaps : Heaps} {ready : ℕ} {es : List Entry} {unused : List ℕ} {he
         counted = λ k d lk. laid.counted k d lk ∙ ap fin.len (sym (other (get_or es k d).heap (λ i.
             entry_apart k lk (ap (λ (x : Entry). x.heap) (get_or_default es k no_entry d lk) ∙ i))));
         apart = apart;
-        few = omega (arith, laid.few, sum, ap fin.len here);
+        held_is = omega (arith, laid.held_is, sum, ap fin.len here);
         within = within;
         enough = laid.enough;
         spare = spare;
@@ -190,7 +190,7 @@ module _ {heaps : Heaps} {ready : ℕ} {es : List Entry} {unused : List ℕ} {he
             (All-cons (λ (x : Entry). x.count ≡ fin.len (list_of heaps x.heap)) e (drop at es) (sym (ap fin.len empty_at ∙ len-empty key_cmp))
             (All-drop (λ (x : Entry). x.count ≡ fin.len (list_of heaps x.heap)) at es laid.counted));
         apart = laid.apart;
-        few = omega (arith, laid.few, sums);
+        held_is = omega (arith, laid.held_is, sums);
         within = laid.within;
         enough = omega (arith, laid.enough, long, long_unused);
         spare = laid.spare;

@@ -51,8 +51,8 @@ module _ {heaps : Heaps} {ready : ℕ} {es : List Entry} {unused : List ℕ} {he
   pub waiting_kept : waiting_in heaps' es ≡ waiting_in heaps es
   waiting_kept = waiting_is heaps' es ∙ ap finmap.from_sorted lists_kept ∙ sym (waiting_is heaps es)
 
-  pub seen_kept : (m : ℕ) → seen heaps' ready es m ≡ seen heaps ready es m
-  seen_kept m = λ i. record { ready = list_kept ready i; waiting = waiting_kept i; spare = m }
+  pub seen_kept : (m : ℕ) → heaps'.tasks ≡ heaps.tasks → seen heaps' ready es m ≡ seen heaps ready es m
+  seen_kept m tasks = λ i. record { ready = list_kept ready i; waiting = waiting_kept i; spare = m; tasks = tasks i }
 
   pub grown : (unused' : List ℕ) (limit' room' unused_room' : ℕ) → unused' ≡ unused ++ range_with_len (length heaps.lists) n → held ≤ limit' → limit' ≤ length es + length unused + n →
       limit' ≤ held + heaps'.spare → length es + length unused + n ≤ 2 ^ 32 - 3 → length es + length unused + n ≤ room' → length es + length unused + n ≤ unused_room' →
@@ -83,7 +83,7 @@ module _ {heaps : Heaps} {ready : ℕ} {es : List Entry} {unused : List ℕ} {he
             (All-append (λ h. list_of heaps' h ≡ fin.empty) unused (range_with_len (length heaps.lists) n) (λ k d lt. list_kept (get_or unused k d) ∙ laid.empty k d lt) more_empty);
         counted = λ k d lt. laid.counted k d lt ∙ ap fin.len (sym (list_kept (get_or es k d).heap));
         apart = apart_by heaps.lists heaps'.lists (λ i. i) (λ i p h. (i, sym (ap (λ l. fin.contains l p) (list_kept i)) ∙ h, refl)) laid.apart;
-        few = omega (arith, laid.few, ap fin.len (list_kept ready));
+        held_is = omega (arith, laid.held_is, ap fin.len (list_kept ready));
         within = within;
         enough = omega (arith, enough, long_names);
         spare = spare;
@@ -97,8 +97,9 @@ module _ {heaps : Heaps} {ready : ℕ} {es : List Entry} {unused : List ℕ} {he
 
 -- what is kept by the growths of a reservation
 pub reserved_seen : {heaps : Heaps} {ready : ℕ} {es : List Entry} {unused : List ℕ} {held limit room unused_room : ℕ} → IsLaidOut heaps ready es unused held limit room unused_room →
-    (heaps' : Heaps) (es' : List Entry) (n m : ℕ) → heaps'.lists ≡ heaps.lists ++ replicate n fin.empty → es' ≡ es → seen heaps' ready es' m ≡ seen heaps ready es m
-reserved_seen {heaps} {ready} {es} laid heaps' es' n m lists same = ap (λ l. seen heaps' ready l m) same ∙ seen_kept laid heaps' n lists m
+    (heaps' : Heaps) (es' : List Entry) (n m : ℕ) → heaps'.lists ≡ heaps.lists ++ replicate n fin.empty → heaps'.tasks ≡ heaps.tasks → es' ≡ es →
+    seen heaps' ready es' m ≡ seen heaps ready es m
+reserved_seen {heaps} {ready} {es} laid heaps' es' n m lists tasks same = ap (λ l. seen heaps' ready l m) same ∙ seen_kept laid heaps' n lists m tasks
 
 pub reserved : {heaps : Heaps} {ready : ℕ} {es : List Entry} {unused : List ℕ} {held limit room unused_room : ℕ} → IsCalendar heaps ready es unused held limit room unused_room →
     (mid heaps' : Heaps) (es' : List Entry) (unused2 unused' : List ℕ) (n limit' room' unused_room' : ℕ) → mid.lists ≡ heaps.lists → es' ≡ es → unused2 ≡ unused → AddsHeaps mid heaps' unused2 unused' n →

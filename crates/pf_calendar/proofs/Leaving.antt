@@ -18,10 +18,10 @@ use Rattle.std.specs.FinMap.Entries.{is_sorted, find, where_key, find-where_key}
 use Rattle.pf_order.specs.Priority.{Priority, key_cmp}
 use Rattle.pf_order.proofs.Order.{key_cmp_total, only_equal_keys_tie}
 use Rattle.pf_heap.specs.Keys as keys
-use Rattle.pf_heap.specs.Keys.{Keys, Heaps, list_of, without, HasNone}
+use Rattle.pf_heap.specs.Keys.{Keys, Heaps, list_of, without, HasNone, EachTaskOnce}
 use Rattle.pf_calendar.specs.declared.entry.Entry.{Entry}
 use Rattle.pf_calendar.specs.Queues.{list_at, with_list, IsHeld, TakesOut}
-use Rattle.pf_calendar.specs.Invariant.{lists_in, waiting_in, names_of, AreApart, IsLaidOut, IsCalendar}
+use Rattle.pf_calendar.specs.Invariant.{lists_in, waiting_in, names_of, IsLaidOut, IsCalendar}
 use Rattle.pf_calendar.specs.Steps.{RemovesAt, Discounts}
 use Rattle.pf_calendar.proofs.Naming.{no_entry, times-cons, times-append, times-nil, times-remove, lists_set, lists-remove, length-lists, slot_at, list_at_place}
 use Rattle.pf_heap.proofs.Sets.{key_alike, tied_keys}
@@ -39,7 +39,7 @@ pub copied_seen : (heaps heaps' : Heaps) (ready : ℕ) (es es' : List Entry) (m 
 copied_seen heaps heaps' ready es es' m n is same none =
     let waits : waiting_in heaps' es' ≡ waiting_in heaps es =
     ap (waiting_in heaps') same ∙ ap (λ h. waiting_in h es) is ∙ waiting_is (record heaps { spare = 0 }) es ∙ sym (waiting_is heaps es) in
-    λ i. record { ready = list_of (is i) ready; waiting = waits i; spare = none i }
+    λ i. record { ready = list_of (is i) ready; waiting = waits i; spare = none i; tasks = (is i).tasks }
 
 -- ---- one key of a task
 
@@ -123,7 +123,7 @@ module _ {heaps : Heaps} {ready : ℕ} {es : List Entry} {unused : List ℕ} {he
             (All-take (λ (x : Entry). x.count ≡ fin.len (list_of heaps x.heap)) at es laid.counted)
             (All-drop (λ (x : Entry). x.count ≡ fin.len (list_of heaps x.heap)) (suc at) es laid.counted);
         apart = laid.apart;
-        few = omega (arith, laid.few, sum_by-remove (λ (x : Entry). x.count) es at no_entry lt);
+        held_is = omega (arith, laid.held_is, sum_by-remove (λ (x : Entry). x.count) es at no_entry lt);
         within = laid.within;
         enough = omega (arith, laid.enough, long, long_unused);
         spare = laid.spare;
@@ -143,7 +143,7 @@ module _ {heaps : Heaps} {ready : ℕ} {es : List Entry} {unused : List ℕ} {he
       (λ m.
       let at = waits_at (lists_in heaps es) m.0 w.key laid.rise (sym (ap (λ x. fin.contains (list_at x m.0) w.key) (waiting_is heaps es)) ∙ m.1) in
       let lt : at.0 < length es = omega (arith, at.1, length-lists heaps es) in
-      none_waiting at.0 no_entry lt w.key (sym (ap (λ l. fin.contains l w.key) (list_at_place heaps es at.0 fin.empty lt)) ∙ at.2) w.of_task)
+      none_waiting at.0 no_entry lt w.key (sym (ap (λ l. fin.contains l w.key) (list_at_place heaps es at.0 fin.empty lt)) ∙ at.3) w.of_task)
       w.has
 
   -- from the ready list
@@ -178,12 +178,12 @@ module _ {heaps : Heaps} {ready : ℕ} {es : List Entry} {unused : List ℕ} {he
     size_left = omega (arith, len-remove_one (list_of heaps e.heap) k (removes.has no_entry), laid.counted at no_entry removes.within)
 
     pub some_held : 1 ≤ held
-    some_held = omega (arith, some_there, get_or-le-sum_by (λ (x : Entry). x.count) es at no_entry removes.within, laid.few)
+    some_held = omega (arith, some_there, get_or-le-sum_by (λ (x : Entry). x.count) es at no_entry removes.within, laid.held_is)
 
     taken_laid : IsLaidOut heaps' ready (set es at less) unused (held - 1) limit room unused_room
     taken_laid =
         entry_changed laid heaps' at left (e.count - 1) (held - 1) removes.within (ap (λ h. h.lists) left_is) size_left
-        (subst AreApart (sym (ap (λ h. h.lists) left_is)) (apart_part heaps.lists e.heap left (λ p h. remove_in (list_of heaps e.heap) k p h) laid.apart))
+        (subst EachTaskOnce (sym (ap (λ h. h.lists) left_is)) (apart_part heaps.lists e.heap left (λ p h. remove_in (list_of heaps e.heap) k p h) laid.apart))
         (omega (arith, some_there, some_held)) (omega (arith, laid.within)) (omega (arith, some_held, laid.spare, ap (λ h. h.spare) left_is))
 
     pub discounted_calendar : (es' : List Entry) (unused' : List ℕ) → All (λ x. 1 ≤ x.count) es → Discounts es es' unused unused' at →
@@ -264,4 +264,4 @@ module _ {heaps : Heaps} {ready : ℕ} {es : List Entry} {unused : List ℕ} {he
         let waits : waiting_in heaps' es' ≡ with_list (waiting_in heaps es) e.slot (fin.remove (list_at (waiting_in heaps es) e.slot) k) =
         discounted_waits es' unused' ways ∙ ap (λ l. with_list (waiting_in heaps es) e.slot (fin.remove l k)) (sym slot_list) in
         let places : limit - (held - 1) ≡ (limit - held) + 1 = omega (arith, some_held, laid.within) in
-        inr (e.slot, ap (λ l. fin.contains l k) slot_list ∙ removes.has no_entry, λ i. record { ready = here i; waiting = waits i; spare = places i })
+        inr (e.slot, ap (λ l. fin.contains l k) slot_list ∙ removes.has no_entry, λ i. record { ready = here i; waiting = waits i; spare = places i; tasks = (left_is i).tasks })

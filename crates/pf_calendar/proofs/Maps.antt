@@ -90,12 +90,12 @@ none_found es s other =
 
 -- a key that waits is in the list of some entry
 pub waits_at : (es : Keyed) (s : ℕ) (q : Priority) → in_order es ≡ true → fin_set.contains (list_at (fin.from_sorted es) s) q ≡ true →
-    (k : ℕ) × (k < length es) × (fin_set.contains (get_or es k (0, fin_set.empty)).1 q ≡ true)
+    (k : ℕ) × (k < length es) × ((get_or es k (0, fin_set.empty)).0 ≡ s) × (fin_set.contains (get_or es k (0, fin_set.empty)).1 q ≡ true)
 waits_at es s q ok h =
     ⊎_elim
     (λ e. absurd (has_none q (sym (ap (λ l. fin_set.contains l q) (list_found es s None ok e)) ∙ h)))
     (λ w. let m = find_place s es w.0 (0, fin_set.empty) w.1 in
-    (m.0, m.1, ap (λ l. fin_set.contains l q) m.3 ∙ sym (ap (λ l. fin_set.contains l q) (list_found es s (Some w.0) ok w.1)) ∙ h))
+    (m.0, m.1, m.2, ap (λ l. fin_set.contains l q) m.3 ∙ sym (ap (λ l. fin_set.contains l q) (list_found es s (Some w.0) ok w.1)) ∙ h))
     (none_or_some (find nat_cmp s es))
 
 -- the key of an entry waits

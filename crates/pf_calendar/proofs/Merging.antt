@@ -37,6 +37,7 @@ adds_more old mid new names noted noted' n h a is grown pushed =
     record {
       lists = ap (λ x. x.lists) grown ∙ ap (λ l. l ++ fin.empty ∷ []) a.lists ∙ append_assoc old.lists (replicate n fin.empty) (fin.empty ∷ []) ∙ ap (λ l. old.lists ++ l) (replicate_more n fin.empty);
       spare = ap (λ x. x.spare) grown ∙ a.spare;
+      tasks = ap (λ x. x.tasks) grown ∙ a.tasks;
       noted = pushed ∙ ap (λ l. l ++ h ∷ []) a.noted ∙ append_assoc names (range_with_len (length old.lists) n) (h ∷ [])
           ∙ ap (λ l. names ++ l) (sym (range_push (length old.lists) n h at) ∙ ap (range_with_len (length old.lists)) (let s : suc n ≡ n + 1 = omega arith in s));
     }
@@ -46,6 +47,7 @@ adds_more old mid new names noted noted' n h a is grown pushed =
 pub merges_none : (heaps : Heaps) (into : ℕ) → MergesAll heaps heaps into []
 merges_none heaps into = record {
   spare = refl;
+  tasks = refl;
   long = refl;
   merged = sym (union-empty (list_of heaps into));
   emptied = λ k d lt. absurd (omega (arith, lt));
@@ -77,6 +79,7 @@ merges_more old mid new into x names m in_into in_x differ apart fresh is =
     (cases_eq n x) in
     record {
       spare = ap (λ n. n.spare) is ∙ m.spare;
+      tasks = ap (λ n. n.tasks) is ∙ m.tasks;
       long = ap length lists_is ∙ length-set (set mid.lists x fin.empty) into (fin.union (list_of mid into) (list_of mid x)) ∙ long_x ∙ m.long;
       merged = at_into ∙ (λ i. fin.union (m.merged i) (was i))
           ∙ union_assoc (list_of old into) (all_of (map (list_of old) names)) (list_of old x)

@@ -3,7 +3,7 @@ use Rattle.std.proofs.Common.{◌≡◌, ℕ, zero, suc, ◌+◌, ◌-◌, ◌<�
 use Rattle.std.specs.Prelude.{◌||◌, ◌&&◌, not}
 use Rattle.std.specs.List.{list_any}
 use Rattle.std.proofs.Math.Bool.{or-false, or_assoc}
-use Rattle.std.proofs.lemmas.Bool.{or_cases}
+use Rattle.std.proofs.lemmas.Bool.{or_cases, false_from_ne_true}
 use Rattle.std.specs.Ordering.{eq_by_cmp}
 use Rattle.std.specs.FinSet as fin
 use Rattle.std.specs.FinSet.{contains-empty, contains-union, contains-insert, contains-remove, contains-items, len-empty, len-insert, len-remove, same_set, empty_of_len}
@@ -121,6 +121,29 @@ union_sized (suc n) s t e =
       len-insert-le (fin.union s (fin.remove t k.0)) k.0,
       union_sized n s (fin.remove t k.0) (omega (arith, len-remove_one t k.0 k.1, e)),
     )
+
+not_in_removed : (t : Keys) (k : Priority) → fin.contains (fin.remove t k) k ≡ true → ⊥
+not_in_removed t k h =
+    let e : false ≡ true = sym (contains-remove key_cmp_total t k k ∙ ap (λ b. not b && fin.contains t k) (key_alike k)) ∙ h in cc
+
+apart_sized : (n : ℕ) (s t : Keys) → fin.len t ≡ n → ((q : Priority) → fin.contains s q ≡ true → fin.contains t q ≡ true → ⊥) → fin.len (fin.union s t) ≡ fin.len s + n
+apart_sized zero s t e apart =
+    let none : t ≡ fin.empty = empty_of_len t e in
+    omega (arith, ap (λ x. fin.len (fin.union s x)) none, ap fin.len (union-empty s))
+apart_sized (suc n) s t e apart =
+    let k = some_key t (omega (arith, e)) in
+    let new : fin.contains (fin.union s (fin.remove t k.0)) k.0 ≡ false =
+    false_from_ne_true _ (λ h. ⊎_elim (λ here. apart k.0 here k.1) (λ there. not_in_removed t k.0 there) (union_cases s (fin.remove t k.0) k.0 h)) in
+    omega (
+      arith,
+      ap fin.len (union_last s t k.0 k.1),
+      len-insert_new (fin.union s (fin.remove t k.0)) k.0 new,
+      apart_sized n s (fin.remove t k.0) (omega (arith, len-remove_one t k.0 k.1, e)) (λ q here there. apart q here (remove_in t k.0 q there)),
+    )
+
+-- sets that share no key
+pub len-union_apart : (s t : Keys) → ((q : Priority) → fin.contains s q ≡ true → fin.contains t q ≡ true → ⊥) → fin.len (fin.union s t) ≡ fin.len s + fin.len t
+len-union_apart s t apart = apart_sized (fin.len t) s t refl apart
 
 pub len-union-le : (s t : Keys) → fin.len (fin.union s t) ≤ fin.len s + fin.len t
 len-union-le s t = union_sized (fin.len t) s t refl

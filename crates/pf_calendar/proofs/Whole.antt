@@ -1,5 +1,5 @@
 -- A calendar's operations, whole.
-use Rattle.std.proofs.Common.{◌≡◌, ◌≢◌, ℕ, zero, suc, ◌+◌, ◌-◌, ◌<◌, ◌≤◌, true, false, cond, eqb, ltb, ◌⊎◌, inl, inr, List, [], ◌∷◌, ◌++◌, length, get_or, set, take, drop, refl, sym, ap, ◌∙◌, subst, arith, ⊎_elim, None, Some}
+use Rattle.std.proofs.Common.{◌≡◌, ◌≢◌, ℕ, zero, suc, ◌+◌, ◌-◌, ◌<◌, ◌≤◌, true, false, cond, eqb, ltb, ◌⊎◌, inl, inr, List, [], ◌∷◌, ◌++◌, length, get_or, set, take, drop, map, refl, sym, ap, ◌∙◌, subst, arith, ⊎_elim, Option, None, Some}
 use Rattle.std.specs.Prelude.{insert, sum_by, All}
 use Rattle.std.proofs.lemmas.Bool.{cases_lt, cases_eq, false_from_ne_true}
 use Rattle.std.proofs.lemmas.Bool.Decides.{nat_tests}
@@ -14,23 +14,24 @@ use Rattle.std.specs.FinSet.{len-empty}
 use Rattle.std.specs.FinMap as finmap
 use Rattle.pf_order.specs.Priority.{Priority, key_cmp}
 use Rattle.pf_heap.specs.Keys as keys
-use Rattle.pf_heap.specs.Keys.{Keys, Heaps, list_of, with_list}
+use Rattle.pf_heap.specs.Keys.{Keys, Heaps, list_of, with_list, EachTaskOnce}
 use Rattle.pf_heap.specs.Digits.{digits}
 use Rattle.pf_heap.proofs.Digits.{digits-mono}
 use Rattle.pf_calendar.specs.declared.entry.Entry.{Entry}
-use Rattle.pf_calendar.specs.Queues.{Queues, list_at, count_of, IsHeld}
-use Rattle.pf_calendar.specs.Invariant.{lists_in, waiting_in, AreApart, IsLaidOut, IsCalendar}
+use Rattle.pf_calendar.specs.Queues.{Queues, list_at, list_in, count_of, IsHeld, NoneEmpty}
+use Rattle.pf_calendar.specs.Queues as queues
+use Rattle.pf_calendar.specs.Invariant.{lists_in, waiting_in, IsLaidOut, IsCalendar}
 use Rattle.pf_calendar.specs.Steps.{HasEntry, Opens}
 use Rattle.pf_calendar.proofs.Naming.{no_entry, times-cons, times-nil, lists_same, lists_set, lists-insert, length-lists, slot_at, list_at_place}
 use Rattle.pf_calendar.proofs.Sets.{has_none, insert_cases, remove_in, some_has, len-insert_new, len-remove_one}
 use Rattle.pf_calendar.proofs.Apart.{Has, apart_by, apart_but}
 use Rattle.pf_calendar.proofs.Slots.{rises, find_at}
-use Rattle.pf_calendar.proofs.Maps.{set_in, list_found, none_found, waits_from, sum_in, entries_in}
+use Rattle.pf_calendar.proofs.Maps.{set_in, list_found, none_found, waits_at, waits_from, sum_in, entries_in}
 use Rattle.pf_calendar.proofs.Arranged.{ready_listed, entry_listed, entry_apart, entries_apart, list_cases, entry_changed, ready_changed, entry_opened, opened_lists}
 
 -- what contracts see
 abbrev pub seen : Heaps → ℕ → List Entry → ℕ → Queues
-seen heaps ready es n = record { ready = list_of heaps ready; waiting = waiting_in heaps es; spare = n }
+seen heaps ready es n = record { ready = list_of heaps ready; waiting = waiting_in heaps es; spare = n; tasks = heaps.tasks }
 
 pub waiting_is : (heaps : Heaps) (es : List Entry) → waiting_in heaps es ≡ finmap.from_sorted (lists_in heaps es)
 unfolding waiting_in
@@ -61,7 +62,7 @@ has_set lists at new i p h =
     (λ ne. inr (sym (ap (λ l. fin.contains l p) (get_or-set_other lists at i new fin.empty ne)) ∙ h))
     (cases_eq i at)
 
-pub apart_insert : (lists : List Keys) (at : ℕ) (key : Priority) → ¬ (keys.IsHeld lists key.task) → AreApart lists → AreApart (set lists at (fin.insert (get_or lists at fin.empty) key))
+pub apart_insert : (lists : List Keys) (at : ℕ) (key : Priority) → ¬ (keys.IsHeld lists key.task) → EachTaskOnce lists → EachTaskOnce (set lists at (fin.insert (get_or lists at fin.empty) key))
 apart_insert lists at key absent apart =
     apart_but lists (set lists at (fin.insert (get_or lists at fin.empty) key)) at key
     (λ i p h. ⊎_elim
@@ -71,7 +72,7 @@ apart_insert lists at key absent apart =
     (λ i p h e. absent (record { list = i; key = p; listed = has_listed lists i p h; has = h; of_task = e }))
     apart
 
-pub apart_part : (lists : List Keys) (at : ℕ) (new : Keys) → ((p : Priority) → fin.contains new p ≡ true → Has lists at p) → AreApart lists → AreApart (set lists at new)
+pub apart_part : (lists : List Keys) (at : ℕ) (new : Keys) → ((p : Priority) → fin.contains new p ≡ true → Has lists at p) → EachTaskOnce lists → EachTaskOnce (set lists at new)
 apart_part lists at new part apart =
     apart_by lists (set lists at new) (λ i. i)
     (λ i p h. ⊎_elim
@@ -137,10 +138,10 @@ module _ {heaps : Heaps} {ready : ℕ} {es : List Entry} {unused : List ℕ} {he
   popped_laid heaps' key has is =
       let some : 1 ≤ fin.len (list_of heaps ready) = some_has (list_of heaps ready) key has in
       let less : fin.len (fin.remove (list_of heaps ready) key) ≡ fin.len (list_of heaps ready) - 1 = len-remove_one (list_of heaps ready) key has in (
-        omega (arith, some, laid.few),
+        omega (arith, some, laid.held_is),
         ready_changed laid heaps' (fin.remove (list_of heaps ready) key) (held - 1) (ap (λ h. h.lists) is)
-            (subst AreApart (sym (ap (λ h. h.lists) is)) (apart_part heaps.lists ready (fin.remove (list_of heaps ready) key) (λ p h. remove_in (list_of heaps ready) key p h) laid.apart))
-            (omega (arith, some, less, laid.few)) (omega (arith, laid.within)) (omega (arith, some, laid.few, laid.spare, ap (λ h. h.spare) is)),
+            (subst EachTaskOnce (sym (ap (λ h. h.lists) is)) (apart_part heaps.lists ready (fin.remove (list_of heaps ready) key) (λ p h. remove_in (list_of heaps ready) key p h) laid.apart))
+            (omega (arith, some, less, laid.held_is)) (omega (arith, laid.within)) (omega (arith, some, laid.held_is, laid.spare, ap (λ h. h.spare) is)),
       )
 
   popped_seen : (heaps' : Heaps) (key : Priority) → fin.contains (list_of heaps ready) key ≡ true →
@@ -153,8 +154,8 @@ module _ {heaps : Heaps} {ready : ℕ} {es : List Entry} {unused : List ℕ} {he
       let others : lists_in heaps' es ≡ lists_in heaps es = lists_same heaps heaps' es (λ k lk.
       ap (λ h. list_of h (get_or es k no_entry).heap) is ∙ get_or-set_other heaps.lists ready (get_or es k no_entry).heap (fin.remove (list_of heaps ready) key) fin.empty (entry_apart laid k lk)) in
       let waits : waiting_in heaps' es ≡ waiting_in heaps es = waiting_is heaps' es ∙ ap finmap.from_sorted others ∙ sym (waiting_is heaps es) in
-      let places : limit - (held - 1) ≡ (limit - held) + 1 = omega (arith, some_has (list_of heaps ready) key has, laid.few, laid.within) in
-      λ i. record { ready = here i; waiting = waits i; spare = places i }
+      let places : limit - (held - 1) ≡ (limit - held) + 1 = omega (arith, some_has (list_of heaps ready) key has, laid.held_is, laid.within) in
+      λ i. record { ready = here i; waiting = waits i; spare = places i; tasks = (is i).tasks }
 
 pub popped : {heaps heaps' : Heaps} {ready : ℕ} {es : List Entry} {unused : List ℕ} {held limit room unused_room : ℕ} {now : Queues} →
     IsCalendar heaps ready es unused held limit room unused_room → seen heaps ready es (limit - held) ≡ now → (key : Priority) → fin.contains (list_of heaps ready) key ≡ true →
@@ -185,8 +186,8 @@ new_calendar heaps ready es unused room unused_room lists first no_entries no_na
         small = omega arith;
         empty = λ k d lt. absurd (omega (arith, lt));
         counted = λ k d lt. absurd (omega (arith, lt));
-        apart = subst AreApart (sym lists) (λ i j p q hp hq same. absurd (has_none p (sym (ap (λ l. fin.contains l p) (all_empty i)) ∙ hp)));
-        few = omega (arith, ap (λ l. fin.len (get_or l 0 fin.empty)) lists, len-empty key_cmp);
+        apart = subst EachTaskOnce (sym lists) (λ i j p q hp hq same. absurd (has_none p (sym (ap (λ l. fin.contains l p) (all_empty i)) ∙ hp)));
+        held_is = omega (arith, ap (λ l. fin.len (get_or l 0 fin.empty)) lists, len-empty key_cmp);
         within = omega arith;
         enough = omega arith;
         spare = omega arith;
@@ -202,13 +203,13 @@ new_calendar heaps ready es unused room unused_room lists first no_entries no_na
       all_empty zero = refl
       all_empty (suc i) = refl
 
-pub new_seen : (heaps : Heaps) (ready : ℕ) (es : List Entry) → heaps.lists ≡ fin.empty ∷ [] → ready ≡ 0 → es ≡ [] →
-    seen heaps ready es 0 ≡ record { ready = fin.empty; waiting = finmap.empty; spare = 0 }
-new_seen heaps ready es lists first no_entries =
+pub new_seen : (heaps : Heaps) (ready : ℕ) (es : List Entry) → heaps.lists ≡ fin.empty ∷ [] → heaps.tasks ≡ 0 → ready ≡ 0 → es ≡ [] →
+    seen heaps ready es 0 ≡ record { ready = fin.empty; waiting = finmap.empty; spare = 0; tasks = 0 }
+new_seen heaps ready es lists no_tasks first no_entries =
     let here : list_of heaps ready ≡ fin.empty = ap (list_of heaps) first ∙ ap (λ l. get_or l 0 fin.empty) lists in
     let waits : waiting_in heaps es ≡ finmap.empty =
     ap (waiting_in heaps) no_entries ∙ waiting_is heaps [] ∙ finmap.empty_of_len (finmap.from_sorted []) (finmap.len-entries (finmap.from_sorted []) ∙ ap length (entries_in [] refl)) in
-    λ i. record { ready = here i; waiting = waits i; spare = 0 }
+    λ i. record { ready = here i; waiting = waits i; spare = 0; tasks = no_tasks i }
 
 -- ---- a key is put
 
@@ -345,7 +346,7 @@ module _ {heaps : Heaps} {ready : ℕ} {es : List Entry} {unused : List ℕ} {he
       false_from_ne_true (fin.contains (list_of heaps e.heap) key) (λ h. absent (record { list = e.heap; key = key; listed = h_in; has = h; of_task = refl })) in
       entry_changed opened heaps' at new (e.count + 1) (held + 1) opened_within (ap (λ h. h.lists) is)
       (omega (arith, len-insert_new (list_of heaps e.heap) key none, opened.counted at no_entry opened_within))
-      (subst AreApart (sym (ap (λ h. h.lists) is)) (apart_insert heaps.lists e.heap key absent laid.apart))
+      (subst EachTaskOnce (sym (ap (λ h. h.lists) is)) (apart_insert heaps.lists e.heap key absent laid.apart))
       (omega arith) (omega (arith, free)) (omega (arith, free, laid.spare, ap (λ h. h.spare) is))
 
   put_seen : (heaps' : Heaps) (key : Priority) → ¬ (keys.IsHeld heaps.lists key.task) → held < limit → PutInto heaps' key →
@@ -370,7 +371,7 @@ module _ {heaps : Heaps} {ready : ℕ} {es : List Entry} {unused : List ℕ} {he
       waiting_is heaps' (set es1 at e') ∙ ap finmap.from_sorted lists ∙ ap (λ s. finmap.from_sorted (set (lists_in heaps es1) at (s, new))) opened_slot
       ∙ opened_map new ∙ ap (λ l. finmap.insert (waiting_in heaps es) slot (fin.insert l key)) opened_list in
       let places : limit - (held + 1) ≡ (limit - held) - 1 = omega (arith, free) in
-      λ i. record { ready = here i; waiting = waits i; spare = places i }
+      λ i. record { ready = here i; waiting = waits i; spare = places i; tasks = (is i).tasks }
 
   -- the calendar after the put, as the code reads and writes the entry
   pub put_done : {now : Queues} → seen heaps ready es (limit - held) ≡ now → 1 ≤ now.spare → (key : Priority) → ¬ (IsHeld now key.task) →
@@ -399,7 +400,7 @@ each_one (e ∷ es) h =
 -- where a key can be put there is an unused heap
 pub has_unused : {heaps : Heaps} {ready : ℕ} {es : List Entry} {unused : List ℕ} {held limit room unused_room : ℕ} → IsCalendar heaps ready es unused held limit room unused_room →
     held < limit → 1 ≤ length unused
-has_unused {es = es} cal free = omega (arith, free, each_one es cal.some, cal.laid.few, cal.laid.enough)
+has_unused {es = es} cal free = omega (arith, free, each_one es cal.some, cal.laid.held_is, cal.laid.enough)
 
 pub slots_rise : {heaps : Heaps} {ready : ℕ} {es : List Entry} {unused : List ℕ} {held limit room unused_room : ℕ} → IsLaidOut heaps ready es unused held limit room unused_room →
     IsNonDecreasingBy (λ (e : Entry). e.slot) es
@@ -418,3 +419,63 @@ pub with_room : {heaps : Heaps} {ready : ℕ} {es : List Entry} {unused : List �
 with_room {heaps} {ready} {es} {unused} {held} {limit} room unused_room room' unused_room' e f cal =
     subst (λ (n : ℕ). IsCalendar heaps ready es unused held limit n unused_room') (sym e)
     (subst (λ (n : ℕ). IsCalendar heaps ready es unused held limit room n) (sym f) cal)
+
+-- ---- places for more tasks
+
+pub tasks_seen : (heaps heaps' : Heaps) (ready : ℕ) (es : List Entry) (m n : ℕ) → heaps' ≡ record heaps { tasks = n } →
+    seen heaps' ready es m ≡ record (seen heaps ready es m) { tasks = n }
+tasks_seen heaps heaps' ready es m n is =
+    let waits : waiting_in heaps' es ≡ waiting_in heaps es =
+    ap (λ h. waiting_in h es) is ∙ waiting_is (record heaps { tasks = n }) es ∙ sym (waiting_is heaps es) in
+    λ i. record { ready = list_of (is i) ready; waiting = waits i; spare = m; tasks = (is i).tasks }
+
+-- ---- what contracts say of every calendar
+
+counted_some : (heaps : Heaps) (es : List Entry) → All (λ e. e.count ≡ fin.len (list_of heaps e.heap)) es → All (λ e. 1 ≤ e.count) es →
+    All (λ keys. 1 ≤ fin.len keys) (map (λ (e : ℕ × Keys). e.1) (lists_in heaps es))
+counted_some heaps [] counted some k d lt = absurd (omega (arith, lt))
+counted_some heaps (e ∷ es) counted some zero d lt = omega (arith, counted 0 no_entry (omega arith), some 0 no_entry (omega arith))
+counted_some heaps (e ∷ es) counted some (suc k) d lt =
+    counted_some heaps es (λ j x h. counted (suc j) x (omega (arith, h))) (λ j x h. some (suc j) x (omega (arith, h))) k d (omega (arith, lt))
+
+module _ {heaps : Heaps} {ready : ℕ} {es : List Entry} {unused : List ℕ} {held limit room unused_room : ℕ} (cal : IsCalendar heaps ready es unused held limit room unused_room) where
+  pub none_empty : NoneEmpty (waiting_in heaps es)
+  none_empty =
+      subst (λ (l : List (ℕ × Keys)). All (λ keys. 1 ≤ fin.len keys) (map (λ (e : ℕ × Keys). e.1) l))
+      (sym (ap finmap.entries (waiting_is heaps es) ∙ entries_in (lists_in heaps es) cal.laid.rise))
+      (counted_some heaps es cal.laid.counted cal.some)
+
+  -- where a list is: the ready heap, or that of an entry for the slot
+  IsIn : Option ℕ → ℕ → Type 0
+  IsIn None h = h ≡ ready
+  IsIn (Some s) h = (k : ℕ) × (k < length es) × ((get_or es k no_entry).slot ≡ s) × (h ≡ (get_or es k no_entry).heap)
+
+  place_of : (n : ℕ) (x : Option ℕ) (q : Priority) → fin.contains (list_in (seen heaps ready es n) x) q ≡ true →
+      (h : ℕ) × IsIn x h × (fin.contains (list_of heaps h) q ≡ true)
+  unfolding IsIn
+  place_of n None q has = (ready, refl, has)
+  place_of n (Some s) q has =
+      let at = waits_at (lists_in heaps es) s q cal.laid.rise (sym (ap (λ x. fin.contains (list_at x s) q) (waiting_is heaps es)) ∙ has) in
+      let lt : at.0 < length es = omega (arith, at.1, length-lists heaps es) in (
+        (get_or es at.0 no_entry).heap,
+        (at.0, lt, sym (slot_at heaps es at.0 fin.empty lt) ∙ at.2, refl),
+        sym (ap (λ l. fin.contains l q) (list_at_place heaps es at.0 fin.empty lt)) ∙ at.3,
+      )
+
+  same_list : (x y : Option ℕ) (h : ℕ) → IsIn x h → IsIn y h → x ≡ y
+  unfolding IsIn
+  same_list None None h hx hy = refl
+  same_list None (Some s) h hx hy = absurd (entry_apart cal.laid hy.0 hy.1 (sym hy.3 ∙ hx))
+  same_list (Some s) None h hx hy = absurd (entry_apart cal.laid hx.0 hx.1 (sym hx.3 ∙ hy))
+  same_list (Some s) (Some t) h hx hy =
+      ⊎_elim
+      (λ e. ap Some (sym hx.2 ∙ ap (λ k. (get_or es k no_entry).slot) e ∙ hy.2))
+      (λ ne. absurd (entries_apart cal.laid hy.0 hx.0 hy.1 hx.1 ne (sym hx.3 ∙ hy.3)))
+      (cases_eq hx.0 hy.0)
+
+  pub each_task_once : (n : ℕ) → queues.EachTaskOnce (seen heaps ready es n)
+  each_task_once n x y k l hx hy task =
+      let a = place_of n x k hx in
+      let b = place_of n y l hy in
+      let m = cal.laid.apart a.0 b.0 k l a.2 b.2 task in
+      (same_list x y a.0 a.1 (subst (IsIn y) (sym m.0) b.1), m.1)

@@ -1,10 +1,9 @@
 -- What holds of every calendar.
-use Rattle.std.specs.Prelude.{◌≡◌, ℕ, ◌+◌, ◌-◌, ◌≤◌, ◌^◌, ◌==◌, true, List, ◌∷◌, ◌++◌, map, length, All, if◌then◌else◌, nat_lt, count_by, sum_by, slice_index_or}
+use Rattle.std.specs.Prelude.{◌≡◌, ℕ, ◌+◌, ◌-◌, ◌≤◌, ◌^◌, ◌==◌, true, List, ◌∷◌, ◌++◌, map, length, All, if◌then◌else◌, nat_lt, count_by, sum_by}
 use Rattle.std.specs.Ordering.{nat_cmp}
 use Rattle.std.specs.FinSet as set
 use Rattle.std.specs.FinMap as fin
-use Rattle.pf_order.specs.Priority.{Priority}
-use Rattle.pf_heap.specs.Keys.{Keys, Heaps, list_of}
+use Rattle.pf_heap.specs.Keys.{Keys, Heaps, list_of, EachTaskOnce}
 use Rattle.pf_calendar.specs.declared.entry.Entry.{Entry}
 use Rattle.pf_calendar.specs.Queues.{Waiting}
 
@@ -24,12 +23,6 @@ names_of entries = map (λ e. e.heap) entries
 unfoldable pub times : ℕ → List ℕ → ℕ
 times h names = count_by (λ n. n == h) names
 
--- no task has two keys: keys of one task are one key, in one list
-abbrev pub AreApart : List Keys → Type 0
-AreApart lists = (i j : ℕ) (p q : Priority) →
-    set.contains (slice_index_or lists i set.empty) p ≡ true → set.contains (slice_index_or lists j set.empty) q ≡ true
-    → p.task ≡ q.task → (i ≡ j) × (p ≡ q)
-
 -- each heap has one name: it is the ready one, or an entry's, or it is unused and then empty; the slots of the entries
 -- rise; each entry counts its keys; and there are heaps, and room for their names, for the keys held and the spare ones
 pub record IsLaidOut (heaps : Heaps) (ready : ℕ) (entries : List Entry) (unused : List ℕ) (held limit room unused_room : ℕ) : Type 0 where
@@ -39,8 +32,8 @@ pub record IsLaidOut (heaps : Heaps) (ready : ℕ) (entries : List Entry) (unuse
   pub small : length entries + length unused ≤ 2 ^ 32 - 3
   pub empty : All (λ h. list_of heaps h ≡ set.empty) unused
   pub counted : All (λ e. e.count ≡ set.len (list_of heaps e.heap)) entries
-  pub apart : AreApart heaps.lists
-  pub few : set.len (list_of heaps ready) + sum_by (λ e. e.count) entries ≤ held
+  pub apart : EachTaskOnce heaps.lists
+  pub held_is : held ≡ set.len (list_of heaps ready) + sum_by (λ e. e.count) entries
   pub within : held ≤ limit
   pub enough : limit ≤ length entries + length unused
   pub spare : limit ≤ held + heaps.spare

@@ -1,5 +1,5 @@
 -- What a calendar holds: keys that are ready, and keys that wait for a slot.
-use Rattle.std.specs.Prelude.{◌≡◌, ℕ, ◌+◌, true, List, [], ◌∷◌, ◌⊎◌, ◌==◌, if◌then◌else◌, nat_lt, nat_le, unwrap_or, sum_by, refl}
+use Rattle.std.specs.Prelude.{◌≡◌, ℕ, ◌+◌, ◌≤◌, true, List, [], ◌∷◌, ◌⊎◌, ◌==◌, if◌then◌else◌, nat_lt, nat_le, unwrap_or, sum_by, All, Option, None, Some, refl}
 use Rattle.std.specs.Ordering.{nat_cmp}
 use Rattle.std.specs.Coded.{Coded, code_by, coded×, coded_ℕ}
 use Rattle.std.specs.FinSet as set
@@ -11,11 +11,13 @@ use Rattle.pf_heap.specs.Keys.{Keys, priority_code}
 abbrev pub Waiting : Type 0
 Waiting = map.FinMap nat_cmp Keys
 
--- the ready keys, the waiting ones, and how many keys can be put before memory is wanted
+-- the ready keys, the waiting ones, how many keys can be put before memory is wanted, and the number below which a
+-- task's key can be
 pub record Queues : Type 0 where
   pub ready : Keys
   pub waiting : Waiting
   pub spare : ℕ
+  pub tasks : ℕ
 
 -- the keys that wait for slot s
 abbrev pub list_at : Waiting → ℕ → Keys
@@ -52,6 +54,20 @@ pub record IsHeld (q : Queues) (task : ℕ) : Type 0 where
   pub has : Holds q key
   pub of_task : key.task ≡ task
 
+-- the ready list, or that of a slot
+abbrev pub list_in : Queues → Option ℕ → Keys
+list_in q None = q.ready
+list_in q (Some s) = list_at q.waiting s
+
+-- no task has two keys: keys of one task are one key, in one list
+abbrev pub EachTaskOnce : Queues → Type 0
+EachTaskOnce q = (x y : Option ℕ) (k l : Priority) →
+    set.contains (list_in q x) k ≡ true → set.contains (list_in q y) l ≡ true → k.task ≡ l.task → (x ≡ y) × (k ≡ l)
+
+-- no slot waits with an empty list
+abbrev pub NoneEmpty : Waiting → Type 0
+NoneEmpty waiting = All (λ keys. 1 ≤ set.len keys) (map.values waiting)
+
 -- slot s has this list, or none where it is empty
 abbrev pub with_list : Waiting → ℕ → Keys → Waiting
 with_list waiting s keys = if set.len keys == 0 then map.remove waiting s else map.insert waiting s keys
@@ -65,5 +81,7 @@ TakesOut old new k =
 
 abbrev pub queues_code : Coded Queues
 queues_code =
-    code_by (Keys × (Waiting × ℕ)) (coded× (set.code priority_code) (coded× (map.code coded_ℕ (set.code priority_code)) coded_ℕ))
-    (λ q. (q.ready, (q.waiting, q.spare))) (λ p. record { ready = p.0; waiting = p.1.0; spare = p.1.1 }) (λ _. refl)
+    code_by (Keys × (Waiting × (ℕ × ℕ)))
+    (coded× (set.code priority_code) (coded× (map.code coded_ℕ (set.code priority_code)) (coded× coded_ℕ coded_ℕ)))
+    (λ q. (q.ready, (q.waiting, (q.spare, q.tasks))))
+    (λ p. record { ready = p.0; waiting = p.1.0; spare = p.1.1.0; tasks = p.1.1.1 }) (λ _. refl)

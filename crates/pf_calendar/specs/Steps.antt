@@ -13,11 +13,13 @@ use Rattle.pf_calendar.specs.Invariant.{times}
 pub record AddsHeaps (old new : Heaps) (names longer : List ℕ) (n : ℕ) : Type 0 where
   pub lists : new.lists ≡ old.lists ++ replicate n set.empty
   pub spare : new.spare ≡ old.spare
+  pub tasks : new.tasks ≡ old.tasks
   pub noted : longer ≡ names ++ range_with_len (length old.lists) n
 
 -- the lists of these heaps were merged into heap `into`, and are empty
 pub record MergesAll (old new : Heaps) (into : ℕ) (names : List ℕ) : Type 0 where
   pub spare : new.spare ≡ old.spare
+  pub tasks : new.tasks ≡ old.tasks
   pub long : length new.lists ≡ length old.lists
   pub merged : list_of new into ≡ set.union (list_of old into) (all_of (map (list_of old) names))
   pub emptied : All (λ h. list_of new h ≡ set.empty) names

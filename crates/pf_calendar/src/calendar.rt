@@ -1,11 +1,12 @@
-ghost use Rattle.std.specs.Prelude.{◌≡◌, ◌≢◌, ℕ, ◌+◌, ◌-◌, ◌*◌, ◌<◌, ◌≤◌, ◌^◌, length, All, IsTrue, IfOk, OnOk, OnErr, MatchOption, vec_len};
+ghost use Rattle.std.specs.Prelude.{◌≡◌, ◌≢◌, ℕ, ◌+◌, ◌-◌, ◌*◌, ◌<◌, ◌≤◌, ◌^◌, length, max, All, IsTrue, IfOk, OnOk, OnErr, MatchOption, vec_len};
 ghost use Rattle.std.specs.Vec.{vec_capacity};
 ghost use Rattle.std.specs.Ordering.{nat_cmp};
 ghost use Rattle.std.specs.FinSet as set;
 ghost use Rattle.std.specs.FinMap as map;
+ghost use Rattle.pf_order.specs.Counts.{Compares};
 ghost use Rattle.pf_heap.specs.Keys.{IsFirst};
 ghost use Rattle.pf_heap.specs.Digits.{digits};
-ghost use Rattle.pf_calendar.specs.Queues.{list_at, until, later, due, count_of, IsHeld, TakesOut};
+ghost use Rattle.pf_calendar.specs.Queues.{list_at, until, later, due, count_of, IsHeld, TakesOut, EachTaskOnce, NoneEmpty};
 
 use crate::entry::Entry;
 use crate::merge::merge_all;
@@ -16,9 +17,6 @@ use pf_order::key::Key;
 use pf_order::meter::Meter;
 use std::alloc::{AllocError, Global};
 use std::marker::Model;
-
-/// So many heaps can be named beside the ready one.
-const NAMES: usize = u32::MAX as usize - 2;
 
 /// Keys that wait for their slots, and keys that are ready. A task is held at most once.
 #[derive(Drop)]
@@ -47,7 +45,7 @@ impl Model for Calendar {
     ghost use Rattle.pf_heap.specs.Keys.{list_of};
     ghost use Rattle.pf_calendar.specs.Invariant.{waiting_in, IsCalendar};
 
-    ghost view = { λ c. record { ready = list_of c.heaps c.ready; waiting = waiting_in c.heaps c.waiting.items; spare = c.limit - c.held } };
+    ghost view = { λ c. record { ready = list_of c.heaps c.ready; waiting = waiting_in c.heaps c.waiting.items; spare = c.limit - c.held; tasks = c.heaps.tasks } };
 
     ghost invariant = { λ c. IsCalendar c.heaps c.ready c.waiting.items c.unused.items c.held c.limit (vec_capacity c.waiting) (vec_capacity c.unused) };
 }
@@ -59,7 +57,7 @@ impl Calendar {
     ///
     /// Where memory is refused.
     pub fn new(alloc: Global) -> Result<Self, AllocError>
-        ensures { IfOk result (λ c. c ≡ record { ready = set.empty; waiting = map.empty; spare = 0 }) }
+        ensures { IfOk result (λ c. c ≡ record { ready = set.empty; waiting = map.empty; spare = 0; tasks = 0 }) }
     {
         let mut heaps = Arena::new(alloc)?;
         let ready = heaps.new_heap()?;
@@ -73,23 +71,29 @@ impl Calendar {
         })
     }
 
-    /// Makes room for at least n more keys.
+    /// How many keys are held.
+    pub fn len(&self) -> usize
+        ensures { result ≡ count_of self.now }
+    {
+        self.held
+    }
+
+    /// Makes room for at least n more keys: with those held no more than 2^32 - 3, for which heaps can be named.
     ///
     /// # Errors
     ///
-    /// Where memory is refused, or n is more than heaps can be named: all is as before.
+    /// Where memory is refused: all is as before.
     pub fn reserve(&mut self, n: usize) -> Result<(), AllocError>
+        requires few { count_of self.old + n ≤ 2 ^ 32 - 3 }
         ensures ready { self.new.ready ≡ self.old.ready }
         ensures waiting { self.new.waiting ≡ self.old.waiting }
+        ensures tasks { self.new.tasks ≡ self.old.tasks }
         ensures grows { self.old.spare ≤ self.new.spare }
         ensures ok { OnOk result (n ≤ self.new.spare) }
         ensures err { OnErr result (self.new ≡ self.old) }
     {
         if n <= self.limit - self.held {
             return Ok(());
-        }
-        if n > NAMES - self.held {
-            return Err(AllocError);
         }
         let limit = self.held + n;
         let more = limit.saturating_sub(self.waiting.len() + self.unused.len());
@@ -101,16 +105,31 @@ impl Calendar {
         Ok(())
     }
 
+    /// Makes room for keys of the tasks up to this one (at most 4,095).
+    ///
+    /// # Errors
+    ///
+    /// Where memory is refused: all is as before.
+    pub fn reserve_task(&mut self, task: u32) -> Result<(), AllocError>
+        requires { task ≤ 4095 }
+        ensures ok { OnOk result (self.new ≡ record self.old { tasks = max self.old.tasks (task + 1) }) }
+        ensures err { OnErr result (self.new ≡ self.old) }
+    {
+        self.heaps.reserve_task(task)?;
+        Ok(())
+    }
+
     /// Adds the key to the list that waits for the slot.
     pub fn put(&mut self, meter: &mut Meter, slot: u64, key: Key)
         requires room { 1 ≤ self.old.spare }
+        requires placed { key.task < self.old.tasks }
         requires absent { ¬ IsHeld self.old key.task }
         ensures put { self.new ≡ record self.old {
           waiting = map.insert self.old.waiting slot (set.insert (list_at self.old.waiting slot) key);
           spare = self.old.spare - 1;
         } }
-        ensures comparisons { meter.new.compared ≤ meter.old.compared + digits (count_of self.old + 1) }
-        ensures slots { meter.new.slots ≡ meter.old.slots }
+        ensures some { NoneEmpty self.new.waiting }
+        ensures comparisons { Compares (digits (count_of self.old + 1)) meter.old meter.new }
     {
         let at = open(&mut self.waiting, &mut self.unused, slot);
         let entry = self.waiting[at];
@@ -125,9 +144,8 @@ impl Calendar {
           ready = set.union self.old.ready (due t self.old.waiting);
           waiting = later t self.old.waiting;
         } }
-        ensures comparisons { meter.new.compared
-            ≤ meter.old.compared + map.len (until t self.old.waiting) * digits (count_of self.old) }
-        ensures slots { meter.new.slots ≡ meter.old.slots }
+        ensures some { NoneEmpty self.new.waiting }
+        ensures comparisons { Compares (map.len (until t self.old.waiting) * digits (count_of self.old)) meter.old meter.new }
     {
         let due = self.waiting.partition_point(|entry| entry.slot <= t);
         merge_all(
@@ -145,8 +163,8 @@ impl Calendar {
         ensures popped { MatchOption result ((self.old.ready ≡ set.empty) × (self.new ≡ self.old))
             (λ k. IsFirst self.old.ready k
             × (self.new ≡ record self.old { ready = set.remove self.old.ready k; spare = self.old.spare + 1 })) }
-        ensures comparisons { meter.new.compared ≤ meter.old.compared + 2 * digits (count_of self.old) }
-        ensures slots { meter.new.slots ≡ meter.old.slots }
+        ensures some { NoneEmpty self.new.waiting }
+        ensures comparisons { Compares (2 * digits (count_of self.old)) meter.old meter.new }
     {
         let key = self.heaps.pop(meter, self.ready)?;
         self.held -= 1;
@@ -157,8 +175,9 @@ impl Calendar {
     pub fn take_out(&mut self, meter: &mut Meter, task: u32) -> Option<Key>
         ensures taken { MatchOption result ((¬ IsHeld self.old task) × (self.new ≡ self.old))
             (λ k. (k.task ≡ task) × TakesOut self.old self.new k) }
-        ensures comparisons { meter.new.compared ≤ meter.old.compared + 2 * digits (count_of self.old) }
-        ensures slots { meter.new.slots ≡ meter.old.slots }
+        ensures once { EachTaskOnce self.old }
+        ensures some { NoneEmpty self.new.waiting }
+        ensures comparisons { Compares (2 * digits (count_of self.old)) meter.old meter.new }
     {
         if let Some(key) = self.heaps.remove(meter, self.ready, task) {
             self.held -= 1;
@@ -173,7 +192,7 @@ impl Calendar {
         Some(key)
     }
 
-    /// A calendar with the same lists and no room.
+    /// A calendar with the same lists, for keys of the same tasks, and no room.
     ///
     /// # Errors
     ///

@@ -1,6 +1,7 @@
 ghost use Rattle.std.specs.Prelude.{◌≡◌, ◌≢◌, ℕ, ◌+◌, ◌*◌, ◌<◌, ◌≤◌, All, ◌++◌, length, sum_by, vec_len};
 ghost use Rattle.std.specs.Vec.{vec_capacity};
 ghost use Rattle.std.specs.FinSet as set;
+ghost use Rattle.pf_order.specs.Counts.{Compares};
 ghost use Rattle.pf_heap.specs.Keys.{list_of};
 ghost use Rattle.pf_heap.specs.Digits.{digits};
 ghost use Rattle.pf_calendar.specs.Invariant.{names_of, times};
@@ -25,9 +26,9 @@ pub(crate) fn merge_all(
     ensures merged { MergesAll heaps.old heaps.new into (names_of entries.now) }
     ensures aside { aside.new.items ≡ aside.old.items ++ names_of entries.now }
     ensures capacity { vec_capacity aside.new ≡ vec_capacity aside.old }
-    ensures comparisons { meter.new.compared ≤ meter.old.compared
-        + length entries.now * digits (set.len (list_of heaps.old into) + sum_by (λ e. set.len (list_of heaps.old e.heap)) entries.now) }
-    ensures slots { meter.new.slots ≡ meter.old.slots }
+    ensures comparisons { Compares
+        (length entries.now * digits (set.len (list_of heaps.old into) + sum_by (λ e. set.len (list_of heaps.old e.heap)) entries.now))
+        meter.old meter.new }
 {
     for entry in entries {
         heaps.meld(meter, into, entry.heap);

@@ -1,6 +1,7 @@
 ghost use Rattle.std.specs.Prelude.{◌≡◌, ◌+◌, ◌*◌, ◌<◌, ◌≤◌, length, All, MatchOption, slice_index_or, sum_by, vec_len};
 ghost use Rattle.std.specs.Vec.{vec_capacity};
 ghost use Rattle.std.specs.FinSet as set;
+ghost use Rattle.pf_order.specs.Counts.{Compares};
 ghost use Rattle.pf_heap.specs.Keys.{list_of, HasNone};
 ghost use Rattle.pf_heap.specs.Digits.{digits};
 ghost use Rattle.pf_calendar.specs.declared.entry.Entry.{Entry as EntryView};
@@ -21,9 +22,7 @@ pub(crate) fn remove_waiting(
     requires { All (λ e. e.heap < length heaps.old.lists) entries.now }
     ensures removed { MatchOption result ((heaps.new ≡ heaps.old) × All (λ e. HasNone (list_of heaps.old e.heap) task) entries.now)
         (λ r. RemovesAt heaps.old heaps.new entries.now task r.0 r.1) }
-    ensures comparisons { meter.new.compared
-        ≤ meter.old.compared + 2 * digits (sum_by (λ e. set.len (list_of heaps.old e.heap)) entries.now) }
-    ensures slots { meter.new.slots ≡ meter.old.slots }
+    ensures comparisons { Compares (2 * digits (sum_by (λ e. set.len (list_of heaps.old e.heap)) entries.now)) meter.old meter.new }
 {
     for (at, entry) in entries.iter().enumerate() {
         if let Some(key) = heaps.remove(meter, entry.heap, task) {

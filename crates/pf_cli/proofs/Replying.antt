@@ -7,8 +7,8 @@ use Rattle.pf_scenario.specs.declared.change.Change.{Change}
 use Rattle.pf_scenario.specs.declared.fault.EditFault.{EditFault}
 use Rattle.pf_scenario.specs.Scenario.{changed}
 use Rattle.pf_scenario.specs.Edit.{IsScenario, edit_fault}
-use Rattle.pf_engine.specs.declared.denied.Denied.{Denied}
-use Rattle.pf_engine.specs.RunRows.{denials_in}
+use Rattle.pf_run.specs.declared.denied.Denied.{Denied}
+use Rattle.pf_run.specs.RunRows.{denials_in}
 use Rattle.pf_desk.specs.declared.command.Command.{Command}
 use Rattle.pf_desk.specs.declared.command.Command.TheVariants.{Edit, Step}
 use Rattle.pf_desk.specs.declared.reply.Fault.TheVariants.{AtHorizon}

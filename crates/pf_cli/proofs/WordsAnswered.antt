@@ -1,13 +1,16 @@
 -- What the program does for words that run no script.
-use Rattle.std.proofs.Common.{◌≡◌, ◌+◌, ◌⊎◌, ℕ, refl, sym, subst, inl, inr, arith, List, Option, Some, None, Err}
+use Rattle.std.proofs.Common.{◌≡◌, ◌+◌, ◌⊎◌, ℕ, refl, sym, subst, inl, inr, arith, List, [], Option, Some, None, Err}
+use Rattle.std.specs.Io.KnownBytes.{Appends}
 use Rattle.std.specs.Prelude.{◌==◌, if◌then◌else◌, IfSome}
-use Rattle.std.proofs.KnownBytes.{Keeps-refl}
+use Rattle.std.proofs.KnownBytes.{Keeps-refl, Consumes-nil}
 use Rattle.pf_words.specs.declared.format.Format.{Format}
 use Rattle.pf_words.specs.declared.request.WordsFault.{WordsFault}
 use Rattle.pf_words.specs.declared.request.WordsFault.TheVariants as fault
-use Rattle.pf_words.specs.Asked.{AsksHelp, IsAsked, IsRefused, NamesNoFormat, format_asked}
+use Rattle.pf_words.specs.Asked.{AsksHelp, AsksVersion, IsAsked, IsRefused, NamesNoFormat, format_asked}
 use Rattle.pf_words.proofs.Unasked.{untaken_asks_none}
 use Rattle.pf_cli.specs.declared.fault.RunFault.TheVariants.{NoMemory}
+use Rattle.pf_stream.specs.Lines.{TookFront}
+use Rattle.pf_stream.specs.Reading.{longest_script, TakesAtMost}
 use Rattle.pf_cli.specs.Answers.{Answers}
 use Rattle.pf_cli.specs.Meaning.{script_meaning}
 use Rattle.pf_cli.specs.Status.{AnswersAsked, AnswersWords, ReadsNothing, Streams, status_of_words}
@@ -18,16 +21,36 @@ nothing_read : (words : List (List ℕ)) (status : ℕ) (old new : Streams) → 
     → AnswersWords words status old new
 nothing_read words status old new none reads = rw none reads
 
--- help that was asked for, and was written or could not be
-pub help_answers : (words : List (List ℕ)) (status : ℕ) (old new : Streams) → AsksHelp words → (status ≡ 0) ⊎ (status ≡ 3) → new.input ≡ old.input
-    → new.failed_reads ≡ old.failed_reads → new.failed_writes ≡ old.failed_writes + (if status == 3 then 1 else 0) → AnswersWords words status old new
-help_answers words status old new asks shown input reads writes = nothing_read words status old new (untaken_asks_none words _ asks) (record {
-  ended = inl (asks, shown);
-  input = input;
-  reads = reads;
-  writes = writes;
-  unwritten = λ other. absurd (omega (arith, shown, other));
-})
+-- words that ask for a text ask for no run
+pub shown_asks_none : (words : List (List ℕ)) → AsksHelp words ⊎ AsksVersion words → format_asked words ≡ None
+shown_asks_none words (inl help) = untaken_asks_none words _ help
+shown_asks_none words (inr version) = untaken_asks_none words _ version
+
+-- a text that was asked for, and was written or could not be
+pub text_answers : (words : List (List ℕ)) (text : List ℕ) (status : ℕ) (old new : Streams) → AsksHelp words ⊎ AsksVersion words
+    → (status ≡ 0) ⊎ (status ≡ 3) → new.input ≡ old.input → new.failed_reads ≡ old.failed_reads
+    → new.failed_writes ≡ old.failed_writes + (if status == 3 then 1 else 0) → (status ≡ 0 → Appends old.output new.output text)
+    → (status ≡ 3 → TookFront old.output new.output text) → AnswersWords words status old new
+text_answers words text status old new asks ended input reads writes whole front =
+    nothing_read words status old new (shown_asks_none words asks) (record {
+      ended = inl (asks, ended);
+      input = input;
+      reads = reads;
+      writes = writes;
+      shown = λ done. (text, whole done);
+      cut = λ failed. (text, front failed);
+      unwritten = λ other. absurd (omega (arith, ended, other));
+    })
+
+-- words that ask for nothing, and are not refused for want of memory, ask for no run
+pub refused_asks_none : (words : List (List ℕ)) (why : WordsFault) → IsAsked words (Err why) → (why ≡ fault.NoMemory) ⊎ (format_asked words ≡ None)
+refused_asks_none words (fault.Refused text) refused = inr (untaken_asks_none words _ refused.2)
+refused_asks_none words fault.UnknownFormat unknown = inr unknown.1
+refused_asks_none words fault.NoMemory any = inl refl
+
+-- a reader that was not read has given no byte
+none_taken : (input : Option (List ℕ)) → TakesAtMost input input (longest_script + 1)
+none_taken input = ([], Consumes-nil input, omega arith)
 
 -- want of memory is an answer to all words
 no_memory : (words : List (List ℕ)) (old : Streams) (asked : Option Format) → AnswersAsked words asked 4 old old
@@ -36,6 +59,8 @@ no_memory words old None = record {
   input = refl;
   reads = refl;
   writes = omega arith;
+  shown = λ done. absurd (omega (arith, done));
+  cut = λ failed. absurd (omega (arith, failed));
   unwritten = λ other. Keeps-refl old.output;
 }
 no_memory words old (Some format) = (
@@ -45,6 +70,8 @@ no_memory words old (Some format) = (
     meaning = none_meant format old.input old.output;
     reads = refl;
     writes = refl;
+    unwritten = λ failed. Keeps-refl old.output;
+    taken = none_taken old.input;
   },
 )
   where
@@ -59,6 +86,8 @@ mistaken words old are = record {
   input = refl;
   reads = refl;
   writes = omega arith;
+  shown = λ done. absurd (omega (arith, done));
+  cut = λ failed. absurd (omega (arith, failed));
   unwritten = λ other. Keeps-refl old.output;
 }
 

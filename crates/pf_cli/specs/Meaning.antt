@@ -1,14 +1,16 @@
 -- What a script means: a text and an end.
 use Rattle.std.specs.Prelude.{ℕ, ◌+◌, ◌^◌, Bool, ◌&&◌, nat_le, nat_lt, if◌then◌else◌, Option, None, Some, List, [], ◌∷◌, ◌++◌, codes, length, replicate}
 use Rattle.pf_scenario.specs.System.{System}
-use Rattle.pf_engine.specs.RunRows.{rows_in, denials_in}
+use Rattle.pf_run.specs.RunRows.{rows_in, denials_in}
 use Rattle.pf_timeline.specs.Checkpoints.{largest_distance}
 use Rattle.pf_desk.specs.declared.command.Command.{Command}
 use Rattle.pf_desk.specs.declared.command.Command.TheVariants as command
 use Rattle.pf_desk.specs.Machine.{State, opening_state, reply_to, state_after}
 use Rattle.pf_desk.specs.Desk.{Seen}
 use Rattle.pf_report.specs.Tables.{schedule_text, lags_text, misses_text, denials_text}
+use Rattle.pf_report.specs.Events.{events_text}
 use Rattle.pf_report.specs.Json.{json_text}
+use Rattle.pf_stats.specs.Processors.{processors_text}
 use Rattle.pf_script.specs.declared.version.Version.{Version}
 use Rattle.pf_script.specs.declared.version.Version.TheVariants.{First, Second}
 use Rattle.pf_script.specs.declared.line.Line.{Line}
@@ -18,7 +20,7 @@ use Rattle.pf_stream.specs.Reading.{longest_script}
 use Rattle.pf_script.specs.Script.{script_records}
 use Rattle.pf_script.specs.Grammar.{horizon_of, is_heading, opening_of, line_of}
 use Rattle.pf_words.specs.declared.format.Format.{Format}
-use Rattle.pf_words.specs.declared.format.Format.TheVariants.{Schedule, Tables, Json}
+use Rattle.pf_words.specs.declared.format.Format.TheVariants.{Schedule, Tables, Json, Report, Replies, Lags, Misses, Denials, Events, Processors}
 use Rattle.pf_words.specs.Formats.{has_replies}
 use Rattle.pf_cli.specs.Replies.{reply_line, line_end}
 
@@ -92,6 +94,13 @@ unfoldable pub report_text : Format → Seen → List ℕ
 report_text Schedule seen = schedule_text seen
 report_text Tables seen = tables_text seen
 report_text Json seen = json_text seen ++ line_end
+report_text Report seen = json_text seen ++ line_end
+report_text Replies seen = []
+report_text Lags seen = lags_text seen
+report_text Misses seen = misses_text seen
+report_text Denials seen = denials_text seen
+report_text Events seen = events_text seen
+report_text Processors seen = processors_text seen
 
 -- the record is this line, or it is bad
 abbrev pub line_meaning : Format → ℕ → Course → (Course → Meaning) → Option Line → Meaning

@@ -1,12 +1,14 @@
 -- The status that the program ends with, and what it did to its streams.
 use Rattle.std.specs.Prelude.{ℕ, ◌≡◌, ◌+◌, List, Option, Some, None, IfSome, Result, Ok, Err, ◌==◌, if◌then◌else◌, ◌⊎◌}
-use Rattle.std.specs.Io.KnownBytes.{Keeps}
+use Rattle.std.specs.Io.KnownBytes.{Appends, Keeps}
 use Rattle.pf_cli.specs.declared.fault.RunFault.{RunFault}
 use Rattle.pf_cli.specs.declared.fault.RunFault.TheVariants.{BadLine, ReadFault, WriteFault, ScriptTooLong, NoMemory}
 use Rattle.pf_words.specs.declared.format.Format.{Format}
 use Rattle.pf_words.specs.declared.request.WordsFault.{WordsFault}
 use Rattle.pf_words.specs.declared.request.WordsFault.TheVariants as words
-use Rattle.pf_words.specs.Asked.{format_asked, AsksHelp, IsRefused, NamesNoFormat}
+use Rattle.pf_words.specs.Asked.{format_asked, AsksHelp, AsksVersion, IsRefused, NamesNoFormat}
+use Rattle.pf_stream.specs.Lines.{TookFront}
+use Rattle.pf_stream.specs.Reading.{longest_script, TakesAtMost}
 use Rattle.pf_cli.specs.Answers.{Answers, CountsReads, CountsWrites}
 use Rattle.pf_cli.specs.Meaning.{script_meaning}
 
@@ -38,31 +40,37 @@ abbrev pub seen_streams : Option (List ℕ) → ℕ → Option (List ℕ) → �
 seen_streams input failed_reads output failed_writes =
     record { input = input; failed_reads = failed_reads; output = output; failed_writes = failed_writes }
 
--- this answer is one to what the script means, and the streams failed as it says
+-- this answer is one to what the script means; the streams failed as it says, a reader that fails leaves the writer as
+-- it was, and of a longer input at most a byte more than a script may have is taken
 pub record IsAnswer {A : Type 0} (format : Format) (answer : Result A RunFault) (old new : Streams) : Type 0 where
   pub meaning : IfSome old.input (λ bytes. Answers (script_meaning format bytes) answer old.output new.output)
   pub reads : CountsReads answer old.failed_reads new.failed_reads
   pub writes : CountsWrites answer old.failed_writes new.failed_writes
+  pub unwritten : answer ≡ Err ReadFault → Keeps old.output new.output
+  pub taken : TakesAtMost old.input new.input (longest_script + 1)
 
 -- a script was run in this format, and the status is that of the answer
 abbrev pub RunsScript : Format → ℕ → Streams → Streams → Type 0
 RunsScript format status old new =
     (answer : Result (Unit {0}) RunFault) × (status ≡ status_of answer) × IsAnswer format answer old new
 
--- how the program ends where it runs no script: help was asked for, and was written (0) or could not be (3), the words
--- were refused or name no format (2), or memory was refused (4)
+-- how the program ends where it runs no script: help or the version was asked for, and was written (0) or could not be
+-- (3), the words were refused or name no format (2), or memory was refused (4)
 abbrev pub EndsUnread : List (List ℕ) → ℕ → Type 0
 EndsUnread words status =
-    (AsksHelp words × ((status ≡ 0) ⊎ (status ≡ 3)))
+    ((AsksHelp words ⊎ AsksVersion words) × ((status ≡ 0) ⊎ (status ≡ 3)))
     ⊎ ((IsRefused words ⊎ NamesNoFormat words) × (status ≡ 2))
     ⊎ (status ≡ 4)
 
--- no script was read, and nothing was written but help
+-- no script was read, and nothing was written but one text that was asked for: the whole of it where the status is 0,
+-- and a front of it where that is 3
 pub record ReadsNothing (words : List (List ℕ)) (status : ℕ) (old new : Streams) : Type 0 where
   pub ended : EndsUnread words status
   pub input : new.input ≡ old.input
   pub reads : new.failed_reads ≡ old.failed_reads
   pub writes : new.failed_writes ≡ old.failed_writes + (if status == 3 then 1 else 0)
+  pub shown : status ≡ 0 → (text : List ℕ) × Appends old.output new.output text
+  pub cut : status ≡ 3 → (text : List ℕ) × TookFront old.output new.output text
   pub unwritten : (status ≡ 2) ⊎ (status ≡ 4) → Keeps old.output new.output
 
 -- words that ask for this format have the script run in it; where they ask for none, nothing is read

@@ -1,14 +1,12 @@
 ghost use Rattle.std.specs.Prelude.{◌≡◌, ◌++◌, ◌≤◌, ◌<◌, length, OnOk};
 ghost use Rattle.std.specs.String.{string_bytes};
 ghost use Rattle.std.specs.List.{flat_map};
-ghost use Rattle.pf_cli.specs.Replies.{reply_line, reply_text, fault_text, edit_fault_text, weight_code, place_text, HasFewPlaces};
+ghost use Rattle.pf_cli.specs.Replies.{reply_line, reply_text, fault_text, edit_fault_text, weight_text, place_text, HasFewPlaces};
 
 use pf_desk::reply::{Fault, Reply};
 use pf_order::pick::Pick;
 use pf_place::row::Row;
-use pf_report::reason::{denial_code, denial_name};
 use pf_scenario::fault::EditFault;
-use pf_weight::fault::WeightFault;
 use std::alloc::AllocError;
 
 /// Adds a reply's line behind a text. Its row has at most 64 places.
@@ -71,8 +69,8 @@ fn push_fault(text: &mut String, fault: Fault) -> Result<(), AllocError>
         Fault::BadEdit(fault) => push_edit_fault(text, fault),
         Fault::AtHorizon => text.push_str("30 AtHorizon"),
         Fault::WouldDeny { id, denial } => {
-            let code = denial_code(denial);
-            let name = denial_name(denial);
+            let code = denial.code();
+            let name = denial.name();
             write!(text, "31 WouldDeny {id} {code} {name}")
         }
     }
@@ -82,31 +80,19 @@ fn push_fault(text: &mut String, fault: Fault) -> Result<(), AllocError>
 fn push_edit_fault(text: &mut String, fault: EditFault) -> Result<(), AllocError>
     ensures { OnOk result (string_bytes text.new ≡ string_bytes text.old ++ edit_fault_text fault) }
 {
-    match fault {
-        EditFault::EventNotFound => text.push_str("10 EventNotFound"),
-        EditFault::SlotOutOfRange => text.push_str("11 SlotOutOfRange"),
-        EditFault::TaskOutOfRange => text.push_str("12 TaskOutOfRange"),
-        EditFault::EarlyOutOfRange => text.push_str("13 EarlyOutOfRange"),
-        EditFault::DelayOutOfRange => text.push_str("14 DelayOutOfRange"),
-        EditFault::CountOutOfRange => text.push_str("24 CountOutOfRange"),
-        EditFault::JoinTwice => text.push_str("16 JoinTwice"),
-        EditFault::LeaveTwice => text.push_str("17 LeaveTwice"),
-        EditFault::TooManyEvents => text.push_str("18 TooManyEvents"),
-        EditFault::NumbersSpent => text.push_str("19 NumbersSpent"),
-        EditFault::BadWeight(fault) => {
-            let code = weight_code(fault);
-            write!(text, "15 BadWeight {code}")
-        }
-    }
+    let code = fault.code();
+    let name = fault.name();
+    write!(text, "{code} {name}")?;
+    push_weight_code(text, fault)
 }
 
-// The number of a weight's fault in the table of refusals.
-fn weight_code(fault: WeightFault) -> u64
-    ensures { result ≡ weight_code fault }
+// Behind a weight's fault, the number of what is wrong with the weight.
+fn push_weight_code(text: &mut String, fault: EditFault) -> Result<(), AllocError>
+    ensures { OnOk result (string_bytes text.new ≡ string_bytes text.old ++ weight_text fault) }
 {
-    match fault {
-        WeightFault::ZeroCost => 2,
-        WeightFault::CostAbovePeriod => 3,
-        WeightFault::PeriodNotInBase => 4,
+    if let EditFault::BadWeight(wrong) = fault {
+        let code = wrong.code();
+        write!(text, " {code}")?;
     }
+    Ok(())
 }

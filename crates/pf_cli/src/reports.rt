@@ -1,12 +1,16 @@
 ghost use Rattle.std.specs.Prelude.{◌≡◌, ◌++◌, IfOk, OnOk};
+ghost use Rattle.pf_report.specs.Json.{json_text};
 ghost use Rattle.pf_cli.specs.Meaning.{report_text, tables_text, titled};
+ghost use Rattle.pf_cli.specs.Replies.{line_end};
 
 use pf_desk::snapshot::Snapshot;
 use pf_report::denials::denials_csv;
+use pf_report::events::events_csv;
 use pf_report::json::report_json;
 use pf_report::lags::lags_csv;
 use pf_report::misses::misses_csv;
 use pf_report::schedule::schedule_csv;
+use pf_stats::processors::processors_csv;
 use pf_words::format::Format;
 use std::alloc::{AllocError, Global};
 
@@ -22,12 +26,23 @@ pub fn report_text(
     match format {
         Format::Schedule => schedule_csv(alloc, snapshot),
         Format::Tables => tables_text(alloc, snapshot),
-        Format::Json => {
-            let mut text = report_json(alloc, snapshot)?;
-            text.push(b'\n')?;
-            Ok(text)
-        }
+        Format::Json | Format::Report => json_line(alloc, snapshot),
+        Format::Replies => Ok(Vec::new(alloc)),
+        Format::Lags => lags_csv(alloc, snapshot),
+        Format::Misses => misses_csv(alloc, snapshot),
+        Format::Denials => denials_csv(alloc, snapshot),
+        Format::Events => events_csv(alloc, snapshot),
+        Format::Processors => processors_csv(alloc, snapshot),
     }
+}
+
+// The JSON object, as a line.
+fn json_line(alloc: Global, snapshot: &Snapshot) -> Result<Vec<u8>, AllocError>
+    ensures { IfOk result (λ text. text.items ≡ json_text snapshot.now ++ line_end) }
+{
+    let mut text = report_json(alloc, snapshot)?;
+    text.push(b'\n')?;
+    Ok(text)
 }
 
 // The four tables, each behind a line with its name.

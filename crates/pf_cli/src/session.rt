@@ -38,7 +38,8 @@ pub struct Session {
 }
 
 impl Session {
-    /// A session with an open desk that has answered no command, and with no text. Checkpoints are `every` slots apart.
+    /// A session with an open desk that has answered no command, and with no text. `every` is the distance of
+    /// checkpoints in slots.
     pub fn open(
         alloc: Global,
         settings: Settings,

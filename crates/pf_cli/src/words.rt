@@ -1,6 +1,8 @@
-ghost use Rattle.std.specs.Prelude.{◌≡◌, ◌≢◌, ◌^◌, ◌-◌, ◌<◌, ◌+◌, ◌⊎◌, ◌==◌, if◌then◌else◌, map, IsOk};
+ghost use Rattle.std.specs.Prelude.{None, ◌≡◌, ◌≢◌, ◌^◌, ◌-◌, ◌<◌, ◌+◌, ◌⊎◌, ◌==◌, if◌then◌else◌, map, IsOk};
 ghost use Rattle.std.specs.IoError.{error_kind};
 ghost use Rattle.std.specs.Io.KnownBytes.{Appends, Keeps};
+ghost use Rattle.pf_stream.specs.Lines.{TookFront};
+ghost use Rattle.pf_words.specs.Asked.{format_asked};
 ghost use Rattle.pf_cli.specs.Status.{status_of, status_of_words, seen_streams, RunsScript, AnswersWords};
 
 use crate::fault::RunFault;
@@ -21,11 +23,11 @@ use std::io::{ErrorKind, Write};
 const NO_TEXT: &str = "error: invalid UTF-8 was detected in one or more arguments";
 
 /// Does what the program's words say, its own name not among them: runs the script that the reader has and writes its
-/// answer to the writer, or writes help there. Without words the script is run in the format `Tables`. The text of a
+/// answer to the writer, or writes help or the version there. Without words the script is run in the format `Tables`. The text of a
 /// fault goes to `faults`, whose own faults are passed over. Answers the status to exit with: 0 where the script was
 /// done or help was shown, 1 where it has a bad record or is too long, 2 where the words are refused or name no
 /// format, 3 where the reader or the writer failed, 4 where memory was refused. Words that ask for a run, and no
-/// others, have the script read, in the format that they ask for. The counts of failures of reader and writer must be
+/// others, have the script read, in the format that they ask for; where they ask for none the reader is as before. The counts of failures of reader and writer must be
 /// below `u64::MAX` before the call.
 pub fn main_words<H: AllocGlobal, S: AsStr, R: Source, W: Sink, F: Write>(
     rt: &H,
@@ -39,12 +41,13 @@ pub fn main_words<H: AllocGlobal, S: AsStr, R: Source, W: Sink, F: Write>(
     ensures streams { AnswersWords (map S.text words.now) result
         (seen_streams (R.remaining reader.old) (R.failed reader.old) (W.contents writer.old) (W.failed writer.old))
         (seen_streams (R.remaining reader.new) (R.failed reader.new) (W.contents writer.new) (W.failed writer.new)) }
+    ensures unread { format_asked (map S.text words.now) ≡ None → reader.new ≡ reader.old }
     ensures quiet { result ≡ 0 → Keeps (F.contents faults.old) (F.contents faults.new) }
 {
     let alloc = rt.alloc();
     match read_words(alloc, words) {
         Ok(Request::Run(format)) => run_told(alloc, format, reader, writer, faults),
-        Ok(Request::Help(text)) => show_help(text.as_str(), writer, faults),
+        Ok(Request::Show(text)) => show(text.as_str(), writer, faults),
         Err(fault) => refuse(&fault, faults),
     }
 }
@@ -82,10 +85,11 @@ fn run_told<R: Source, W: Sink, F: Write>(
     tell_outcome(outcome, faults)
 }
 
-// Writes the help, and answers the status.
-fn show_help<W: Sink, F: Write>(text: &str, writer: &mut W, faults: &mut F) -> u8
+// Writes a text that was asked for, and answers the status.
+fn show<W: Sink, F: Write>(text: &str, writer: &mut W, faults: &mut F) -> u8
     requires { W.failed writer.old < 2 ^ 64 - 1 }
     ensures shown { result ≡ 0 → Appends (W.contents writer.old) (W.contents writer.new) text.now }
+    ensures cut { result ≡ 3 → TookFront (W.contents writer.old) (W.contents writer.new) text.now }
     ensures writes { W.failed writer.new ≡ W.failed writer.old + (if result == 3 then 1 else 0) }
     ensures status { (result ≡ 0) ⊎ (result ≡ 3) }
     ensures quiet { result ≡ 0 → Keeps (F.contents faults.old) (F.contents faults.new) }

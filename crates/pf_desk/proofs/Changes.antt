@@ -1,5 +1,5 @@
 -- A change that touches no slot below n leaves the events of those slots.
-use Rattle.std.proofs.Common.{◌≡◌, ℕ, ◌<◌, ◌≤◌, ◌==◌, eqb, false, nat_lt, if◌then◌else◌, Some, None, List, [], ◌∷◌, ◌++◌, length, map, min, refl, sym, ap, ◌∙◌, subst, arith, IfSome}
+use Rattle.std.proofs.Common.{◌≡◌, ℕ, ◌<◌, ◌≤◌, ◌==◌, eqb, false, nat_lt, if◌then◌else◌, Some, None, List, [], ◌∷◌, ◌++◌, map, min, refl, sym, ap, ◌∙◌, subst, arith, IfSome}
 use Rattle.std.specs.Option.{option_map}
 use Rattle.std.proofs.lemmas.Bool.{le-ltb, eq-eqb, cond-false}
 use Rattle.std.proofs.lemmas.List.{append-nil}
@@ -14,10 +14,10 @@ use Rattle.pf_scenario.specs.declared.change.Change.TheVariants.{Insert, Alter, 
 use Rattle.pf_scenario.specs.declared.fault.EditFault.{EditFault}
 use Rattle.pf_scenario.proofs.Lists.{All_left, Pairs-from_all, find_middle}
 use Rattle.pf_scenario.proofs.Scenarios.{Held, held, others_of, without_held, replaced_held, or_else_none, unless_none}
-use Rattle.pf_engine.specs.Laws.{events_below}
-use Rattle.pf_timeline.specs.Timeline.{KeptRun, StandsFor, StoodFor}
+use Rattle.pf_run.specs.Laws.{events_below}
+use Rattle.pf_timeline.specs.Timeline.{KeptRun, StandsFor, AgreesBelow, past_below}
 use Rattle.pf_desk.proofs.Histories.{settings_changed}
-use Rattle.pf_timeline.proofs.Grown.{standing_rows}
+use Rattle.pf_timeline.proofs.Past.{agrees_below}
 
 below-append : (n : ℕ) (xs ys : List Numbered) → events_below n (xs ++ ys) ≡ events_below n xs ++ events_below n ys
 below-append n xs ys = filter-append (λ x. nat_lt (slot_of x.event) n) xs ys
@@ -58,8 +58,8 @@ altered_rest s id event n scenario here touched =
     ∙ sym (late_between n here.front (numbered id event) here.back (omega arith))
     ∙ ap (events_below n) (sym (replaced_held s.events here.front here.at here.back id event scenario.rising here.is here.number))
 
--- Use: a change that touches no slot below n leaves the events of those slots.
-pub events_rest : (s : Plan) (c : Change) (n : ℕ) → IsScenario s → edit_fault s c ≡ None →
+-- a change that touches no slot below n leaves the events of those slots
+events_rest : (s : Plan) (c : Change) (n : ℕ) → IsScenario s → edit_fault s c ≡ None →
     IfSome (touched_slot s c) (λ t. n ≤ t) → events_below n s.events ≡ events_below n (changed s c).events
 events_rest s (Insert event) n scenario none touched =
     sym (append-nil (events_below n s.events))
@@ -69,17 +69,16 @@ events_rest s (Alter id event) n scenario none touched =
     altered_rest s id event n scenario (held s id (unless_none _ _ (or_else_none _ _ none).0)) touched
 events_rest s (Strike id) n scenario none touched = struck_rest s id n scenario (held s id (unless_none _ _ none)) touched
 
--- Use: what stands for a scenario stood for the changed one below the least slot that the change touches.
-pub stood_changed : (s q : Plan) (c : Change) (from : ℕ) (kept : KeptRun) → StandsFor s kept.engine.now kept →
-    edit_fault s c ≡ None → touched_slot s c ≡ Some from → q ≡ changed s c → StoodFor q from (length kept.rows) kept
-stood_changed s q c from kept stands faultless touched is = record {
-  former = s;
-  settings = sym (settings_changed s c) ∙ ap (λ plan. plan.settings) (sym is);
-  events = events_rest s c from stands.of_run.scenario faultless (subst (λ o. IfSome o (λ t. from ≤ t)) (sym touched) (omega arith))
-      ∙ ap (λ plan. events_below from plan.events) (sym is);
-  stood = subst (λ n. StandsFor s n kept) (sym (standing_rows s kept.engine.now kept stands)) stands;
-}
+-- Use: it leaves their past.
+pub past_rest : (s : Plan) (c : Change) (n : ℕ) → IsScenario s → edit_fault s c ≡ None → IfSome (touched_slot s c) (λ t. n ≤ t) →
+    past_below n s ≡ past_below n (changed s c)
+past_rest s c n scenario none touched =
+    let events = events_rest s c n scenario none touched in
+    λ i. record { settings = sym (settings_changed s c) i; events = events i }
 
--- a change without a fault is not refused
-pub not_refused : (s v : Plan) (c : Change) (f : EditFault) → s ≡ v → edit_fault v c ≡ None → edit_fault s c ≡ Some f → ⊥
-not_refused s v c f same faultless refused = cc
+-- Use: what stands for a scenario agrees with the changed one below the least slot that the change touches.
+pub agrees_changed : (s : Plan) (c : Change) (from : ℕ) (kept : KeptRun) → StandsFor s kept.now kept → edit_fault s c ≡ None →
+    touched_slot s c ≡ Some from → from < kept.now → AgreesBelow (changed s c) from kept
+agrees_changed s c from kept stands faultless touched below =
+    agrees_below s (changed s c) from kept.now kept (omega arith)
+    (past_rest s c from stands.of_run.scenario faultless (subst (λ o. IfSome o (λ t. from ≤ t)) (sym touched) (omega arith))) stands

@@ -1,5 +1,5 @@
 -- What a desk keeps, from its opening on and through one entry more.
-use Rattle.std.proofs.Common.{◌≡◌, ℕ, ◌≤◌, Bool, true, false, if◌then◌else◌, IfSome, Some, None, List, [], ◌∷◌, ◌++◌, refl, sym, ap, ◌∙◌, subst}
+use Rattle.std.proofs.Common.{◌≡◌, ℕ, ◌≤◌, Bool, true, false, if◌then◌else◌, IfSome, Ok, Some, None, List, [], ◌∷◌, ◌++◌, refl, sym, ap, ◌∙◌, subst}
 use Rattle.std.specs.List.{slice_get}
 use Rattle.std.proofs.lemmas.List.{nil_from_length}
 use Rattle.pf_scenario.specs.System.{System}
@@ -7,11 +7,11 @@ use Rattle.pf_scenario.specs.Scenario.{Plan, opening, changed, concerned, touche
 use Rattle.pf_scenario.specs.Edit.{edit_fault}
 use Rattle.pf_scenario.proofs.Scenarios.{changes_keep_scenarios}
 use Rattle.pf_scenario.specs.declared.change.Change.{Change}
-use Rattle.pf_engine.specs.RunRows.{denials_in}
+use Rattle.pf_run.specs.RunRows.{denials_in}
 use Rattle.pf_timeline.specs.Timeline.{KeptRun, StandsFor}
-use Rattle.pf_timeline.proofs.Grown.{no_denials, standing_now, standing_rows}
-use Rattle.pf_timeline.proofs.Past.{timelines_rest_on_past}
-use Rattle.pf_engine.specs.declared.denied.Denied.{Denied}
+use Rattle.pf_timeline.proofs.Grown.{no_denials, row_each}
+use Rattle.pf_timeline.proofs.Past.{timelines_rest_on_past, stands_now}
+use Rattle.pf_run.specs.declared.denied.Denied.{Denied}
 use Rattle.pf_desk.specs.declared.command.Command.{Command}
 use Rattle.pf_desk.specs.declared.command.Command.TheVariants.{Edit}
 use Rattle.pf_desk.specs.declared.reply.Fault.{Fault}
@@ -20,28 +20,25 @@ use Rattle.pf_desk.specs.declared.reply.Reply.TheVariants.{Edited, Refused}
 use Rattle.pf_desk.specs.declared.entry.Entry.{Entry}
 use Rattle.pf_desk.specs.Machine.{State, opening_state, edit_reply, strict_reply, reply_to, state_after}
 use Rattle.pf_desk.specs.History.{IsLegal, last_state}
-use Rattle.pf_desk.specs.Desk.{IsDesk, Answers, entry_of}
+use Rattle.pf_desk.specs.Desk.{IsDesk, Handles, entry_of}
 use Rattle.pf_desk.specs.Kept.{state_of, shown_by, IsKept}
-use Rattle.pf_desk.proofs.Histories.{legal_append, behind_append, settings_changed, settings_after}
-use Rattle.pf_desk.proofs.Changes.{events_rest}
+use Rattle.pf_desk.proofs.Histories.{legal_append, behind_append, settings_after}
+use Rattle.pf_desk.proofs.Changes.{past_rest}
 
 -- at the opening
 pub opening_kept : (settings : System) (kept : KeptRun) → StandsFor (opening settings) 0 kept → IsKept (opening settings) kept []
-opening_kept settings kept stands =
-    let now = sym (standing_now (opening settings) 0 kept stands) in
-    record {
-      stands = subst (λ n. StandsFor (opening settings) n kept) now stands;
-      legal = tt;
-      last = ap (λ n. record { plan = opening settings; now = n }) now;
-    }
+opening_kept settings kept stands = record {
+  stands = stands_now (opening settings) 0 kept stands;
+  legal = tt;
+  last = ap (λ n. record { plan = opening settings; now = n }) (sym stands.slots);
+}
 
 pub opening_shown : (settings : System) (kept : KeptRun) → StandsFor (opening settings) 0 kept →
     shown_by (opening settings) kept [] ≡ record { state = opening_state settings; rows = []; denials = []; history = [] }
 opening_shown settings kept stands =
-    let now = standing_now (opening settings) 0 kept stands in
-    let rows = nil_from_length kept.rows (standing_rows (opening settings) 0 kept stands) in
+    let rows = nil_from_length kept.rows (row_each (opening settings) 0 kept.rows kept.denials stands.of_run) in
     let denials = stands.of_run.are_denials ∙ no_denials (opening settings) in
-    λ i. record { state = record { plan = opening settings; now = now i }; rows = rows i; denials = denials i; history = [] }
+    λ i. record { state = record { plan = opening settings; now = stands.slots i }; rows = rows i; denials = denials i; history = [] }
 
 -- what is kept makes a desk
 pub is_desk : (plan : Plan) (kept : KeptRun) (es : List Entry) → IsKept plan kept es → IsDesk (shown_by plan kept es)
@@ -51,7 +48,7 @@ is_desk plan kept es is = record { legal = is.legal; last = is.last; of_run = is
 pub record Enters (plan plan' : Plan) (kept kept' : KeptRun) (e : Entry) : Type 0 where
   pub answer : e.reply ≡ reply_to (state_of plan kept) e.command
   pub state : state_after (state_of plan kept) e.command e.reply ≡ state_of plan' kept'
-  pub stands : StandsFor plan' kept'.engine.now kept'
+  pub stands : StandsFor plan' kept'.now kept'
 
 pub kept_entered : (plan plan' : Plan) (kept kept' : KeptRun) (es : List Entry) (e : Entry) → IsKept plan kept es →
     Enters plan plan' kept kept' e → IsKept plan' kept' (es ++ e ∷ [])
@@ -77,6 +74,16 @@ refused_kept plan kept es caller command fault is answer =
     kept_entered plan plan kept kept es (entry_of caller command (Refused fault)) is
     (record { answer = sym answer; state = refl; stands = is.stands })
 
+pub refused_handles : (plan : Plan) (kept : KeptRun) (es : List Entry) (caller : ℕ) (command : Command) (fault : Fault) →
+    IsKept plan kept es → reply_to (state_of plan kept) command ≡ Refused fault →
+    Handles caller command (shown_by plan kept es) (Ok (Refused fault)) (shown_by plan kept (es ++ entry_of caller command (Refused fault) ∷ []))
+refused_handles plan kept es caller command fault is answer = record {
+  ok = record { answer = sym answer; entered = refl; state = refl };
+  err = tt;
+  desk = is_desk _ _ _ (refused_kept plan kept es caller command fault is answer);
+  refused = refl;
+}
+
 -- the reply to an edit without a fault, by the first denial where it is strict
 edited_reply : (st : State) (change : Change) (strict : Bool) (denials : List Denied) → edit_fault st.plan change ≡ None →
     denials ≡ denials_in (changed st.plan change) st.now → (if strict then slice_get denials 0 else None) ≡ None →
@@ -101,7 +108,7 @@ pub record Edits (plan plan' : Plan) (kept kept' : KeptRun) (es es' : List Entry
   pub plan_is : plan' ≡ changed plan change
   pub id_is : id ≡ concerned plan change
   pub entered : es' ≡ es ++ entry_of caller (Edit change strict) (Edited id) ∷ []
-  pub stands : StandsFor plan' kept.engine.now kept'
+  pub stands : StandsFor plan' kept.now kept'
   pub none : (if strict then slice_get kept'.denials 0 else None) ≡ None
 
 made_reply : (plan plan' : Plan) (kept kept' : KeptRun) (es es' : List Entry) (caller : ℕ) (change : Change) (strict : Bool) (id : ℕ) →
@@ -109,52 +116,53 @@ made_reply : (plan plan' : Plan) (kept kept' : KeptRun) (es es' : List Entry) (c
 made_reply plan plan' kept kept' es es' caller change strict id edits =
     ap (λ n. Edited n) edits.id_is
     ∙ sym (edited_reply (state_of plan kept) change strict kept'.denials edits.faultless
-    (edits.stands.of_run.are_denials ∙ ap (λ s. denials_in s kept.engine.now) edits.plan_is) edits.none)
+    (edits.stands.of_run.are_denials ∙ ap (λ s. denials_in s kept.now) edits.plan_is) edits.none)
 
 made_state : (plan plan' : Plan) (kept kept' : KeptRun) (es es' : List Entry) (caller : ℕ) (change : Change) (strict : Bool) (id : ℕ) →
     Edits plan plan' kept kept' es es' caller change strict id →
     state_after (state_of plan kept) (Edit change strict) (Edited id) ≡ state_of plan' kept'
 made_state plan plan' kept kept' es es' caller change strict id edits =
-    let now = standing_now plan' kept.engine.now kept' edits.stands in
-    λ i. record { plan = sym edits.plan_is i; now = sym now i }
+    λ i. record { plan = sym edits.plan_is i; now = sym edits.stands.slots i }
 
 -- Use: what is kept then, and that the machine answers so.
 pub edited_kept : (plan plan' : Plan) (kept kept' : KeptRun) (es es' : List Entry) (caller : ℕ) (change : Change) (strict : Bool) (id : ℕ) →
     Edits plan plan' kept kept' es es' caller change strict id → IsKept plan' kept' es'
 edited_kept plan plan' kept kept' es es' caller change strict id edits =
-    let now = standing_now plan' kept.engine.now kept' edits.stands in
     subst (IsKept plan' kept') (sym edits.entered)
     (kept_entered plan plan' kept kept' es (entry_of caller (Edit change strict) (Edited id)) edits.is
     (record {
       answer = made_reply plan plan' kept kept' es es' caller change strict id edits;
       state = made_state plan plan' kept kept' es es' caller change strict id edits;
-      stands = subst (λ n. StandsFor plan' n kept') (sym now) edits.stands;
+      stands = stands_now plan' kept.now kept' edits.stands;
     }))
 
-pub edited_answers : (plan plan' : Plan) (kept kept' : KeptRun) (es es' : List Entry) (caller : ℕ) (change : Change) (strict : Bool) (id : ℕ) →
+pub edited_handles : (plan plan' : Plan) (kept kept' : KeptRun) (es es' : List Entry) (caller : ℕ) (change : Change) (strict : Bool) (id : ℕ) →
     Edits plan plan' kept kept' es es' caller change strict id →
-    Answers caller (Edit change strict) (shown_by plan kept es) (Edited id) (shown_by plan' kept' es')
-edited_answers plan plan' kept kept' es es' caller change strict id edits = record {
-  answer = made_reply plan plan' kept kept' es es' caller change strict id edits;
-  entered = edits.entered;
-  state = sym (made_state plan plan' kept kept' es es' caller change strict id edits);
+    Handles caller (Edit change strict) (shown_by plan kept es) (Ok (Edited id)) (shown_by plan' kept' es')
+edited_handles plan plan' kept kept' es es' caller change strict id edits = record {
+  ok = record {
+    answer = made_reply plan plan' kept kept' es es' caller change strict id edits;
+    entered = edits.entered;
+    state = sym (made_state plan plan' kept kept' es es' caller change strict id edits);
+  };
+  err = tt;
+  desk = is_desk _ _ _ (edited_kept plan plan' kept kept' es es' caller change strict id edits);
+  refused = tt;
 }
 
 -- a change that touches no slot below now leaves what stands
 pub ahead_stands : (plan : Plan) (kept : KeptRun) (es : List Entry) (change : Change) → IsKept plan kept es →
-    edit_fault plan change ≡ None → IfSome (touched_slot plan change) (λ t. kept.engine.now ≤ t) →
-    StandsFor (changed plan change) kept.engine.now kept
+    edit_fault plan change ≡ None → IfSome (touched_slot plan change) (λ t. kept.now ≤ t) →
+    StandsFor (changed plan change) kept.now kept
 ahead_stands plan kept es change is faultless ahead =
     let scenario = is.stands.of_run.scenario in
-    timelines_rest_on_past plan (changed plan change) kept.engine.now kept
+    timelines_rest_on_past plan (changed plan change) kept.now kept
     (changes_keep_scenarios plan change scenario faultless)
-    (sym (settings_changed plan change))
-    (events_rest plan change kept.engine.now scenario faultless ahead)
-    is.stands
+    (past_rest plan change kept.now scenario faultless ahead) is.stands
 
 -- Use: a strict edit of slots not below now is refused with the first kept denial.
 pub ahead_denied : (plan : Plan) (kept : KeptRun) (es : List Entry) (change : Change) (strict : Bool) (d : Denied) → IsKept plan kept es →
-    edit_fault plan change ≡ None → IfSome (touched_slot plan change) (λ t. kept.engine.now ≤ t) →
+    edit_fault plan change ≡ None → IfSome (touched_slot plan change) (λ t. kept.now ≤ t) →
     (if strict then slice_get kept.denials 0 else None) ≡ Some d →
     reply_to (state_of plan kept) (Edit change strict) ≡ Refused (WouldDeny d.id d.denial)
 ahead_denied plan kept es change strict d is faultless ahead some =

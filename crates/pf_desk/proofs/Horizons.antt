@@ -15,13 +15,13 @@ use Rattle.pf_scenario.specs.declared.change.Change.{Change}
 use Rattle.pf_scenario.specs.declared.change.Change.TheVariants.{Insert, Alter, Strike}
 use Rattle.pf_scenario.specs.declared.fault.EditFault.{EditFault}
 use Rattle.pf_scenario.specs.declared.fault.EditFault.TheVariants.{SlotOutOfRange}
-use Rattle.pf_engine.specs.declared.denied.Denied.{Denied}
-use Rattle.pf_engine.specs.Record.{Slot, denials_of, in_force}
-use Rattle.pf_engine.specs.Inside.{count_of}
-use Rattle.pf_engine.specs.Denials.{denial_of, denied_for}
-use Rattle.pf_engine.specs.Run.{pick_of}
-use Rattle.pf_engine.specs.Computed.{Course, with_event, after_events, denials_among, picks_of, next_course, course_of, run_of}
-use Rattle.pf_engine.specs.RunRows.{turns_behind, turns_of, rows_in, denials_in}
+use Rattle.pf_run.specs.declared.denied.Denied.{Denied}
+use Rattle.pf_run.specs.Record.{Slot, denials_of, in_force}
+use Rattle.pf_run.specs.Inside.{count_of}
+use Rattle.pf_run.specs.Denials.{denial_of, denied_for}
+use Rattle.pf_run.specs.Run.{pick_of}
+use Rattle.pf_run.specs.Computed.{Course, with_event, after_events, denials_among, picks_of, next_course, course_of, run_of}
+use Rattle.pf_run.specs.RunRows.{turns_behind, turns_of, rows_in, denials_in}
 use Rattle.pf_desk.specs.declared.command.Command.{Command}
 use Rattle.pf_desk.specs.declared.command.Command.TheVariants.{Edit, Step}
 use Rattle.pf_desk.specs.declared.reply.Reply.{Reply}

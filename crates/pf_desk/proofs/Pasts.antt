@@ -3,7 +3,7 @@ use Rattle.std.proofs.Common.{◌≡◌, ℕ, ◌<◌, Option, List, length, get
 use Rattle.pf_order.specs.declared.pick.Pick.{Pick}
 use Rattle.pf_scenario.specs.Scenario.{Plan}
 use Rattle.pf_scenario.specs.Edit.{IsScenario}
-use Rattle.pf_engine.specs.RunRows.{rows_in}
+use Rattle.pf_run.specs.RunRows.{rows_in}
 use Rattle.pf_tally.proofs.Turns.{rows_of_run, rows_length}
 use Rattle.pf_timeline.specs.Timeline.{KeptRun, StandsFor}
 

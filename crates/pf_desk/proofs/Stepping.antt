@@ -1,28 +1,29 @@
 -- A step: the next slot taken, and one entry more.
-use Rattle.std.proofs.Common.{◌≡◌, ◌≢◌, ℕ, ◌+◌, ◌==◌, Option, List, [], ◌∷◌, ◌++◌, length, refl, sym, ap, ap₂, ◌∙◌, subst}
+use Rattle.std.proofs.Common.{◌≡◌, ◌≢◌, ℕ, ◌+◌, ◌==◌, Ok, Option, List, [], ◌∷◌, ◌++◌, length, refl, sym, ap, ap₂, ◌∙◌, subst}
 use Rattle.std.specs.List.{slice_index_or}
 use Rattle.std.proofs.lemmas.Bool.{cond-false, cond-true, ne_eqb, eq-eqb}
 use Rattle.pf_order.specs.declared.pick.Pick.{Pick}
 use Rattle.pf_scenario.specs.Scenario.{Plan}
-use Rattle.pf_engine.specs.declared.denied.Denied.{Denied}
-use Rattle.pf_engine.specs.RunRows.{AreOfRun}
+use Rattle.pf_run.specs.declared.denied.Denied.{Denied}
+use Rattle.pf_run.specs.RunRows.{AreOfRun}
 use Rattle.pf_timeline.specs.Timeline.{KeptRun, StandsFor}
 use Rattle.pf_desk.specs.declared.command.Command.TheVariants.{Step}
 use Rattle.pf_desk.specs.declared.reply.Fault.TheVariants.{AtHorizon}
 use Rattle.pf_desk.specs.declared.reply.Reply.TheVariants.{Stepped, Refused}
 use Rattle.pf_desk.specs.declared.entry.Entry.{Entry}
 use Rattle.pf_desk.specs.Machine.{State, row_at, reply_to, state_after}
-use Rattle.pf_desk.specs.Desk.{Answers, Seen, StandsForHistory, entry_of}
+use Rattle.pf_desk.specs.Desk.{Handles, Seen, StandsForHistory, entry_of}
 use Rattle.pf_desk.specs.Kept.{state_of, shown_by, IsKept}
-use Rattle.pf_timeline.proofs.Grown.{standing_now, standing_rows}
-use Rattle.pf_desk.proofs.Entering.{kept_entered}
+use Rattle.pf_timeline.proofs.Grown.{row_each}
+use Rattle.pf_timeline.proofs.Past.{stands_now}
+use Rattle.pf_desk.proofs.Entering.{is_desk, kept_entered}
 
 -- a slot that is taken: the kept run is one slot longer, the row is its last, and there is one entry more
 pub record Steps (plan : Plan) (kept kept' : KeptRun) (es es' : List Entry) (caller slot : ℕ) (row : List (Option Pick)) : Type 0 where
   pub is : IsKept plan kept es
-  pub below : kept.engine.now ≢ plan.settings.horizon
-  pub stands : StandsFor plan (kept.engine.now + 1) kept'
-  pub slot_is : slot ≡ kept.engine.now
+  pub below : kept.now ≢ plan.settings.horizon
+  pub stands : StandsFor plan (kept.now + 1) kept'
+  pub slot_is : slot ≡ kept.now
   pub row_is : row ≡ slice_index_or kept'.rows slot []
   pub entered : es' ≡ es ++ entry_of caller Step (Stepped slot row) ∷ []
 
@@ -43,7 +44,7 @@ step_reply_is plan kept kept' es es' caller slot row steps =
 step_state_is : (plan : Plan) (kept kept' : KeptRun) (es es' : List Entry) (caller slot : ℕ) (row : List (Option Pick)) →
     Steps plan kept kept' es es' caller slot row → state_after (state_of plan kept) Step (Stepped slot row) ≡ state_of plan kept'
 step_state_is plan kept kept' es es' caller slot row steps =
-    ap (λ n. record { plan = plan; now = n }) (sym (standing_now plan (kept.engine.now + 1) kept' steps.stands))
+    ap (λ n. record { plan = plan; now = n }) (sym steps.stands.slots)
 
 -- Use: what is kept then, and that the machine answers so.
 pub stepped_kept : (plan : Plan) (kept kept' : KeptRun) (es es' : List Entry) (caller slot : ℕ) (row : List (Option Pick)) →
@@ -54,29 +55,34 @@ stepped_kept plan kept kept' es es' caller slot row steps =
     (record {
       answer = step_reply_is plan kept kept' es es' caller slot row steps;
       state = step_state_is plan kept kept' es es' caller slot row steps;
-      stands = subst (λ n. StandsFor plan n kept') (sym (standing_now plan (kept.engine.now + 1) kept' steps.stands)) steps.stands;
+      stands = stands_now plan (kept.now + 1) kept' steps.stands;
     }))
 
-pub stepped_answers : (plan : Plan) (kept kept' : KeptRun) (es es' : List Entry) (caller slot : ℕ) (row : List (Option Pick)) →
+pub stepped_handles : (plan : Plan) (kept kept' : KeptRun) (es es' : List Entry) (caller slot : ℕ) (row : List (Option Pick)) →
     Steps plan kept kept' es es' caller slot row →
-    Answers caller Step (shown_by plan kept es) (Stepped slot row) (shown_by plan kept' es')
-stepped_answers plan kept kept' es es' caller slot row steps = record {
-  answer = step_reply_is plan kept kept' es es' caller slot row steps;
-  entered = steps.entered;
-  state = sym (step_state_is plan kept kept' es es' caller slot row steps);
+    Handles caller Step (shown_by plan kept es) (Ok (Stepped slot row)) (shown_by plan kept' es')
+stepped_handles plan kept kept' es es' caller slot row steps = record {
+  ok = record {
+    answer = step_reply_is plan kept kept' es es' caller slot row steps;
+    entered = steps.entered;
+    state = sym (step_state_is plan kept kept' es es' caller slot row steps);
+  };
+  err = tt;
+  desk = is_desk _ _ _ (stepped_kept plan kept kept' es es' caller slot row steps);
+  refused = tt;
 }
 
 -- What is kept is of the run over as many slots as there are rows.
 pub kept_of_run : (plan : Plan) (kept : KeptRun) (es : List Entry) → IsKept plan kept es →
     AreOfRun plan (length kept.rows) kept.rows kept.denials
 kept_of_run plan kept es is =
-    subst (λ n. AreOfRun plan n kept.rows kept.denials) (sym (standing_rows plan kept.engine.now kept is.stands)) is.stands.of_run
+    subst (λ n. AreOfRun plan n kept.rows kept.denials) (sym (row_each plan kept.now kept.rows kept.denials is.stands.of_run)) is.stands.of_run
 
 snapshot_stands : (plan : Plan) (kept : KeptRun) (es : List Entry) → IsKept plan kept es →
     StandsForHistory es (record { version = length es; state = record { plan = plan; now = length kept.rows }; rows = kept.rows; denials = kept.denials })
 snapshot_stands plan kept es is = record {
   legal = is.legal;
-  last = is.last ∙ ap (λ n. record { plan = plan; now = n }) (sym (standing_rows plan kept.engine.now kept is.stands));
+  last = is.last ∙ ap (λ n. record { plan = plan; now = n }) (sym (row_each plan kept.now kept.rows kept.denials is.stands.of_run));
   version = refl;
   of_run = kept_of_run plan kept es is;
 }
@@ -98,4 +104,4 @@ pub seen_is_shown : (plan : Plan) (kept : KeptRun) (es : List Entry) (version : 
 seen_is_shown plan kept es version rows denials seen is entries of_rows of_denials shows =
     shows
     ∙ (λ i. record { version = entries i; state = record { plan = plan; now = length (of_rows i) }; rows = of_rows i; denials = of_denials i })
-    ∙ (λ i. record { version = length es; state = record { plan = plan; now = standing_rows plan kept.engine.now kept is.stands i }; rows = kept.rows; denials = kept.denials })
+    ∙ (λ i. record { version = length es; state = record { plan = plan; now = row_each plan kept.now kept.rows kept.denials is.stands.of_run i }; rows = kept.rows; denials = kept.denials })

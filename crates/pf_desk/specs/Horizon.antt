@@ -2,7 +2,7 @@
 use Rattle.std.specs.Prelude.{◌≡◌, ◌≢◌, List, All}
 use Rattle.pf_scenario.specs.System.{System, near_horizon, wide_horizon}
 use Rattle.pf_scenario.specs.declared.fault.EditFault.TheVariants.{SlotOutOfRange}
-use Rattle.pf_engine.specs.Computed.{run_of}
+use Rattle.pf_run.specs.Computed.{run_of}
 use Rattle.pf_desk.specs.declared.entry.Entry.{Entry}
 use Rattle.pf_desk.specs.declared.reply.Reply.{Reply}
 use Rattle.pf_desk.specs.declared.reply.Reply.TheVariants.{Refused}

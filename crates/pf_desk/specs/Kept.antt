@@ -9,7 +9,7 @@ use Rattle.pf_desk.specs.Desk.{Shown}
 
 -- the state of a scenario with its kept run
 abbrev pub state_of : Plan → KeptRun → State
-state_of plan kept = record { plan = plan; now = kept.engine.now }
+state_of plan kept = record { plan = plan; now = kept.now }
 
 -- what a desk of these parts shows
 abbrev pub shown_by : Plan → KeptRun → List Entry → Shown
@@ -22,6 +22,6 @@ shown_by plan kept history = record {
 
 -- the parts of a desk: the kept run stands for the scenario, and the history is legal and ends there
 pub record IsKept (plan : Plan) (kept : KeptRun) (history : List Entry) : Type 0 where
-  pub stands : StandsFor plan kept.engine.now kept
+  pub stands : StandsFor plan kept.now kept
   pub legal : IsLegal plan.settings history
   pub last : last_state plan.settings history ≡ state_of plan kept

@@ -1,11 +1,10 @@
-ghost use Rattle.std.specs.Prelude.{◌≡◌, ◌<◌, None, IfOk};
+ghost use Rattle.std.specs.Prelude.{◌≡◌, ◌<◌, ◌≤◌, None, IfOk};
+ghost use Rattle.pf_order.specs.Counted.{CountsAtMost};
 ghost use Rattle.pf_scenario.specs.Scenario.{changed, concerned, touched_slot};
 ghost use Rattle.pf_scenario.specs.Edit.{edit_fault};
-ghost use Rattle.pf_timeline.specs.Counted.{CountsAtMost};
 ghost use Rattle.pf_timeline.specs.Timeline.{StandsFor};
 
 use pf_order::meter::Meter;
-use pf_scenario::apply_fault::ApplyFault;
 use pf_scenario::change::Change;
 use pf_scenario::scenario::Scenario;
 use pf_timeline::timeline::Timeline;
@@ -36,21 +35,18 @@ impl Candidate {
         from: u64,
         change: Change,
     ) -> Result<Self, AllocError>
-        requires stands { StandsFor scenario.now timeline.now.engine.now timeline.now }
+        requires stands { StandsFor scenario.now timeline.now.now timeline.now }
         requires faultless { edit_fault scenario.now change ≡ None }
         requires touched { touched_slot scenario.now change ≡ Some from }
-        requires below { from < timeline.now.engine.now }
+        requires below { from < timeline.now.now }
         ensures id { IfOk result (λ c. c.id ≡ concerned scenario.now change) }
         ensures scenario { IfOk result (λ c. c.scenario ≡ changed scenario.now change) }
-        ensures stands { IfOk result (λ c. StandsFor c.scenario timeline.now.engine.now c.timeline) }
-        ensures at_most { CountsAtMost timeline.now.engine.now meter.old meter.new }
+        ensures stands { IfOk result (λ c. StandsFor c.scenario timeline.now.now c.timeline) }
+        ensures at_most { CountsAtMost timeline.now.now meter.old meter.new }
+        ensures compared { meter.old.compared ≤ meter.new.compared }
     {
         let mut changed = scenario.copy()?;
-        let id = match changed.apply(change) {
-            Ok(id) => id,
-            Err(ApplyFault::Refused(_)) => unreachable!(),
-            Err(ApplyFault::NoMemory) => return Err(AllocError),
-        };
+        let id = changed.make(change)?;
         let timeline = timeline.rewritten(meter, from, &changed)?;
         Ok(Candidate {
             id,

@@ -1,19 +1,19 @@
 ghost use Rattle.std.specs.Prelude.{ℕ, if◌then◌else◌, ◌≡◌, ◌⊎◌, ◌<◌, ◌≤◌, ◌+◌, ◌*◌, ◌↔◌, max, [], length, take, All, None, IfOk, IfSome, OnOk, OnErr, Some, Err};
 ghost use Rattle.std.specs.List.{slice_get, slice_index_or};
 ghost use Rattle.pf_order.specs.Counts.{one_more};
+ghost use Rattle.pf_order.specs.Counted.{CountsAtMost};
 ghost use Rattle.pf_scenario.specs.Scenario.{touched_slot};
 ghost use Rattle.pf_scenario.specs.Edit.{edit_fault};
-ghost use Rattle.pf_engine.specs.Computed.{run_of};
+ghost use Rattle.pf_run.specs.Computed.{run_of};
 ghost use Rattle.pf_tally.specs.Lags.{lags_of};
 ghost use Rattle.pf_tally.specs.Misses.{misses_of};
 ghost use Rattle.pf_timeline.specs.Checkpoints.{largest_distance};
-ghost use Rattle.pf_timeline.specs.Counted.{CountsAtMost};
 ghost use Rattle.pf_desk.specs.declared.fault.OpenFault.TheVariants.{BadSettings};
 ghost use Rattle.pf_desk.specs.declared.command.Command.TheVariants.{Edit, Step};
 ghost use Rattle.pf_desk.specs.declared.reply.Reply.TheVariants.{Refused};
 ghost use Rattle.pf_desk.specs.declared.reply.Fault.TheVariants.{WouldDeny};
 ghost use Rattle.pf_desk.specs.Machine.{opening_state, reply_to, IsStepped};
-ghost use Rattle.pf_desk.specs.Desk.{IsDesk, Answers, AnswersAll, LeavesRest, IsUncounted, most_slots, StandsForHistory};
+ghost use Rattle.pf_desk.specs.Desk.{IsDesk, Answers, AnswersAll, LeavesRest, Handles, IsUncounted, most_slots, StandsForHistory};
 
 use crate::candidate::Candidate;
 use crate::command::Command;
@@ -21,18 +21,17 @@ use crate::entry::Entry;
 use crate::fault::OpenFault;
 use crate::reply::{Fault, Reply};
 use crate::snapshot::Snapshot;
-use pf_engine::denied::Denied;
 use pf_order::meter::Meter;
 use pf_place::row::Row;
 use pf_place::rows::Rows;
-use pf_scenario::apply_fault::ApplyFault;
+use pf_run::denied::Denied;
 use pf_scenario::change::Change;
 use pf_scenario::scenario::Scenario;
 use pf_scenario::settings::Settings;
 use pf_tally::lag::Lag;
 use pf_tally::miss::Miss;
 use pf_tally::{lags, misses};
-use pf_timeline::fault::{NewFault, StepFault};
+use pf_timeline::fault::NewFault;
 use pf_timeline::timeline::Timeline;
 use std::alloc::{AllocError, Global};
 use std::marker::Model;
@@ -57,8 +56,8 @@ impl Model for Desk {
 }
 
 impl Desk {
-    /// A desk with these settings, no event, no slot stepped and no history, which keeps a checkpoint at each `every`
-    /// slots, 1 to `LARGEST_DISTANCE` of pf_timeline.
+    /// A desk with these settings, no event, no slot stepped and no history. `every` is the distance of checkpoints in
+    /// slots, 1 to `LARGEST_DISTANCE` of pf_timeline: it is tried, and no checkpoint is kept yet.
     ///
     /// # Errors
     ///
@@ -81,9 +80,9 @@ impl Desk {
         })
     }
 
-    /// Answers the caller's command as the machine does, and enters it. A step counts one slot, with want of memory at
-    /// most one and at the horizon none. An edit counts at most as many slots as were stepped, with want of memory too;
-    /// one that is refused for its fault, or that touches no slot below now, counts none.
+    /// Answers the caller's command as the machine does, and enters it. A step counts one slot, with want of memory and
+    /// at the horizon none. An edit counts at most as many slots as were stepped, with want of memory too; one that is
+    /// refused for its fault, or that touches no slot below now, counts none.
     ///
     /// # Errors
     ///
@@ -103,6 +102,8 @@ impl Desk {
         ensures counted { IfOk result (λ reply. IsStepped reply → meter.new.slots ≡ one_more meter.old.slots) }
         ensures at_most { CountsAtMost (most_slots self.old.state command) meter.old meter.new }
         ensures uncounted { IsUncounted self.old.state command → meter.new ≡ meter.old }
+        ensures wanting { OnErr result (command ≡ Step → meter.new ≡ meter.old) }
+        ensures compared { meter.old.compared ≤ meter.new.compared }
     {
         match command {
             Command::Edit { change, strict } => self.edit(meter, caller, change, strict),
@@ -128,6 +129,7 @@ impl Desk {
         ensures desk { IsDesk self.new }
         ensures at_most { CountsAtMost (length commands.now * max 1 self.new.state.now) meter.old meter.new }
         ensures steps { All (λ c. c ≡ Step) commands.now → CountsAtMost (length commands.now) meter.old meter.new }
+        ensures compared { meter.old.compared ≤ meter.new.compared }
     {
         // A field is read, so that what holds of every desk is known also where there is no command.
         let _ = &self.history;
@@ -230,13 +232,12 @@ impl Desk {
 
     /// Takes the next slot.
     fn step(&mut self, meter: &mut Meter, caller: u32) -> Result<Reply, AllocError>
-        ensures ok { IfOk result (λ reply. Answers caller Step self.old reply self.new) }
-        ensures err { OnErr result (self.new ≡ self.old) }
-        ensures desk { IsDesk self.new }
-        ensures refused { IfOk result (λ reply. LeavesRest reply self.old self.new) }
+        ensures handles { Handles caller Step self.old result self.new }
         ensures counted { IfOk result (λ reply. IsStepped reply → meter.new.slots ≡ one_more meter.old.slots) }
         ensures at_most { CountsAtMost 1 meter.old meter.new }
         ensures uncounted { self.old.state.now ≡ self.old.state.plan.settings.horizon → meter.new ≡ meter.old }
+        ensures wanting { OnErr result (meter.new ≡ meter.old) }
+        ensures compared { meter.old.compared ≤ meter.new.compared }
     {
         if self.timeline.now() == self.scenario.settings().horizon() {
             return self.refuse(caller, Command::Step, Fault::AtHorizon);
@@ -247,11 +248,7 @@ impl Desk {
         let mut entered = Row::idle(alloc, processors)?;
         self.history.reserve(1)?;
         let slot = self.timeline.now();
-        match self.timeline.step(meter, &self.scenario) {
-            Ok(()) => {}
-            Err(StepFault::AtHorizon) => unreachable!(),
-            Err(StepFault::NoMemory) => return Err(AllocError),
-        }
+        self.timeline.advance(meter, &self.scenario)?;
         fill(&mut row, self.timeline.rows(), slot);
         fill(&mut entered, self.timeline.rows(), slot);
         self.history.push_reserved(Entry {
@@ -270,13 +267,11 @@ impl Desk {
         change: Change,
         strict: bool,
     ) -> Result<Reply, AllocError>
-        ensures ok { IfOk result (λ reply. Answers caller (Edit change strict) self.old reply self.new) }
-        ensures err { OnErr result (self.new ≡ self.old) }
-        ensures desk { IsDesk self.new }
-        ensures refused { IfOk result (λ reply. LeavesRest reply self.old self.new) }
+        ensures handles { Handles caller (Edit change strict) self.old result self.new }
         ensures edited { IfOk result (λ reply. ¬ IsStepped reply) }
         ensures at_most { CountsAtMost self.old.state.now meter.old meter.new }
         ensures uncounted { IsUncounted self.old.state (Edit change strict) → meter.new ≡ meter.old }
+        ensures compared { meter.old.compared ≤ meter.new.compared }
     {
         if let Err(fault) = self.scenario.check(&change) {
             let command = Command::Edit { change, strict };
@@ -294,10 +289,7 @@ impl Desk {
     fn edit_ahead(&mut self, caller: u32, change: Change, strict: bool) -> Result<Reply, AllocError>
         requires faultless { edit_fault self.old.state.plan change ≡ None }
         requires ahead { IfSome (touched_slot self.old.state.plan change) (λ t. self.old.state.now ≤ t) }
-        ensures ok { IfOk result (λ reply. Answers caller (Edit change strict) self.old reply self.new) }
-        ensures err { OnErr result (self.new ≡ self.old) }
-        ensures desk { IsDesk self.new }
-        ensures refused { IfOk result (λ reply. LeavesRest reply self.old self.new) }
+        ensures handles { Handles caller (Edit change strict) self.old result self.new }
         ensures edited { IfOk result (λ reply. ¬ IsStepped reply) }
     {
         let command = Command::Edit { change, strict };
@@ -305,11 +297,7 @@ impl Desk {
             return self.deny(caller, command, denied);
         }
         self.history.reserve(1)?;
-        let id = match self.scenario.apply(change) {
-            Ok(id) => id,
-            Err(ApplyFault::Refused(_)) => unreachable!(),
-            Err(ApplyFault::NoMemory) => return Err(AllocError),
-        };
+        let id = self.scenario.make(change)?;
         self.history.push_reserved(Entry {
             caller,
             command,
@@ -330,12 +318,10 @@ impl Desk {
         requires faultless { edit_fault self.old.state.plan change ≡ None }
         requires touched { touched_slot self.old.state.plan change ≡ Some from }
         requires below { from < self.old.state.now }
-        ensures ok { IfOk result (λ reply. Answers caller (Edit change strict) self.old reply self.new) }
-        ensures err { OnErr result (self.new ≡ self.old) }
-        ensures desk { IsDesk self.new }
-        ensures refused { IfOk result (λ reply. LeavesRest reply self.old self.new) }
+        ensures handles { Handles caller (Edit change strict) self.old result self.new }
         ensures edited { IfOk result (λ reply. ¬ IsStepped reply) }
         ensures at_most { CountsAtMost self.old.state.now meter.old meter.new }
+        ensures compared { meter.old.compared ≤ meter.new.compared }
     {
         let candidate = Candidate::after(meter, &self.scenario, &self.timeline, from, change)?;
         let command = Command::Edit { change, strict };
@@ -361,10 +347,7 @@ impl Desk {
     /// Refuses a strict edit after which this event would be the first denied.
     fn deny(&mut self, caller: u32, command: Command, denied: Denied) -> Result<Reply, AllocError>
         requires { reply_to self.old.state command ≡ Refused (WouldDeny denied.id denied.denial) }
-        ensures ok { IfOk result (λ reply. Answers caller command self.old reply self.new) }
-        ensures err { OnErr result (self.new ≡ self.old) }
-        ensures desk { IsDesk self.new }
-        ensures refused { IfOk result (λ reply. LeavesRest reply self.old self.new) }
+        ensures handles { Handles caller command self.old result self.new }
         ensures unstepped { IfOk result (λ reply. ¬ IsStepped reply) }
     {
         self.refuse(
@@ -380,10 +363,7 @@ impl Desk {
     /// Refuses a command: nothing changes but the history.
     fn refuse(&mut self, caller: u32, command: Command, fault: Fault) -> Result<Reply, AllocError>
         requires { reply_to self.old.state command ≡ Refused fault }
-        ensures ok { IfOk result (λ reply. Answers caller command self.old reply self.new) }
-        ensures err { OnErr result (self.new ≡ self.old) }
-        ensures desk { IsDesk self.new }
-        ensures refused { IfOk result (λ reply. LeavesRest reply self.old self.new) }
+        ensures handles { Handles caller command self.old result self.new }
         ensures unstepped { IfOk result (λ reply. ¬ IsStepped reply) }
     {
         self.history.push(Entry {

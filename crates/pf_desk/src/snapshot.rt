@@ -1,14 +1,14 @@
 ghost use Rattle.std.specs.Prelude.{◌≡◌, length, IfOk};
 ghost use Rattle.std.specs.List.{slice_get};
-ghost use Rattle.std.specs.Option.{option_copied};
-ghost use Rattle.pf_engine.specs.Computed.{run_of};
-ghost use Rattle.pf_engine.specs.RunRows.{AreOfRun};
+ghost use Rattle.pf_place.specs.Lent.{lent};
+ghost use Rattle.pf_run.specs.Computed.{run_of};
+ghost use Rattle.pf_run.specs.RunRows.{AreOfRun};
 ghost use Rattle.pf_tally.specs.Lags.{lags_of};
 ghost use Rattle.pf_tally.specs.Misses.{misses_of};
 
-use pf_engine::denied::Denied;
-use pf_place::row::Row;
+use pf_place::row_view::RowView;
 use pf_place::rows::Rows;
+use pf_run::denied::Denied;
 use pf_scenario::event::Numbered;
 use pf_scenario::scenario::Scenario;
 use pf_scenario::settings::Settings;
@@ -29,7 +29,7 @@ pub struct Snapshot {
 
 impl Model for Snapshot {
     ghost use Rattle.std.specs.Prelude.{length};
-    ghost use Rattle.pf_engine.specs.RunRows.{AreOfRun};
+    ghost use Rattle.pf_run.specs.RunRows.{AreOfRun};
     ghost use Rattle.pf_desk.specs.Desk.{Seen};
 
     ghost Value = { Seen };
@@ -98,8 +98,8 @@ impl Snapshot {
     }
 
     /// Who runs where in slot t; none where t is not below now.
-    pub fn row(&self, t: u64) -> Option<&Row>
-        ensures { option_copied result ≡ slice_get self.now.rows t }
+    pub fn row(&self, t: u64) -> Option<RowView<'_>>
+        ensures { lent result ≡ slice_get self.now.rows t }
     {
         self.rows.get(t)
     }

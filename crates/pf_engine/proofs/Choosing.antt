@@ -9,8 +9,8 @@ use Rattle.pf_order.specs.Priority.{Priority, precedes}
 use Rattle.pf_order.specs.First.{AreFirst}
 use Rattle.pf_order.proofs.Order as order
 use Rattle.pf_engine.specs.Choice.{OneOfEach, AreArranged, IsLeast}
-use Rattle.pf_engine.proofs.Counting.{count_by-cons}
-use Rattle.pf_engine.proofs.Firsts.{Before, first_of_choice}
+use Rattle.pf_run.proofs.Counting.{count_by-cons}
+use Rattle.pf_run.proofs.Firsts.{Before, first_of_choice}
 
 -- the least so far
 pub least_none : (keys : List Priority) (from : ℕ) → IsLeast from (from + 1) keys from

@@ -1,26 +1,29 @@
 -- The events of a slot, one after another, on what is kept.
-use Rattle.std.proofs.Common.{◌≡◌, ℕ, ◌+◌, ◌≤◌, Bool, true, false, ◌&&◌, ◌==◌, cond, Option, Some, None, List, [], ◌∷◌, ◌++◌, length, All, option_map, refl, sym, ap, ap₂, ◌∙◌, arith}
+use Rattle.std.proofs.Common.{◌≡◌, ℕ, ◌+◌, ◌≤◌, Bool, true, false, ◌&&◌, ◌==◌, cond, Option, Some, None, List, [], ◌∷◌, ◌++◌, length, option_map, refl, sym, ap, ap₂, ◌∙◌, arith}
 use Rattle.std.proofs.lemmas.Bool.{or_from, ne_eqb}
 use Rattle.std.proofs.lemmas.Bool.Decides.{nat_tests}
+use Rattle.std.proofs.lemmas.List.{length_push}
 use Rattle.std.proofs.lemmas.List.Sums.{sum_by_push}
 use Rattle.std.proofs.lemmas.List.Elements.{All-push, All-head, All-tail}
 use Rattle.pf_scenario.specs.System.{System}
 use Rattle.pf_scenario.specs.Event.{slot_of, is_join_of, is_leave_of}
+use Rattle.pf_scenario.specs.Edit.{IsEvent}
 use Rattle.pf_scenario.specs.declared.event.Event.{Event}
 use Rattle.pf_scenario.specs.declared.event.Event.TheVariants.{Join, Leave, Delay, Limit}
 use Rattle.pf_scenario.specs.declared.event.Numbered.{Numbered}
 use Rattle.pf_admit.specs.Admission.{leave_denial, delay_denial}
 use Rattle.pf_admit.specs.declared.denial.Denial.{Denial}
-use Rattle.pf_engine.specs.Record.{Slot}
-use Rattle.pf_engine.specs.Inside.{inside, held_back, member_of, member_at}
-use Rattle.pf_engine.specs.Denials.{denial_of, denied_for}
-use Rattle.pf_engine.specs.Computed.{with_event, after_events, denials_among}
+use Rattle.pf_run.specs.Record.{Slot}
+use Rattle.pf_run.specs.Inside.{inside, held_back, member_of, member_at}
+use Rattle.pf_run.specs.Denials.{denial_of, denied_for}
+use Rattle.pf_run.specs.Computed.{with_event, after_events, denials_among}
 use Rattle.pf_engine.specs.Fits.{kept_after}
-use Rattle.pf_engine.specs.Kept.{accepted, unless_denied, after_event, judged, denials_in}
-use Rattle.pf_engine.specs.Taking.{joins_of}
-use Rattle.pf_engine.proofs.Counting.{none_found, count_by-cons}
-use Rattle.pf_engine.proofs.Points.{has_left_push, inside_count}
-use Rattle.pf_engine.proofs.Steps.{IsNew, IsPoint, denial_same, limit_step, leave_step, join_step, delay_step}
+use Rattle.pf_engine.specs.Kept.{kept_with_event, kept_unless_denied, kept_after_event, kept_after_events, denials_in}
+use Rattle.pf_run.specs.Inside.{joins_of}
+use Rattle.pf_run.proofs.Counting.{none_found, count_by-cons}
+use Rattle.pf_run.proofs.Points.{has_left_push, inside_count}
+use Rattle.pf_engine.specs.Points.{IsNew, IsPoint, CanFollow}
+use Rattle.pf_engine.proofs.Steps.{denial_same, limit_step, leave_step, join_step, delay_step}
 
 pub joins_push : (xs : List Numbered) (x : Numbered) (task : ℕ) →
     joins_of task (xs ++ x ∷ []) ≡ joins_of task xs + cond (is_join_of task x.event) 1 0
@@ -33,26 +36,26 @@ JoinsOnce xs event = (task : ℕ) → joins_of task xs + cond (is_join_of task e
 joins_first : (xs : List Numbered) (task : ℕ) → joins_of task xs + cond (task == task) 1 0 ≤ 1 → joins_of task xs ≡ 0
 joins_first xs task once = grind (arith, nat_tests)
 
-accepted_step : (s : System) (r : List Slot) (xs : List Numbered) (id : ℕ) (event : Event) → slot_of event ≡ length r →
+with_event_step : (s : System) (r : List Slot) (xs : List Numbered) (id : ℕ) (event : Event) → slot_of event ≡ length r →
     JoinsOnce xs event → IsPoint r xs →
-    accepted (kept_after s r xs) event ≡ kept_after s r (xs ++ record { id = id; event = event } ∷ [])
-accepted_step s r xs id (Join slot task cost period early) at once point =
+    kept_with_event (kept_after s r xs) event ≡ kept_after s r (xs ++ record { id = id; event = event } ∷ [])
+with_event_step s r xs id (Join slot task cost period early) at once point =
     join_step s r xs id slot task cost period early (point.fresh task (joins_first xs task (once task)))
-accepted_step s r xs id (Leave slot task) at once point = leave_step s r xs id slot task (omega (arith, once task))
-accepted_step s r xs id (Delay slot task by) at once point = delay_step s r xs id slot task by at
-accepted_step s r xs id (Limit slot count) at once point = limit_step s r xs id slot count
+with_event_step s r xs id (Leave slot task) at once point = leave_step s r xs id slot task (omega (arith, once task))
+with_event_step s r xs id (Delay slot task by) at once point = delay_step s r xs id slot task by at
+with_event_step s r xs id (Limit slot count) at once point = limit_step s r xs id slot count
 
 kept_unless : (s : System) (r : List Slot) (xs : List Numbered) (x : Numbered) (o : Option Denial) →
     slot_of x.event ≡ length r → JoinsOnce xs x.event → IsPoint r xs →
-    unless_denied o (kept_after s r xs) (accepted (kept_after s r xs) x.event) ≡ kept_after s r (with_event xs x o)
-kept_unless s r xs x None at once point = accepted_step s r xs x.id x.event at once point
+    kept_unless_denied o (kept_after s r xs) (kept_with_event (kept_after s r xs) x.event) ≡ kept_after s r (with_event xs x o)
+kept_unless s r xs x None at once point = with_event_step s r xs x.id x.event at once point
 kept_unless s r xs x (Some denial) at once point = refl
 
-pub kept_step : (s : System) (r : List Slot) (xs : List Numbered) (x : Numbered) →
+kept_step : (s : System) (r : List Slot) (xs : List Numbered) (x : Numbered) →
     slot_of x.event ≡ length r → JoinsOnce xs x.event → IsPoint r xs →
-    after_event (kept_after s r xs) x.event ≡ kept_after s r (with_event xs x (denial_of s r xs x.event))
+    kept_after_event (kept_after s r xs) x.event ≡ kept_after s r (with_event xs x (denial_of s r xs x.event))
 kept_step s r xs x at once point =
-    ap (λ o. unless_denied o (kept_after s r xs) (accepted (kept_after s r xs) x.event)) (denial_same s r xs x.event)
+    ap (λ o. kept_unless_denied o (kept_after s r xs) (kept_with_event (kept_after s r xs) x.event)) (denial_same s r xs x.event)
     ∙ kept_unless s r xs x (denial_of s r xs x.event) at once point
 
 -- a task that joined nowhere isn't inside
@@ -93,7 +96,7 @@ fresh_push s r xs id (Delay slot task' by) admitted task none new =
 fresh_push s r xs id (Limit slot count) admitted task none new =
     new_push r xs _ task new refl (λ q i. refl)
 
-point_admitted : (s : System) (r : List Slot) (xs : List Numbered) (x : Numbered) → slot_of x.event ≡ length r →
+pub point_admitted : (s : System) (r : List Slot) (xs : List Numbered) (x : Numbered) → slot_of x.event ≡ length r →
     denial_of s r xs x.event ≡ None → IsPoint r xs → IsPoint r (xs ++ x ∷ [])
 point_admitted s r xs x at admitted point = record {
   past = All-push (λ y. slot_of y.event ≤ length r) xs x point.past (omega arith);
@@ -102,39 +105,58 @@ point_admitted s r xs x at admitted point = record {
       fresh_push s r xs x.id x.event admitted task before (point.fresh task before);
 }
 
-point_step : (s : System) (r : List Slot) (xs : List Numbered) (x : Numbered) (o : Option Denial) → slot_of x.event ≡ length r →
-    denial_of s r xs x.event ≡ o → IsPoint r xs → IsPoint r (with_event xs x o)
-point_step s r xs x None at e point = point_admitted s r xs x at e point
-point_step s r xs x (Some denial) at e point = point
+-- one of the events more is taken
+follow_with : (s : System) (r : List Slot) (xs : List Numbered) (y : Numbered) (ys : List Numbered) (o : Option Denial) →
+    denial_of s r xs y.event ≡ o → CanFollow s r xs (y ∷ ys) → CanFollow s r (with_event xs y o) ys
+follow_with s r xs y ys o e can =
+    let limits = All-tail (λ x. IsEvent s x.event) y ys can.limits_of_events in
+    let at = All-head (λ x. slot_of x.event ≡ length r) y ys can.slots in
+    let slots = All-tail (λ x. slot_of x.event ≡ length r) y ys can.slots in
+    elim o as (λ o. denial_of s r xs y.event ≡ o → CanFollow s r (with_event xs y o) ys) [
+      | None ↦ λ admitted. record {
+        point = point_admitted s r xs y at admitted can.point;
+        limits = All-push (λ x. IsEvent s x.event) xs y can.limits (All-head (λ x. IsEvent s x.event) y ys can.limits_of_events);
+        limits_of_events = limits;
+        slots = slots;
+        once = λ task. omega (arith, can.once task, joins_push xs y task, count_by-cons (λ x. is_join_of task x.event) y ys);
+        few = omega (arith, can.few, length_push xs y);
+      }
+      | Some denial ↦ λ _. record {
+        point = can.point;
+        limits = can.limits;
+        limits_of_events = limits;
+        slots = slots;
+        once = λ task. omega (arith, can.once task, count_by-cons (λ x. is_join_of task x.event) y ys);
+        few = omega (arith, can.few);
+      }
+    ] e
 
-once_step : (xs : List Numbered) (x : Numbered) (o : Option Denial) (task n : ℕ) →
-    joins_of task xs + (cond (is_join_of task x.event) 1 0 + n) ≤ 1 → joins_of task (with_event xs x o) + n ≤ 1
-once_step xs x None task n once = omega (arith, joins_push xs x task)
-once_step xs x (Some denial) task n once = omega arith
+pub follow_more : (s : System) (r : List Slot) (xs : List Numbered) (y : Numbered) (ys : List Numbered) → CanFollow s r xs (y ∷ ys) →
+    CanFollow s r (with_event xs y (denial_of s r xs y.event)) ys
+follow_more s r xs y ys can = follow_with s r xs y ys (denial_of s r xs y.event) refl can
+
+pub kept_more : (s : System) (r : List Slot) (xs : List Numbered) (y : Numbered) (ys : List Numbered) → CanFollow s r xs (y ∷ ys) →
+    kept_after_event (kept_after s r xs) y.event ≡ kept_after s r (with_event xs y (denial_of s r xs y.event))
+kept_more s r xs y ys can =
+    kept_step s r xs y (All-head (λ x. slot_of x.event ≡ length r) y ys can.slots)
+    (λ task. omega (arith, can.once task, count_by-cons (λ x. is_join_of task x.event) y ys)) can.point
 
 -- what the events of a slot leave, on what is kept and in the record
 pub record AreTaken (s : System) (r : List Slot) (xs ys : List Numbered) : Type 0 where
-  pub kept : judged (kept_after s r xs) ys ≡ kept_after s r (after_events s r xs ys)
+  pub kept : kept_after_events (kept_after s r xs) ys ≡ kept_after s r (after_events s r xs ys)
   pub denied : denials_in (kept_after s r xs) ys ≡ denials_among s r xs ys
-  pub point : IsPoint r (after_events s r xs ys)
-  pub once : (task : ℕ) → joins_of task (after_events s r xs ys) ≤ 1
+  pub after : CanFollow s r (after_events s r xs ys) []
 
-pub kept_taken : (s : System) (r : List Slot) (xs ys : List Numbered) → All (λ y. slot_of y.event ≡ length r) ys →
-    ((task : ℕ) → joins_of task xs + joins_of task ys ≤ 1) → IsPoint r xs → AreTaken s r xs ys
+pub kept_taken : (s : System) (r : List Slot) (xs ys : List Numbered) → CanFollow s r xs ys → AreTaken s r xs ys
 unfolding kept_after
-kept_taken s r xs [] slots once point = record { kept = refl; denied = refl; point = point; once = λ task. omega (arith, once task) }
-kept_taken s r xs (y ∷ ys) slots once point =
-    let at = All-head (λ x. slot_of x.event ≡ length r) y ys slots in
+kept_taken s r xs [] can = record { kept = refl; denied = refl; after = can }
+kept_taken s r xs (y ∷ ys) can =
     let o = denial_of s r xs y.event in
-    let joins : (task : ℕ) → joins_of task xs + (cond (is_join_of task y.event) 1 0 + joins_of task ys) ≤ 1
-    = λ task. omega (arith, once task, count_by-cons (λ x. is_join_of task x.event) y ys) in
-    let step = kept_step s r xs y at (λ task. omega (arith, joins task)) point in
-    let rest = kept_taken s r (with_event xs y o) ys (All-tail (λ x. slot_of x.event ≡ length r) y ys slots)
-    (λ task. once_step xs y o task (joins_of task ys) (joins task)) (point_step s r xs y o at refl point) in
+    let step = kept_more s r xs y ys can in
+    let rest = kept_taken s r (with_event xs y o) ys (follow_more s r xs y ys can) in
     record {
-      kept = ap (λ e. judged e ys) step ∙ rest.kept;
+      kept = ap (λ e. kept_after_events e ys) step ∙ rest.kept;
       denied = ap₂ (λ q e. denied_for y (length r) q ++ denials_in e ys) (denial_same s r xs y.event) step
           ∙ ap (λ ds. denied_for y (length r) o ++ ds) rest.denied;
-      point = rest.point;
-      once = rest.once;
+      after = rest.after;
     }

@@ -1,26 +1,27 @@
 -- An engine that fits a scenario and a run of it gives the next slot, and then fits the longer run.
-use Rattle.std.proofs.Common.{◌≡◌, ℕ, ◌+◌, ◌≤◌, List, [], ◌∷◌, ◌++◌, length, refl, sym, ap, ap₂, ◌∙◌, subst, subst₂, arith, ⊎_elim}
+use Rattle.std.proofs.Common.{◌≡◌, ℕ, suc, ◌+◌, ◌≤◌, List, [], ◌∷◌, ◌++◌, length, refl, sym, ap, ap₂, ◌∙◌, subst, subst₂, arith, ⊎_elim}
 use Rattle.std.proofs.lemmas.Bool.{cases_lt}
-use Rattle.std.proofs.lemmas.List.{take-append-le, take_at, get_or_append_left, get_or_push}
+use Rattle.std.proofs.lemmas.List.{length-append, take-append-le, take_at, get_or_append_left, get_or_push}
 use Rattle.std.proofs.lemmas.List.Elements.{All-nil}
 use Rattle.pf_order.specs.First.{AreFirst}
 use Rattle.pf_scenario.specs.Event.{slot_of}
-use Rattle.pf_scenario.specs.Scenario.{Plan, events_of}
+use Rattle.pf_scenario.specs.Scenario.{Plan, events_of, past}
 use Rattle.pf_scenario.specs.Edit.{IsScenario}
 use Rattle.pf_scenario.specs.declared.event.Numbered.{Numbered}
-use Rattle.pf_engine.specs.Record.{Slot, denials_of, in_force}
-use Rattle.pf_engine.specs.Inside.{ready, count_of}
-use Rattle.pf_engine.specs.Run.{standing, ArePicks, IsNextSlot, IsRun}
-use Rattle.pf_engine.specs.Computed.{after_events}
+use Rattle.pf_run.specs.Record.{Slot, denials_of, in_force}
+use Rattle.pf_run.specs.Inside.{ready, count_of}
+use Rattle.pf_run.specs.Run.{standing, ArePicks, IsNextSlot, IsRun}
+use Rattle.pf_run.specs.Computed.{after_events}
 use Rattle.pf_engine.specs.Fits.{Kept, kept_after, Fits, Taken, TakesSlot}
-use Rattle.pf_engine.specs.Kept.{ready_keys, after_picks}
+use Rattle.pf_engine.specs.Kept.{ready_keys, kept_after_picks}
 use Rattle.pf_engine.specs.Taking.{Advances}
-use Rattle.pf_engine.proofs.Judged.{along_run, length_snoc, next_from_equation, next_from_one_by_one}
-use Rattle.pf_engine.proofs.Steps.{IsPoint}
+use Rattle.pf_run.proofs.Judged.{along_run, length_snoc, next_from_equation, next_from_one_by_one}
+use Rattle.pf_engine.specs.Points.{IsPoint, CanFollow}
 use Rattle.pf_engine.proofs.Events.{AreTaken, kept_taken}
 use Rattle.pf_engine.proofs.Picks.{AreNext, kept_picked}
 use Rattle.pf_engine.proofs.Ready.{ready_same, next_chosen, point_picked}
-use Rattle.pf_engine.proofs.Plans.{slots_of_events, joins_at}
+use Rattle.pf_run.proofs.Plans.{slots_of_events, limits_of_events, past_few, in_force_few, joins_at}
+use Rattle.pf_run.proofs.Within.{in_force_limits}
 
 -- the point that a run leads to
 point_none : (s : Plan) → IsPoint [] (standing s [] 0)
@@ -30,11 +31,29 @@ point_none s = record {
   fresh = λ task none. record { stays = refl; undelayed = λ q i. refl; idle = refl };
 }
 
+-- the events of the slot that comes next can follow
+pub can_follow : (s : Plan) (r : List Slot) → IsScenario s → IsPoint r (standing s r (length r)) →
+    CanFollow s.settings r (standing s r (length r)) (events_of s (length r))
+can_follow s r scenario point =
+    let t = length r in
+    record {
+      point = point;
+      limits = in_force_limits s t (denials_of r) scenario;
+      limits_of_events = limits_of_events s t scenario;
+      slots = slots_of_events s t;
+      once = joins_at s (denials_of r) t scenario;
+      few = omega (
+        arith,
+        scenario.few,
+        past_few s (suc t),
+        length-append (past s t) (events_of s t),
+        in_force_few (denials_of r) (past s t),
+      );
+    }
+
 events_taken : (s : Plan) (r : List Slot) → IsScenario s → IsPoint r (standing s r (length r)) →
     AreTaken s.settings r (standing s r (length r)) (events_of s (length r))
-events_taken s r scenario point =
-    kept_taken s.settings r (standing s r (length r)) (events_of s (length r)) (slots_of_events s (length r))
-    (joins_at s (denials_of r) (length r) scenario) point
+events_taken s r scenario point = kept_taken s.settings r (standing s r (length r)) (events_of s (length r)) (can_follow s r scenario point)
 
 point_more : (s : Plan) → IsScenario s → (r : List Slot) (slot : Slot) → IsRun s (length r) r → IsNextSlot s r slot →
     IsPoint r (standing s r (length r)) → IsPoint (r ++ slot ∷ []) (standing s (r ++ slot ∷ []) (length (r ++ slot ∷ [])))
@@ -42,7 +61,7 @@ point_more s scenario r slot run next point =
     let stands = (next_from_equation s r slot scenario run next.denials).stands in
     let picks = subst (λ xs. ArePicks s r xs slot.picks) stands next.picks in
     let taken = events_taken s r scenario point in
-    let after = point_picked s.settings.base _ r slot _ picks.chosen picks.are_first picks.subtasks taken.point in
+    let after = point_picked s.settings.base _ r slot _ picks.chosen picks.are_first picks.subtasks taken.after.point in
     subst (IsPoint (r ++ slot ∷ []))
     (sym stands ∙ ap (λ t. standing s (r ++ slot ∷ []) t) (sym (length_snoc r slot))) after
 
@@ -83,7 +102,6 @@ takes_kept s r o e' scenario run advances =
           (record { chosen = chosen; are_first = first; subtasks = advances.picks });
     } in
     let now : length r + 1 ≡ length (r ++ o.slot ∷ []) = omega (arith, length_snoc r o.slot) in
-    let point = taken.point in
     let stands : after ≡ standing s (r ++ o.slot ∷ []) (length (r ++ o.slot ∷ [])) =
     sym denials.stands ∙ ap (λ t. standing s (r ++ o.slot ∷ []) t) (sym (length_snoc r o.slot)) in
     let of_next = subst (AreNext r) (sym advances.picks) (next_chosen s.settings.base (count_of s.settings.processors after) r after chosen first) in
@@ -94,8 +112,8 @@ takes_kept s r o e' scenario run advances =
       fits = record {
         is_run = run_push s r o.slot run next;
         keeps = advances.after
-            ∙ ap₂ after_picks taken.kept (sym advances.picks)
-            ∙ kept_picked s.settings r o.slot after of_next point.past
+            ∙ ap₂ kept_after_picks taken.kept (sym advances.picks)
+            ∙ kept_picked s.settings r o.slot after of_next taken.after.point.past
             ∙ ap (kept_after s.settings (r ++ o.slot ∷ [])) stands;
       };
     }

@@ -1,23 +1,21 @@
 -- The picks of a slot, on what is kept.
-use Rattle.std.proofs.Common.{◌≡◌, ℕ, ◌+◌, ◌≤◌, Bool, true, false, ◌||◌, ◌&&◌, ◌==◌, nat_le, cond, List, [], ◌∷◌, ◌++◌, length, map, fold, sum_by, count_by, All, refl, sym, ap, ap₂, ◌∙◌, arith}
+use Rattle.std.proofs.Common.{◌≡◌, ℕ, ◌+◌, ◌≤◌, Bool, true, false, ◌||◌, ◌==◌, cond, List, [], ◌∷◌, ◌++◌, length, map, fold, All, refl, sym, ap, ap₂, ◌∙◌, arith}
 use Rattle.std.specs.List.{list_any}
-use Rattle.std.proofs.lemmas.Bool.{eqb-true, le-leb}
+use Rattle.std.proofs.lemmas.Bool.{eqb-true}
 use Rattle.std.proofs.lemmas.Bool.Decides.{nat_tests}
-use Rattle.std.proofs.lemmas.List.{take_all, take-append-le, map-id, length_push}
-use Rattle.std.proofs.lemmas.List.Sums.{sum_by-cons, sum_by_push, sum_by-take-le}
-use Rattle.std.proofs.lemmas.List.Elements.{All-head, All-tail, All-weaker}
+use Rattle.std.proofs.lemmas.List.{map-id, length_push}
+use Rattle.std.proofs.lemmas.List.Elements.{All-head, All-tail}
 use Rattle.pf_order.specs.declared.pick.Pick.{Pick}
 use Rattle.pf_scenario.specs.System.{System}
 use Rattle.pf_scenario.specs.Event.{slot_of}
-use Rattle.pf_scenario.specs.declared.event.Event.{Event}
-use Rattle.pf_scenario.specs.declared.event.Event.TheVariants.{Join, Leave, Delay, Limit}
 use Rattle.pf_scenario.specs.declared.event.Numbered.{Numbered}
 use Rattle.pf_admit.specs.declared.member.Member.{Member}
-use Rattle.pf_engine.specs.Record.{Slot, runs, done, next_sub}
-use Rattle.pf_engine.specs.Inside.{Joined, inside, load_of, count_of, held_back, shift_of, member_of}
+use Rattle.pf_run.specs.Record.{Slot, runs, done, next_sub}
+use Rattle.pf_run.specs.Inside.{Joined, inside, load_of, count_of, shift_of, member_of}
 use Rattle.pf_engine.specs.Fits.{KeptTask, kept_task, kept_after}
-use Rattle.pf_engine.specs.Kept.{changed_at, with_changed, ran, after_pick, after_picks}
-use Rattle.pf_engine.proofs.Counting.{map_map, map_same}
+use Rattle.pf_engine.specs.Kept.{changed_task, changed_tasks, member_after_run, tasks_after_pick, kept_after_picks}
+use Rattle.pf_run.proofs.Counting.{map_map, map_same}
+use Rattle.pf_run.proofs.Later.{runs_push, done_all, shift_same, shift_later}
 
 -- the picks are of the next subtasks
 abbrev pub AreNext : List Slot → List Pick → Type 0
@@ -28,99 +26,43 @@ is_picked task picks = list_any (λ p. p.task == task) picks
 
 -- what one task becomes
 abbrev pick_task : KeptTask → Pick → KeptTask
-pick_task k p = changed_at p.task (ran p.sub) k
+pick_task k p = changed_task p.task (member_after_run p.sub) k
 
-picked_each : (tasks : List KeptTask) (picks : List Pick) → fold after_pick tasks picks ≡ map (λ k. fold pick_task k picks) tasks
+picked_each : (tasks : List KeptTask) (picks : List Pick) → fold tasks_after_pick tasks picks ≡ map (λ k. fold pick_task k picks) tasks
 picked_each tasks [] = sym (map-id tasks)
 picked_each tasks (p ∷ picks) =
-    picked_each (with_changed p.task (ran p.sub) tasks) picks
-    ∙ map_map (λ k. fold pick_task k picks) (changed_at p.task (ran p.sub)) tasks
+    picked_each (changed_tasks p.task (member_after_run p.sub) tasks) picks
+    ∙ map_map (λ k. fold pick_task k picks) (changed_task p.task (member_after_run p.sub)) tasks
 
-either_ran : (b c : Bool) (sub : ℕ) (m : Member) → cond c (ran sub (cond b (ran sub m) m)) (cond b (ran sub m) m) ≡ cond (b || c) (ran sub m) m
+either_ran : (b c : Bool) (sub : ℕ) (m : Member) → cond c (member_after_run sub (cond b (member_after_run sub m) m)) (cond b (member_after_run sub m) m) ≡ cond (b || c) (member_after_run sub m) m
 either_ran true true sub m = refl
 either_ran true false sub m = refl
 either_ran false c sub m = refl
 
 one_pick : (task : ℕ) (m : Member) (p : Pick) (sub : ℕ) (b : Bool) → b ≡ (p.task == task) → (p.task ≡ task → p.sub ≡ sub) →
-    ◌≡◌ {A = KeptTask} (cond b (record { task = task; member = ran p.sub m }) (record { task = task; member = m }))
-    (record { task = task; member = cond b (ran sub m) m })
-one_pick task m p sub true e next = ap (λ n. record { task = task; member = ran n m }) (next (eqb-true p.task task (sym e)))
+    ◌≡◌ {A = KeptTask} (cond b (record { task = task; member = member_after_run p.sub m }) (record { task = task; member = m }))
+    (record { task = task; member = cond b (member_after_run sub m) m })
+one_pick task m p sub true e next = ap (λ n. record { task = task; member = member_after_run n m }) (next (eqb-true p.task task (sym e)))
 one_pick task m p sub false e next = refl
 
 picked_task : (r : List Slot) (task : ℕ) (m : Member) (picks : List Pick) → AreNext r picks →
     fold pick_task (record { task = task; member = m }) picks
-    ≡ record { task = task; member = cond (is_picked task picks) (ran (next_sub r task) m) m }
+    ≡ record { task = task; member = cond (is_picked task picks) (member_after_run (next_sub r task) m) m }
 picked_task r task m [] next = refl
 picked_task r task m (p ∷ picks) next =
     let sub = next_sub r task in
     let swap : (task == p.task) ≡ (p.task == task) = grind (arith, nat_tests) in
     ap (λ k. fold pick_task k picks)
-    (ap (λ b. cond b (record { task = task; member = ran p.sub m }) (record { task = task; member = m })) swap
+    (ap (λ b. cond b (record { task = task; member = member_after_run p.sub m }) (record { task = task; member = m })) swap
     ∙ one_pick task m p sub (p.task == task) refl
     (λ e. All-head (λ q. q.sub ≡ next_sub r q.task) p picks next ∙ ap (next_sub r) e))
-    ∙ picked_task r task (cond (p.task == task) (ran sub m) m) picks (All-tail (λ q. q.sub ≡ next_sub r q.task) p picks next)
+    ∙ picked_task r task (cond (p.task == task) (member_after_run sub m) m) picks (All-tail (λ q. q.sub ≡ next_sub r q.task) p picks next)
     ∙ ap (λ n. record { task = task; member = n }) (either_ran (p.task == task) (is_picked task picks) sub m)
-
--- how often a task ran, one slot further
-done_all : (r : List Slot) (task : ℕ) → done r task (length r) ≡ count_by (runs task) r
-unfolding done
-done_all r task = ap (count_by (runs task)) (take_all (length r) r (omega arith))
-
-pub done_most : (r : List Slot) (task t : ℕ) → done r task t ≤ count_by (runs task) r
-unfolding done
-done_most r task t = sum_by-take-le (λ d. cond (runs task d) 1 0) r t
-
-done_before : (r : List Slot) (d : Slot) (task t : ℕ) → t ≤ length r → done (r ++ d ∷ []) task t ≡ done r task t
-unfolding done
-done_before r d task t within = ap (count_by (runs task)) (take-append-le t r (d ∷ []) within)
-
-pub runs_push : (r : List Slot) (d : Slot) (task : ℕ) → count_by (runs task) (r ++ d ∷ []) ≡ count_by (runs task) r + cond (runs task d) 1 0
-runs_push r d task = sum_by_push (λ e. cond (runs task e) 1 0) r d
-
--- what a delay holds back, one slot further
-held_same : (r : List Slot) (d : Slot) (task i : ℕ) (event : Event) → slot_of event ≤ length r →
-    held_back (r ++ d ∷ []) task i event ≡ held_back r task i event
-held_same r d task i (Delay slot task' by) within =
-    ap (λ n. cond ((task' == task) && nat_le (n + 1) i) by 0) (done_before r d task slot within)
-held_same r d task i (Join slot task' cost period early) within = refl
-held_same r d task i (Leave slot task') within = refl
-held_same r d task i (Limit slot count) within = refl
-
--- each delay so far counts for the next subtask, and for those after it
-held_later : (r : List Slot) (task i : ℕ) (event : Event) → next_sub r task ≤ i →
-    held_back r task i event ≡ held_back r task (next_sub r task) event
-held_later r task i (Delay slot task' by) later =
-    let before : done r task slot + 1 ≤ next_sub r task = omega (arith, done_most r task slot, done_all r task) in
-    ap (λ b. cond ((task' == task) && b) by 0)
-    (le-leb (done r task slot + 1) i (omega arith) ∙ sym (le-leb (done r task slot + 1) (next_sub r task) before))
-held_later r task i (Join slot task' cost period early) later = refl
-held_later r task i (Leave slot task') later = refl
-held_later r task i (Limit slot count) later = refl
-
-sum_same : {A : Type 0} (f g : A → ℕ) (xs : List A) → All (λ x. f x ≡ g x) xs → sum_by f xs ≡ sum_by g xs
-sum_same f g [] same = refl
-sum_same f g (x ∷ xs) same =
-    let first = All-head (λ y. f y ≡ g y) x xs same in
-    let rest = sum_same f g xs (All-tail (λ y. f y ≡ g y) x xs same) in
-    omega (arith, sum_by-cons f x xs, sum_by-cons g x xs)
-
-shift_same : (r : List Slot) (d : Slot) (xs : List Numbered) (j : Joined) (i : ℕ) → All (λ x. slot_of x.event ≤ length r) xs →
-    shift_of (r ++ d ∷ []) xs j i ≡ shift_of r xs j i
-unfolding shift_of
-shift_same r d xs j i past = ap (λ n. j.slot + n) (sum_same _ _ xs
-    (All-weaker (λ x. slot_of x.event ≤ length r) (λ x. held_back (r ++ d ∷ []) j.task i x.event ≡ held_back r j.task i x.event)
-    (λ x within. held_same r d j.task i x.event within) xs past))
-
-shift_later : (r : List Slot) (xs : List Numbered) (j : Joined) (i : ℕ) → next_sub r j.task ≤ i →
-    shift_of r xs j i ≡ shift_of r xs j (next_sub r j.task)
-unfolding shift_of
-shift_later r xs j i later = ap (λ n. j.slot + n)
-    (sum_same _ _ xs (λ k e within. held_later r j.task i _ later))
 
 -- a member, one slot further
 member_cond : (b : Bool) (m : Member) (sub done shift last : ℕ) → sub ≡ m.done + 1 → done ≡ m.done + cond b 1 0 →
     shift ≡ m.shift → last ≡ cond b m.shift m.last →
-    ◌≡◌ {A = Member} (cond b (ran sub m) m)
+    ◌≡◌ {A = Member} (cond b (member_after_run sub m) m)
     (record { weight = m.weight; joined = m.joined; early = m.early; done = done; shift = shift; last = last })
 member_cond true m sub done shift last s d h l = rw (s, d, h, l) refl
 member_cond false m sub done shift last s d h l =
@@ -136,7 +78,7 @@ cond_same true x x' y y' e f = e
 cond_same false x x' y y' e f = f
 
 member_after : (r : List Slot) (d : Slot) (xs : List Numbered) (j : Joined) → All (λ x. slot_of x.event ≤ length r) xs →
-    cond (runs j.task d) (ran (next_sub r j.task) (member_of r xs j)) (member_of r xs j) ≡ member_of (r ++ d ∷ []) xs j
+    cond (runs j.task d) (member_after_run (next_sub r j.task) (member_of r xs j)) (member_of r xs j) ≡ member_of (r ++ d ∷ []) xs j
 unfolding member_of
 member_after r d xs j past =
     let r' = r ++ d ∷ [] in
@@ -154,11 +96,11 @@ member_after r d xs j past =
 -- what is kept after the picks
 pub kept_picked : (s : System) (r : List Slot) (d : Slot) (xs : List Numbered) → AreNext r d.picks →
     All (λ x. slot_of x.event ≤ length r) xs →
-    after_picks (kept_after s r xs) d.picks ≡ kept_after s (r ++ d ∷ []) xs
+    kept_after_picks (kept_after s r xs) d.picks ≡ kept_after s (r ++ d ∷ []) xs
 unfolding kept_after
 kept_picked s r d xs next past =
     let js = inside s.base xs in
-    let tasks : fold after_pick (map (kept_task r xs) js) d.picks ≡ map (kept_task (r ++ d ∷ []) xs) js =
+    let tasks : fold tasks_after_pick (map (kept_task r xs) js) d.picks ≡ map (kept_task (r ++ d ∷ []) xs) js =
     picked_each (map (kept_task r xs) js) d.picks
     ∙ map_map (λ k. fold pick_task k d.picks) (kept_task r xs) js
     ∙ map_same _ _

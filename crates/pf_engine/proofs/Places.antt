@@ -11,9 +11,9 @@ use Rattle.std.proofs.lemmas.List.Sums.{position_or_len_is, fails_before_first, 
 use Rattle.pf_admit.specs.declared.member.Member.{Member}
 use Rattle.pf_engine.specs.declared.entry.Entry.{Entry}
 use Rattle.pf_engine.specs.Fits.{KeptTask}
-use Rattle.pf_engine.specs.Kept.{member_in, changed_at, with_changed, without_task}
+use Rattle.pf_engine.specs.Kept.{member_in, changed_task, changed_tasks, other_tasks}
 use Rattle.pf_engine.specs.Entries.{task_of_entry, tasks_of_entries, IsListed, IsListedTo}
-use Rattle.pf_engine.proofs.Counting.{filter-map}
+use Rattle.pf_run.proofs.Counting.{filter-map}
 
 no_entry : Entry
 no_entry = record {
@@ -219,7 +219,7 @@ is_place places entries task place is at =
 pub tasks_set : (places : List ℕ) (entries : List Entry) (task place : ℕ) (x : Entry) (f : Member → Member) → IsListed places entries →
     position (has_number task) (tasks_of_entries entries) ≡ Some place →
     x ≡ record { task = (get_or entries place x).task; member = f (get_or entries place x).member } →
-    tasks_of_entries (set entries place x) ≡ with_changed task f (tasks_of_entries entries)
+    tasks_of_entries (set entries place x) ≡ changed_tasks task f (tasks_of_entries entries)
 tasks_set places entries task place x f is at new =
     let xs = tasks_of_entries entries in
     let found = is_place places entries task place is at in
@@ -227,22 +227,22 @@ tasks_set places entries task place x f is at new =
     let number = found.number x in
     let table = found.table in
     let long : length (tasks_of_entries (set entries place x)) ≡ length entries = length-map (set entries place x) task_of_entry ∙ length-set entries place x in
-    same_lists _ _ (long ∙ sym (length-map xs (changed_at task f) ∙ length-map entries task_of_entry))
+    same_lists _ _ (long ∙ sym (length-map xs (changed_task task f) ∙ length-map entries task_of_entry))
     (λ k d inside.
     let low : k < length entries = omega arith in
     let low_set : k < length (set entries place x) = omega (arith, length-set entries place x) in
     let low_map : k < length xs = omega (arith, length-map entries task_of_entry) in
     let own = get_or entries k x in
-    let right : get_or (with_changed task f xs) k d ≡ changed_at task f (task_of_entry own) =
-    get_or-map (changed_at task f) xs k (task_of_entry x) d low_map
-    ∙ ap (changed_at task f) (get_or-map task_of_entry entries k x (task_of_entry x) low) in
+    let right : get_or (changed_tasks task f xs) k d ≡ changed_task task f (task_of_entry own) =
+    get_or-map (changed_task task f) xs k (task_of_entry x) d low_map
+    ∙ ap (changed_task task f) (get_or-map task_of_entry entries k x (task_of_entry x) low) in
     get_or-map task_of_entry (set entries place x) k x d low_set
     ∙ ⊎_elim
     (λ here.
     ap (λ i. task_of_entry (get_or (set entries place x) i x)) here
     ∙ ap task_of_entry (get_or-set_same entries place x x within ∙ new)
     ∙ sym (here_changed ((get_or entries place x).task == task) f (task_of_entry (get_or entries place x)) (eq-eqb _ _ number))
-    ∙ ap (λ i. changed_at task f (task_of_entry (get_or entries i x))) (sym here))
+    ∙ ap (λ i. changed_task task f (task_of_entry (get_or entries i x))) (sym here))
     (λ other.
     ap task_of_entry (get_or-set_other entries place k x x other)
     ∙ sym (not_changed (own.task == task) f (task_of_entry own)
@@ -251,9 +251,9 @@ tasks_set places entries task place x f is at new =
     ∙ sym right)
 
 -- a number that stands nowhere
-pub unchanged : (xs : List KeptTask) (task : ℕ) (f : Member → Member) → position (has_number task) xs ≡ None → xs ≡ with_changed task f xs
+pub unchanged : (xs : List KeptTask) (task : ℕ) (f : Member → Member) → position (has_number task) xs ≡ None → xs ≡ changed_tasks task f xs
 unchanged xs task f none =
-    sym (map_fixed (changed_at task f) xs
+    sym (map_fixed (changed_task task f) xs
     (λ k d within. not_changed ((get_or xs k d).task == task) f (get_or xs k d)
     (fails_before_first (has_number task) xs k d (omega (arith, not_at (has_number task) xs none)))))
 
@@ -263,7 +263,7 @@ all_stay p (x ∷ xs) none =
     ap (λ b. cond (not b) (x ∷ filter (λ y. not (p y)) xs) (filter (λ y. not (p y)) xs)) (none 0 x (omega arith))
     ∙ ap (λ ys. x ∷ ys) (all_stay p xs (λ k d within. none (suc k) d (omega arith)))
 
-pub none_to_leave : (xs : List KeptTask) (task : ℕ) → position (has_number task) xs ≡ None → xs ≡ without_task task xs
+pub none_to_leave : (xs : List KeptTask) (task : ℕ) → position (has_number task) xs ≡ None → xs ≡ other_tasks task xs
 none_to_leave xs task none =
     sym (all_stay (has_number task) xs
     (λ k d within. fails_before_first (has_number task) xs k d (omega (arith, not_at (has_number task) xs none))))
@@ -282,7 +282,7 @@ one_out p (x ∷ xs) (suc i) d within here other =
 
 pub tasks_removed : (places : List ℕ) (entries : List Entry) (task place : ℕ) → IsListed places entries →
     position (has_number task) (tasks_of_entries entries) ≡ Some place →
-    tasks_of_entries (remove entries place) ≡ without_task task (tasks_of_entries entries)
+    tasks_of_entries (remove entries place) ≡ other_tasks task (tasks_of_entries entries)
 tasks_removed places entries task place is at =
     let found = is_place places entries task place is at in
     ap (map task_of_entry)
@@ -336,7 +336,7 @@ all_listed places entries n past is = record { long = is.long; numbers = is.numb
 pub edited : (places : List ℕ) (entries : List Entry) (task place : ℕ) (x y : Entry) (f : Member → Member) → IsListed places entries →
     position (has_number task) (tasks_of_entries entries) ≡ Some place → x ≡ get_or entries place x →
     y ≡ record { task = x.task; member = f x.member } →
-    tasks_of_entries (set entries place y) ≡ with_changed task f (tasks_of_entries entries)
+    tasks_of_entries (set entries place y) ≡ changed_tasks task f (tasks_of_entries entries)
 edited places entries task place x y f is at read new =
     let found = is_place places entries task place is at in
     tasks_set places entries task place y f is at

@@ -1,37 +1,26 @@
 -- One event of a slot, on what is kept: it is denied for the same reason, and what is kept then is what the events in
 -- force then give.
-use Rattle.std.proofs.Common.{◌≡◌, ℕ, ◌+◌, ◌-◌, ◌≤◌, Bool, true, false, not, ◌&&◌, ◌==◌, nat_le, cond, Option, Some, None, List, [], ◌∷◌, ◌++◌, length, map, filter, find, sum_by, count_by, All, option_map, refl, sym, ap, ap₂, ◌∙◌, arith}
+use Rattle.std.proofs.Common.{◌≡◌, ℕ, ◌+◌, ◌-◌, ◌≤◌, Bool, true, false, not, ◌&&◌, ◌==◌, nat_le, cond, Option, Some, None, List, [], ◌∷◌, ◌++◌, length, map, filter, find, sum_by, count_by, option_map, refl, sym, ap, ap₂, ◌∙◌, arith}
 use Rattle.std.proofs.lemmas.Bool.{le-leb}
 use Rattle.std.proofs.lemmas.Bool.Decides.{nat_tests}
 use Rattle.std.proofs.lemmas.List.{take_all, map-append}
 use Rattle.std.proofs.lemmas.List.Sums.{sum_by_push}
 use Rattle.pf_weight.specs.Share.{share_of}
 use Rattle.pf_scenario.specs.System.{System}
-use Rattle.pf_scenario.specs.Event.{slot_of}
 use Rattle.pf_scenario.specs.declared.event.Event.{Event}
 use Rattle.pf_scenario.specs.declared.event.Event.TheVariants.{Join, Leave, Delay, Limit}
 use Rattle.pf_scenario.specs.declared.event.Numbered.{Numbered}
 use Rattle.pf_admit.specs.Admission.{leave_denial, delay_denial}
 use Rattle.pf_admit.specs.declared.member.Member.{Member}
-use Rattle.pf_engine.specs.Record.{Slot, runs, done, next_sub}
-use Rattle.pf_engine.specs.Inside.{Joined, has_left, inside, load_of, held_back, shift_of, member_of, member_at}
-use Rattle.pf_engine.specs.Denials.{denial_of}
+use Rattle.pf_run.specs.Record.{Slot, runs, done, next_sub}
+use Rattle.pf_run.specs.Inside.{Joined, inside, load_of, held_back, shift_of, member_of, member_at}
+use Rattle.pf_run.specs.Denials.{denial_of}
 use Rattle.pf_engine.specs.Fits.{KeptTask, Kept, kept_task, kept_after}
-use Rattle.pf_engine.specs.Kept.{member_in, changed_at, units_of, new_task, delayed, denial_at, accepted}
-use Rattle.pf_engine.specs.Taking.{joins_of}
-use Rattle.pf_engine.proofs.Counting.{map_map, map_same, filter-map, find-map, found, sum_without}
-use Rattle.pf_engine.proofs.Points.{ShiftsNone, inside_push_other, inside_push_join, inside_push_leave, inside_count, count_push, shift_push, member_push_other}
-
--- the task is new: no event in force speaks of it, and it never ran
-pub record IsNew (r : List Slot) (xs : List Numbered) (task : ℕ) : Type 0 where
-  pub stays : has_left xs task ≡ false
-  pub undelayed : (q : List Slot) (i : ℕ) → sum_by (λ x. held_back q task i x.event) xs ≡ 0
-  pub idle : count_by (runs task) r ≡ 0
-
--- what holds at each point of a run: the events in force are of slots up to now, and a task that didn't join is new
-pub record IsPoint (r : List Slot) (xs : List Numbered) : Type 0 where
-  pub past : All (λ x. slot_of x.event ≤ length r) xs
-  pub fresh : (task : ℕ) → joins_of task xs ≡ 0 → IsNew r xs task
+use Rattle.pf_engine.specs.Points.{IsNew}
+use Rattle.pf_engine.specs.Kept.{member_in, changed_task, units_of, new_task, member_after_delay, denial_at, kept_with_event}
+use Rattle.pf_run.specs.Inside.{joins_of}
+use Rattle.pf_run.proofs.Counting.{map_map, map_same, filter-map, find-map, found, sum_without}
+use Rattle.pf_run.proofs.Points.{ShiftsNone, inside_push_other, inside_push_join, inside_push_leave, inside_count, count_push, shift_push, member_push_other}
 
 -- the members kept are those inside
 found_member : (r : List Slot) (xs : List Numbered) (o : Option Joined) →
@@ -70,7 +59,7 @@ tasks_other r xs x none js = map_same _ _
 
 -- a limit
 pub limit_step : (s : System) (r : List Slot) (xs : List Numbered) (id slot count : ℕ) →
-    accepted (kept_after s r xs) (Limit slot count) ≡ kept_after s r (xs ++ record { id = id; event = Limit slot count } ∷ [])
+    kept_with_event (kept_after s r xs) (Limit slot count) ≡ kept_after s r (xs ++ record { id = id; event = Limit slot count } ∷ [])
 unfolding kept_after load_of
 limit_step s r xs id slot count =
     let x : Numbered = record { id = id; event = Limit slot count } in
@@ -88,7 +77,7 @@ units_found r xs None = refl
 units_found r xs (Some j) = refl
 
 pub leave_step : (s : System) (r : List Slot) (xs : List Numbered) (id slot task : ℕ) → joins_of task xs ≤ 1 →
-    accepted (kept_after s r xs) (Leave slot task) ≡ kept_after s r (xs ++ record { id = id; event = Leave slot task } ∷ [])
+    kept_with_event (kept_after s r xs) (Leave slot task) ≡ kept_after s r (xs ++ record { id = id; event = Leave slot task } ∷ [])
 unfolding kept_after load_of
 leave_step s r xs id slot task once =
     let x : Numbered = record { id = id; event = Leave slot task } in
@@ -143,7 +132,7 @@ join_new r xs x base slot task cost period early none new =
     ∙ ap (λ l. record { task = task; member = record { weight = share_of base cost period; joined = slot; early = early; done = 0; shift = slot; last = l } }) last)
 
 pub join_step : (s : System) (r : List Slot) (xs : List Numbered) (id slot task cost period early : ℕ) → IsNew r xs task →
-    accepted (kept_after s r xs) (Join slot task cost period early)
+    kept_with_event (kept_after s r xs) (Join slot task cost period early)
     ≡ kept_after s r (xs ++ record { id = id; event = Join slot task cost period early } ∷ [])
 unfolding kept_after load_of
 join_step s r xs id slot task cost period early new =
@@ -175,16 +164,16 @@ none_cond true by = refl
 none_cond false by = refl
 
 changed_cond : (task : ℕ) (b : Bool) (by : ℕ) (m : Member) (shift last : ℕ) → shift ≡ cond b (m.shift + by) m.shift → last ≡ m.last →
-    ◌≡◌ {A = KeptTask} (cond b (record { task = task; member = delayed by m }) (record { task = task; member = m }))
+    ◌≡◌ {A = KeptTask} (cond b (record { task = task; member = member_after_delay by m }) (record { task = task; member = m }))
     (record { task = task; member = record { weight = m.weight; joined = m.joined; early = m.early; done = m.done; shift = shift; last = last } })
 changed_cond task true by m shift last e f = rw (e, f) refl
 changed_cond task false by m shift last e f = rw (e, f) refl
 
-delayed_task : (r : List Slot) (xs : List Numbered) (id task by : ℕ) (j : Joined) →
-    changed_at task (delayed by) (kept_task r xs j)
+task_after_delay : (r : List Slot) (xs : List Numbered) (id task by : ℕ) (j : Joined) →
+    changed_task task (member_after_delay by) (kept_task r xs j)
     ≡ kept_task r (xs ++ record { id = id; event = Delay (length r) task by } ∷ []) j
 unfolding member_of
-delayed_task r xs id task by j =
+task_after_delay r xs id task by j =
     let x : Numbered = record { id = id; event = Delay (length r) task by } in
     let n = done r j.task (length r) in
     let swap : (j.task == task) ≡ (task == j.task) = grind (arith, nat_tests) in
@@ -198,7 +187,7 @@ delayed_task r xs id task by j =
     omega (arith, shift_push r xs x j n))
 
 pub delay_step : (s : System) (r : List Slot) (xs : List Numbered) (id slot task by : ℕ) → slot ≡ length r →
-    accepted (kept_after s r xs) (Delay slot task by) ≡ kept_after s r (xs ++ record { id = id; event = Delay slot task by } ∷ [])
+    kept_with_event (kept_after s r xs) (Delay slot task by) ≡ kept_after s r (xs ++ record { id = id; event = Delay slot task by } ∷ [])
 unfolding kept_after load_of
 delay_step s r xs id slot task by at =
     let x : Numbered = record { id = id; event = Delay slot task by } in
@@ -206,8 +195,8 @@ delay_step s r xs id slot task by at =
     let js = inside s.base xs in
     let same = inside_push_other s.base xs x refl (λ _. refl) in
     kept_parts s (length r) _ _ _ _ _ _
-    (map_map (changed_at task (delayed by)) (kept_task r xs) js
-    ∙ map_same _ _ (λ (j : Joined). delayed_task r xs id task by j) js
+    (map_map (changed_task task (member_after_delay by)) (kept_task r xs) js
+    ∙ map_same _ _ (λ (j : Joined). task_after_delay r xs id task by j) js
     ∙ ap (λ t. map (kept_task r (xs ++ record { id = id; event = Delay t task by } ∷ [])) js) (sym at)
     ∙ ap (map (kept_task r (xs ++ x ∷ []))) (sym same))
     (ap (sum_by (λ (j : Joined). j.weight.units)) (sym same))

@@ -1,97 +1,100 @@
 -- One turn of an engine's loops.
-use Rattle.std.proofs.Common.{◌≡◌, ℕ, ◌+◌, ◌<◌, ◌≤◌, false, nat_le, cond, Option, Some, None, Result, Ok, Err, List, [], ◌∷◌, ◌++◌, length, take, drop, filter_map, get_or, slice_get, refl, sym, ap, ap₂, ◌∙◌, subst, arith, append_assoc, append-nil}
+use Rattle.std.proofs.Common.{◌≡◌, ℕ, Bool, ◌+◌, ◌<◌, ◌≤◌, false, nat_le, cond, Option, Some, None, Result, Ok, Err, List, [], ◌∷◌, ◌++◌, length, take, drop, filter_map, get_or, slice_get, sym, ap, ap₂, ◌∙◌, subst, arith, append_assoc, append-nil}
 use Rattle.std.specs.List.{cons_option}
 use Rattle.std.specs.Result.{result_err}
 use Rattle.std.proofs.lemmas.Bool.{le-leb}
 use Rattle.std.proofs.lemmas.Bool.Decides.{nat_tests}
 use Rattle.std.proofs.lemmas.List.{take_more, drop_more}
-use Rattle.std.proofs.lemmas.List.Elements.{All-head, All-cons, All-nil, All-weaker, filter_map-append}
+use Rattle.std.proofs.lemmas.List.Elements.{All-head, filter_map-append}
 use Rattle.std.proofs.lemmas.Option.{get_or_from_slice_get}
 use Rattle.pf_order.specs.Priority.{Priority}
-use Rattle.pf_scenario.specs.Event.{slot_of, is_join_of}
+use Rattle.pf_scenario.specs.System.{System}
+use Rattle.pf_scenario.specs.Event.{is_join_of}
 use Rattle.pf_scenario.specs.Edit.{IsEvent}
-use Rattle.pf_scenario.specs.declared.event.Event.{Event}
-use Rattle.pf_scenario.specs.declared.event.Event.TheVariants.{Join, Leave, Delay, Limit}
+use Rattle.pf_scenario.specs.declared.scenario.TheConstants.{MOST_EVENTS}
 use Rattle.pf_scenario.specs.declared.event.Numbered.{Numbered}
 use Rattle.pf_admit.specs.declared.member.Member.{Member}
 use Rattle.pf_admit.specs.declared.denial.Denial.{Denial}
-use Rattle.pf_engine.specs.declared.denied.Denied.{Denied}
-use Rattle.pf_engine.specs.Inside.{eligible_from, next_key, ready_key}
-use Rattle.pf_engine.specs.Denials.{denied_for}
-use Rattle.pf_engine.specs.Fits.{KeptTask, Kept}
-use Rattle.pf_engine.specs.Kept.{denial_at, accepted, unless_denied, after_event, judged, denials_in}
-use Rattle.pf_engine.specs.Taking.{IsBounded, CanJudge}
-use Rattle.pf_engine.specs.Keeping.{CanJudgeOne}
-use Rattle.pf_engine.proofs.Counting.{count_by-cons}
-use Rattle.pf_engine.proofs.Judging.{judge_more}
-
--- the first of the events can be taken alone
-pub judge_one : (e : Kept) (x : Numbered) (xs : List Numbered) → CanJudge e (x ∷ xs) → CanJudgeOne e x.event
-judge_one e x xs can =
-    let y : Numbered = record { id = 0; event = x.event } in
-    record {
-      settings = can.settings;
-      below = can.below;
-      limits = All-cons (λ (z : Numbered). IsEvent e.settings z.event) y [] (All-head (λ z. IsEvent e.settings z.event) x xs can.limits)
-          (All-nil (λ (z : Numbered). IsEvent e.settings z.event));
-      slots = All-cons (λ (z : Numbered). slot_of z.event ≡ e.now) y [] (All-head (λ z. slot_of z.event ≡ e.now) x xs can.slots)
-          (All-nil (λ (z : Numbered). slot_of z.event ≡ e.now));
-      apart = λ task. omega (
-        arith,
-        can.apart task,
-        count_by-cons (λ (z : Numbered). is_join_of task z.event) x xs,
-        count_by-cons (λ (z : Numbered). is_join_of task z.event) y [],
-      );
-      load = can.load;
-      room = omega (arith, can.room);
-      tasks = All-weaker (IsBounded e.now (length (x ∷ xs))) (IsBounded e.now 1)
-          (λ k b. record { task_some = b.task_some; task_within = b.task_within; done = b.done; shift = omega (arith, b.shift); last = b.last })
-          e.tasks can.tasks;
-      count = can.count;
-      few = omega (arith, can.few);
-    }
-
--- the events that are left after some
-judge_all : (e : Kept) (xs : List Numbered) → CanJudge e xs → CanJudge (judged e xs) []
-judge_all e [] can = can
-judge_all e (x ∷ xs) can = judge_all (after_event e x.event) xs (judge_more e x xs can)
-
-pub judged_all : (e e' : Kept) (xs : List Numbered) → e' ≡ judged e xs → CanJudge e xs → CanJudge e' []
-judged_all e e' xs same can = subst (λ k. CanJudge k []) (sym same) (judge_all e xs can)
-
--- an event takes no time
-accepted_now : (e : Kept) (event : Event) → (accepted e event).now ≡ e.now
-accepted_now e (Join slot task cost period early) = refl
-accepted_now e (Leave slot task) = refl
-accepted_now e (Delay slot task by) = refl
-accepted_now e (Limit slot count) = refl
-
--- what an accepted event leaves the same stays the same
-pub unless_same : {A : Type 0} (f : Kept → A) (o : Option Denial) (e after : Kept) → f after ≡ f e → f (unless_denied o e after) ≡ f e
-unless_same f None e after same = same
-unless_same f (Some denial) e after same = refl
-
-pub after_now : (e : Kept) (event : Event) → (after_event e event).now ≡ e.now
-after_now e event = unless_same (λ k. k.now) (denial_at e event) e (accepted e event) (accepted_now e event)
+use Rattle.pf_run.specs.declared.denied.Denied.{Denied}
+use Rattle.pf_run.specs.Record.{Slot}
+use Rattle.pf_run.specs.Inside.{eligible_from, next_key, ready_key}
+use Rattle.pf_run.specs.Denials.{denial_of, denied_for}
+use Rattle.pf_run.specs.Computed.{with_event}
+use Rattle.pf_engine.specs.Fits.{KeptTask, Kept, kept_after}
+use Rattle.pf_engine.specs.Kept.{denial_at, kept_after_event, kept_after_events, denials_in}
+use Rattle.pf_engine.specs.Engines.{IsEngine}
+use Rattle.pf_engine.specs.Points.{CanFollow, IsAt}
+use Rattle.pf_engine.specs.Taking.{CanTakeEvent}
+use Rattle.pf_run.proofs.Counting.{count_by-cons}
+use Rattle.pf_engine.proofs.Steps.{member_same}
+use Rattle.pf_engine.proofs.Events.{no_member, follow_more, kept_more}
+use Rattle.pf_engine.proofs.Bounding.{engine_at, few_at}
 
 -- one event more is taken
-pub judged_more : (e e' : Kept) (events : List Numbered) (i : ℕ) (d : Numbered) → i < length events →
-    e' ≡ after_event e (get_or events i d).event → judged e' (drop (i + 1) events) ≡ judged e (drop i events)
-judged_more e e' events i d within after =
-    ap (λ k. judged k (drop (i + 1) events)) after ∙ ap (judged e) (sym (drop_more events i d within))
+at_more : (e : Kept) (x : Numbered) (xs : List Numbered) → IsAt e (x ∷ xs) → IsAt (kept_after_event e x.event) xs
+at_more e x xs at = record {
+  settings = at.settings;
+  run = at.run;
+  standing = with_event at.standing x (denial_of at.settings at.run at.standing x.event);
+  is_system = at.is_system;
+  reached = at.reached;
+  follow = follow_more at.settings at.run at.standing x xs at.follow;
+  keeps = ap (λ k. kept_after_event k x.event) at.keeps ∙ kept_more at.settings at.run at.standing x xs at.follow;
+}
 
-pub can_more : (e e' : Kept) (events : List Numbered) (i : ℕ) (d : Numbered) → i < length events →
-    e' ≡ after_event e (get_or events i d).event → CanJudge e (drop i events) → CanJudge e' (drop (i + 1) events)
-can_more e e' events i d within after can =
-    subst (λ k. CanJudge k (drop (i + 1) events)) (sym after)
-    (judge_more e (get_or events i d) (drop (i + 1) events) (subst (CanJudge e) (drop_more events i d within) can))
+-- which takes no time
+now_more : (e : Kept) (x : Numbered) (xs : List Numbered) → IsAt e (x ∷ xs) → (kept_after_event e x.event).now ≡ e.now
+unfolding kept_after at_more
+now_more e x xs at = ap (λ (k : Kept). k.now) (at_more e x xs at).keeps ∙ sym (ap (λ (k : Kept). k.now) at.keeps)
 
-pub can_one : (e : Kept) (events : List Numbered) (i : ℕ) (d : Numbered) → i < length events → CanJudge e (drop i events) →
-    CanJudgeOne e (get_or events i d).event
-can_one e events i d within can = judge_one e (get_or events i d) (drop (i + 1) events) (subst (CanJudge e) (drop_more events i d within) can)
+-- 1 for a test that passes
+abbrev passed : Bool → ℕ
+passed b = cond b 1 0
+
+-- the first of the events can be taken
+first_of_kept : (s : System) (r : List Slot) (standing : List Numbered) (x : Numbered) (xs : List Numbered) → CanFollow s r standing (x ∷ xs) →
+    IsEngine (kept_after s r standing) → length (kept_after s r standing).tasks < MOST_EVENTS → CanTakeEvent (kept_after s r standing) x.event
+unfolding kept_after
+first_of_kept s r standing x xs can engine few = record {
+  engine = engine;
+  limits = All-head (λ y. IsEvent s y.event) x xs can.limits_of_events;
+  absent = λ task joins.
+      let one = ap passed joins in
+      member_same s.base r standing task
+      ∙ no_member s.base r standing task (omega (arith, can.once task, count_by-cons (λ y. is_join_of task y.event) x xs, one));
+  few = few;
+}
+
+first_of : (e : Kept) (x : Numbered) (xs : List Numbered) → IsAt e (x ∷ xs) → CanTakeEvent e x.event
+first_of e x xs at =
+    subst (λ k. CanTakeEvent k x.event) (sym at.keeps)
+    (first_of_kept at.settings at.run at.standing x xs at.follow (subst IsEngine at.keeps (engine_at e (x ∷ xs) at))
+    (subst (λ k. length k.tasks < MOST_EVENTS) at.keeps (omega (arith, few_at e (x ∷ xs) at))))
+
+-- the events behind the first i, and those behind one more
+pub events_more : (e e' : Kept) (events : List Numbered) (i : ℕ) (d : Numbered) → i < length events →
+    e' ≡ kept_after_event e (get_or events i d).event → kept_after_events e' (drop (i + 1) events) ≡ kept_after_events e (drop i events)
+events_more e e' events i d within after =
+    ap (λ k. kept_after_events k (drop (i + 1) events)) after ∙ ap (kept_after_events e) (sym (drop_more events i d within))
+
+pub at_next : (e e' : Kept) (events : List Numbered) (i : ℕ) (d : Numbered) → i < length events →
+    e' ≡ kept_after_event e (get_or events i d).event → IsAt e (drop i events) → IsAt e' (drop (i + 1) events)
+at_next e e' events i d within after at =
+    subst (λ k. IsAt k (drop (i + 1) events)) (sym after)
+    (at_more e (get_or events i d) (drop (i + 1) events) (subst (IsAt e) (drop_more events i d within) at))
+
+pub same_now : (e e' : Kept) (events : List Numbered) (i : ℕ) (d : Numbered) → i < length events →
+    e' ≡ kept_after_event e (get_or events i d).event → IsAt e (drop i events) → e'.now ≡ e.now
+same_now e e' events i d within after at =
+    ap (λ (k : Kept). k.now) after
+    ∙ now_more e (get_or events i d) (drop (i + 1) events) (subst (IsAt e) (drop_more events i d within) at)
+
+pub can_take : (e : Kept) (events : List Numbered) (i : ℕ) (d : Numbered) → i < length events → IsAt e (drop i events) →
+    CanTakeEvent e (get_or events i d).event
+can_take e events i d within at = first_of e (get_or events i d) (drop (i + 1) events) (subst (IsAt e) (drop_more events i d within) at)
 
 pub given_more : (e e' : Kept) (events : List Numbered) (i : ℕ) (d : Numbered) (given given' : List Denied) → i < length events →
-    e' ≡ after_event e (get_or events i d).event →
+    e' ≡ kept_after_event e (get_or events i d).event →
     given' ≡ given ++ denied_for (get_or events i d) e.now (denial_at e (get_or events i d).event) →
     given' ++ denials_in e' (drop (i + 1) events) ≡ given ++ denials_in e (drop i events)
 given_more e e' events i d given given' within after more =

@@ -5,9 +5,9 @@ use Rattle.pf_scenario.specs.Scenario.{Plan, events_of}
 use Rattle.pf_scenario.specs.Edit.{IsScenario}
 use Rattle.pf_scenario.specs.declared.event.Numbered.{Numbered}
 use Rattle.pf_admit.specs.declared.member.Member.{Member}
-use Rattle.pf_engine.specs.Record.{Slot}
-use Rattle.pf_engine.specs.Inside.{Joined, inside, load_of, count_of, member_of}
-use Rattle.pf_engine.specs.Run.{standing, IsNextSlot, IsRun}
+use Rattle.pf_run.specs.Record.{Slot}
+use Rattle.pf_run.specs.Inside.{Joined, inside, load_of, count_of, member_of}
+use Rattle.pf_run.specs.Run.{standing, IsNextSlot, IsRun}
 
 -- a task inside, as an engine keeps it
 pub record KeptTask : Type 0 where

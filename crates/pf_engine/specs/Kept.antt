@@ -10,9 +10,9 @@ use Rattle.pf_scenario.specs.declared.event.Numbered.{Numbered}
 use Rattle.pf_admit.specs.Admission.{join_denial, leave_denial, delay_denial}
 use Rattle.pf_admit.specs.declared.member.Member.{Member}
 use Rattle.pf_admit.specs.declared.denial.Denial.{Denial}
-use Rattle.pf_engine.specs.declared.denied.Denied.{Denied}
-use Rattle.pf_engine.specs.Inside.{ready_key}
-use Rattle.pf_engine.specs.Denials.{denied_for}
+use Rattle.pf_run.specs.declared.denied.Denied.{Denied}
+use Rattle.pf_run.specs.Inside.{ready_key}
+use Rattle.pf_run.specs.Denials.{denied_for}
 use Rattle.pf_engine.specs.Fits.{KeptTask, Kept}
 
 -- the member of this number among the tasks
@@ -20,15 +20,15 @@ abbrev pub member_in : List KeptTask → ℕ → Option Member
 member_in tasks task = option_map (λ k. k.member) (find (λ k. k.task == task) tasks)
 
 -- the tasks, where the member of this number is changed
-abbrev pub changed_at : ℕ → (Member → Member) → KeptTask → KeptTask
-changed_at task f k = if k.task == task then record { task = k.task; member = f k.member } else k
+abbrev pub changed_task : ℕ → (Member → Member) → KeptTask → KeptTask
+changed_task task f k = if k.task == task then record { task = k.task; member = f k.member } else k
 
-abbrev pub with_changed : ℕ → (Member → Member) → List KeptTask → List KeptTask
-with_changed task f tasks = map (changed_at task f) tasks
+abbrev pub changed_tasks : ℕ → (Member → Member) → List KeptTask → List KeptTask
+changed_tasks task f tasks = map (changed_task task f) tasks
 
 -- the tasks of other numbers
-abbrev pub without_task : ℕ → List KeptTask → List KeptTask
-without_task task tasks = filter (λ k. not (k.task == task)) tasks
+abbrev pub other_tasks : ℕ → List KeptTask → List KeptTask
+other_tasks task tasks = filter (λ k. not (k.task == task)) tasks
 
 -- the units of a member, where there is one
 abbrev pub units_of : Option Member → ℕ
@@ -50,11 +50,11 @@ new_task base slot task cost period early = record {
 }
 
 -- a member that is delayed, and one whose subtask runs
-abbrev pub delayed : ℕ → Member → Member
-delayed by m = record m { shift = m.shift + by }
+abbrev pub member_after_delay : ℕ → Member → Member
+member_after_delay by m = record m { shift = m.shift + by }
 
-abbrev pub ran : ℕ → Member → Member
-ran sub m = record m { done = sub; last = m.shift }
+abbrev pub member_after_run : ℕ → Member → Member
+member_after_run sub m = record m { done = sub; last = m.shift }
 
 -- why an event's rule fails
 abbrev pub denial_at : Kept → Event → Option Denial
@@ -65,44 +65,44 @@ denial_at e (Delay slot task by) = delay_denial slot (member_in e.tasks task)
 denial_at e (Limit slot count) = None
 
 -- what is kept after an event that isn't denied
-abbrev pub accepted : Kept → Event → Kept
-accepted e (Join slot task cost period early) = record e {
+abbrev pub kept_with_event : Kept → Event → Kept
+kept_with_event e (Join slot task cost period early) = record e {
   tasks = e.tasks ++ new_task e.settings.base slot task cost period early ∷ [];
   load = e.load + (share_of e.settings.base cost period).units;
 }
-accepted e (Leave slot task) = record e {
-  tasks = without_task task e.tasks;
+kept_with_event e (Leave slot task) = record e {
+  tasks = other_tasks task e.tasks;
   load = e.load - units_of (member_in e.tasks task);
 }
-accepted e (Delay slot task by) = record e { tasks = with_changed task (delayed by) e.tasks }
-accepted e (Limit slot count) = record e { count = count }
+kept_with_event e (Delay slot task by) = record e { tasks = changed_tasks task (member_after_delay by) e.tasks }
+kept_with_event e (Limit slot count) = record e { count = count }
 
 -- what is kept after an event with this denial
-abbrev pub unless_denied : Option Denial → Kept → Kept → Kept
-unless_denied None e after = after
-unless_denied (Some denial) e after = e
+abbrev pub kept_unless_denied : Option Denial → Kept → Kept → Kept
+kept_unless_denied None e after = after
+kept_unless_denied (Some denial) e after = e
 
-abbrev pub after_event : Kept → Event → Kept
-after_event e event = unless_denied (denial_at e event) e (accepted e event)
+abbrev pub kept_after_event : Kept → Event → Kept
+kept_after_event e event = kept_unless_denied (denial_at e event) e (kept_with_event e event)
 
 -- what is kept after the events of a slot
-abbrev pub judged : Kept → List Numbered → Kept
-judged e [] = e
-judged e (x ∷ xs) = judged (after_event e x.event) xs
+abbrev pub kept_after_events : Kept → List Numbered → Kept
+kept_after_events e [] = e
+kept_after_events e (x ∷ xs) = kept_after_events (kept_after_event e x.event) xs
 
 -- those of the events of a slot that are denied
 abbrev pub denials_in : Kept → List Numbered → List Denied
 denials_in e [] = []
-denials_in e (x ∷ xs) = denied_for x e.now (denial_at e x.event) ++ denials_in (after_event e x.event) xs
+denials_in e (x ∷ xs) = denied_for x e.now (denial_at e x.event) ++ denials_in (kept_after_event e x.event) xs
 
 -- the keys of the subtasks that may run
 abbrev pub ready_keys : Kept → List Priority
 ready_keys e = filter_map (λ k. ready_key e.now k.task k.member) e.tasks
 
 -- the tasks after a pick
-abbrev pub after_pick : List KeptTask → Pick → List KeptTask
-after_pick tasks p = with_changed p.task (ran p.sub) tasks
+abbrev pub tasks_after_pick : List KeptTask → Pick → List KeptTask
+tasks_after_pick tasks p = changed_tasks p.task (member_after_run p.sub) tasks
 
 -- what is kept after a slot in which these subtasks run
-abbrev pub after_picks : Kept → List Pick → Kept
-after_picks e picks = record e { now = e.now + 1; tasks = fold after_pick e.tasks picks }
+abbrev pub kept_after_picks : Kept → List Pick → Kept
+kept_after_picks e picks = record e { now = e.now + 1; tasks = fold tasks_after_pick e.tasks picks }

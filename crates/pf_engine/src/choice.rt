@@ -6,11 +6,12 @@ use pf_order::key::Key;
 use pf_order::meter::Meter;
 
 /// Leaves the first `count` of these keys, in order, or all of them where there are fewer.
-pub fn choose(meter: &mut Meter, keys: &mut Vec<Key>, count: usize)
+pub(crate) fn choose(meter: &mut Meter, keys: &mut Vec<Key>, count: usize)
     requires { OneOfEach keys.old.items }
     ensures first { AreFirst count keys.old.items keys.new.items }
     ensures few { length keys.new.items ≤ count }
     ensures slots { meter.new.slots ≡ meter.old.slots }
+    ensures compared { meter.old.compared ≤ meter.new.compared }
 {
     let most = count.min(keys.len());
     arrange(meter, keys.as_mut_slice(), most);
@@ -24,6 +25,7 @@ fn arrange(meter: &mut Meter, keys: &mut [Key], most: usize)
     ensures same { IsPermutation keys.old keys.new }
     ensures ahead { AreArranged most keys.new }
     ensures slots { meter.new.slots ≡ meter.old.slots }
+    ensures compared { meter.old.compared ≤ meter.new.compared }
 {
     for place in 0..most {
         let least = least_from(meter, keys, place);
@@ -36,6 +38,7 @@ fn least_from(meter: &mut Meter, keys: &[Key], from: usize) -> usize
     requires { from < length keys.now }
     ensures least { IsLeast from (length keys.now) keys.now result }
     ensures slots { meter.new.slots ≡ meter.old.slots }
+    ensures compared { meter.old.compared ≤ meter.new.compared }
 {
     let mut best = from;
     for place in from + 1..keys.len() {

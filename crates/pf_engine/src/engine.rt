@@ -1,8 +1,9 @@
 ghost use Rattle.std.specs.Prelude.{◌≡◌, ◌+◌, ◌≤◌, List, [], length, IfOk, OnOk, OnErr};
 ghost use Rattle.pf_order.specs.Counts.{one_more};
+ghost use Rattle.pf_order.specs.Counted.{CountsAtMost};
 ghost use Rattle.pf_scenario.specs.Scenario.{Plan, events_of};
 ghost use Rattle.pf_scenario.specs.Edit.{IsScenario};
-ghost use Rattle.pf_engine.specs.Record.{Slot};
+ghost use Rattle.pf_run.specs.Record.{Slot};
 ghost use Rattle.pf_engine.specs.Fits.{Kept, kept_after, Fits, CanTake, TakesSlot};
 
 use crate::outcome::Outcome;
@@ -27,8 +28,11 @@ impl Model for Engine {
     ghost Value = { Kept };
 
     ghost use Rattle.pf_engine.specs.Keeping.{kept_of};
+    ghost use Rattle.pf_engine.specs.Engines.{IsEngine};
 
     ghost view = { λ e. kept_of e.state };
+
+    ghost invariant = { λ e. IsEngine (kept_of e.state) };
 }
 
 impl Engine {
@@ -88,6 +92,8 @@ impl Engine {
             → events.now ≡ events_of s (length r) → IfOk result (λ o. TakesSlot s r o self.new) }
         ensures err { OnErr result (self.new ≡ self.old) }
         ensures counted { OnOk result (meter.new.slots ≡ one_more meter.old.slots) }
+        ensures compared { meter.old.compared ≤ meter.new.compared }
+        ensures at_most { CountsAtMost 1 meter.old meter.new }
         ensures not_counted { OnErr result (meter.new ≡ meter.old) }
     {
         let room = self.state.prepare(events.len())?;

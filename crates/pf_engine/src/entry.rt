@@ -2,9 +2,9 @@ use pf_admit::member::Member;
 
 /// A task inside, with its number.
 #[derive(Clone, Copy)]
-pub struct Entry {
+pub(crate) struct Entry {
     /// 1 to 4,095.
-    pub task: u64,
+    pub(crate) task: u64,
     /// What is known of it.
-    pub member: Member,
+    pub(crate) member: Member,
 }

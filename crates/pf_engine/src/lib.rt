@@ -3,10 +3,8 @@
 #![tactic(auto)]
 
 mod choice;
-pub mod denied;
 pub mod engine;
 mod entry;
-pub mod laws;
 pub mod outcome;
 mod room;
 mod roster;

@@ -1,7 +1,7 @@
 ghost use Rattle.std.specs.Prelude.{◌≡◌};
 
-use crate::denied::Denied;
 use pf_order::pick::Pick;
+use pf_run::denied::Denied;
 use std::marker::Model;
 
 /// What a slot gave: the subtasks that run in it, the events that were denied, and how many processors are in use.

@@ -1,19 +1,19 @@
 ghost use Rattle.std.specs.Prelude.{◌≡◌, ◌≤◌, [], IfOk, vec_capacity};
 
-use crate::denied::Denied;
 use pf_order::key::Key;
 use pf_order::pick::Pick;
+use pf_run::denied::Denied;
 use std::alloc::{AllocError, Global};
 
 /// The memory of a slot, which is taken before anything changes.
 #[derive(Drop)]
-pub struct Room {
+pub(crate) struct Room {
     /// For the slot's denials.
-    pub denials: Vec<Denied>,
+    pub(crate) denials: Vec<Denied>,
     /// For the keys of the subtasks that may run.
-    pub keys: Vec<Key>,
+    pub(crate) keys: Vec<Key>,
     /// For the subtasks that run.
-    pub picks: Vec<Pick>,
+    pub(crate) picks: Vec<Pick>,
 }
 
 impl Room {
@@ -24,7 +24,12 @@ impl Room {
     /// # Errors
     ///
     /// Where memory is refused.
-    pub fn new(alloc: Global, denials: usize, keys: usize, picks: usize) -> Result<Self, AllocError>
+    pub(crate) fn new(
+        alloc: Global,
+        denials: usize,
+        keys: usize,
+        picks: usize,
+    ) -> Result<Self, AllocError>
         ensures { IfOk result (HasRoom denials keys picks) }
     {
         Ok(Room {

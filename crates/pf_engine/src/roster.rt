@@ -1,7 +1,7 @@
 ghost use Rattle.std.specs.Prelude.{◌≡◌, ◌==◌, ◌+◌, ◌^◌, ◌<◌, ◌≤◌, ◌++◌, ◌∷◌, [], None, Some, IsSome, IfOk, OnOk, OnErr, length, position, slice_get};
 ghost use Rattle.std.specs.Option.{option_copied, ForSome};
 ghost use Rattle.pf_engine.specs.Entries.{IsListedTo};
-ghost use Rattle.pf_engine.specs.Kept.{member_in, with_changed, without_task, delayed, ran};
+ghost use Rattle.pf_engine.specs.Kept.{member_in, changed_tasks, other_tasks, member_after_delay, member_after_run};
 
 use crate::entry::Entry;
 use pf_admit::member::Member;
@@ -14,7 +14,7 @@ const PLACES: usize = 4096;
 /// The tasks inside, in the order of their joins. A table by number says where each stands, so that none is searched
 /// for; at the number of a task that is not inside, it holds any place.
 #[derive(Drop)]
-pub struct Roster {
+pub(crate) struct Roster {
     places: Vec<u16>,
     entries: Vec<Entry>,
 }
@@ -38,7 +38,7 @@ impl Roster {
     /// # Errors
     ///
     /// Where memory is refused.
-    pub fn new(alloc: Global) -> Result<Self, AllocError>
+    pub(crate) fn new(alloc: Global) -> Result<Self, AllocError>
         ensures { IfOk result (λ r. r.tasks ≡ []) }
     {
         Ok(Roster {
@@ -52,7 +52,7 @@ impl Roster {
     /// # Errors
     ///
     /// Where memory is refused.
-    pub fn reserve(&mut self, more: usize) -> Result<(), AllocError>
+    pub(crate) fn reserve(&mut self, more: usize) -> Result<(), AllocError>
         ensures tasks { self.new.tasks ≡ self.old.tasks }
         ensures room { OnOk result (more ≤ self.new.spare) }
     {
@@ -60,14 +60,14 @@ impl Roster {
     }
 
     /// How many tasks are inside.
-    pub fn len(&self) -> usize
+    pub(crate) fn len(&self) -> usize
         ensures { result ≡ length self.now.tasks }
     {
         self.entries.len()
     }
 
     /// The task at this place, counted from 0.
-    pub fn at(&self, place: usize) -> Entry
+    pub(crate) fn at(&self, place: usize) -> Entry
         requires { place < length self.now.tasks }
         ensures { slice_get self.now.tasks place ≡ Some (record { task = result.task; member = result.member }) }
     {
@@ -75,7 +75,7 @@ impl Roster {
     }
 
     /// The member of this number.
-    pub fn get(&self, task: u64) -> Option<&Member>
+    pub(crate) fn get(&self, task: u64) -> Option<&Member>
         requires { task ≤ 4095 }
         ensures { option_copied result ≡ member_in self.now.tasks task }
     {
@@ -86,7 +86,7 @@ impl Roster {
     }
 
     /// Adds a task, which is not inside yet.
-    pub fn push(&mut self, task: u64, member: Member)
+    pub(crate) fn push(&mut self, task: u64, member: Member)
         requires number { task ≤ 4095 }
         requires absent { member_in self.old.tasks task ≡ None }
         requires room { 1 ≤ self.old.spare }
@@ -99,10 +99,10 @@ impl Roster {
     }
 
     /// Holds back the task's next subtask by this many slots.
-    pub fn delay(&mut self, task: u64, by: u64)
+    pub(crate) fn delay(&mut self, task: u64, by: u64)
         requires number { task ≤ 4095 }
         requires fits { ForSome (member_in self.old.tasks task) (λ m. m.shift + by < 2 ^ 64) }
-        ensures tasks { self.new.tasks ≡ with_changed task (delayed by) self.old.tasks }
+        ensures tasks { self.new.tasks ≡ changed_tasks task (member_after_delay by) self.old.tasks }
         ensures spare { self.new.spare ≡ self.old.spare }
     {
         let Some(place) = self.place_of(task) else {
@@ -113,9 +113,9 @@ impl Roster {
     }
 
     /// Notes that this subtask of the task ran.
-    pub fn run(&mut self, task: u64, sub: u64)
+    pub(crate) fn run(&mut self, task: u64, sub: u64)
         requires { task ≤ 4095 }
-        ensures tasks { self.new.tasks ≡ with_changed task (ran sub) self.old.tasks }
+        ensures tasks { self.new.tasks ≡ changed_tasks task (member_after_run sub) self.old.tasks }
         ensures spare { self.new.spare ≡ self.old.spare }
     {
         let Some(place) = self.place_of(task) else {
@@ -127,10 +127,10 @@ impl Roster {
     }
 
     /// Takes the task out.
-    pub fn remove(&mut self, task: u64)
+    pub(crate) fn remove(&mut self, task: u64)
         requires number { task ≤ 4095 }
         requires few { length self.old.tasks ≤ 65535 }
-        ensures tasks { self.new.tasks ≡ without_task task self.old.tasks }
+        ensures tasks { self.new.tasks ≡ other_tasks task self.old.tasks }
         ensures spare { self.old.spare ≤ self.new.spare }
     {
         let Some(place) = self.place_of(task) else {
@@ -141,7 +141,7 @@ impl Roster {
     }
 
     /// Where its memory comes from.
-    pub fn allocator(&self) -> Global {
+    pub(crate) fn allocator(&self) -> Global {
         *self.places.allocator()
     }
 
@@ -150,7 +150,7 @@ impl Roster {
     /// # Errors
     ///
     /// Where memory is refused.
-    pub fn copy(&self) -> Result<Self, AllocError>
+    pub(crate) fn copy(&self) -> Result<Self, AllocError>
         ensures { IfOk result (λ r. r.tasks ≡ self.now.tasks) }
     {
         Ok(Roster {

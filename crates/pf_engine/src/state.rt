@@ -1,14 +1,15 @@
 ghost use Rattle.std.specs.Prelude.{◌≡◌, ◌+◌, ◌^◌, ◌<◌, ◌≤◌, ◌++◌, [], IfOk, OnOk, All, length, map, vec_len, vec_capacity};
 ghost use Rattle.std.specs.Result.{result_err};
 ghost use Rattle.pf_admit.specs.Member.{IsMember};
-ghost use Rattle.pf_engine.specs.Inside.{eligible_from};
-ghost use Rattle.pf_engine.specs.Run.{pick_of};
+ghost use Rattle.pf_run.specs.Inside.{eligible_from};
+ghost use Rattle.pf_run.specs.Run.{pick_of};
 ghost use Rattle.pf_engine.specs.Fits.{kept_after};
-ghost use Rattle.pf_engine.specs.Kept.{denial_at, after_event, judged, denials_in, ready_keys, after_picks};
-ghost use Rattle.pf_engine.specs.Taking.{IsBounded, CanJudge, Advances};
+ghost use Rattle.pf_engine.specs.Kept.{denial_at, kept_after_event, kept_after_events, denials_in, ready_keys, kept_after_picks};
+ghost use Rattle.pf_engine.specs.Engines.{IsEngine};
+ghost use Rattle.pf_engine.specs.Points.{IsAt};
+ghost use Rattle.pf_engine.specs.Taking.{CanTakeEvent, Advances};
 
 use crate::choice::choose;
-use crate::denied::Denied;
 use crate::entry::Entry;
 use crate::outcome::Outcome;
 use crate::room::Room;
@@ -19,6 +20,7 @@ use pf_admit::rules::{may_delay, may_join, may_leave};
 use pf_order::key::Key;
 use pf_order::meter::Meter;
 use pf_order::pick::Pick;
+use pf_run::denied::Denied;
 use pf_scenario::event::{Event, Numbered};
 use pf_scenario::settings::Settings;
 use pf_weight::weight::Weight;
@@ -27,21 +29,21 @@ use std::alloc::{AllocError, Global};
 
 /// What an engine keeps.
 #[derive(Drop)]
-pub struct State {
+pub(crate) struct State {
     /// What its scenarios are set in.
-    pub settings: Settings,
+    pub(crate) settings: Settings,
     /// The number of slots that were taken.
-    pub slots: u64,
+    pub(crate) slots: u64,
     /// The tasks inside.
-    pub tasks: Roster,
+    pub(crate) tasks: Roster,
     /// The sum of their units, in 1/h.
-    pub load: u64,
+    pub(crate) load: u64,
     /// How many processors are in use.
-    pub count: u32,
+    pub(crate) count: u32,
 }
 
 impl State {
-    ghost use Rattle.pf_engine.specs.Keeping.{kept_of, CanJudgeOne};
+    ghost use Rattle.pf_engine.specs.Keeping.{kept_of};
     ghost use Rattle.pf_engine.specs.Rooms.{HasRoom};
 
     /// Before any slot.
@@ -49,9 +51,10 @@ impl State {
     /// # Errors
     ///
     /// Where memory is refused.
-    #[tactic(auto, unfolding(crate::specs::Fits::kept_after, crate::specs::Inside::inside, crate::specs::Inside::load_of, crate::specs::Inside::count_of))]
-    pub fn new(alloc: Global, settings: Settings) -> Result<Self, AllocError>
-        ensures { IfOk result (λ s. kept_of s ≡ kept_after settings [] []) }
+    #[tactic(auto, unfolding(crate::specs::Fits::kept_after, pf_run::specs::Inside::inside, pf_run::specs::Inside::load_of, pf_run::specs::Inside::count_of))]
+    pub(crate) fn new(alloc: Global, settings: Settings) -> Result<Self, AllocError>
+        ensures kept { IfOk result (λ s. kept_of s ≡ kept_after settings [] []) }
+        ensures engine { IfOk result (λ s. IsEngine (kept_of s)) }
     {
         Ok(State {
             settings,
@@ -67,7 +70,7 @@ impl State {
     /// # Errors
     ///
     /// Where memory is refused.
-    pub fn copy(&self) -> Result<Self, AllocError>
+    pub(crate) fn copy(&self) -> Result<Self, AllocError>
         ensures { IfOk result (λ s. kept_of s ≡ kept_of self.now) }
     {
         Ok(State {
@@ -84,7 +87,7 @@ impl State {
     /// # Errors
     ///
     /// Where memory is refused.
-    pub fn prepare(&mut self, events: usize) -> Result<Room, AllocError>
+    pub(crate) fn prepare(&mut self, events: usize) -> Result<Room, AllocError>
         requires few { length self.old.tasks.tasks + events < 2 ^ 64 }
         ensures same { kept_of self.new ≡ kept_of self.old }
         ensures spare { OnOk result (events ≤ self.new.tasks.spare) }
@@ -98,12 +101,13 @@ impl State {
     }
 
     /// Takes a slot of these events.
-    pub fn advance(&mut self, meter: &mut Meter, events: &[Numbered], room: Room) -> Outcome
-        requires can { CanJudge (kept_of self.old) events.now }
+    pub(crate) fn advance(&mut self, meter: &mut Meter, events: &[Numbered], room: Room) -> Outcome
+        requires at { IsAt (kept_of self.old) events.now }
         requires spare { length events.now ≤ self.old.tasks.spare }
         requires room { HasRoom (length events.now) (length self.old.tasks.tasks + length events.now) self.old.settings.processors room }
         ensures advances { Advances (kept_of self.old) events.now result (kept_of self.new) }
         ensures slots { meter.new.slots ≡ meter.old.slots }
+        ensures compared { meter.old.compared ≤ meter.new.compared }
     {
         let Room {
             mut denials,
@@ -123,10 +127,10 @@ impl State {
 
     /// Takes one event.
     fn take_event(&mut self, event: Event) -> Result<(), Denial>
-        requires can { CanJudgeOne (kept_of self.old) event }
+        requires can { CanTakeEvent (kept_of self.old) event }
         requires room { 1 ≤ self.old.tasks.spare }
         ensures denial { result_err result ≡ denial_at (kept_of self.old) event }
-        ensures state { kept_of self.new ≡ after_event (kept_of self.old) event }
+        ensures state { kept_of self.new ≡ kept_after_event (kept_of self.old) event }
         ensures spare { self.old.tasks.spare ≤ self.new.tasks.spare + 1 }
     {
         match event {
@@ -155,10 +159,10 @@ impl State {
         period: u64,
         early: u64,
     ) -> Result<(), Denial>
-        requires can { CanJudgeOne (kept_of self.old) (Event.Join slot task cost period early) }
+        requires can { CanTakeEvent (kept_of self.old) (Event.Join slot task cost period early) }
         requires room { 1 ≤ self.old.tasks.spare }
         ensures denial { result_err result ≡ denial_at (kept_of self.old) (Event.Join slot task cost period early) }
-        ensures state { kept_of self.new ≡ after_event (kept_of self.old) (Event.Join slot task cost period early) }
+        ensures state { kept_of self.new ≡ kept_after_event (kept_of self.old) (Event.Join slot task cost period early) }
         ensures spare { self.old.tasks.spare ≤ self.new.tasks.spare + 1 }
     {
         let Ok(weight) = Weight::new(self.settings.base(), cost, period) else {
@@ -182,9 +186,9 @@ impl State {
 
     /// Takes a leave.
     fn leave(&mut self, slot: u64, task: u64) -> Result<(), Denial>
-        requires { CanJudgeOne (kept_of self.old) (Event.Leave slot task) }
+        requires { CanTakeEvent (kept_of self.old) (Event.Leave slot task) }
         ensures denial { result_err result ≡ denial_at (kept_of self.old) (Event.Leave slot task) }
-        ensures state { kept_of self.new ≡ after_event (kept_of self.old) (Event.Leave slot task) }
+        ensures state { kept_of self.new ≡ kept_after_event (kept_of self.old) (Event.Leave slot task) }
         ensures spare { self.old.tasks.spare ≤ self.new.tasks.spare }
     {
         let member = self.tasks.get(task).copied();
@@ -198,9 +202,9 @@ impl State {
 
     /// Takes a delay.
     fn delay(&mut self, slot: u64, task: u64, by: u64) -> Result<(), Denial>
-        requires { CanJudgeOne (kept_of self.old) (Event.Delay slot task by) }
+        requires { CanTakeEvent (kept_of self.old) (Event.Delay slot task by) }
         ensures denial { result_err result ≡ denial_at (kept_of self.old) (Event.Delay slot task by) }
-        ensures state { kept_of self.new ≡ after_event (kept_of self.old) (Event.Delay slot task by) }
+        ensures state { kept_of self.new ≡ kept_after_event (kept_of self.old) (Event.Delay slot task by) }
         ensures spare { self.old.tasks.spare ≤ self.new.tasks.spare }
     {
         may_delay(slot, self.tasks.get(task))?;
@@ -210,10 +214,10 @@ impl State {
 
     /// Takes the events of a slot and adds those that are denied.
     fn take_events(&mut self, events: &[Numbered], denials: &mut Vec<Denied>)
-        requires can { CanJudge (kept_of self.old) events.now }
+        requires at { IsAt (kept_of self.old) events.now }
         requires spare { length events.now ≤ self.old.tasks.spare }
         requires room { vec_len denials.old + length events.now ≤ vec_capacity denials.old }
-        ensures state { kept_of self.new ≡ judged (kept_of self.old) events.now }
+        ensures state { kept_of self.new ≡ kept_after_events (kept_of self.old) events.now }
         ensures denials { denials.new.items ≡ denials.old.items ++ denials_in (kept_of self.old) events.now }
     {
         for x in events {
@@ -229,8 +233,7 @@ impl State {
 
     /// Adds the keys of the subtasks that may run.
     fn ready(&self, keys: &mut Vec<Key>)
-        requires below { self.now.slots < 2 ^ 22 }
-        requires tasks { All (IsBounded self.now.slots 0) self.now.tasks.tasks }
+        requires engine { IsEngine (kept_of self.now) }
         requires room { vec_len keys.old + length self.now.tasks.tasks ≤ vec_capacity keys.old }
         ensures { keys.new.items ≡ keys.old.items ++ ready_keys (kept_of self.now) }
     {
@@ -245,9 +248,9 @@ impl State {
 
     /// Runs these subtasks in the slot, and adds them.
     fn run(&mut self, keys: &[Key], picks: &mut Vec<Pick>)
-        requires below { self.old.slots < 2 ^ 22 }
+        requires below { self.old.slots ≤ 2 ^ 22 }
         requires room { vec_len picks.old + length keys.now ≤ vec_capacity picks.old }
-        ensures state { kept_of self.new ≡ after_picks (kept_of self.old) (map pick_of keys.now) }
+        ensures state { kept_of self.new ≡ kept_after_picks (kept_of self.old) (map pick_of keys.now) }
         ensures picks { picks.new.items ≡ picks.old.items ++ map pick_of keys.now }
     {
         for key in keys {

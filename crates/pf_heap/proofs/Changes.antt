@@ -15,13 +15,14 @@ use Rattle.pf_heap.specs.Keys.{Heaps, list_of, with_list, IsHeld}
 use Rattle.pf_heap.specs.View.{keys, lists_at}
 use Rattle.pf_heap.specs.Digits.{digits}
 use Rattle.pf_heap.specs.Invariant.{IsArena, all_roots, misplaced, HasSpares, IsSettled}
+use Rattle.pf_order.proofs.Comparing.{compares_within}
 use Rattle.pf_heap.proofs.Forests.{same-self, same-other, same-le, equal_from_same}
 use Rattle.pf_heap.proofs.Standing.{stands-set, stand_all-set, unused_elsewhere}
 use Rattle.pf_heap.proofs.Sums.{none_from_link}
 use Rattle.pf_heap.proofs.Sets.{keys_union, keys_insert}
 use Rattle.pf_heap.proofs.Digits.{paid-le-digits}
 use Rattle.pf_heap.proofs.Lists.{weigh_all-set, stands_in, stand_all-put, rises_in, all_rise-set, parts_put, same_place, replaced, stand_all-push, all_past}
-use Rattle.pf_heap.proofs.Whole.{lists_are, now_lists, now_spare, list_is, len_is, held_from_weigh, small_lent, parts_lent, heap_in, link_is, IsArenaAfter}
+use Rattle.pf_heap.proofs.Whole.{lists_are, now_lists, now_spare, now_tasks, list_is, len_is, held_from_weigh, small_lent, parts_lent, heap_in, link_is, IsArenaAfter}
 
 -- ---- a node for a new key
 
@@ -110,7 +111,7 @@ module _ {nodes : List Node} {heads places : List ℕ} {free room capacity : ℕ
       let empty : a.spares ≡ none = none_from_link nodes nowhere free a.spares a.small a.parts.stand.0 a.free_is e in
       omega (arith, a.filled, ap size empty)
 
-  module _ {now : Heaps} (seen : ◌≡◌ {A = Heaps} (record { lists = lists_at nodes heads; spare = room }) now) where
+  module _ {now : Heaps} (seen : ◌≡◌ {A = Heaps} (record { lists = lists_at nodes heads; spare = room; tasks = length places }) now) where
     -- ---- meld
 
     module _ {into from i j first second : ℕ} (i_is : i ≡ into) (j_is : j ≡ from) (into_in : into < length now.lists) (from_in : from < length now.lists) (differ : into ≢ from)
@@ -176,7 +177,7 @@ module _ {nodes : List Node} {heads places : List ℕ} {free room capacity : ℕ
           parts = parts_put a.spares (set a.heaps from none) into in_rest meld_merge.heap meld_merge.parts;
           filled = omega (arith, a.filled, melded_weighs one_each);
           fits = omega (arith, a.fits, melded_weighs one_each);
-          places_long = a.places_long;
+          places_few = a.places_few;
           placed = melded_weighs (misplaced places) ∙ a.placed;
           held = λ t. melded_weighs (of_task t) ∙ a.held t;
         }
@@ -199,15 +200,16 @@ module _ {nodes : List Node} {heads places : List ℕ} {free room capacity : ℕ
             λ k. digits (len_is a seen into k + len_is a seen from k) in
             record {
               arena = melded_arena;
-              view = λ k. record { lists = lists k; spare = sym (now_spare a seen) k };
-              compared = omega (arith, meld_merge.compared, sizes, paid-le-digits meld_merge.made (size (get_or a.heaps into none) + size (get_or a.heaps from none)) meld_merge.made_paid);
-              slots = meld_merge.slots;
+              view = λ k. record { lists = lists k; spare = sym (now_spare a seen) k; tasks = sym (now_tasks a seen) k };
+              counted = compares_within
+                  (omega (arith, sizes, paid-le-digits meld_merge.made (size (get_or a.heaps into none) + size (get_or a.heaps from none)) meld_merge.made_paid))
+                  meld_merge.counted;
             }
 
     -- ---- insert
 
     module _ {h index link : ℕ} {key : Priority} (is : index ≡ h) (within : h < length now.lists) (read : link ≡ get_or heads index link)
-        (low : key.task ≤ 4095) (absent : IsHeld now.lists key.task → ⊥) (some : 1 ≤ now.spare)
+        (low : key.task < now.tasks) (absent : IsHeld now.lists key.task → ⊥) (some : 1 ≤ now.spare)
         {mid : List Node} {at next : ℕ} (settled : (can : HasSpares nodes free) → IsSettled nodes mid can.spares can.others key at next) where
       abbrev pub s : IsSettled nodes mid a.spares (all_roots a.heaps) key at next
       s = settled has_spares
@@ -247,7 +249,7 @@ module _ {nodes : List Node} {heads places : List ℕ} {free room capacity : ℕ
         inserted_weighs w = omega (arith, insert_merge.kept w, weigh_all-set w a.heaps h insert_merge.heap h_in)
 
         task_in : key.task < length places
-        task_in = omega (arith, low, a.places_long)
+        task_in = omega (arith, low, now_tasks a seen)
 
         inserted_held : (t : ℕ) → weigh_all (of_task t) (all_roots (set a.heaps h insert_merge.heap)) ≡ 1 - same (get_or (set places key.task at) t nowhere) nowhere
         inserted_held t =
@@ -280,7 +282,7 @@ module _ {nodes : List Node} {heads places : List ℕ} {free room capacity : ℕ
           parts = parts_put s.left a.heaps h h_in insert_merge.heap insert_merge.parts;
           filled = omega (arith, a.filled, s.filled, inserted_weighs one_each);
           fits = omega (arith, a.fits, inserted_weighs one_each, some, now_spare a seen);
-          places_long = length-set places key.task at ∙ a.places_long;
+          places_few = omega (arith, length-set places key.task at, a.places_few);
           placed = omega (
             arith,
             inserted_weighs (misplaced (set places key.task at)),
@@ -306,12 +308,12 @@ module _ {nodes : List Node} {heads places : List ℕ} {free room capacity : ℕ
             let sizes : digits (fin.len (list_of now h) + 1) ≡ digits (size (get_or a.heaps h none) + 1) = λ i. digits (len_is a seen h i + 1) in
             record {
               arena = inserted_arena same_capacity;
-              view = λ i. record { lists = lists i; spare = sym (now_spare a seen) i - 1 };
-              compared = omega (
-                arith,
-                insert_merge.compared,
-                sizes,
-                paid-le-digits insert_merge.made (size (get_or a.heaps h none) + 1) (⊎_elim (λ z. inl z) (λ z. inr (omega (arith, z))) insert_merge.made_paid),
-              );
-              slots = insert_merge.slots;
+              view = λ i. record { lists = lists i; spare = sym (now_spare a seen) i - 1; tasks = (length-set places key.task at ∙ sym (now_tasks a seen)) i };
+              counted = compares_within
+                  (omega (
+                    arith,
+                    sizes,
+                    paid-le-digits insert_merge.made (size (get_or a.heaps h none) + 1) (⊎_elim (λ z. inl z) (λ z. inr (omega (arith, z))) insert_merge.made_paid),
+                  ))
+                  insert_merge.counted;
             }

@@ -3,6 +3,7 @@ use Rattle.std.proofs.Common.{◌≡◌, ◌≢◌, ℕ, ◌+◌, ◌-◌, ◌^�
 use Rattle.std.proofs.Math.ListN.{length-set}
 use Rattle.std.proofs.Math.Pow.{pow_mono}
 use Rattle.std.proofs.lemmas.Bool.{cases_lt}
+use Rattle.std.proofs.lemmas.List.{get_or_past}
 use Rattle.pf_order.specs.Priority.{Priority}
 use Rattle.pf_heap.specs.declared.node.Node.{Node}
 use Rattle.pf_heap.specs.Forest.{Forest, none, tree, nowhere, head, weigh, same, at_place, of_task, size, Rises}
@@ -192,16 +193,30 @@ hoist_begun nodes places at can = record {
   kept = λ v. refl;
   kept_size = refl;
   tasks = λ t h. h;
-  places_long = can.places_long;
+  places_long = refl;
   placed = omega (arith, can.placed, weigh-le (λ i k. misplaced places i k - same at i) (misplaced places) can.heap (λ i k. omega arith));
   other_places = λ t h. refl;
   as_present = λ t. refl;
 }
 
+-- the parent's key has a place
+pub upper_low : {old nodes : List Node} {places spots : List ℕ} {heap : Forest} {others : List Part} {at hole steps : ℕ}
+    (t : IsHoisting old places heap others at nodes spots hole steps) → (node_at nodes hole).parent ≢ nowhere →
+    (node_at nodes (node_at nodes hole).parent).key.task < length spots
+upper_low {nodes = nodes} {spots = spots} {hole = hole} t some =
+    let up = (node_at nodes hole).parent in
+    let up_in = parent_in nodes 0 hole t.now t.rises t.parts.stand.0 t.has some in
+    let differ : up ≢ hole = λ e. absurd (omega (arith, up_in.1, ap (λ x. (node_at nodes x).rank) e)) in
+    let none_there = node_weighs (λ i k. misplaced spots i k - same hole i) nodes nowhere up t.now t.parts.stand.0 up_in.0 in
+    let placed : get_or spots (node_at nodes up).key.task nowhere ≡ up =
+    equal_from_same _ _ (omega (arith, none_there, t.placed, same-other hole up (λ e. differ (sym e)))) in
+    ⊎_elim (λ lt. lt) (λ ge. absurd (some (sym placed ∙ get_or_past spots (node_at nodes up).key.task nowhere ge)))
+    (cases_lt (node_at nodes up).key.task (length spots))
+
 module _ (old nodes new : List Node) (places spots marks : List ℕ) (heap : Forest) (others : List Part) (at hole parent steps : ℕ)
     (some : (node_at nodes hole).parent ≢ nowhere) (parent_is : parent ≡ (node_at nodes hole).parent)
     (written : new ≡ with_upper_key nodes hole) (marked : marks ≡ set spots (node_at nodes parent).key.task hole)
-    (low : (node_at nodes parent).key.task < 4096) (small : length nodes < 2 ^ 32)
+    (small : length nodes < 2 ^ 32)
     (t : IsHoisting old places heap others at nodes spots hole steps) where
   -- the parent's key
   up : ℕ
@@ -224,7 +239,7 @@ module _ (old nodes new : List Node) (places spots marks : List ℕ) (heap : For
   mark_is = marked ∙ ap (λ x. set spots (node_at nodes x).key.task hole) parent_is
 
   low_up : (node_at nodes (node_at nodes hole).parent).key.task < length spots
-  low_up = omega (arith, low, t.places_long, ap (λ x. (node_at nodes x).key.task) parent_is)
+  low_up = upper_low t some
 
   one_hole : weigh (at_place hole) t.now ≡ 1
   one_hole = omega (arith, t.has, t.parts.once hole)
@@ -329,7 +344,6 @@ can_hoist can = record {
   has = can.has;
   rises = can.rises;
   small = can.small;
-  places_long = can.places_long;
   placed = can.placed;
   parts = can.parts;
 }
@@ -386,8 +400,7 @@ module _ {old nodes : List Node} {places spots : List ℕ} {link at free hole : 
     as_present = t.as_present;
     made = p.made;
     made_paid = ⊎_elim (λ h. inl h) (λ h. inr (omega (arith, h, t.kept_size))) p.made_paid;
-    compared = p.compared;
-    slots = p.slots;
+    counted = p.counted;
   }
 
 pub climbed_to : {nodes : List Node} {at steps now : ℕ} (parent : ℕ) → parent ≡ now → IsClimbing nodes at now steps → IsClimbing nodes at parent steps

@@ -105,19 +105,19 @@ replaced places t at ps absent =
 
 -- ---- as many keys as tasks at most
 
-low_tasks : (f : Forest) → ((t : ℕ) → 4096 ≤ t → weigh (of_task t) f ≡ 0) → weigh (λ at key. upto 4096 key.task) f ≡ size f
-low_tasks none h = refl
-low_tasks (tree at key rank kids rest) h =
-    let low : key.task < 4096 = ⊎_elim (λ lt. lt) (λ ge. absurd (omega (arith, h key.task ge, same-self key.task))) (cases_lt key.task 4096) in
-    omega (arith, upto-below 4096 key.task low, low_tasks kids (λ t ge. omega (arith, h t ge)), low_tasks rest (λ t ge. omega (arith, h t ge)))
+low_tasks : (n : ℕ) (f : Forest) → ((t : ℕ) → n ≤ t → weigh (of_task t) f ≡ 0) → weigh (λ at key. upto n key.task) f ≡ size f
+low_tasks n none h = refl
+low_tasks n (tree at key rank kids rest) h =
+    let low : key.task < n = ⊎_elim (λ lt. lt) (λ ge. absurd (omega (arith, h key.task ge, same-self key.task))) (cases_lt key.task n) in
+    omega (arith, upto-below n key.task low, low_tasks n kids (λ t ge. omega (arith, h t ge)), low_tasks n rest (λ t ge. omega (arith, h t ge)))
 
-all_low_tasks : (ps : List Part) → ((t : ℕ) → 4096 ≤ t → weigh_all (of_task t) ps ≡ 0) → weigh_all (λ at key. upto 4096 key.task) ps ≡ weigh_all one_each ps
-all_low_tasks [] h = refl
-all_low_tasks (p ∷ ps) h =
-    omega (arith, low_tasks p.1 (λ t ge. omega (arith, h t ge)), all_low_tasks ps (λ t ge. omega (arith, h t ge)))
+all_low_tasks : (n : ℕ) (ps : List Part) → ((t : ℕ) → n ≤ t → weigh_all (of_task t) ps ≡ 0) → weigh_all (λ at key. upto n key.task) ps ≡ weigh_all one_each ps
+all_low_tasks n [] h = refl
+all_low_tasks n (p ∷ ps) h =
+    omega (arith, low_tasks n p.1 (λ t ge. omega (arith, h t ge)), all_low_tasks n ps (λ t ge. omega (arith, h t ge)))
 
-pub few_keys : (ps : List Part) → ((t : ℕ) → weigh_all (of_task t) ps ≤ 1) → ((t : ℕ) → 4096 ≤ t → weigh_all (of_task t) ps ≡ 0) → weigh_all one_each ps ≤ 4096
-few_keys ps once low = omega (arith, all_low_tasks ps low, pigeonhole (λ at key. key.task) ps 4096 once)
+pub few_keys : (n : ℕ) (ps : List Part) → ((t : ℕ) → weigh_all (of_task t) ps ≤ 1) → ((t : ℕ) → n ≤ t → weigh_all (of_task t) ps ≡ 0) → weigh_all one_each ps ≤ n
+few_keys n ps once low = omega (arith, all_low_tasks n ps low, pigeonhole (λ at key. key.task) ps n once)
 
 -- ---- one more node at the end
 

@@ -6,12 +6,13 @@ use Rattle.std.proofs.lemmas.Nat.{pow_pos}
 use Rattle.std.proofs.lemmas.Bool.{cases_lt}
 use Rattle.std.proofs.lemmas.List.{get_or_default}
 use Rattle.pf_order.specs.Priority.{Priority, precedes}
-use Rattle.pf_order.specs.Counts.{Counts}
+use Rattle.pf_order.specs.Counts.{Counts, Compares}
 use Rattle.pf_heap.specs.declared.node.Node.{Node}
 use Rattle.pf_heap.specs.Forest.{Forest, none, tree, nowhere, head, weigh, same, one_each, at_place, size, IsBelow, AllBelow, Falls, Rises, Sinks, HasRoot}
 use Rattle.pf_heap.specs.Memory.{no_node, node_at, Stands, Part, root, Parts, relinked}
 use Rattle.pf_heap.specs.Steps.{CanTurn, IsTurned, HasTwoHeaps, IsMerged}
 use Rattle.pf_heap.specs.Pops.{roots, IsEarlier, IsSeeking, IsLeastRoot, HasHeapAndRoot, IsParting, IsParted, released, CanPop, IsPopped}
+use Rattle.pf_order.proofs.Comparing.{compares_none, compares_both}
 use Rattle.pf_heap.proofs.Forests.{same-self, double, size_from_falls, size_from_rises, below-trans, below-itself, below_from_precedes, all_below-trans, all_below_from_falls}
 use Rattle.pf_heap.proofs.Standing.{head_within, stands-set, stand_all-set, turn_parts, cut_parts}
 use Rattle.pf_heap.proofs.Steps.{sinks_more}
@@ -107,22 +108,23 @@ seek_begun nodes link next counts (tree at key rank kids rest) others is some ri
       has = inl (sym is, refl, refl, refl);
       into = λ i k r f h. inr h;
       closes = λ p below all. (below, all_below-trans p key kids below (all_below_from_falls key rank kids rises.1), all);
-      compared = omega arith;
-      slots = refl;
+      made = 0;
+      made_few = omega arith;
+      counted = compares_none _;
     }
 
 module _ (nodes : List Node) (heap : Forest) (best result link next steps : ℕ) (before between after : Counts)
     (somewhere : link ≢ nowhere) (next_is : next ≡ (node_at nodes link).sibling)
     (stands_all : Stands nodes nowhere heap)
-    (earlier : IsEarlier nodes best link result) (compared_one : after.compared ≤ between.compared + 1) (slots_same : after.slots ≡ between.slots) where
+    (earlier : IsEarlier nodes best link result) (one : Compares 1 between after) where
   seek_by : (rest : Forest) (key : Priority) (rank : ℕ) (kids : Forest) → link ≡ head rest → Stands nodes nowhere rest → Rises steps rest → size rest ≤ size heap →
       HasRoot best key rank kids heap →
       ((i : ℕ) (k : Priority) (r : ℕ) (f : Forest) → HasRoot i k r f rest → HasRoot i k r f heap) →
       ((p : Priority) → IsBelow p key → AllBelow p rest → AllBelow p heap) →
-      between.compared + (roots rest + 1) ≤ before.compared + roots heap → between.slots ≡ before.slots →
+      (made : ℕ) → made + (roots rest + 1) ≤ roots heap → Compares made before between →
       IsSeeking nodes heap result next (steps + 1) before after
-  seek_by none key rank kids is s rises smaller has into closes compared slots = absurd (somewhere is)
-  seek_by (tree at k r f rest) key rank kids is s rises smaller has into closes compared slots =
+  seek_by none key rank kids is s rises smaller has into closes made few counted = absurd (somewhere is)
+  seek_by (tree at k r f rest) key rank kids is s rises smaller has into closes made few counted =
       let best_node = root_stands nodes nowhere best key rank kids heap stands_all has in
       let link_key : (node_at nodes link).key ≡ k = ap (λ z. (node_at nodes z).key) is ∙ ap (λ (n : Node). n.key) s.1 in
       let test : precedes (node_at nodes link).key (node_at nodes best).key ≡ precedes k key = λ j. precedes (link_key j) (best_node.key_is j) in
@@ -141,8 +143,9 @@ module _ (nodes : List Node) (heap : Forest) (best result link next steps : ℕ)
         has = there;
         into = λ i k2 r2 f2 m. into i k2 r2 f2 (inr m);
         closes = closes_more;
-        compared = omega (arith, compared, compared_one);
-        slots = slots_same ∙ slots;
+        made = made + 1;
+        made_few = omega (arith, few);
+        counted = compares_both counted one;
       } in
       ⊎_elim
       (λ h. found key rank kids (subst (λ z. HasRoot z key rank kids heap) (sym h.0) has) (λ p below all.
@@ -154,7 +157,7 @@ module _ (nodes : List Node) (heap : Forest) (best result link next steps : ℕ)
       earlier
 
   pub seek_step : IsSeeking nodes heap best link steps before between → IsSeeking nodes heap result next (steps + 1) before after
-  seek_step t = seek_by t.rest t.key t.rank t.kids t.rest_is t.stands t.rises t.smaller t.has t.into t.closes t.compared t.slots
+  seek_step t = seek_by t.rest t.key t.rank t.kids t.rest_is t.stands t.rises t.smaller t.has t.into t.closes t.made t.made_few t.counted
 
 module _ {nodes : List Node} {heap : Forest} {best rest_link steps : ℕ} {before after : Counts} (t : IsSeeking nodes heap best rest_link steps before after) where
   pub seeking_within : rest_link ≢ nowhere → rest_link < length nodes
@@ -167,8 +170,9 @@ module _ {nodes : List Node} {heap : Forest} {best rest_link steps : ℕ} {befor
     kids = t.kids;
     has = t.has;
     least = t.closes t.key (below-itself t.key) (subst (λ f. AllBelow t.key f) (sym done) tt);
-    compared = omega (arith, t.compared);
-    slots = t.slots;
+    made = t.made;
+    made_few = omega (arith, t.made_few);
+    counted = t.counted;
   }
 
   -- at the end of the roots, and after as many steps as there are ranks
@@ -452,6 +456,5 @@ module _ {old mid : List Node} {link at free stay : ℕ} (can : CanPop old link 
           kept = λ w. omega (arith, m.kept w, turned.kept w, kids_turned.kept w, parted.kept w);
           made = m.made;
           made_paid = ⊎_elim (λ h. inl h) (λ h. inr (omega (arith, turned.kept one_each, kids_turned.kept one_each, parted.kept one_each))) m.made_paid;
-          compared = m.compared;
-          slots = m.slots;
+          counted = m.counted;
         }

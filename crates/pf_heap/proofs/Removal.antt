@@ -5,7 +5,7 @@ use Rattle.std.proofs.lemmas.Bool.{cases_lt}
 use Rattle.std.proofs.Math.ListN.{length-set}
 use Rattle.std.specs.FinSet as fin
 use Rattle.pf_order.specs.Priority.{Priority}
-use Rattle.pf_order.specs.Counts.{Counts}
+use Rattle.pf_order.specs.Counts.{Counts, Compares}
 use Rattle.pf_heap.specs.declared.node.Node.{Node}
 use Rattle.pf_heap.specs.Forest.{Forest, none, tree, nowhere, head, weigh, same, at_place, of_task, of_key, size}
 use Rattle.pf_heap.specs.Memory.{no_node, node_at, root, weigh_all}
@@ -15,16 +15,13 @@ use Rattle.pf_heap.specs.Keys.{Keys, Heaps, list_of, with_list, HasNone, without
 use Rattle.pf_heap.specs.View.{keys, lists_at}
 use Rattle.pf_heap.specs.Digits.{digits}
 use Rattle.pf_heap.specs.Invariant.{IsArena, all_roots, misplaced}
+use Rattle.pf_order.proofs.Comparing.{compares_none, compares_within, compares_both}
 use Rattle.pf_heap.proofs.Forests.{same-self, same-other, equal_from_same}
 use Rattle.pf_heap.proofs.Sets.{weigh_from_contains, contains_from_weigh, of_key-self, key-le-task, keys_remove, keys_without}
 use Rattle.pf_heap.proofs.Digits.{paid-le-digits}
 use Rattle.pf_heap.proofs.Lists.{weigh_all-set, weigh-le-all, stands_in, rises_in, all_rise-set, parts_put, some_heap, two-le-all, weigh_all-ext_tasks, placed_node, same_place, replaced}
 use Rattle.pf_heap.proofs.Lower.{node_weighs, node_within}
-use Rattle.pf_heap.proofs.Whole.{held_once, heap_once, lists_are, now_lists, now_spare, list_is, as_many, len_is, past_places, place_from_held, small_lent, parts_lent, heap_in, link_is, least_of, least_node, least_key, least_compared, IsArenaAfter}
-
--- what was read below the length is the task's place
-pub place_is : (places : List ℕ) {t at n long : ℕ} → t < n → n ≡ long → long ≡ length places → at ≡ get_or places t at → at ≡ get_or places t nowhere
-place_is places {t = t} {at = at} below is whole read = get_or_read places t at (omega (arith, below, is, whole)) read nowhere
+use Rattle.pf_heap.proofs.Whole.{held_once, heap_once, lists_are, now_lists, now_spare, now_tasks, list_is, as_many, len_is, past_places, place_from_held, small_lent, parts_lent, heap_in, link_is, least_of, least_node, least_key, least_counted, IsArenaAfter}
 
 -- node `at` of the heap has the key of task t
 pub record IsNodeOf (places : List ℕ) (heap : Forest) (t at : ℕ) : Type 0 where
@@ -64,7 +61,7 @@ module _ {nodes : List Node} {heads places : List ℕ} {free room capacity : ℕ
     pub at_within : at < length nodes
     at_within = node_within nodes nowhere at (get_or a.heaps its_heap.0 none) (stands_in nodes a.heaps its_heap.0 a.parts.stand.1) (at_in its_heap.0 its_heap.2).0
 
-  module _ {now : Heaps} (seen : ◌≡◌ {A = Heaps} (record { lists = lists_at nodes heads; spare = room }) now) where
+  module _ {now : Heaps} (seen : ◌≡◌ {A = Heaps} (record { lists = lists_at nodes heads; spare = room; tasks = length places }) now) where
     -- no place: no list has the task
     pub none_of_task : (h t : ℕ) → h < length now.lists → get_or places t nowhere ≡ nowhere → HasNone (list_of now h) t
     none_of_task h t within out q has task =
@@ -134,7 +131,7 @@ module _ {nodes : List Node} {heads places : List ℕ} {free room capacity : ℕ
           p.placed,
         )
 
-    task_low : t < 4096
+    task_low : t < length places
     task_low =
         ⊎_elim (λ lt. lt)
         (λ ge. absurd (omega (
@@ -145,7 +142,7 @@ module _ {nodes : List Node} {heads places : List ℕ} {free room capacity : ℕ
           same-self nowhere,
           ap (λ x. same x nowhere) (past_places a t ge),
         )))
-        (cases_lt t 4096)
+        (cases_lt t (length places))
 
     removed_held : (u : ℕ) → weigh_all (of_task u) (all_roots (set a.heaps h p.left)) ≡ 1 - same (get_or (set spots t nowhere) u nowhere) nowhere
     removed_held u =
@@ -178,17 +175,18 @@ module _ {nodes : List Node} {heads places : List ℕ} {free room capacity : ℕ
       parts = parts_put (tree hole p.key 0 none a.spares) a.heaps h h_in p.left p.parts;
       filled = omega (arith, a.filled, removed_weighs (λ _. 1));
       fits = omega (arith, a.fits, removed_weighs (λ _. 1));
-      places_long = length-set spots t nowhere ∙ p.places_long;
+      places_few = omega (arith, length-set spots t nowhere, p.places_long, a.places_few);
       placed = replaced spots t nowhere (all_roots (set a.heaps h p.left)) gone ∙ all_placed;
       held = removed_held;
     }
 
-    removed_by : {now : Heaps} → ◌≡◌ {A = Heaps} (record { lists = lists_at nodes heads; spare = room }) now → (left : Keys) → keys p.left ≡ left →
-        {start : Counts} → before.compared ≤ start.compared + digits (fin.len (list_of now h)) → before.slots ≡ start.slots →
+    removed_by : {now : Heaps} → ◌≡◌ {A = Heaps} (record { lists = lists_at nodes heads; spare = room; tasks = length places }) now → (left : Keys) → keys p.left ≡ left →
+        {start : Counts} → Compares (digits (fin.len (list_of now h))) start before →
         IsArenaAfter new (set heads h result) (set spots t nowhere) hole (room + 1) capacity
         (record (with_list now h left) { spare = now.spare + 1 }) (2 * digits (fin.len (list_of now h))) start after
     unfolding removed_arena
-    removed_by {now} seen left left_is few_before same_slots =
+    removed_by {now} seen left left_is first =
+        let as_many_tasks : length (set spots t nowhere) ≡ now.tasks = length-set spots t nowhere ∙ p.places_long ∙ sym (now_tasks a seen) in
         let e : lists_at new (set heads h result) ≡ set now.lists h left =
         lists_are removed_arena
         ∙ map-set keys a.heaps h p.left
@@ -196,18 +194,13 @@ module _ {nodes : List Node} {heads places : List ℕ} {free room capacity : ℕ
         ∙ ap (λ k. set now.lists h k) left_is in
         record {
           arena = removed_arena;
-          view = λ i. record { lists = e i; spare = sym (now_spare a seen) i + 1 };
-          compared = omega (
-            arith,
-            few_before,
-            p.compared,
-            ap digits (len_is a seen h),
-            paid-le-digits p.made (size (get_or a.heaps h none)) p.made_paid,
-          );
-          slots = p.slots ∙ same_slots;
+          view = λ i. record { lists = e i; spare = sym (now_spare a seen) i + 1; tasks = as_many_tasks i };
+          counted = compares_within
+              (omega (arith, ap digits (len_is a seen h), paid-le-digits p.made (size (get_or a.heaps h none)) p.made_paid))
+              (compares_both first p.counted);
         }
 
-  module _ {now : Heaps} (seen : ◌≡◌ {A = Heaps} (record { lists = lists_at nodes heads; spare = room }) now)
+  module _ {now : Heaps} (seen : ◌≡◌ {A = Heaps} (record { lists = lists_at nodes heads; spare = room; tasks = length places }) now)
       {h index link : ℕ} (is : index ≡ h) (within : h < length now.lists) (read : link ≡ get_or heads index link) where
     -- ---- pop
 
@@ -242,14 +235,13 @@ module _ {nodes : List Node} {heads places : List ℕ} {free room capacity : ℕ
           rises = root_popped.rises;
           parts = root_popped.parts;
           kept = λ v. omega (arith, root_popped.kept (λ _ k. v k), ap v (least_node a seen is within read e least).key_is);
-          places_long = a.places_long;
+          places_long = refl;
           placed = omega (arith, a.placed, weigh-le-all (misplaced places) a.heaps h, root_popped.kept (misplaced places));
           other_places = λ _ _. refl;
           as_present = λ _. refl;
           made = root_popped.made;
           made_paid = root_popped.made_paid;
-          compared = root_popped.compared;
-          slots = root_popped.slots;
+          counted = root_popped.counted;
         }
 
         pub popped : length new ≡ length nodes → {node : Node} → node ≡ get_or nodes at node →
@@ -262,7 +254,7 @@ module _ {nodes : List Node} {heads places : List ℕ} {free room capacity : ℕ
             (fin.remove (list_of now h) node.key)
             (keys_remove root_popped.heap (get_or a.heaps h none) at (least_of a seen is within read e least).key (heap_once a h) root_popped.kept
             ∙ (λ i. fin.remove (sym (list_is a seen h) i) (sym key_is i)))
-            (least_compared a seen is within read e least) (least_of a seen is within read e least).slots
+            (least_counted a seen is within read e least)
 
     -- ---- remove
 
@@ -277,7 +269,6 @@ module _ {nodes : List Node} {heads places : List ℕ} {free room capacity : ℕ
         has = n.has;
         rises = rises_in a.heaps h a.rise;
         small = small_lent a e;
-        places_long = ap length f ∙ a.places_long;
         placed = ap (λ l. weigh (misplaced l) (get_or a.heaps h none)) f ∙ omega (arith, a.placed, weigh-le-all (misplaced places) a.heaps h);
         parts = parts_lent a e h (heap_in a seen is within read);
       }
@@ -311,4 +302,4 @@ module _ {nodes : List Node} {heads places : List ℕ} {free room capacity : ℕ
           removed_by h t at (heap_in a seen is within read) (task_at t n.place_is n.some) p long seen (without (list_of now h) t)
           (keys_without p.left (get_or a.heaps h none) (node_at nodes at).key t (task_at t n.place_is n.some) (heap_once a h) p.kept
           ∙ ap (λ k. without k t) (sym (list_is a seen h)))
-          (omega arith) refl
+          (compares_within (omega arith) (compares_none _))

@@ -14,7 +14,7 @@ use Rattle.pf_order.proofs.Order.{key_cmp_total, only_equal_keys_tie}
 use Rattle.pf_heap.specs.Forest.{Forest, none, tree, weigh, same, of_task, of_key, size, IsBelow, AllBelow}
 use Rattle.pf_heap.specs.Keys.{Keys, without}
 use Rattle.pf_heap.specs.View.{keys}
-use Rattle.pf_heap.proofs.Forests.{same-self, same-other, equal_from_same, weigh-le}
+use Rattle.pf_heap.proofs.Forests.{same-self, same-other, equal_from_same, weigh-add, weigh-le}
 
 either : (b c d : Bool) (m n : ℕ) → c ≡ ltb 0 m → d ≡ ltb 0 n → (b || (c || d)) ≡ ltb 0 (cond b 1 0 + (m + n))
 either true c d m n p q = grind (arith, nat_tests)
@@ -68,6 +68,25 @@ task_of_key q at key =
 -- no key is there twice where no task is
 pub key-le-task : (q : Priority) (f : Forest) → weigh (of_key q) f ≤ weigh (of_task q.task) f
 key-le-task q f = weigh-le (of_key q) (of_task q.task) f (task_of_key q)
+
+-- two keys of one task weigh no more than the task
+two_of_task : (p q : Priority) → p.task ≡ q.task → eq_by_cmp key_cmp p q ≡ false → (at : ℕ) (key : Priority) →
+    of_key p at key + of_key q at key ≤ of_task p.task at key
+two_of_task p q task differ at key =
+    elim (eq_by_cmp key_cmp p key) as (λ b. eq_by_cmp key_cmp p key ≡ b → cond b 1 0 + of_key q at key ≤ of_task p.task at key) [
+      | true ↦ λ e. elim (eq_by_cmp key_cmp q key) as (λ c. eq_by_cmp key_cmp q key ≡ c → cond true 1 0 + cond c 1 0 ≤ of_task p.task at key) [
+        | true ↦ λ f.
+            let same_key : true ≡ false = sym (key_alike p) ∙ ap (eq_by_cmp key_cmp p) (tied_keys p key e ∙ sym (tied_keys q key f)) ∙ differ in cc
+        | false ↦ λ f. omega (arith, same-self p.task, ap (λ (k : Priority). same p.task k.task) (tied_keys p key e))
+      ] refl
+      | false ↦ λ e. omega (arith, task_of_key q at key, ap (λ t. same t key.task) task)
+    ] refl
+
+pub two-le-task : (p q : Priority) (f : Forest) → p.task ≡ q.task → eq_by_cmp key_cmp p q ≡ false →
+    weigh (of_key p) f + weigh (of_key q) f ≤ weigh (of_task p.task) f
+two-le-task p q f task differ =
+    let both : ℕ → Priority → ℕ = λ at key. of_key p at key + of_key q at key in
+    omega (arith, weigh-add (of_key p) (of_key q) both f (λ at key. refl), weigh-le both (of_task p.task) f (two_of_task p q task differ))
 
 pub keys_remove : (h f : Forest) (at : ℕ) (key : Priority) → ((t : ℕ) → weigh (of_task t) f ≤ 1) → ((w : ℕ → Priority → ℕ) → w at key + weigh w h ≡ weigh w f) → keys h ≡ set.remove (keys f) key
 keys_remove h f at key once kept =

@@ -2,11 +2,12 @@
 use Rattle.std.proofs.Common.{◌≡◌, ◌≢◌, ℕ, ◌+◌, ◌^◌, ◌<◌, ◌≤◌, List, [], ◌∷◌, length, set, refl, sym, ap, ◌∙◌, subst, arith, get_or-set_same, get_or-set_other, ⊎_elim}
 use Rattle.std.proofs.Math.ListN.{length-set}
 use Rattle.pf_order.specs.Priority.{Priority, precedes}
-use Rattle.pf_order.specs.Counts.{Counts}
+use Rattle.pf_order.specs.Counts.{Counts, Compares}
 use Rattle.pf_heap.specs.declared.node.Node.{Node}
 use Rattle.pf_heap.specs.Forest.{Forest, none, tree, nowhere, head, weigh, at_place, some, IsBelow, Falls, Rises, Sinks, IsTreeOrNone}
 use Rattle.pf_heap.specs.Memory.{no_node, node_at, Stands, Part, root, Parts, relinked, linked, Joined}
 use Rattle.pf_heap.specs.Steps.{IsCut, IsAdded, IsPushed}
+use Rattle.pf_order.proofs.Comparing.{compares_none, compares_within}
 use Rattle.pf_heap.proofs.Forests.{same-self, below_from_precedes}
 use Rattle.pf_heap.proofs.Standing.{elsewhere, stands-set, stand_all-set, cut_parts, push_parts}
 
@@ -63,9 +64,9 @@ joined_is_added : (old new : List Node) (before after : Counts) (rank a b result
     ra ≡ rank → Falls ka ra fa → rb ≡ rank → Falls kb rb fb →
     Parts old (root (tree a ka ra fa none) ∷ root (tree b kb rb fb none) ∷ others) →
     result ≡ a → IsBelow ka kb → new ≡ linked old a b →
-    after.compared ≤ before.compared + 1 → after.slots ≡ before.slots →
+    Compares 1 before after →
     IsAdded new rank (root (tree a ka ra fa none) ∷ root (tree b kb rb fb none) ∷ []) others nowhere result before after
-joined_is_added old new before after rank a b result ka kb ra rb fa fb others rank_a falls_a rank_b falls_b parts is below written compared slots = record {
+joined_is_added old new before after rank a b result ka kb ra rb fa fb others rank_a falls_a rank_b falls_b parts is below written counted = record {
   sum = none;
   carry = tree a ka (ra + 1) (tree b kb rb fb fa) none;
   sum_is = refl;
@@ -77,8 +78,7 @@ joined_is_added old new before after rank a b result ka kb ra rb fa fb others ra
       let q : Parts new (root (tree a ka (ra + 1) (tree b kb rb fb fa) none) ∷ others) = subst (λ ns. Parts ns (root (tree a ka (ra + 1) (tree b kb rb fb fa) none) ∷ others)) (sym written) p in
       record { stand = (tt, q.stand); once = λ i. omega (arith, q.once i) };
   kept = λ w. omega arith;
-  compared = omega arith;
-  slots = slots;
+  counted = compares_within (omega arith) counted;
 }
 
 swap_added : (new : List Node) (rank : ℕ) (p q : Part) (others : List Part) (s c : ℕ) (before after : Counts) →
@@ -92,20 +92,19 @@ swap_added new rank p q others s c before after d = record {
   carry_tree = d.carry_tree;
   parts = d.parts;
   kept = λ w. omega (arith, d.kept w);
-  compared = d.compared;
-  slots = d.slots;
+  counted = d.counted;
 }
 
 pub two_joined : (old new : List Node) (before after : Counts) (rank x y result : ℕ) (first second : Forest) (others : List Part) →
     x ≡ head first → y ≡ head second → IsTreeOrNone rank first → IsTreeOrNone rank second →
     Parts old (root first ∷ root second ∷ others) → x ≢ nowhere → y ≢ nowhere →
-    Joined old new x y result → after.compared ≤ before.compared + 1 → after.slots ≡ before.slots →
+    Joined old new x y result → Compares 1 before after →
     IsAdded new rank (root first ∷ root second ∷ []) others nowhere result before after
-two_joined old new before after rank x y result none second others x_is y_is tx ty parts some_x some_y joined compared slots = absurd (some_x x_is)
-two_joined old new before after rank x y result (tree a ka ra fa (tree a' ka' ra' fa' na')) second others x_is y_is tx ty parts some_x some_y joined compared slots = absurd tx
-two_joined old new before after rank x y result (tree a ka ra fa none) none others x_is y_is tx ty parts some_x some_y joined compared slots = absurd (some_y y_is)
-two_joined old new before after rank x y result (tree a ka ra fa none) (tree b kb rb fb (tree b' kb' rb' fb' nb')) others x_is y_is tx ty parts some_x some_y joined compared slots = absurd ty
-two_joined old new before after rank x y result (tree a ka ra fa none) (tree b kb rb fb none) others x_is y_is tx ty parts some_x some_y joined compared slots =
+two_joined old new before after rank x y result none second others x_is y_is tx ty parts some_x some_y joined counted = absurd (some_x x_is)
+two_joined old new before after rank x y result (tree a ka ra fa (tree a' ka' ra' fa' na')) second others x_is y_is tx ty parts some_x some_y joined counted = absurd tx
+two_joined old new before after rank x y result (tree a ka ra fa none) none others x_is y_is tx ty parts some_x some_y joined counted = absurd (some_y y_is)
+two_joined old new before after rank x y result (tree a ka ra fa none) (tree b kb rb fb (tree b' kb' rb' fb' nb')) others x_is y_is tx ty parts some_x some_y joined counted = absurd ty
+two_joined old new before after rank x y result (tree a ka ra fa none) (tree b kb rb fb none) others x_is y_is tx ty parts some_x some_y joined counted =
     let sa = parts.stand.0 in
     let sb = parts.stand.1.0 in
     let at_a : Joined old new a y result = subst (λ z. Joined old new z y result) x_is joined in
@@ -113,10 +112,10 @@ two_joined old new before after rank x y result (tree a ka ra fa none) (tree b k
     let test : precedes (node_at old b).key (node_at old a).key ≡ precedes kb ka = λ i. precedes (sb.1 i).key (sa.1 i).key in
     ⊎_elim
     (λ h. joined_is_added old new before after rank a b result ka kb ra rb fa fb others tx.0 tx.1 ty.0 ty.1 parts
-    h.0 (sym test ∙ h.1) h.2 compared slots)
+    h.0 (sym test ∙ h.1) h.2 counted)
     (λ h. swap_added new rank _ _ others nowhere result before after
     (joined_is_added old new before after rank b a result kb ka rb ra fb fa others ty.0 ty.1 tx.0 tx.1
-    (swap_parts old _ _ others parts) h.0 (below_from_precedes kb ka (sym test ∙ h.1)) h.2 compared slots))
+    (swap_parts old _ _ others parts) h.0 (below_from_precedes kb ka (sym test ∙ h.1)) h.2 counted))
     at_both
 
 -- one of the two trees is missing
@@ -134,8 +133,7 @@ one_missing_left nodes counts rank x y none second others small x_is y_is tx ty 
   carry_tree = tt;
   parts = record { stand = (parts.stand.1.0, (tt, parts.stand.1.1)); once = λ i. omega (arith, parts.once i) };
   kept = λ w. omega arith;
-  compared = omega arith;
-  slots = refl;
+  counted = compares_none _;
 }
 one_missing_left nodes counts rank x y (tree a ka ra fa na) second others small x_is y_is tx ty parts missing =
     absurd (omega (arith, parts.stand.0.0))

@@ -3,12 +3,13 @@ use Rattle.std.proofs.Common.{◌≡◌, ◌≢◌, ℕ, ◌+◌, ◌^◌, ◌<�
 use Rattle.std.proofs.Math.Pow.{pow_mono}
 use Rattle.std.proofs.lemmas.Nat.{pow_pos}
 use Rattle.pf_order.specs.Priority.{Priority}
-use Rattle.pf_order.specs.Counts.{Counts}
+use Rattle.pf_order.specs.Counts.{Counts, Compares}
 use Rattle.pf_heap.specs.declared.node.Node.{Node}
 use Rattle.pf_heap.specs.declared.adding.Sum.{Sum}
 use Rattle.pf_heap.specs.Forest.{Forest, none, tree, nowhere, head, weigh, one_each, size, some, Rises, Sinks, IsTreeOrNone}
 use Rattle.pf_heap.specs.Memory.{node_at, Stands, Part, root, Parts, relinked}
 use Rattle.pf_heap.specs.Steps.{HasRoots, HasTwo, HasTwoTrees, HasThreeTrees, IsCut, IsAdded, IsPushed, IsMerging, CanAddRank, HasTwoHeaps, IsMerged, CanTurn, IsTurning, IsTurned}
+use Rattle.pf_order.proofs.Comparing.{compares_none, compares_within, compares_both}
 use Rattle.pf_heap.proofs.Forests.{double, size_from_tree, size_from_rises}
 use Rattle.pf_heap.proofs.Standing.{turn_parts, head_within}
 use Rattle.pf_heap.proofs.Weights.{sizes-le-length}
@@ -62,8 +63,7 @@ module _ {mid new : List Node} {rank part first_carry sum second_carry : ℕ} {b
         carry_tree = e.carry_tree;
         parts = record { stand = (p.stand.0, (p.stand.1.0, p.stand.1.1.1)); once = λ i. omega (arith, p.once i) };
         kept = λ w. omega (arith, d.kept w, e.kept w, ap (λ f. weigh w f) missing);
-        compared = omega (arith, d.compared, e.compared, ap some missing);
-        slots = e.slots ∙ d.slots;
+        counted = compares_within (omega (arith, ap some missing)) (compares_both d.counted e.counted);
       }
 
   pub three_first : e.carry ≡ none → IsAdded new rank (root x ∷ root y ∷ root z ∷ []) others sum first_carry before after
@@ -78,8 +78,7 @@ module _ {mid new : List Node} {rank part first_carry sum second_carry : ℕ} {b
         carry_tree = d.carry_tree;
         parts = record { stand = (p.stand.0, p.stand.1.1); once = λ i. omega (arith, p.once i) };
         kept = λ w. omega (arith, d.kept w, e.kept w, ap (λ f. weigh w f) missing);
-        compared = omega (arith, d.compared, e.compared, ap some missing);
-        slots = e.slots ∙ d.slots;
+        counted = compares_within (omega (arith, ap some missing)) (compares_both d.counted e.counted);
       }
 
   -- both carried: four trees' worth out of three
@@ -178,9 +177,9 @@ module _ {old : List Node} {rank : ℕ} {x y : Forest} {others : List Part} {lin
           pushed = pushes tree_and_done rank added.sum_tree m.done_sinks
 
           -- after n comparisons, all paid for
-          added_by : (n : ℕ) → n ≤ rank + 1 → (n ≡ 0) ⊎ (2 ^ n ≤ size added.carry + size pushed.list) → after.compared ≤ before.compared + n →
+          added_by : (n : ℕ) → n ≤ rank + 1 → (n ≡ 0) ⊎ (2 ^ n ≤ size added.carry + size pushed.list) → Compares n before after →
               IsMerging new (rank + 1) x y others (record { left = left; right = right; carry = carry; done = done }) before after
-          added_by n low paid compared = record {
+          added_by n low paid counted = record {
             left = first_cut.rest;
             right = second_cut.rest;
             carry = added.carry;
@@ -202,8 +201,7 @@ module _ {old : List Node} {rank : ℕ} {x y : Forest} {others : List Part} {lin
             made = n;
             made_low = low;
             made_paid = paid;
-            compared = compared;
-            slots = added.slots ∙ m.slots;
+            counted = counted;
           }
 
           no_less : size m.carry + size m.done ≤ size added.carry + size pushed.list
@@ -214,10 +212,10 @@ module _ {old : List Node} {rank : ℕ} {x y : Forest} {others : List Part} {lin
           rank_added =
               ⊎_elim
               (λ empty. added_by m.made (omega (arith, m.made_low)) (⊎_elim (λ h. inl h) (λ h. inr (omega (arith, no_less))) m.made_paid)
-              (omega (arith, m.compared, added.compared, ap some empty)))
+              (compares_within (omega (arith, ap some empty)) (compares_both m.counted added.counted)))
               (λ full.
               let le : m.made + 1 ≤ rank + 1 = omega (arith, m.made_low) in
-              added_by (m.made + 1) le (inr (omega (arith, pow_mono le, full))) (omega (arith, m.compared, added.compared, some-le added.carry)))
+              added_by (m.made + 1) le (inr (omega (arith, pow_mono le, full))) (compares_within (omega (arith, some-le added.carry)) (compares_both m.counted added.counted)))
               (size_from_tree (rank + 1) added.carry added.carry_tree)
 
 -- ---- turning a list round
@@ -312,8 +310,7 @@ merge_begun nodes x y counts can = record {
   made = 0;
   made_low = omega arith;
   made_paid = inl refl;
-  compared = omega arith;
-  slots = refl;
+  counted = compares_none _;
 }
 
 abbrev pub still_merging : {nodes : List Node} {x y : Forest} {others : List Part} {rank : ℕ} {links : Sum} {before after : Counts} →
@@ -357,6 +354,5 @@ module _ {nodes : List Node} {x y : Forest} {others : List Part} {links : Sum} {
         kept = λ w. t.kept w ∙ only_done w;
         made = m.made;
         made_paid = ⊎_elim (λ h. inl h) (λ h. inr (omega (arith, only_done one_each, ap size carry_empty))) m.made_paid;
-        compared = m.compared;
-        slots = m.slots;
+        counted = m.counted;
       }

@@ -1,7 +1,7 @@
 -- Bringing a node's place to the root: each key on the way from the root moves one node down.
 use Rattle.std.specs.Prelude.{◌≡◌, ℕ, ◌+◌, ◌-◌, ◌<◌, ◌≤◌, ◌^◌, ◌==◌, ◌⊎◌, cond, List, ◌∷◌, length, slice_index_or, slice_set}
 use Rattle.pf_order.specs.Priority.{Priority}
-use Rattle.pf_order.specs.Counts.{Counts}
+use Rattle.pf_order.specs.Counts.{Counts, Compares}
 use Rattle.pf_heap.specs.declared.node.Node.{Node}
 use Rattle.pf_heap.specs.Forest.{Forest, none, tree, nowhere, head, weigh, same, at_place, of_task, size, Rises}
 use Rattle.pf_heap.specs.Memory.{node_at, Stands, Part, root, Parts}
@@ -47,7 +47,6 @@ pub record CanHoist (nodes : List Node) (places : List ℕ) (at : ℕ) : Type 0 
   pub has : 1 ≤ weigh (at_place at) heap
   pub rises : Rises 0 heap
   pub small : length nodes < 2 ^ 32
-  pub places_long : length places ≡ 4096
   pub placed : weigh (misplaced places) heap ≡ 0
   pub parts : Parts nodes (root heap ∷ others)
 
@@ -62,7 +61,7 @@ pub record IsHoisting (old : List Node) (places : List ℕ) (heap : Forest) (oth
   pub kept : (v : Priority → ℕ) → weigh (λ _ k. v k) now + v (node_at old at).key ≡ weigh (λ _ k. v k) heap + v (node_at nodes hole).key
   pub kept_size : size now ≡ size heap
   pub tasks : (t : ℕ) → weigh (of_task t) heap ≡ 0 → weigh (of_task t) now ≡ 0
-  pub places_long : length spots ≡ 4096
+  pub places_long : length spots ≡ length places
   pub placed : weigh (λ i k. misplaced spots i k - same hole i) now ≡ 0
   pub other_places : (t : ℕ) → weigh (of_task t) heap ≡ 0 → slice_index_or spots t nowhere ≡ slice_index_or places t nowhere
   pub as_present : (t : ℕ) → same (slice_index_or spots t nowhere) nowhere ≡ same (slice_index_or places t nowhere) nowhere
@@ -87,7 +86,6 @@ pub record CanCut (nodes : List Node) (places : List ℕ) (link at free : ℕ) :
   pub has : 1 ≤ weigh (at_place at) heap
   pub rises : Rises 0 heap
   pub small : length nodes < 2 ^ 32
-  pub places_long : length places ≡ 4096
   pub placed : weigh (misplaced places) heap ≡ 0
   pub parts : Parts nodes (root heap ∷ root spares ∷ others)
 
@@ -99,11 +97,10 @@ pub record IsCutOut (old : List Node) (places : List ℕ) (heap spares : Forest)
   pub rises : Rises 0 left
   pub parts : Parts nodes (root left ∷ root (tree hole key 0 none spares) ∷ others)
   pub kept : (v : Priority → ℕ) → v (node_at old at).key + weigh (λ _ k. v k) left ≡ weigh (λ _ k. v k) heap
-  pub places_long : length spots ≡ 4096
+  pub places_long : length spots ≡ length places
   pub placed : weigh (misplaced spots) left ≡ 0
   pub other_places : (t : ℕ) → weigh (of_task t) heap ≡ 0 → slice_index_or spots t nowhere ≡ slice_index_or places t nowhere
   pub as_present : (t : ℕ) → same (slice_index_or spots t nowhere) nowhere ≡ same (slice_index_or places t nowhere) nowhere
   pub made : ℕ
   pub made_paid : (made ≡ 0) ⊎ (2 ^ made ≤ size heap)
-  pub compared : after.compared ≤ before.compared + made
-  pub slots : after.slots ≡ before.slots
+  pub counted : Compares made before after

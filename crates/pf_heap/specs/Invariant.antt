@@ -30,7 +30,7 @@ pub record IsArena (nodes : List Node) (heads places : List ℕ) (free room capa
   pub parts : Parts nodes (root spares ∷ all_roots heaps)
   pub filled : size spares + weigh_all one_each (all_roots heaps) ≡ length nodes
   pub fits : weigh_all one_each (all_roots heaps) + room ≤ capacity
-  pub places_long : length places ≡ 4096
+  pub places_few : length places ≤ 4096
   pub placed : weigh_all (misplaced places) (all_roots heaps) ≡ 0
   pub held : (t : ℕ) → weigh_all (of_task t) (all_roots heaps) ≡ 1 - same (slice_index_or places t nowhere) nowhere
 

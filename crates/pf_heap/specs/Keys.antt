@@ -20,10 +20,11 @@ without keys task = set.retain keys (λ k. not (k.task == task))
 abbrev pub HasNone : Keys → ℕ → Type 0
 HasNone keys task = (q : Priority) → set.contains keys q ≡ true → q.task ≢ task
 
--- the lists, and how many keys can be inserted before memory is wanted
+-- the lists, how many keys can be inserted before memory is wanted, and the number below which a task's key can be
 pub record Heaps : Type 0 where
   pub lists : List Keys
   pub spare : ℕ
+  pub tasks : ℕ
 
 -- list h
 abbrev pub list_of : Heaps → ℕ → Keys
@@ -41,6 +42,12 @@ pub record IsHeld (lists : List Keys) (task : ℕ) : Type 0 where
   pub has : set.contains (slice_index_or lists list set.empty) key ≡ true
   pub of_task : key.task ≡ task
 
+-- no task has two keys: keys of one task are one key, in one list
+abbrev pub EachTaskOnce : List Keys → Type 0
+EachTaskOnce lists = (i j : ℕ) (p q : Priority) →
+    set.contains (slice_index_or lists i set.empty) p ≡ true → set.contains (slice_index_or lists j set.empty) q ≡ true
+    → p.task ≡ q.task → (i ≡ j) × (p ≡ q)
+
 abbrev pub priority_code : Coded Priority
 priority_code =
     code_by (ℕ × (ℕ × (ℕ × (ℕ × ℕ)))) (coded× coded_ℕ (coded× coded_ℕ (coded× coded_ℕ (coded× coded_ℕ coded_ℕ))))
@@ -50,5 +57,5 @@ priority_code =
 
 abbrev pub heaps_code : Coded Heaps
 heaps_code =
-    code_by (List Keys × ℕ) (coded× (coded_list (set.code priority_code)) coded_ℕ) (λ h. (h.lists, h.spare))
-    (λ p. record { lists = p.0; spare = p.1 }) (λ _. refl)
+    code_by (List Keys × (ℕ × ℕ)) (coded× (coded_list (set.code priority_code)) (coded× coded_ℕ coded_ℕ)) (λ h. (h.lists, (h.spare, h.tasks)))
+    (λ p. record { lists = p.0; spare = p.1.0; tasks = p.1.1 }) (λ _. refl)

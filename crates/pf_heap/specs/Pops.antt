@@ -1,7 +1,7 @@
 -- What it takes to take a root out of a heap, and to get a node for a new key.
 use Rattle.std.specs.Prelude.{◌≡◌, ℕ, ◌+◌, ◌<◌, ◌≤◌, ◌^◌, ◌⊎◌, true, false, List, ◌∷◌, length, slice_set}
 use Rattle.pf_order.specs.Priority.{Priority, precedes}
-use Rattle.pf_order.specs.Counts.{Counts}
+use Rattle.pf_order.specs.Counts.{Counts, Compares}
 use Rattle.pf_heap.specs.declared.node.Node.{Node}
 use Rattle.pf_heap.specs.Forest.{Forest, none, tree, nowhere, head, weigh, size, AllBelow, IsBelow, Rises, Sinks, HasRoot}
 use Rattle.pf_heap.specs.Memory.{node_at, Stands, Part, root, Parts}
@@ -39,8 +39,9 @@ pub record IsSeeking (nodes : List Node) (heap : Forest) (best rest_link steps :
   pub has : HasRoot best key rank kids heap
   pub into : (i : ℕ) (k : Priority) (r : ℕ) (f : Forest) → HasRoot i k r f rest → HasRoot i k r f heap
   pub closes : (p : Priority) → IsBelow p key → AllBelow p rest → AllBelow p heap
-  pub compared : after.compared + (roots rest + 1) ≤ before.compared + roots heap
-  pub slots : after.slots ≡ before.slots
+  pub made : ℕ
+  pub made_few : made + (roots rest + 1) ≤ roots heap
+  pub counted : Compares made before after
 
 -- the root with the first key of the heap
 pub record IsLeastRoot (heap : Forest) (at : ℕ) (before after : Counts) : Type 0 where
@@ -49,8 +50,9 @@ pub record IsLeastRoot (heap : Forest) (at : ℕ) (before after : Counts) : Type
   pub kids : Forest
   pub has : HasRoot at key rank kids heap
   pub least : AllBelow key heap
-  pub compared : after.compared + 1 ≤ before.compared + roots heap
-  pub slots : after.slots ≡ before.slots
+  pub made : ℕ
+  pub made_few : made + 1 ≤ roots heap
+  pub counted : Compares made before after
 
 -- the link is a heap's that has this root
 pub record HasHeapAndRoot (nodes : List Node) (link at : ℕ) : Type 0 where
@@ -122,5 +124,4 @@ pub record IsPopped (nodes : List Node) (old spares : Forest) (others : List Par
   pub kept : (w : ℕ → Priority → ℕ) → w at key + weigh w heap ≡ weigh w old
   pub made : ℕ
   pub made_paid : (made ≡ 0) ⊎ (2 ^ made ≤ size old)
-  pub compared : after.compared ≤ before.compared + made
-  pub slots : after.slots ≡ before.slots
+  pub counted : Compares made before after

@@ -1,7 +1,7 @@
 -- What the steps of a merge need and leave. In memory a list of trees is one part; the others stay as they are.
 use Rattle.std.specs.Prelude.{◌≡◌, ℕ, ◌+◌, ◌<◌, ◌≤◌, ◌^◌, ◌⊎◌, List, ◌∷◌, length}
 use Rattle.pf_order.specs.Priority.{Priority}
-use Rattle.pf_order.specs.Counts.{Counts}
+use Rattle.pf_order.specs.Counts.{Counts, Compares}
 use Rattle.pf_heap.specs.declared.node.Node.{Node}
 use Rattle.pf_heap.specs.declared.adding.Sum.{Sum}
 use Rattle.pf_heap.specs.Forest.{Forest, head, weigh, size, some, Rises, Sinks, IsTreeOrNone}
@@ -81,8 +81,7 @@ pub record IsAdded (nodes : List Node) (rank : ℕ) (added others : List Part) (
   pub carry_tree : IsTreeOrNone (rank + 1) carry
   pub parts : Parts nodes (root sum ∷ root carry ∷ others)
   pub kept : (w : ℕ → Priority → ℕ) → weigh w sum + weigh w carry ≡ weigh_all w added
-  pub compared : after.compared ≤ before.compared + some carry
-  pub slots : after.slots ≡ before.slots
+  pub counted : Compares (some carry) before after
 
 -- a tree of this rank, if there is one, stands in front of a list of lower ranks
 pub record IsPushed (nodes : List Node) (rank : ℕ) (first second : Forest) (others : List Part) (link : ℕ) : Type 0 where
@@ -113,8 +112,7 @@ pub record IsMerging (nodes : List Node) (rank : ℕ) (x y : Forest) (others : L
   pub made : ℕ
   pub made_low : made ≤ rank
   pub made_paid : (made ≡ 0) ⊎ (2 ^ made ≤ size carry + size done)
-  pub compared : after.compared ≤ before.compared + made
-  pub slots : after.slots ≡ before.slots
+  pub counted : Compares made before after
 
 -- there are two lists that are merged so far
 pub record CanAddRank (nodes : List Node) (rank : ℕ) (links : Sum) (after : Counts) : Type 0 where
@@ -145,8 +143,7 @@ pub record IsMerged (nodes : List Node) (first second : Forest) (others : List P
   pub kept : (w : ℕ → Priority → ℕ) → weigh w heap ≡ weigh w first + weigh w second
   pub made : ℕ
   pub made_paid : (made ≡ 0) ⊎ (2 ^ made ≤ size first + size second)
-  pub compared : after.compared ≤ before.compared + made
-  pub slots : after.slots ≡ before.slots
+  pub counted : Compares made before after
 
 -- the link is a list's of falling ranks, under the parent `up`
 pub record CanTurn (nodes : List Node) (link : ℕ) : Type 0 where

@@ -1,8 +1,9 @@
-ghost use Rattle.std.specs.Prelude.{◌≡◌, ◌≢◌, ◌↔◌, IsTrue, true, ℕ, ◌+◌, ◌-◌, ◌*◌, ◌<◌, ◌≤◌, ◌^◌, [], ◌∷◌, ◌++◌, length, slice_set, IfNone, IfOk, OnOk, OnErr, MatchOption, vec_len};
+ghost use Rattle.std.specs.Prelude.{◌≡◌, ◌≢◌, ◌↔◌, IsTrue, true, ℕ, ◌+◌, ◌-◌, ◌*◌, ◌<◌, ◌≤◌, ◌^◌, [], ◌∷◌, ◌++◌, length, max, IfNone, IfOk, OnOk, OnErr, MatchOption, vec_len};
 ghost use Rattle.std.specs.Vec.{vec_capacity};
 ghost use Rattle.std.specs.FinSet as set;
 ghost use Rattle.pf_order.specs.Priority.{IsPriority};
-ghost use Rattle.pf_heap.specs.Keys.{list_of, with_list, IsHeld, IsFirst, HasNone, without};
+ghost use Rattle.pf_order.specs.Counts.{Compares};
+ghost use Rattle.pf_heap.specs.Keys.{list_of, with_list, IsHeld, IsFirst, HasNone, EachTaskOnce, without};
 ghost use Rattle.pf_heap.specs.Digits.{digits};
 ghost use Rattle.pf_heap.specs.Invariant.{HasSpares, IsSettled};
 
@@ -12,11 +13,9 @@ use crate::node::{NOWHERE, Node};
 use crate::popping::{least_root, pop_root};
 use pf_order::key::Key;
 use pf_order::meter::Meter;
+use pf_table::table::Table;
 use std::alloc::{AllocError, Global};
 use std::marker::Model;
-
-/// Tasks are numbered below this.
-const TASKS: usize = 4096;
 
 /// Names one of an arena's heaps.
 #[derive(Clone, Copy)]
@@ -34,12 +33,14 @@ impl Model for HeapId {
     ghost inverse = { λ n. record { index = n } };
 }
 
-/// Many heaps of keys in one block of nodes. A task is held at most once.
+/// Many heaps of keys in one block of nodes. A task is held at most once. The arena takes the memory of the keys that
+/// it has room for, and of the task numbers up to the greatest that it has room for.
 #[derive(Drop)]
 pub struct Arena {
     nodes: Vec<Node>,
     heads: Vec<u32>,
-    places: Vec<u32>,
+    /// The node of each task's key.
+    places: Table<u32>,
     free: u32,
     room: usize,
 }
@@ -52,12 +53,15 @@ impl Model for Arena {
 
     ghost coded = { heaps_code };
 
+    ghost use Rattle.std.specs.Prelude.{◌≡◌};
+    ghost use Rattle.pf_table.specs.Grown.{size_of};
+    ghost use Rattle.pf_heap.specs.Forest.{nowhere};
     ghost use Rattle.pf_heap.specs.View.{lists_at};
     ghost use Rattle.pf_heap.specs.Invariant.{IsArena};
 
-    ghost view = { λ a. record { lists = lists_at a.nodes.items a.heads.items; spare = a.room } };
+    ghost view = { λ a. record { lists = lists_at a.nodes.items a.heads.items; spare = a.room; tasks = size_of a.places } };
 
-    ghost invariant = { λ a. IsArena a.nodes.items a.heads.items a.places.items a.free a.room (vec_capacity a.nodes) };
+    ghost invariant = { λ a. IsArena a.nodes.items a.heads.items a.places.0 a.free a.room (vec_capacity a.nodes) × (a.places.1 ≡ nowhere) };
 }
 
 /// Gives the key a node of its own, a free one where there is one: the node, and the first free node then.
@@ -93,13 +97,12 @@ impl Arena {
     ///
     /// Where memory is refused.
     pub fn new(alloc: Global) -> Result<Self, AllocError>
-        ensures { IfOk result (λ a. a ≡ record { lists = []; spare = 0 }) }
+        ensures { IfOk result (λ a. a ≡ record { lists = []; spare = 0; tasks = 0 }) }
     {
-        let places = Vec::from_elem(alloc, NOWHERE, TASKS)?;
         Ok(Self {
             nodes: Vec::new(alloc),
             heads: Vec::new(alloc),
-            places,
+            places: Table::new(alloc, NOWHERE),
             free: NOWHERE,
             room: 0,
         })
@@ -128,6 +131,7 @@ impl Arena {
     /// Where memory is refused: all is as before.
     pub fn reserve(&mut self, n: usize) -> Result<(), AllocError>
         ensures lists { self.new.lists ≡ self.old.lists }
+        ensures tasks { self.new.tasks ≡ self.old.tasks }
         ensures grows { self.old.spare ≤ self.new.spare }
         ensures ok { OnOk result (n ≤ self.new.spare) }
         ensures err { OnErr result (self.new ≡ self.old) }
@@ -140,7 +144,20 @@ impl Arena {
         Ok(())
     }
 
-    /// An arena with the same heaps and no room.
+    /// Makes room for keys of the tasks up to this one (at most 4,095).
+    ///
+    /// # Errors
+    ///
+    /// Where memory is refused: all is as before.
+    pub fn reserve_task(&mut self, task: u32) -> Result<(), AllocError>
+        requires { task ≤ 4095 }
+        ensures ok { OnOk result (self.new ≡ record self.old { tasks = max self.old.tasks (task + 1) }) }
+        ensures err { OnErr result (self.new ≡ self.old) }
+    {
+        self.places.reserve(task)
+    }
+
+    /// An arena with the same heaps, for keys of the same tasks, and no room.
     ///
     /// # Errors
     ///
@@ -151,7 +168,7 @@ impl Arena {
         let alloc = *self.nodes.allocator();
         let nodes = Vec::from_slice(alloc, &self.nodes)?;
         let heads = Vec::from_slice(alloc, &self.heads)?;
-        let places = Vec::from_slice(alloc, &self.places)?;
+        let places = self.places.copy()?;
         Ok(Self {
             nodes,
             heads,
@@ -163,29 +180,29 @@ impl Arena {
 
     /// Whether some heap has a key of this task.
     pub fn holds(&self, task: u32) -> bool
-        ensures { IsTrue result ↔ IsHeld self.now.lists task }
+        ensures held { IsTrue result ↔ IsHeld self.now.lists task }
+        ensures once { EachTaskOnce self.now.lists }
     {
-        let index = task as usize;
-        index < self.places.len() && self.places[index] != NOWHERE
+        self.places.get(task) != NOWHERE
     }
 
     /// Adds the key to heap h.
     pub fn insert(&mut self, meter: &mut Meter, h: HeapId, key: Key)
         requires room { 1 ≤ self.old.spare }
+        requires placed { key.task < self.old.tasks }
         requires heap { h < length self.old.lists }
         requires absent { ¬ IsHeld self.old.lists key.task }
         ensures inserted { self.new
             ≡ record (with_list self.old h (set.insert (list_of self.old h) key)) { spare = self.old.spare - 1 } }
-        ensures comparisons { meter.new.compared ≤ meter.old.compared + digits (set.len (list_of self.old h) + 1) }
-        ensures slots { meter.new.slots ≡ meter.old.slots }
+        ensures comparisons { Compares (digits (set.len (list_of self.old h) + 1)) meter.old meter.new }
     {
-        let task = key.task() as usize;
+        let task = key.task();
         let index = h.index as usize;
         let (at, free) = settle(&mut self.nodes, self.free, key);
         self.free = free;
         let heap = merge(&mut self.nodes, meter, at, self.heads[index]);
         self.heads[index] = heap;
-        self.places[task] = at;
+        self.places.set(task, at);
         self.room -= 1;
     }
 
@@ -196,9 +213,7 @@ impl Arena {
         requires differ { into ≢ from }
         ensures melded { self.new
             ≡ with_list (with_list self.old from set.empty) into (set.union (list_of self.old into) (list_of self.old from)) }
-        ensures comparisons { meter.new.compared
-            ≤ meter.old.compared + digits (set.len (list_of self.old into) + set.len (list_of self.old from)) }
-        ensures slots { meter.new.slots ≡ meter.old.slots }
+        ensures comparisons { Compares (digits (set.len (list_of self.old into) + set.len (list_of self.old from))) meter.old meter.new }
     {
         let first = self.heads[into.index as usize];
         let second = self.heads[from.index as usize];
@@ -211,8 +226,7 @@ impl Arena {
     pub fn least(&self, meter: &mut Meter, h: HeapId) -> Option<Key>
         requires { h < length self.now.lists }
         ensures first { MatchOption result (list_of self.now h ≡ set.empty) (IsFirst (list_of self.now h)) }
-        ensures comparisons { meter.new.compared ≤ meter.old.compared + digits (set.len (list_of self.now h)) }
-        ensures slots { meter.new.slots ≡ meter.old.slots }
+        ensures comparisons { Compares (digits (set.len (list_of self.now h))) meter.old meter.new }
     {
         let head = self.heads[h.index as usize];
         if head == NOWHERE {
@@ -228,8 +242,7 @@ impl Arena {
         ensures popped { MatchOption result ((list_of self.old h ≡ set.empty) × (self.new ≡ self.old))
             (λ k. IsFirst (list_of self.old h) k
             × (self.new ≡ record (with_list self.old h (set.remove (list_of self.old h) k)) { spare = self.old.spare + 1 })) }
-        ensures comparisons { meter.new.compared ≤ meter.old.compared + 2 * digits (set.len (list_of self.old h)) }
-        ensures slots { meter.new.slots ≡ meter.old.slots }
+        ensures comparisons { Compares (2 * digits (set.len (list_of self.old h))) meter.old meter.new }
     {
         let index = h.index as usize;
         let head = self.heads[index];
@@ -240,7 +253,7 @@ impl Arena {
         let key = self.nodes[at as usize].key;
         self.heads[index] = pop_root(&mut self.nodes, meter, head, at, self.free);
         self.free = at;
-        self.places[key.task() as usize] = NOWHERE;
+        self.places.set(key.task(), NOWHERE);
         self.room += 1;
         Some(key)
     }
@@ -251,15 +264,11 @@ impl Arena {
         ensures removed { MatchOption result (HasNone (list_of self.old h) task × (self.new ≡ self.old))
             (λ k. (set.contains (list_of self.old h) k ≡ true) × (k.task ≡ task)
             × (self.new ≡ record (with_list self.old h (without (list_of self.old h) task)) { spare = self.old.spare + 1 })) }
+        ensures once { EachTaskOnce self.old.lists }
         ensures unfound { IfNone result (meter.new ≡ meter.old) }
-        ensures comparisons { meter.new.compared ≤ meter.old.compared + 2 * digits (set.len (list_of self.old h)) }
-        ensures slots { meter.new.slots ≡ meter.old.slots }
+        ensures comparisons { Compares (2 * digits (set.len (list_of self.old h))) meter.old meter.new }
     {
-        let place = task as usize;
-        if place >= self.places.len() {
-            return None;
-        }
-        let at = self.places[place];
+        let at = self.places.get(task);
         if at == NOWHERE {
             return None;
         }
@@ -280,7 +289,7 @@ impl Arena {
         );
         self.heads[index] = left;
         self.free = hole;
-        self.places[place] = NOWHERE;
+        self.places.set(task, NOWHERE);
         self.room += 1;
         Some(key)
     }

@@ -1,4 +1,5 @@
-ghost use Rattle.std.specs.Prelude.{◌≡◌, ◌+◌, ◌-◌, ◌<◌, ◌≤◌, ◌^◌, length};
+ghost use Rattle.std.specs.Prelude.{◌≡◌, ◌-◌, ◌<◌, ◌^◌, length};
+ghost use Rattle.pf_order.specs.Counts.{Compares};
 ghost use Rattle.pf_heap.specs.Memory.{node_at, relinked, linked, Joined};
 ghost use Rattle.pf_heap.specs.Pops.{IsEarlier, released};
 
@@ -46,8 +47,7 @@ pub(crate) fn join(nodes: &mut [Node], meter: &mut Meter, x: u32, y: u32) -> u32
     requires first_rank { (node_at nodes.old x).rank < 2 ^ 32 - 1 }
     requires second_rank { (node_at nodes.old y).rank < 2 ^ 32 - 1 }
     ensures joined { Joined nodes.old nodes.new x y result }
-    ensures compared { meter.new.compared ≤ meter.old.compared + 1 }
-    ensures slots { meter.new.slots ≡ meter.old.slots }
+    ensures counted { Compares 1 meter.old meter.new }
 {
     let first = nodes[x as usize].key;
     let second = nodes[y as usize].key;
@@ -65,8 +65,7 @@ pub(crate) fn earlier(nodes: &[Node], meter: &mut Meter, x: u32, y: u32) -> u32
     requires first { x < length nodes.now }
     requires second { y < length nodes.now }
     ensures earlier { IsEarlier nodes.now x y result }
-    ensures compared { meter.new.compared ≤ meter.old.compared + 1 }
-    ensures slots { meter.new.slots ≡ meter.old.slots }
+    ensures counted { Compares 1 meter.old meter.new }
 {
     let first = nodes[x as usize].key;
     let second = nodes[y as usize].key;

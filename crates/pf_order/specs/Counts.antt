@@ -1,5 +1,5 @@
 -- What a meter has counted.
-use Rattle.std.specs.Prelude.{ℕ, ◌+◌, ◌-◌, ◌^◌, min}
+use Rattle.std.specs.Prelude.{◌≡◌, ℕ, ◌+◌, ◌-◌, ◌≤◌, ◌^◌, min}
 
 -- comparisons of keys, and slots
 pub record Counts : Type 0 where
@@ -17,3 +17,10 @@ compared_once c = record c { compared = one_more c.compared }
 -- one slot more
 abbrev pub slot_once : Counts → Counts
 slot_once c = record c { slots = one_more c.slots }
+
+-- at most n comparisons more: the counter of comparisons rises by no more than n (one at its greatest value stays
+-- there) and never falls, and that of slots is the same
+pub record Compares (n : ℕ) (old new : Counts) : Type 0 where
+  pub never_falls : old.compared ≤ new.compared
+  pub at_most : new.compared ≤ old.compared + n
+  pub slots : new.slots ≡ old.slots

@@ -5,4 +5,5 @@ pub mod Priority
 pub mod KeyOf
 pub mod First
 pub mod Counts
+pub mod Counted
 pub mod Laws

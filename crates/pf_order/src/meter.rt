@@ -1,6 +1,7 @@
-ghost use Rattle.std.specs.Prelude.{◌≡◌, ◌↔◌, IsTrue};
+ghost use Rattle.std.specs.Prelude.{◌≡◌, ◌≤◌, ◌↔◌, IsTrue};
 ghost use Rattle.pf_order.specs.Priority.{IsPriority, Precedes, precedes};
-ghost use Rattle.pf_order.specs.Counts.{Counts, compared_once, slot_once};
+ghost use Rattle.pf_order.specs.Counts.{Counts, Compares, compared_once, slot_once};
+ghost use Rattle.pf_order.specs.Counted.{CountsAtMost};
 
 use crate::key::Key;
 use std::marker::Model;
@@ -40,6 +41,8 @@ impl Meter {
         ensures order { IsTrue result ↔ Precedes x.now y.now }
         ensures test { result ≡ precedes x.now y.now }
         ensures counted { self.new ≡ compared_once self.old }
+        ensures one { Compares 1 self.old self.new }
+        ensures rises { self.old.compared ≤ self.new.compared }
     {
         self.compared = self.compared.saturating_add(1);
         if x.deadline != y.deadline {
@@ -56,7 +59,8 @@ impl Meter {
 
     /// Counts one slot.
     pub fn slot(&mut self)
-        ensures { self.new ≡ slot_once self.old }
+        ensures counted { self.new ≡ slot_once self.old }
+        ensures one { CountsAtMost 1 self.old self.new }
     {
         self.slots = self.slots.saturating_add(1);
     }

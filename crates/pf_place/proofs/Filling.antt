@@ -1,10 +1,10 @@
 -- Free places are taken from a list, in order.
-use Rattle.std.proofs.Common.{◌≡◌, ◌≢◌, ℕ, zero, suc, ◌+◌, ◌<◌, ◌≤◌, true, false, not, Option, Some, None, List, [], ◌∷◌, ◌++◌, length, get_or, set, take, count_by, ap, sym, ◌∙◌, refl, cond, arith, below_more, get_or-set_other, get_or-set_same}
-use Rattle.std.specs.List.{slice_get, filter_map}
+use Rattle.std.proofs.Common.{add_comm, add-one, ◌≡◌, ℕ, zero, suc, ◌+◌, ◌<◌, ◌≤◌, true, false, inl, inr, Option, Some, None, List, [], ◌∷◌, ◌++◌, length, get_or, set, take, count_by, ap, sym, ◌∙◌, refl, cond, ltb, arith}
+use Rattle.std.specs.List.{slice_get, filter_map, position, position_or_len}
 use Rattle.std.specs.List.Sorted.{IsPermutation}
-use Rattle.std.specs.Option.{is_some, is_none, option_or}
-use Rattle.std.proofs.lemmas.List.{ext_get_or}
-use Rattle.std.proofs.lemmas.List.Sums.{count_by_more_yes, count_by_more_no, sum_by-cons}
+use Rattle.std.specs.Option.{is_none, option_or}
+use Rattle.std.proofs.lemmas.Bool.{cases_lt, lt-ltb, le-ltb}
+use Rattle.std.proofs.lemmas.List.Sums.{sum_by-cons}
 use Rattle.std.proofs.lemmas.List.Sorted.{IsPermutation-refl, IsPermutation-cons, IsPermutation-middle, IsPermutation-trans}
 use Rattle.pf_place.specs.Seating.{filled}
 
@@ -43,53 +43,52 @@ module _ {X : Type 0} where
       IsPermutation-trans _ _ _ (IsPermutation-middle (filter_map (λ o. o) places) y rest)
       (IsPermutation-cons y _ _ (filled_seats places rest (omega (arith, count_free places))))
 
-  -- of the places below n of `old` the free ones were taken by the first k of `rest`, and `new` is what came of it
-  pub record IsFilledBelow (rest : List X) (old new : List (Option X)) (k n : ℕ) : Type 0 where
-    pub taken : k ≡ count_by is_none (take n old)
-    pub within : k ≤ n
-    pub done : (q : ℕ) → q < n → get_or new q None ≡ option_or (get_or old q None) (slice_get rest (count_by is_none (take q old)))
-    pub left : (q : ℕ) → n ≤ q → get_or new q None ≡ get_or old q None
+  -- where nobody is to be seated, the places stay
+  pub filled_none : (places : List (Option X)) → filled places [] ≡ places
+  filled_none [] = refl
+  filled_none (Some x ∷ places) = ap (λ rest. Some x ∷ rest) (filled_none places)
+  filled_none (None ∷ places) = ap (λ rest. None ∷ rest) (filled_none places)
 
-  pub IsFilledBelow-all : (rest : List X) (old new : List (Option X)) (k n : ℕ) → IsFilledBelow rest old new k n → length old ≤ n → length new ≡ length old → new ≡ filled old rest
-  IsFilledBelow-all rest old new k n h all same =
-      ext_get_or None new (filled old rest) (same ∙ sym (length-filled old rest))
-      (λ q l. h.done q (omega arith) ∙ sym (get_or-filled old rest q (omega arith)))
+  -- the first is seated, and then the others
+  pub filled_more : (places : List (Option X)) (y : X) (rest : List X) → filled places (y ∷ rest) ≡ filled (filled places (y ∷ [])) rest
+  filled_more [] y rest = refl
+  filled_more (Some x ∷ places) y rest = ap (λ ps. Some x ∷ ps) (filled_more places y rest)
+  filled_more (None ∷ places) y rest = ap (λ ps. Some y ∷ filled ps rest) (sym (filled_none places))
 
-  free : (o : Option X) → is_some o ≡ false → o ≡ None
-  free None e = refl
-  free (Some x) e = cc
+  -- one takes the lowest free place
+  lowest_filled : (places : List (Option X)) (y : X) → position_or_len is_none places < length places
+      → set places (position_or_len is_none places) (Some y) ≡ filled places (y ∷ [])
+  lowest_filled [] y l = absurd (omega arith)
+  lowest_filled (None ∷ places) y l = ap (λ ps. Some y ∷ ps) (sym (filled_none places))
+  lowest_filled (Some x ∷ places) y l =
+      rw (add_comm, add-one) (ap (λ ps. Some x ∷ ps) (lowest_filled places y (omega arith)))
 
-  kept : (o p : Option X) → is_some o ≡ true → o ≡ option_or o p
-  kept None p e = cc
-  kept (Some x) p e = refl
+  -- or none, where none is free
+  none_filled : (places : List (Option X)) (y : X) → length places ≤ position_or_len is_none places → places ≡ filled places (y ∷ [])
+  none_filled [] y l = refl
+  none_filled (None ∷ places) y l = absurd (omega arith)
+  none_filled (Some x ∷ places) y l = ap (λ ps. Some x ∷ ps) (none_filled places y (omega arith))
 
-  -- place n is free
-  pub IsFilledBelow-more_free : (rest : List X) (old new : List (Option X)) (k n : ℕ) → IsFilledBelow rest old new k n → n < length old → length new ≡ length old
-      → is_some (get_or new n None) ≡ false → IsFilledBelow rest old (set new n (slice_get rest k)) (k + 1) (n + 1)
-  IsFilledBelow-more_free rest old new k n h lt same e =
-      let was : get_or old n None ≡ None = sym (h.left n (omega arith)) ∙ free (get_or new n None) e in
-      let here : get_or (set new n (slice_get rest k)) n None ≡ slice_get rest k = get_or-set_same new n (slice_get rest k) None (omega arith) in
-      record {
-        taken = omega (arith, h.taken, count_by_more_yes is_none old n None lt (ap is_none was));
-        within = omega (arith, h.within);
-        done = below_more _ _
-            (λ q l. let ne : q ≢ n = omega arith in rw get_or-set_other (h.done q l))
-            (rw (here, was) (ap (slice_get rest) h.taken));
-        left = λ q l. let ne : q ≢ n = omega arith in rw get_or-set_other (h.left q (omega arith));
-      }
+  pub filled_lowest : (places : List (Option X)) (y : X) (k : ℕ) → Some k ≡ position is_none places → set places k (Some y) ≡ filled places (y ∷ [])
+  filled_lowest places y k at =
+      elim (cases_lt (position_or_len is_none places) (length places)) [
+        | inl below ↦
+            let yes : ltb (position_or_len is_none places) (length places) ≡ true = lt-ltb _ _ below in
+            let found : Some k ≡ Some (position_or_len is_none places) = at ∙ ap (λ b. cond b (Some (position_or_len is_none places)) None) yes in
+            let same : k ≡ position_or_len is_none places = cc in
+            rw same (lowest_filled places y below)
+        | inr past ↦
+            let no : ltb (position_or_len is_none places) (length places) ≡ false = le-ltb _ _ past in
+            let none : Some k ≡ None = at ∙ ap (λ b. cond b (Some (position_or_len is_none places)) None) no in
+            cc
+      ]
 
-  -- place n is kept
-  pub IsFilledBelow-more_kept : (rest : List X) (old new : List (Option X)) (k n : ℕ) → IsFilledBelow rest old new k n → n < length old → length new ≡ length old
-      → is_some (get_or new n None) ≡ true → IsFilledBelow rest old (set new n (get_or new n None)) k (n + 1)
-  IsFilledBelow-more_kept rest old new k n h lt same e =
-      let was : get_or new n None ≡ get_or old n None = h.left n (omega arith) in
-      let full : is_some (get_or old n None) ≡ true = ap is_some (sym was) ∙ e in
-      let here : get_or (set new n (get_or new n None)) n None ≡ get_or new n None = get_or-set_same new n (get_or new n None) None (omega arith) in
-      record {
-        taken = omega (arith, h.taken, count_by_more_no is_none old n None lt (ap not full));
-        within = omega (arith, h.within);
-        done = below_more _ _
-            (λ q l. let ne : q ≢ n = omega arith in rw get_or-set_other (h.done q l))
-            (here ∙ was ∙ kept (get_or old n None) _ full);
-        left = λ q l. let ne : q ≢ n = omega arith in rw get_or-set_other (h.left q (omega arith));
-      }
+  pub filled_full : (places : List (Option X)) (y : X) → None ≡ position is_none places → places ≡ filled places (y ∷ [])
+  filled_full places y at =
+      elim (cases_lt (position_or_len is_none places) (length places)) [
+        | inl below ↦
+            let yes : ltb (position_or_len is_none places) (length places) ≡ true = lt-ltb _ _ below in
+            let some : None ≡ Some (position_or_len is_none places) = at ∙ ap (λ b. cond b (Some (position_or_len is_none places)) None) yes in
+            cc
+        | inr past ↦ none_filled places y past
+      ]

@@ -2,3 +2,5 @@ pub mod Examples
 pub mod Filling
 pub mod Seats
 pub mod Seated
+pub mod Blocks
+pub mod Filed

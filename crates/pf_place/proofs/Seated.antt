@@ -16,7 +16,7 @@ use Rattle.pf_place.specs.Occupancy.{sitters, is_seated, NoTaskTwice, pick_of, n
 use Rattle.pf_place.specs.Seating.{filled}
 use Rattle.pf_place.specs.Turns.{IsTurn, IsRow}
 use Rattle.pf_place.proofs.Filling.{filled_seats}
-use Rattle.pf_place.proofs.Seats.{keepers, length-keepers, row_from_filled, length-row_of}
+use Rattle.pf_place.proofs.Seats.{keepers, length-keepers, keepers_by_sitter, row_from_filled, length-row_of}
 
 module _ {X : Type 0} where
   AllPairs-head : (R : X → X → Type 0) (x : X) (xs : List X) → AllPairs R (x ∷ xs) → All (R x) xs
@@ -124,18 +124,19 @@ row_seats_picks m count before picks in_use long few once apart =
     let keep = λ (p : Pick). is_seated (take count before) p.task in
     let kept = keepers count before picks in
     let rest = others (take count before) picks in
-    let keepers_are = keepers_seated (take count before) picks (NoTaskTwice-take count before apart) once in
+    let keepers_are : IsPermutation (filter keep picks) (sitters kept) =
+    rw (← keepers_by_sitter count before picks (omega arith)) (keepers_seated (take count before) picks (NoTaskTwice-take count before apart) once) in
     let all_picks = IsPermutation-filter_both keep (λ p. not (keep p)) (λ _. refl) picks in
     let room : length rest ≤ count_by is_none kept =
     omega (
       arith,
-      length-keepers count before picks (omega arith),
+      length-keepers count before picks,
       taken_or_free kept,
       length_permutation _ _ keepers_are,
       length-filter_both keep (λ p. not (keep p)) (λ _. refl) picks,
     ) in
     let row : sitters (row_of m count before picks) ≡ sitters (filled kept rest) =
-    ap sitters (sym (row_from_filled count before picks m in_use long))
+    ap sitters (sym (row_from_filled count before picks m in_use))
     ∙ filter_map-append (λ o. o) (filled kept rest) (replicate (m - count) None)
     ∙ ap (λ xs. sitters (filled kept rest) ++ xs) (idle_seat_nobody (m - count))
     ∙ append-nil (sitters (filled kept rest)) in

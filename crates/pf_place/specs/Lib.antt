@@ -1,4 +1,7 @@
 pub mod Occupancy
+pub mod Lent
 pub mod Seating
 pub mod RunRows
+pub mod Blocks
+pub mod Filed
 pub mod Turns

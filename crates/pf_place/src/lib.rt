@@ -2,6 +2,8 @@
 //! rows are a list.
 #![tactic(auto)]
 
+mod block;
 pub mod row;
+pub mod row_view;
 pub mod rows;
 mod seating;

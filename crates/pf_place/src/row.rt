@@ -1,8 +1,10 @@
 ghost use Rattle.std.specs.Prelude.{◌≡◌, ◌≤◌, [], length, IfOk};
 ghost use Rattle.std.specs.List.Sorted.{IsPermutation};
+ghost use Rattle.pf_place.specs.Lent.{lent_row};
 ghost use Rattle.pf_place.specs.Occupancy.{sitter, sitters, NoTaskTwice, row_of, idle_row};
 
-use crate::seating::seat_in_use;
+use crate::row_view::RowView;
+use crate::seating::seat;
 use pf_order::pick::Pick;
 use std::alloc::{AllocError, Global};
 use std::marker::Model;
@@ -65,32 +67,50 @@ impl Row {
         ensures seated { IfOk result (λ row. IsPermutation picks.now (sitters row)) }
         ensures once { IfOk result (λ row. NoTaskTwice (sitters row)) }
     {
-        let earlier = &before.places[..count as usize];
-        let mut places = seat_in_use(alloc, earlier, picks)?;
-        places.resize(m as usize, None)?;
+        let mut places = vec![in alloc; None; m as usize]?;
+        seat(&mut places, count as usize, &before.places, picks);
         Ok(Row { places })
+    }
+
+    /// A row equal to the one that is lent.
+    ///
+    /// # Errors
+    ///
+    /// Where memory is refused.
+    pub fn of(alloc: Global, lent: RowView<'_>) -> Result<Self, AllocError>
+        ensures { IfOk result (λ row. row ≡ lent_row lent.entry) }
+    {
+        let places = Vec::from_slice(alloc, lent.places())?;
+        Ok(Row { places })
+    }
+
+    /// The row as `Rows` lends one.
+    pub fn view(&self) -> RowView<'_>
+        ensures { lent_row result ≡ self.now }
+    {
+        RowView::of(&self.places)
     }
 
     /// How many processors m the row has, busy or idle.
     pub fn processors(&self) -> usize
         ensures { result ≡ length self.now }
     {
-        self.places.len()
+        self.view().processors()
     }
 
     /// The pick that runs on the processor; none where it is idle or the row has no such processor.
     pub fn get(&self, processor: u32) -> Option<Pick>
         ensures { result ≡ sitter self.now processor }
     {
-        *self.places.get(processor as usize)?
+        self.view().get(processor)
     }
 
     /// Takes over another row, which must have as many places; it takes no memory.
-    pub fn assign(&mut self, other: &Row)
-        requires { length self.old ≡ length other.now }
-        ensures { self.new ≡ other.now }
+    pub fn assign(&mut self, other: RowView<'_>)
+        requires { length self.old ≡ length (lent_row other) }
+        ensures { self.new ≡ lent_row other.entry }
     {
-        self.places.copy_from_slice(&other.places);
+        self.places.copy_from_slice(other.places());
     }
 
     /// An equal row.

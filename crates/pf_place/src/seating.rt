@@ -1,9 +1,10 @@
-ghost use Rattle.std.specs.Prelude.{◌≡◌, map, IfOk};
-ghost use Rattle.pf_place.specs.Occupancy.{pick_of, next_pick, is_seated, others};
-ghost use Rattle.pf_place.specs.Seating.{filled, seats_in_use};
+ghost use Rattle.std.specs.Prelude.{◌≡◌, ◌≤◌, [], ◌∷◌, map, length};
+ghost use Rattle.std.specs.List.{position, range_with_len};
+ghost use Rattle.std.specs.Option.{is_none};
+ghost use Rattle.pf_place.specs.Occupancy.{pick_of, next_pick, sitter, kept_at, is_seated, others, row_of};
+ghost use Rattle.pf_place.specs.Seating.{filled};
 
 use pf_order::pick::Pick;
-use std::alloc::{AllocError, Global};
 
 /// The pick of the task.
 fn find_pick(picks: &[Pick], task: u32) -> Option<Pick>
@@ -21,54 +22,67 @@ fn sits(places: &[Option<Pick>], task: u32) -> bool
         .any(|place| place.map_or(false, |sat| sat.task == task))
 }
 
-/// Who keeps each of these places: whoever sat there and runs again.
-fn keepers(
-    alloc: Global,
-    earlier: &[Option<Pick>],
-    picks: &[Pick],
-) -> Result<Vec<Option<Pick>>, AllocError>
-    ensures { IfOk result (λ kept. kept.items ≡ map (next_pick picks.now) earlier.now) }
+/// Who keeps place q: whoever sat there before and runs again.
+fn keeper(before: &[Option<Pick>], picks: &[Pick], q: usize) -> Option<Pick>
+    ensures { result ≡ next_pick picks.now (sitter before.now q) }
 {
-    earlier
-        .iter()
-        .map(|place| place.and_then(|sat| find_pick(picks, sat.task)))
-        .collect(alloc)
+    let sat = (*before.get(q)?)?;
+    find_pick(picks, sat.task)
 }
 
-/// The picks whose task sat on none of these places.
-fn others(alloc: Global, earlier: &[Option<Pick>], picks: &[Pick]) -> Result<Vec<Pick>, AllocError>
-    ensures { IfOk result (λ rest. rest.items ≡ others earlier.now picks.now) }
+/// Leaves on each place below `count` its keeper, and nobody on any other.
+fn keep(places: &mut [Option<Pick>], count: usize, before: &[Option<Pick>], picks: &[Pick])
+    ensures { places.new ≡ map (kept_at count before.now picks.now) (range_with_len 0 (length places.old)) }
 {
-    picks
-        .iter()
-        .filter(|pick| !sits(earlier, pick.task))
-        .copied()
-        .collect(alloc)
+    for q in 0..places.len() {
+        places[q] = if q < count {
+            keeper(before, picks, q)
+        } else {
+            None
+        };
+    }
 }
 
-/// Seats the other picks, in order, on the places that nobody keeps, from the lowest.
-fn fill(places: &mut [Option<Pick>], others: &[Pick])
-    ensures { places.new ≡ filled places.old others.now }
+/// The lowest free place.
+fn lowest_free(places: &[Option<Pick>]) -> Option<usize>
+    ensures { result ≡ position is_none places.now }
 {
-    let mut seated = 0;
-    for place in places.iter_mut() {
-        if place.is_none() {
-            *place = others.get(seated).copied();
-            seated += 1;
+    places.iter().position(|place| place.is_none())
+}
+
+/// Seats the pick on the lowest free place, where one is free.
+fn seat_lowest(places: &mut [Option<Pick>], pick: Pick)
+    ensures { places.new ≡ filled places.old (pick ∷ []) }
+{
+    if let Some(free) = lowest_free(places) {
+        places[free] = Some(pick);
+    }
+}
+
+/// Seats the picks whose task sat on none of the earlier places, in order, on the free ones of these places, from the
+/// lowest.
+fn seat_others(places: &mut [Option<Pick>], earlier: &[Option<Pick>], picks: &[Pick])
+    ensures { places.new ≡ filled places.old (others earlier.now picks.now) }
+{
+    for pick in picks {
+        if !sits(earlier, pick.task) {
+            seat_lowest(places, *pick);
         }
     }
 }
 
-/// Who sits on each place in use, where `earlier` says who sat there before.
-pub(crate) fn seat_in_use(
-    alloc: Global,
-    earlier: &[Option<Pick>],
+/// Makes these places the row of a slot in which `picks` run on the places below `count`, where `before` is the row of
+/// the slot before. Where `before` is shorter, the places that it lacks were idle.
+pub(crate) fn seat(
+    places: &mut [Option<Pick>],
+    count: usize,
+    before: &[Option<Pick>],
     picks: &[Pick],
-) -> Result<Vec<Option<Pick>>, AllocError>
-    ensures { IfOk result (λ places. places.items ≡ seats_in_use earlier.now picks.now) }
+)
+    requires { count ≤ length places.old }
+    ensures { places.new ≡ row_of (length places.old) count before.now picks.now }
 {
-    let mut places = keepers(alloc, earlier, picks)?;
-    let others = others(alloc, earlier, picks)?;
-    fill(&mut places, &others);
-    Ok(places)
+    keep(places, count, before, picks);
+    let earlier = &before[..count.min(before.len())];
+    seat_others(&mut places[..count], earlier, picks);
 }

@@ -9,10 +9,10 @@ use Rattle.pf_order.specs.Priority.{priority_cmp}
 use Rattle.pf_place.specs.Occupancy.{row_of}
 use Rattle.pf_scenario.specs.Event.{run_cmp}
 use Rattle.pf_scenario.specs.Scenario.{events_of}
-use Rattle.pf_engine.specs.Record.{done, in_force}
-use Rattle.pf_engine.specs.Inside.{inside, load_of, count_of, shift_of, member_of, ready}
-use Rattle.pf_engine.specs.Computed.{course_of}
-use Rattle.pf_engine.specs.RunRows.{rows_in, denials_in}
+use Rattle.pf_run.specs.Record.{done, in_force}
+use Rattle.pf_run.specs.Inside.{inside, load_of, count_of, shift_of, member_of, ready}
+use Rattle.pf_run.specs.Computed.{course_of}
+use Rattle.pf_run.specs.RunRows.{rows_in, denials_in}
 use Rattle.pf_tally.specs.Clock.{clock_of}
 use Rattle.pf_tally.specs.Lags.{lags_of}
 use Rattle.pf_tally.specs.Misses.{miss_cmp, misses_of}

@@ -7,7 +7,7 @@ use Rattle.pf_order.specs.declared.pick.Pick.{Pick}
 use Rattle.pf_tally.specs.declared.lag.Lag.{Lag}
 use Rattle.pf_tally.specs.Lags.{lags_of}
 use Rattle.pf_tally.specs.Misses.{misses_of}
-use Rattle.pf_engine.specs.Computed.{run_of}
+use Rattle.pf_run.specs.Computed.{run_of}
 use Rattle.pf_desk.specs.Desk.{Seen}
 use Rattle.pf_report.specs.Json.{array_data, sitter_data, denial_data, lag_data, miss_data, report_data}
 

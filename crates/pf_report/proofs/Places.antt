@@ -3,8 +3,8 @@ use Rattle.std.proofs.Common.{◌≡◌, ℕ, ◌<◌, ◌∙◌, List, Option, 
 use Rattle.std.specs.List.{slice_get}
 use Rattle.pf_order.specs.declared.pick.Pick.{Pick}
 use Rattle.pf_scenario.specs.Scenario.{Plan}
-use Rattle.pf_engine.specs.declared.denied.Denied.{Denied}
-use Rattle.pf_engine.specs.RunRows.{AreOfRun}
+use Rattle.pf_run.specs.declared.denied.Denied.{Denied}
+use Rattle.pf_run.specs.RunRows.{AreOfRun}
 use Rattle.pf_place.specs.Turns.{IsRow}
 use Rattle.pf_tally.proofs.Noting.{got_at, row_at}
 use Rattle.pf_tally.proofs.Turns.{rows_of_run, rows_length}

@@ -3,8 +3,8 @@ use Rattle.std.specs.Prelude.{◌≡◌, ℕ, [], ◌∷◌, ◌++◌, codes}
 use Rattle.pf_scenario.specs.Scenario.{Plan, changed}
 use Rattle.pf_scenario.specs.declared.event.Event.TheVariants.{Join, Leave, Delay}
 use Rattle.pf_scenario.specs.declared.change.Change.TheVariants.{Strike}
-use Rattle.pf_engine.specs.RunRows.{rows_in, denials_in}
-use Rattle.pf_engine.specs.Examples.{plan, two_joins, three_joins}
+use Rattle.pf_run.specs.RunRows.{rows_in, denials_in}
+use Rattle.pf_run.specs.Examples.{plan, two_joins, three_joins}
 use Rattle.pf_desk.specs.Desk.{Seen}
 use Rattle.pf_report.specs.Tables.{schedule_text, lags_text, misses_text, denials_text}
 use Rattle.pf_report.specs.Json.{json_text}

@@ -6,14 +6,14 @@ use Rattle.serde_json.specs.Find.{of_integer}
 use Rattle.serde_json.specs.View.{items_of}
 use Rattle.serde_json.specs.Written.{compact_text}
 use Rattle.pf_order.specs.declared.pick.Pick.{Pick}
-use Rattle.pf_engine.specs.declared.denied.Denied.{Denied}
-use Rattle.pf_engine.specs.Computed.{run_of}
+use Rattle.pf_admit.specs.Refusals.{denial_code, denial_name}
+use Rattle.pf_run.specs.declared.denied.Denied.{Denied}
+use Rattle.pf_run.specs.Computed.{run_of}
 use Rattle.pf_tally.specs.declared.lag.Lag.{Lag}
 use Rattle.pf_tally.specs.declared.miss.Miss.{Miss}
 use Rattle.pf_tally.specs.Lags.{lags_of}
 use Rattle.pf_tally.specs.Misses.{misses_of}
 use Rattle.pf_desk.specs.Desk.{Seen}
-use Rattle.pf_report.specs.Reasons.{code_of, name_of}
 
 abbrev pub count_data : ℕ → Data
 count_data n = number (unsigned n)
@@ -29,9 +29,9 @@ sitter_data (Some pick) = array (item (count_data pick.task) (item (count_data p
 
 abbrev pub denial_data : Denied → Data
 denial_data denied =
-    object (member (codes "code") (count_data (code_of denied.denial))
+    object (member (codes "code") (count_data (denial_code denied.denial))
     (member (codes "event") (count_data denied.id)
-    (member (codes "reason") (string (name_of denied.denial))
+    (member (codes "reason") (string (denial_name denied.denial))
     (member (codes "slot") (count_data denied.slot) no_members))))
 
 abbrev pub lag_data : Lag → Data

@@ -1,5 +1,5 @@
-pub mod Reasons
 pub mod Tables
+pub mod Events
 pub mod Json
 pub mod Page
 pub mod Examples

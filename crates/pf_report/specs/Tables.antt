@@ -5,14 +5,14 @@ use Rattle.std.specs.Option.{option_map_or}
 use Rattle.std.specs.Fmt.{decimal, signed_decimal}
 use Rattle.csv.specs.Writing.{row_text, default_writer}
 use Rattle.pf_order.specs.declared.pick.Pick.{Pick}
-use Rattle.pf_engine.specs.declared.denied.Denied.{Denied}
-use Rattle.pf_engine.specs.Computed.{run_of}
+use Rattle.pf_admit.specs.Refusals.{denial_code, denial_name}
+use Rattle.pf_run.specs.declared.denied.Denied.{Denied}
+use Rattle.pf_run.specs.Computed.{run_of}
 use Rattle.pf_tally.specs.declared.lag.Lag.{Lag}
 use Rattle.pf_tally.specs.declared.miss.Miss.{Miss}
 use Rattle.pf_tally.specs.Lags.{lags_of}
 use Rattle.pf_tally.specs.Misses.{misses_of}
 use Rattle.pf_desk.specs.Desk.{Seen}
-use Rattle.pf_report.specs.Reasons.{code_of, name_of}
 
 -- a table: its records, each a list of fields, the heading first
 abbrev pub table_text : List (List (List ℕ)) → List ℕ
@@ -46,7 +46,7 @@ miss_record miss = decimal miss.task ∷ decimal miss.sub ∷ decimal miss.deadl
 
 abbrev pub denial_record : Denied → List (List ℕ)
 denial_record denied =
-    decimal denied.slot ∷ decimal denied.id ∷ decimal (code_of denied.denial) ∷ name_of denied.denial ∷ []
+    decimal denied.slot ∷ decimal denied.id ∷ decimal (denial_code denied.denial) ∷ denial_name denied.denial ∷ []
 
 -- the schedule that was seen: a line for each slot below now
 unfoldable pub schedule_text : Seen → List ℕ

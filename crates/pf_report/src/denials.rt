@@ -2,10 +2,9 @@ ghost use Rattle.std.specs.Prelude.{◌≡◌, [], IfOk, OnOk};
 ghost use Rattle.pf_report.specs.Page.{with_record};
 ghost use Rattle.pf_report.specs.Tables.{denial_record, denials_text};
 
-use crate::reason::{denial_code, denial_name};
 use crate::table::Table;
 use pf_desk::snapshot::Snapshot;
-use pf_engine::denied::Denied;
+use pf_run::denied::Denied;
 use std::alloc::{AllocError, Global};
 
 /// Adds the record of a denial.
@@ -15,8 +14,8 @@ fn push_denied(table: &mut Table, denied: Denied) -> Result<(), AllocError>
 {
     table.show(denied.slot)?;
     table.show(denied.id)?;
-    table.show(denial_code(denied.denial))?;
-    table.show(denial_name(denied.denial))?;
+    table.show(denied.denial.code())?;
+    table.show(denied.denial.name())?;
     table.end_record()
 }
 

@@ -1,13 +1,13 @@
 ghost use Rattle.std.specs.Prelude.{◌≡◌, length, IfOk};
 ghost use Rattle.serde_json.specs.View.{view};
+ghost use Rattle.pf_place.specs.Lent.{lent_row};
 ghost use Rattle.pf_report.specs.Json.{array_data, sitter_data, denial_data, lag_data, miss_data, report_object, report_data, json_text};
 
-use crate::reason::{denial_code, denial_name};
 use crate::rows::{row_at, row_count};
 use pf_desk::snapshot::Snapshot;
-use pf_engine::denied::Denied;
 use pf_order::pick::Pick;
-use pf_place::row::Row;
+use pf_place::row_view::RowView;
+use pf_run::denied::Denied;
 use pf_tally::lag::Lag;
 use pf_tally::miss::Miss;
 use serde_json::{Value, json};
@@ -18,9 +18,9 @@ fn denied_value(alloc: Global, denied: Denied) -> Result<Value, AllocError>
     ensures { IfOk result (λ v. view v ≡ denial_data denied) }
 {
     json!(in alloc; {
-        "code": denial_code(denied.denial),
+        "code": denied.denial.code(),
         "event": denied.id,
-        "reason": denial_name(denied.denial),
+        "reason": denied.denial.name(),
         "slot": denied.slot
     })
 }
@@ -98,9 +98,9 @@ fn miss_values(alloc: Global, misses: &[Miss]) -> Result<Value, AllocError>
 }
 
 /// A row, by processor.
-fn row_value(alloc: Global, processors: u32, row: &Row) -> Result<Value, AllocError>
-    requires { length row.now ≡ processors }
-    ensures { IfOk result (λ v. view v ≡ array_data sitter_data row.now) }
+fn row_value(alloc: Global, processors: u32, row: RowView<'_>) -> Result<Value, AllocError>
+    requires { length (lent_row row) ≡ processors }
+    ensures { IfOk result (λ v. view v ≡ array_data sitter_data (lent_row row.entry)) }
 {
     let mut values = Vec::with_capacity(alloc, processors as usize)?;
     for processor in 0..processors {

@@ -3,11 +3,11 @@
 #![tactic(auto)]
 
 pub mod denials;
+pub mod events;
 pub mod json;
 pub mod lags;
 pub mod laws;
 pub mod misses;
-pub mod reason;
-mod rows;
+pub mod rows;
 pub mod schedule;
-mod table;
+pub mod table;

@@ -1,5 +1,6 @@
 ghost use Rattle.std.specs.Prelude.{◌≡◌, ◌∷◌, [], length, map, IfOk, OnOk};
 ghost use Rattle.std.specs.Fmt.{decimal};
+ghost use Rattle.pf_place.specs.Lent.{lent_row};
 ghost use Rattle.pf_report.specs.Page.{with_field, with_record};
 ghost use Rattle.pf_report.specs.Tables.{schedule_heading, schedule_text, sitter_field};
 
@@ -7,7 +8,7 @@ use crate::rows::{row_at, row_count};
 use crate::table::Table;
 use pf_desk::snapshot::Snapshot;
 use pf_order::pick::Pick;
-use pf_place::row::Row;
+use pf_place::row_view::RowView;
 use std::alloc::{AllocError, Global};
 
 /// Adds the heading: a column for the slot and for each processor.
@@ -33,10 +34,10 @@ fn show_sitter(table: &mut Table, sitter: Option<Pick>) -> Result<(), AllocError
 }
 
 /// Adds the record of slot t, whose row this is.
-fn push_row(table: &mut Table, t: u64, processors: u32, row: &Row) -> Result<(), AllocError>
+fn push_row(table: &mut Table, t: u64, processors: u32, row: RowView<'_>) -> Result<(), AllocError>
     requires start { table.old.fields ≡ [] }
-    requires row { length row.now ≡ processors }
-    ensures { OnOk result (table.new ≡ with_record table.old (decimal t ∷ map sitter_field row.now)) }
+    requires row { length (lent_row row) ≡ processors }
+    ensures { OnOk result (table.new ≡ with_record table.old (decimal t ∷ map sitter_field (lent_row row.entry))) }
 {
     table.show(t)?;
     for processor in 0..processors {

@@ -6,7 +6,7 @@ use std::marker::Model;
 /// A table on its way to text: its whole records as csv writes them, and the fields of the next record so far. The next
 /// record may lose fields where a call fails, so a table is given up then; one whose write failed takes no more records.
 #[derive(Drop)]
-pub(crate) struct Table {
+pub struct Table {
     writer: Writer<Vec<u8>>,
     /// Whether a write failed.
     broken: bool,
@@ -32,7 +32,7 @@ impl Table {
     ghost use Rattle.pf_report.specs.Page.{empty_page, with_field, with_record};
 
     /// A table of no records.
-    pub(crate) fn new(alloc: Global) -> Self
+    pub fn new(alloc: Global) -> Self
         ensures { result ≡ empty_page }
     {
         Table {
@@ -44,7 +44,7 @@ impl Table {
     }
 
     /// Adds a field to the next record.
-    pub(crate) fn show<D: Display + Drop>(&mut self, value: D) -> Result<(), AllocError>
+    pub fn show<D: Display + Drop>(&mut self, value: D) -> Result<(), AllocError>
         ensures { OnOk result (IfSome (D.output value) (λ field. self.new ≡ with_field self.old field)) }
     {
         self.shown.clear();
@@ -57,7 +57,7 @@ impl Table {
     }
 
     /// Ends the record.
-    pub(crate) fn end_record(&mut self) -> Result<(), AllocError>
+    pub fn end_record(&mut self) -> Result<(), AllocError>
         ensures { OnOk result (self.new ≡ with_record self.old self.old.fields) }
     {
         if self.broken {
@@ -75,7 +75,7 @@ impl Table {
     }
 
     /// Adds a record of these texts: a heading.
-    pub(crate) fn push_texts(&mut self, texts: &[&str]) -> Result<(), AllocError>
+    pub fn push_texts(&mut self, texts: &[&str]) -> Result<(), AllocError>
         requires { self.old.fields ≡ [] }
         ensures { OnOk result (self.new ≡ with_record self.old (map (λ text. text.now) texts.now)) }
     {
@@ -86,7 +86,7 @@ impl Table {
     }
 
     /// The text of the table.
-    pub(crate) fn finish(self) -> Result<Vec<u8>, AllocError>
+    pub fn finish(self) -> Result<Vec<u8>, AllocError>
         ensures { IfOk result (λ text. text.items ≡ self.text) }
     {
         match self.writer.into_inner() {

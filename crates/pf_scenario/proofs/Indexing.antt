@@ -2,6 +2,7 @@
 use Rattle.std.proofs.Common.{◌≡◌, ◌≢◌, ℕ, suc, ◌+◌, ◌<◌, ◌≤◌, Bool, true, false, not, cond, ◌&&◌, ◌||◌, List, [], ◌∷◌, ◌++◌, length, take, drop, get_or, refl, sym, ap, ◌∙◌, subst, arith, inl, inr, ◌⊎◌}
 use Rattle.std.specs.Prelude.{◌==◌, slice_index}
 use Rattle.std.specs.List.{All, list_any, remove, insert}
+use Rattle.std.specs.Option.{unwrap_or}
 use Rattle.std.specs.Cmp.{IsTotalOrder, nat_cmp_total}
 use Rattle.std.specs.declared.cmp.Ordering.TheVariants.{Equal}
 use Rattle.std.specs.Ordering.{is_lt}
@@ -29,7 +30,7 @@ pub run_cmp_total : IsTotalOrder run_cmp
 unfolding run_cmp
 run_cmp_total =
     then_total (on_total (λ (x : Numbered). kind_of x.event) nat_cmp_total)
-    (then_total (on_total (λ (x : Numbered). task_of x.event) nat_cmp_total) (on_total (λ (x : Numbered). x.id) nat_cmp_total))
+    (then_total (on_total (λ (x : Numbered). unwrap_or (task_of x.event) 0) nat_cmp_total) (on_total (λ (x : Numbered). x.id) nat_cmp_total))
 
 pub time_cmp_total : IsTotalOrder time_cmp
 unfolding time_cmp
@@ -207,15 +208,13 @@ room_held order joins leaves x i h e =
     let all = subst (Pairs AreApart) e (Pairs-from_all AreApart order h.apart) in
     let before = Pairs_before AreApart (take i order) x (drop (suc i) order) all in
     let some = All_at (λ y. 1 ≤ y.id) (take i order) x (drop (suc i) order) (subst (All (λ y. 1 ≤ y.id)) e h.given) in
+    let number : (p : Event → Bool) → ((x y : Numbered) → AreApart x y → Excludes p x y) → p x.event ≡ true → number_of p order ≡ x.id
+    = λ p excludes here.
+    let none = All-weaker (λ y. AreApart y x) (λ y. p y.event ≡ false) (λ y a. excludes x y (apart_back y x a) here) (take i order) before in
+    ap (number_of p) e ∙ number_of-here p (take i order) x (drop (suc i) order) here none in
     record {
-      join_place = λ t here.
-          let none = All-weaker (λ y. AreApart y x) (λ y. is_join_of t y.event ≡ false) (λ y a. join_excludes t x y (apart_back y x a) here) (take i order) before in
-          let number = h.joined t ∙ ap (number_of (is_join_of t)) e ∙ number_of-here (is_join_of t) (take i order) x (drop (suc i) order) here none in
-          within joins t x.id number some;
-      leave_place = λ t here.
-          let none = All-weaker (λ y. AreApart y x) (λ y. is_leave_of t y.event ≡ false) (λ y a. leave_excludes t x y (apart_back y x a) here) (take i order) before in
-          let number = h.left t ∙ ap (number_of (is_leave_of t)) e ∙ number_of-here (is_leave_of t) (take i order) x (drop (suc i) order) here none in
-          within leaves t x.id number some;
+      join_place = λ t here. within joins t x.id (h.joined t ∙ number (is_join_of t) (join_excludes t) here) some;
+      leave_place = λ t here. within leaves t x.id (h.left t ∙ number (is_leave_of t) (leave_excludes t) here) some;
     }
   where
     within : (table : List ℕ) (t n : ℕ) → slice_index table t ≡ n → 1 ≤ n → t + 1 ≤ length table
@@ -226,24 +225,20 @@ room_held order joins leaves x i h e =
         ]
 
 -- what the tables tell of the events of other numbers
-joins_exclude : (t : ℕ) (order : List Numbered) → Pairs AreApart order → Pairs (Excludes (is_join_of t)) order
-joins_exclude t [] h = tt
-joins_exclude t (x ∷ xs) h = (All-weaker (AreApart x) (Excludes (is_join_of t) x) (λ y a. join_excludes t x y a) xs h.0, joins_exclude t xs h.1)
-
-leaves_exclude : (t : ℕ) (order : List Numbered) → Pairs AreApart order → Pairs (Excludes (is_leave_of t)) order
-leaves_exclude t [] h = tt
-leaves_exclude t (x ∷ xs) h = (All-weaker (AreApart x) (Excludes (is_leave_of t) x) (λ y a. leave_excludes t x y a) xs h.0, leaves_exclude t xs h.1)
+all_exclude : (p : Event → Bool) → ((x y : Numbered) → AreApart x y → Excludes p x y) → (order : List Numbered) → Pairs AreApart order → Pairs (Excludes p) order
+all_exclude p excludes [] h = tt
+all_exclude p excludes (x ∷ xs) h = (All-weaker (AreApart x) (Excludes p x) (excludes x) xs h.0, all_exclude p excludes xs h.1)
 
 pub joins_beside : (order : List Numbered) (joins leaves : List ℕ) (id slot task cost period early n : ℕ) → IsIndexed order joins leaves → n ≡ slice_index joins task → list_any (λ x. join_alike x.event (Join slot task cost period early)) (without id order) ≡ (not (n == 0) && not (n == id))
 joins_beside order joins leaves id slot task cost period early n h e =
     joins_alike slot task cost period early (without id order)
-    ∙ beside (is_join_of task) id order h.given (joins_exclude task order (Pairs-from_all AreApart order h.apart))
+    ∙ beside (is_join_of task) id order h.given (all_exclude (is_join_of task) (join_excludes task) order (Pairs-from_all AreApart order h.apart))
     ∙ ap (λ n. not (n == 0) && not (n == id)) (sym (e ∙ h.joined task))
 
 pub leaves_beside : (order : List Numbered) (joins leaves : List ℕ) (id slot task n : ℕ) → IsIndexed order joins leaves → n ≡ slice_index leaves task → list_any (λ x. leave_alike x.event (Leave slot task)) (without id order) ≡ (not (n == 0) && not (n == id))
 leaves_beside order joins leaves id slot task n h e =
     leaves_alike slot task (without id order)
-    ∙ beside (is_leave_of task) id order h.given (leaves_exclude task order (Pairs-from_all AreApart order h.apart))
+    ∙ beside (is_leave_of task) id order h.given (all_exclude (is_leave_of task) (leave_excludes task) order (Pairs-from_all AreApart order h.apart))
     ∙ ap (λ n. not (n == 0) && not (n == id)) (sym (e ∙ h.left task))
 
 -- no event is alike to one of another kind

@@ -1,10 +1,12 @@
 -- What a scenario's representation keeps at each change.
-use Rattle.std.proofs.Common.{◌≡◌, ℕ, suc, ◌<◌, ◌≤◌, None, List, [], ◌∷◌, ◌++◌, length, take, drop, set, get_or, refl, sym, ap, ◌∙◌, subst, arith, inl, inr}
+use Rattle.std.proofs.Common.{◌≡◌, ℕ, suc, ◌<◌, ◌≤◌, Option, Some, None, true, List, [], ◌∷◌, ◌++◌, length, take, drop, set, get_or, refl, sym, ap, ◌∙◌, subst, arith, IfSome, inl, inr}
 use Rattle.std.specs.List.{All, AllPairs, Contains, remove, list_any, filter}
 use Rattle.std.specs.declared.cmp.Ordering.{Ordering}
 use Rattle.std.specs.Ordering.{is_lt}
 use Rattle.std.proofs.lemmas.Bool.{cases_Bool, ne_eqb, leb-true, and_parts}
 use Rattle.std.proofs.lemmas.List.{append-nil, set_split}
+use Rattle.std.specs.Option.{option_map_or}
+use Rattle.pf_weight.specs.declared.task.TheConstants.{LARGEST_TASK}
 use Rattle.pf_scenario.proofs.Lists.{Pairs, Pairs-from_all, Pairs_before, All_at}
 use Rattle.pf_scenario.proofs.Scenarios.{or_else_none, unless_none, without_held, changes_keep_scenarios}
 use Rattle.pf_scenario.proofs.Places.{replaced_at, without_at}
@@ -14,23 +16,23 @@ use Rattle.pf_scenario.proofs.Timeline.{in_time_middle, in_time_without, beside_
 use Rattle.pf_scenario.specs.System.{System}
 use Rattle.pf_scenario.specs.Event.{task_of, is_of}
 use Rattle.pf_scenario.specs.Scenario.{Plan, numbered, without, changed, events_of}
-use Rattle.pf_scenario.specs.Edit.{IsScenario, IsEvent, edit_fault, join_alike, leave_alike}
+use Rattle.pf_scenario.specs.Edit.{IsScenario, IsEvent, is_within, edit_fault, join_alike, leave_alike}
 use Rattle.pf_scenario.specs.Sorted.{put}
 use Rattle.pf_scenario.specs.TimeOrder.{time_cmp, put_in_time, in_time_order}
 use Rattle.pf_scenario.specs.Index.{AreApart, IsNew}
 use Rattle.pf_scenario.specs.Kept.{IsPlace, IsKept}
 use Rattle.pf_scenario.specs.declared.event.Event.{Event}
-use Rattle.pf_scenario.specs.declared.event.Event.TheVariants.{Join, Leave, Delay, Limit}
 use Rattle.pf_scenario.specs.declared.event.Numbered.{Numbered}
 use Rattle.pf_scenario.specs.declared.change.Change.{Change}
 use Rattle.pf_scenario.specs.declared.change.Change.TheVariants.{Insert, Alter, Strike}
 
--- an event within its limits has a task of at most 4,095
-task_within : (settings : System) (event : Event) → IsEvent settings event → task_of event ≤ 4095
-task_within settings (Join slot task cost period early) h = leb-true _ _ ((and_parts _ _ (unless_none _ _ ((or_else_none _ _ ((or_else_none _ _ h).1)).0))).1)
-task_within settings (Leave slot task) h = leb-true _ _ ((and_parts _ _ (unless_none _ _ ((or_else_none _ _ ((or_else_none _ _ h).1)).0))).1)
-task_within settings (Delay slot task by) h = leb-true _ _ ((and_parts _ _ (unless_none _ _ ((or_else_none _ _ ((or_else_none _ _ h).1)).0))).1)
-task_within settings (Limit slot count) h = omega arith
+-- the task of an event within its limits is not above the greatest
+task_within : (settings : System) (event : Event) → IsEvent settings event → IfSome (task_of event) (λ task. task ≤ LARGEST_TASK)
+task_within settings event h = within (task_of event) (unless_none _ _ ((or_else_none _ _ ((or_else_none _ _ h).1)).0))
+  where
+    within : (o : Option ℕ) → option_map_or (λ task. is_within LARGEST_TASK task) o true ≡ true → IfSome o (λ task. task ≤ LARGEST_TASK)
+    within (Some task) h = leb-true _ _ ((and_parts _ _ h).1)
+    within None h = tt
 
 -- the events of a scenario are apart
 events_apart : (s : Plan) → IsScenario s → AllPairs AreApart s.events
@@ -87,7 +89,7 @@ insert_kept s v index event e h none =
     let here = amid (changed s (Insert event)) s.events (numbered s.next event) [] refl kept in
     record {
       scenario = kept;
-      indexed = ap (put_in_time (numbered s.next event)) (h.indexed ∙ sym (ap in_time_order (append-nil s.events))) ∙ sym here.in_time;
+      indexed = rw (h.indexed, here.in_time, append-nil s.events) refl;
     }
 
 -- the event at a place is held by the index; without it the index is of the events around that place
@@ -98,9 +100,8 @@ held_there s index i x h low is =
 
 index_without : (s : Plan) (index : List Numbered) (i : ℕ) (x : Numbered) → IsKept s index → i < length s.events → get_or s.events i x ≡ x → without x.id index ≡ in_time_order (take i s.events ++ drop (suc i) s.events)
 index_without s index i x h low is =
-    ap (without x.id) h.indexed
-    ∙ in_time_without x.id s.events
-    ∙ ap in_time_order (without_held s.events (take i s.events) x (drop (suc i) s.events) x.id h.scenario.rising (split_here s.events i x low is) refl)
+    rw (h.indexed, in_time_without x.id s.events)
+    (ap in_time_order (without_held s.events (take i s.events) x (drop (suc i) s.events) x.id h.scenario.rising (split_here s.events i x low is) refl))
 
 -- an alter: the event takes the place of the old one
 altered_events : (s : Plan) (index : List Numbered) (id i : ℕ) (event : Event) → IsKept s index → IsPlace s.events id i → (changed s (Alter id event)).events ≡ take i s.events ++ numbered id event ∷ drop (suc i) s.events
@@ -139,10 +140,10 @@ strike_is s v index id i e h place =
 
 -- what the index tells of the scenario
 pub joins_told : (s : Plan) (index : List Numbered) (id : ℕ) (event : Event) → IsKept s index → list_any (λ x. join_alike x.event event) (without id index) ≡ list_any (λ x. join_alike x.event event) (without id s.events)
-joins_told s index id event h = ap (λ zs. list_any (λ x. join_alike x.event event) (without id zs)) h.indexed ∙ beside_in_time (λ x. join_alike x.event event) id s.events
+joins_told s index id event h = rw h.indexed (beside_in_time (λ x. join_alike x.event event) id s.events)
 
 pub leaves_told : (s : Plan) (index : List Numbered) (id : ℕ) (event : Event) → IsKept s index → list_any (λ x. leave_alike x.event event) (without id index) ≡ list_any (λ x. leave_alike x.event event) (without id s.events)
-leaves_told s index id event h = ap (λ zs. list_any (λ x. leave_alike x.event event) (without id zs)) h.indexed ∙ beside_in_time (λ x. leave_alike x.event event) id s.events
+leaves_told s index id event h = rw h.indexed (beside_in_time (λ x. leave_alike x.event event) id s.events)
 
 pub slot_told : (s : Plan) (index : List Numbered) (t : ℕ) → IsKept s index → filter (is_of t) index ≡ events_of s t
-slot_told s index t h = ap (filter (is_of t)) h.indexed ∙ events_of-in_time s t
+slot_told s index t h = rw h.indexed (events_of-in_time s t)

@@ -8,7 +8,8 @@ use Rattle.std.proofs.lemmas.Bool.{ltb-true, leb-true, eqb-true, eq-eqb, ne_eqb,
 use Rattle.pf_scenario.proofs.Lists.{All_left, All_right, All_middle, All_without, All_at, Pairs, Pairs-from_all, AllPairs-from_pairs, Pairs_middle, Pairs_without, Pairs_before, Pairs_after, filter_middle, map_middle, none_passes, found}
 use Rattle.pf_scenario.specs.System.{System, IsSystem}
 use Rattle.pf_scenario.specs.Scenario.{Plan, numbered, is_held, without, changed}
-use Rattle.pf_scenario.specs.Edit.{or_else, unless, join_alike, leave_alike, event_fault, edit_fault, most_events, last_number, IsEvent, IsScenario}
+use Rattle.pf_scenario.specs.Edit.{or_else, unless, join_alike, leave_alike, event_fault, edit_fault, IsEvent, IsScenario}
+use Rattle.pf_scenario.specs.declared.scenario.TheConstants.{MOST_EVENTS, LAST_NUMBER}
 use Rattle.pf_scenario.specs.Laws.{ChangesKeepScenarios, NumbersRise, OpeningIsScenario}
 use Rattle.pf_scenario.specs.declared.event.Event.{Event}
 use Rattle.pf_scenario.specs.declared.event.Event.TheVariants.{Join, Leave}
@@ -100,7 +101,7 @@ around_one s front x back e h =
     }
 
 -- with an event in the middle that is free, and whose number stands between those around it
-pub IsScenario-middle : (settings : System) (next : ℕ) (front : List Numbered) (x : Numbered) (back : List Numbered) → IsSystem settings → 1 ≤ next → next ≤ last_number + 1 → length (front ++ x ∷ back) ≤ most_events → Around settings next front back → IsFree settings (front ++ back) x.event → All (λ y. y.id < x.id) front → All (λ y. x.id < y.id) back → (1 ≤ x.id) × (x.id < next) → IsScenario (record { settings = settings; events = front ++ x ∷ back; next = next })
+pub IsScenario-middle : (settings : System) (next : ℕ) (front : List Numbered) (x : Numbered) (back : List Numbered) → IsSystem settings → 1 ≤ next → next ≤ LAST_NUMBER + 1 → length (front ++ x ∷ back) ≤ MOST_EVENTS → Around settings next front back → IsFree settings (front ++ back) x.event → All (λ y. y.id < x.id) front → All (λ y. x.id < y.id) back → (1 ≤ x.id) × (x.id < next) → IsScenario (record { settings = settings; events = front ++ x ∷ back; next = next })
 IsScenario-middle settings next front x back system some below few around free before after given =
     let J : Numbered → Numbered → Type 0 = λ x y. join_alike x.event y.event ≡ false in
     let L : Numbered → Numbered → Type 0 = λ x y. leave_alike x.event y.event ≡ false in
@@ -119,7 +120,7 @@ IsScenario-middle settings next front x back system some below few around free b
     }
 
 -- with nothing in the middle
-pub IsScenario-without : (settings : System) (next : ℕ) (front back : List Numbered) → IsSystem settings → 1 ≤ next → next ≤ last_number + 1 → length (front ++ back) ≤ most_events → Around settings next front back → IsScenario (record { settings = settings; events = front ++ back; next = next })
+pub IsScenario-without : (settings : System) (next : ℕ) (front back : List Numbered) → IsSystem settings → 1 ≤ next → next ≤ LAST_NUMBER + 1 → length (front ++ back) ≤ MOST_EVENTS → Around settings next front back → IsScenario (record { settings = settings; events = front ++ back; next = next })
 IsScenario-without settings next front back system some below few around =
     record {
       settings = system;
@@ -174,7 +175,7 @@ length_without : (front : List Numbered) (x : Numbered) (back : List Numbered) �
 length_without front x back = simp length-append (omega arith)
 
 -- an event more, an event in the place of another, and an event less
-inserted_after : (s : Plan) (event : Event) → IsScenario s → IsFree s.settings s.events event → length s.events < most_events → s.next ≤ last_number → IsScenario (changed s (Insert event))
+inserted_after : (s : Plan) (event : Event) → IsScenario s → IsFree s.settings s.events event → length s.events < MOST_EVENTS → s.next ≤ LAST_NUMBER → IsScenario (changed s (Insert event))
 inserted_after s event h free few more =
     let some = h.next_some in
     let around = around_nothing s h in

@@ -1,5 +1,6 @@
 -- Events, and the order in which a run takes them.
-use Rattle.std.specs.Prelude.{ℕ, Bool, false, ◌==◌, List}
+use Rattle.std.specs.Prelude.{ℕ, Bool, false, ◌==◌, Option, Some, None, List}
+use Rattle.std.specs.Option.{unwrap_or}
 use Rattle.std.specs.declared.cmp.Ordering.{Ordering}
 use Rattle.std.specs.Ordering.{nat_cmp, on, then_cmp}
 use Rattle.pf_scenario.specs.Sorted.{sorted_by}
@@ -21,12 +22,12 @@ kind_of (Leave slot task) = 1
 kind_of (Join slot task cost period early) = 2
 kind_of (Delay slot task by) = 3
 
--- the task of an event; a limit has none
-abbrev pub task_of : Event → ℕ
-task_of (Join slot task cost period early) = task
-task_of (Leave slot task) = task
-task_of (Delay slot task by) = task
-task_of (Limit slot count) = 0
+-- the task of an event: the one that joins, leaves or is delayed; a limit has none
+abbrev pub task_of : Event → Option ℕ
+task_of (Join slot task cost period early) = Some task
+task_of (Leave slot task) = Some task
+task_of (Delay slot task by) = Some task
+task_of (Limit slot count) = None
 
 -- the event is of slot t
 abbrev pub is_of : ℕ → Numbered → Bool
@@ -45,7 +46,7 @@ is_leave_of task event = false
 unfoldable pub run_cmp : Numbered → Numbered → Ordering
 run_cmp =
     then_cmp (on (λ x. kind_of x.event) nat_cmp)
-    (then_cmp (on (λ x. task_of x.event) nat_cmp) (on (λ x. x.id) nat_cmp))
+    (then_cmp (on (λ x. unwrap_or (task_of x.event) 0) nat_cmp) (on (λ x. x.id) nat_cmp))
 
 -- these events in run order
 abbrev pub in_run_order : List Numbered → List Numbered

@@ -1,6 +1,7 @@
 -- What an index of events keeps: their order in time, and the numbers of the joins and leaves of each task.
-use Rattle.std.specs.Prelude.{◌≡◌, ℕ, ◌+◌, ◌≤◌, Bool, true, false, ◌==◌, if◌then◌else◌, List, [], ◌∷◌, length, slice_index, All, AllPairs}
+use Rattle.std.specs.Prelude.{◌≡◌, ℕ, ◌+◌, ◌≤◌, Bool, true, false, ◌==◌, if◌then◌else◌, List, [], ◌∷◌, length, slice_index, IfSome, All, AllPairs}
 use Rattle.std.specs.Ordering.{is_lt}
+use Rattle.pf_weight.specs.declared.task.TheConstants.{LARGEST_TASK}
 use Rattle.pf_scenario.specs.Event.{task_of}
 pub use Rattle.pf_scenario.specs.Event.{is_join_of, is_leave_of}
 use Rattle.pf_scenario.specs.TimeOrder.{time_cmp}
@@ -34,7 +35,7 @@ pub record IsIndexed (order : List Numbered) (joins leaves : List ℕ) : Type 0 
 -- the event can be put among these
 pub record IsNew (x : Numbered) (events : List Numbered) : Type 0 where
   pub given : 1 ≤ x.id
-  pub task : task_of x.event ≤ 4095
+  pub task : IfSome (task_of x.event) (λ task. task ≤ LARGEST_TASK)
   pub apart : All (λ y. AreApart y x) events
 
 -- the table has a place for the task of the event

@@ -4,6 +4,7 @@ pub mod Sorted
 pub mod Event
 pub mod Scenario
 pub mod Edit
+pub mod Refusals
 pub mod Laws
 pub mod TimeOrder
 pub mod Index

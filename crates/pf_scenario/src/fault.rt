@@ -1,3 +1,6 @@
+ghost use Rattle.std.specs.Prelude.{◌≡◌};
+ghost use Rattle.pf_scenario.specs.Refusals.{edit_fault_code, edit_fault_name};
+
 use pf_weight::fault::WeightFault;
 use std::error::Error;
 use std::fmt;
@@ -39,6 +42,46 @@ pub enum EditFault {
     TooManyEvents,
     /// The number 1,048,575 was given.
     NumbersSpent,
+}
+
+impl EditFault {
+    /// Its number in the table of refusals, 10 to 19 or 24.
+    pub fn code(self) -> u64
+        ensures { result ≡ edit_fault_code self }
+    {
+        match self {
+            EditFault::EventNotFound => 10,
+            EditFault::SlotOutOfRange => 11,
+            EditFault::TaskOutOfRange => 12,
+            EditFault::EarlyOutOfRange => 13,
+            EditFault::DelayOutOfRange => 14,
+            EditFault::CountOutOfRange => 24,
+            EditFault::BadWeight(_) => 15,
+            EditFault::JoinTwice => 16,
+            EditFault::LeaveTwice => 17,
+            EditFault::TooManyEvents => 18,
+            EditFault::NumbersSpent => 19,
+        }
+    }
+
+    /// Its name in the table of refusals.
+    pub fn name(self) -> &'static str
+        ensures { result.now ≡ edit_fault_name self }
+    {
+        match self {
+            EditFault::EventNotFound => "EventNotFound",
+            EditFault::SlotOutOfRange => "SlotOutOfRange",
+            EditFault::TaskOutOfRange => "TaskOutOfRange",
+            EditFault::EarlyOutOfRange => "EarlyOutOfRange",
+            EditFault::DelayOutOfRange => "DelayOutOfRange",
+            EditFault::CountOutOfRange => "CountOutOfRange",
+            EditFault::BadWeight(_) => "BadWeight",
+            EditFault::JoinTwice => "JoinTwice",
+            EditFault::LeaveTwice => "LeaveTwice",
+            EditFault::TooManyEvents => "TooManyEvents",
+            EditFault::NumbersSpent => "NumbersSpent",
+        }
+    }
 }
 
 impl fmt::Display for EditFault {

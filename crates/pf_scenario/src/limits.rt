@@ -1,15 +1,12 @@
 ghost use Rattle.std.specs.Prelude.{◌≡◌, []};
 ghost use Rattle.std.specs.Result.{result_err};
-ghost use Rattle.pf_scenario.specs.Event.{slot_of};
 ghost use Rattle.pf_scenario.specs.Edit.{event_fault, is_within, unless};
 
 use crate::event::Event;
 use crate::fault::EditFault;
 use crate::settings::Settings;
+use pf_weight::task::LARGEST_TASK;
 use pf_weight::weight::Weight;
-
-/// The greatest task number.
-const LAST_TASK: u64 = 4095;
 
 /// The most slots that a subtask may run before its release.
 const MOST_EARLY: u64 = 1 << 20;
@@ -17,23 +14,11 @@ const MOST_EARLY: u64 = 1 << 20;
 /// The most slots of a delay.
 const LONGEST_DELAY: u64 = 1 << 20;
 
-/// The slot of an event.
-pub fn slot_of(event: &Event) -> u64
-    ensures { result ≡ slot_of event.now }
-{
-    match *event {
-        Event::Join { slot, .. }
-        | Event::Leave { slot, .. }
-        | Event::Delay { slot, .. }
-        | Event::Limit { slot, .. } => slot,
-    }
-}
-
 /// `TaskOutOfRange` where the task is not 1 to 4,095.
 fn check_task(task: u64) -> Result<(), EditFault>
-    ensures { result_err result ≡ unless (is_within 4095 task) EditFault.TaskOutOfRange }
+    ensures { result_err result ≡ unless (is_within LARGEST_TASK task) EditFault.TaskOutOfRange }
 {
-    if task == 0 || task > LAST_TASK {
+    if task == 0 || task > LARGEST_TASK {
         return Err(EditFault::TaskOutOfRange);
     }
     Ok(())
@@ -47,7 +32,7 @@ fn check_task(task: u64) -> Result<(), EditFault>
 pub fn check_limits(settings: Settings, event: &Event) -> Result<(), EditFault>
     ensures { result_err result ≡ event_fault settings [] event.now }
 {
-    if slot_of(event) >= settings.horizon() {
+    if event.slot() >= settings.horizon() {
         return Err(EditFault::SlotOutOfRange);
     }
     match *event {

@@ -1,50 +1,27 @@
 ghost use Rattle.std.specs.Prelude.{◌≡◌, ◌<◌, ◌≤◌, length, slice_index_or, slice_range, filter, AllPairs, Contains};
 ghost use Rattle.std.specs.List.{insert, remove};
 ghost use Rattle.std.specs.Ordering.{is_lt};
-ghost use Rattle.pf_scenario.specs.Event.{is_of, kind_of, task_of};
+ghost use Rattle.pf_scenario.specs.Event.{is_of};
 ghost use Rattle.pf_scenario.specs.Scenario.{without};
 ghost use Rattle.pf_scenario.specs.TimeOrder.{time_cmp, put_in_time};
 ghost use Rattle.pf_scenario.specs.Index.{AreApart, IsInTime};
 
-use crate::event::{Event, Numbered};
-use crate::limits::slot_of;
-
-/// In a slot limits come first, then leaves, then joins, then delays.
-fn kind_of(event: &Event) -> u8
-    ensures { result ≡ kind_of event.now }
-{
-    match *event {
-        Event::Limit { .. } => 0,
-        Event::Leave { .. } => 1,
-        Event::Join { .. } => 2,
-        Event::Delay { .. } => 3,
-    }
-}
-
-/// The task of an event; a limit has none.
-fn task_of(event: &Event) -> u64
-    ensures { result ≡ task_of event.now }
-{
-    match *event {
-        Event::Join { task, .. } | Event::Leave { task, .. } | Event::Delay { task, .. } => task,
-        Event::Limit { .. } => 0,
-    }
-}
+use crate::event::Numbered;
 
 /// Whether x stands before y: by slot, and in a slot by kind, then by task, then by number.
 #[tactic(auto, unfolding(crate::specs::TimeOrder::time_cmp, crate::specs::Event::run_cmp))]
 fn is_before(x: &Numbered, y: &Numbered) -> bool
     ensures { result ≡ is_lt (time_cmp x.now y.now) }
 {
-    let slots = (slot_of(&x.event), slot_of(&y.event));
+    let slots = (x.event.slot(), y.event.slot());
     if slots.0 != slots.1 {
         return slots.0 < slots.1;
     }
-    let kinds = (kind_of(&x.event), kind_of(&y.event));
+    let kinds = (x.event.kind(), y.event.kind());
     if kinds.0 != kinds.1 {
         return kinds.0 < kinds.1;
     }
-    let tasks = (task_of(&x.event), task_of(&y.event));
+    let tasks = (x.event.task().unwrap_or(0), y.event.task().unwrap_or(0));
     if tasks.0 != tasks.1 {
         return tasks.0 < tasks.1;
     }
@@ -79,7 +56,7 @@ pub fn slot_places(order: &[Numbered], t: u64) -> (usize, usize)
     ensures within { result.1 ≤ length order.now }
     ensures slot { slice_range order.now result.0 result.1 ≡ filter (is_of t) order.now }
 {
-    let low = order.partition_point(|x| slot_of(&x.event) < t);
-    let high = order.partition_point(|x| slot_of(&x.event) <= t);
+    let low = order.partition_point(|x| x.event.slot() < t);
+    let high = order.partition_point(|x| x.event.slot() <= t);
     (low, high)
 }

@@ -13,17 +13,17 @@ use crate::change::Change;
 use crate::event::{Event, Numbered};
 use crate::fault::EditFault;
 use crate::index::Index;
-use crate::limits::{check_limits, slot_of};
+use crate::limits::check_limits;
 use crate::numbers::place_of;
 use crate::settings::Settings;
 use std::alloc::{AllocError, Global};
 use std::marker::Model;
 
 /// The most events that a scenario holds.
-const MOST_EVENTS: usize = 65535;
+pub const MOST_EVENTS: usize = 65535;
 
 /// The last event number that is given.
-const LAST_NUMBER: u64 = 1_048_575;
+pub const LAST_NUMBER: u64 = 1_048_575;
 
 /// What is planned: settings, and the events held, each with its number.
 #[derive(Debug, Drop)]
@@ -152,8 +152,23 @@ impl Scenario {
         if let Err(fault) = self.check(&change) {
             return Err(ApplyFault::Refused(fault));
         }
+        Ok(self.make(change)?)
+    }
+
+    /// Makes a change that has no fault and gives the number of the event that it concerns. That it has none is the
+    /// caller's duty: `check` tells.
+    ///
+    /// # Errors
+    ///
+    /// Where memory is refused: the scenario is as before.
+    pub fn make(&mut self, change: Change) -> Result<u64, AllocError>
+        requires { edit_fault self.old change ≡ None }
+        ensures ok { IfOk result (λ id. (id ≡ concerned self.old change) × (self.new ≡ changed self.old change)) }
+        ensures err { OnErr result (self.new ≡ self.old) }
+        ensures scenario { IsScenario self.new }
+    {
         match change {
-            Change::Insert(event) => Ok(self.insert(event)?),
+            Change::Insert(event) => self.insert(event),
             Change::Alter(id, event) => {
                 self.alter(id, event)?;
                 Ok(id)
@@ -222,10 +237,10 @@ impl Scenario {
         ensures { result ≡ touched_slot self.now change.now }
     {
         match *change {
-            Change::Insert(event) => Some(slot_of(&event)),
+            Change::Insert(event) => Some(event.slot()),
             Change::Alter(id, event) => {
                 let old = self.held_slot(id)?;
-                Some(old.min(slot_of(&event)))
+                Some(old.min(event.slot()))
             }
             Change::Strike(id) => self.held_slot(id),
         }
@@ -236,7 +251,7 @@ impl Scenario {
         ensures { result ≡ held_slot self.now.events id }
     {
         let i = place_of(&self.events, id)?;
-        Some(slot_of(&self.events[i].event))
+        Some(self.events[i].event.slot())
     }
 
     /// The events, by number.

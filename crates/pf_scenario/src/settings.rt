@@ -6,10 +6,10 @@ use pf_weight::base::Base;
 use std::marker::Model;
 
 /// The most processors.
-const MOST_PROCESSORS: u64 = 64;
+pub const MOST_PROCESSORS: u64 = 64;
 
 /// The greatest cap, in 1/h.
-const LARGEST_CAP: u64 = 1 << 44;
+pub const LARGEST_CAP: u64 = 1 << 44;
 
 /// The horizon of ordinary settings, in slots.
 pub const NEAR_HORIZON: u64 = 1 << 20;

@@ -1,8 +1,9 @@
-ghost use Rattle.std.specs.Prelude.{◌≡◌, ◌==◌, ◌&&◌, not, ℕ, ◌<◌, ◌≤◌, length, slice_index, OnOk};
+ghost use Rattle.std.specs.Prelude.{◌≡◌, ◌==◌, ◌&&◌, not, ℕ, ◌<◌, ◌≤◌, length, slice_index, OnOk, IfSome};
 ghost use Rattle.pf_scenario.specs.Event.{task_of};
 ghost use Rattle.pf_scenario.specs.Index.{is_join_of, is_leave_of, HasRoom, Notes};
 
 use crate::event::Event;
+use pf_weight::task::LARGEST_TASK;
 use std::alloc::AllocError;
 
 /// Whether a number is noted for the task, other than this one.
@@ -15,7 +16,7 @@ pub fn notes_other(table: &[u64], task: u64, id: u64) -> bool
 
 /// Makes a place for the task. No entry changes.
 fn grow(table: &mut Vec<u64>, task: u64) -> Result<(), AllocError>
-    requires { task ≤ 4095 }
+    requires { task ≤ LARGEST_TASK }
     ensures same { (k : ℕ) → slice_index table.new.items k ≡ slice_index table.old.items k }
     ensures ok { OnOk result (task < length table.new.items) }
 {
@@ -32,7 +33,7 @@ pub fn grow_for(
     leaves: &mut Vec<u64>,
     event: &Event,
 ) -> Result<(), AllocError>
-    requires { task_of event.now ≤ 4095 }
+    requires { IfSome (task_of event.now) (λ task. task ≤ LARGEST_TASK) }
     ensures joins { (k : ℕ) → slice_index joins.new.items k ≡ slice_index joins.old.items k }
     ensures leaves { (k : ℕ) → slice_index leaves.new.items k ≡ slice_index leaves.old.items k }
     ensures ok { OnOk result (HasRoom joins.new.items leaves.new.items event.now) }

@@ -23,6 +23,6 @@ pub struct Opening {
     pub base: u64,
     /// The most load that joins may make, in 1/h.
     pub cap: u64,
-    /// How many slots lie from one checkpoint to the next.
+    /// The distance of checkpoints, in slots.
     pub every: u64,
 }

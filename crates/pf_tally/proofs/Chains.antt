@@ -13,8 +13,8 @@ use Rattle.pf_window.specs.Window.{release_of}
 use Rattle.pf_scenario.specs.declared.event.Event.{Event}
 use Rattle.pf_scenario.specs.declared.event.Event.TheVariants.{Join, Leave, Delay, Limit}
 use Rattle.pf_scenario.specs.declared.event.Numbered.{Numbered}
-use Rattle.pf_engine.specs.Record.{Slot}
-use Rattle.pf_engine.specs.Inside.{Joined, held_back, shift_of}
+use Rattle.pf_run.specs.Record.{Slot}
+use Rattle.pf_run.specs.Inside.{Joined, held_back, shift_of}
 use Rattle.pf_tally.specs.Clock.{Stop, next_at, is_stopped, clock_of}
 use Rattle.pf_tally.specs.Log.{RiseFrom}
 use Rattle.pf_tally.specs.Held.{delayed, next_in, held_by, held_from, stop_of, part_of, stopped_below, IsChain}

@@ -9,9 +9,9 @@ use Rattle.pf_scenario.specs.Event.{slot_of}
 use Rattle.pf_scenario.specs.declared.event.Event.{Event}
 use Rattle.pf_scenario.specs.declared.event.Event.TheVariants.{Join, Leave, Delay, Limit}
 use Rattle.pf_scenario.specs.declared.event.Numbered.{Numbered}
-use Rattle.pf_engine.proofs.Firsts.{one_at_most}
-use Rattle.pf_engine.specs.Record.{Slot, done}
-use Rattle.pf_engine.specs.Inside.{Joined, held_back, shift_of}
+use Rattle.pf_run.proofs.Firsts.{one_at_most}
+use Rattle.pf_run.specs.Record.{Slot, done}
+use Rattle.pf_run.specs.Inside.{Joined, held_back, shift_of}
 use Rattle.pf_tally.specs.Clock.{Stop, next_at, stop_by, stops_behind}
 use Rattle.pf_tally.specs.Quanta.{slots_of}
 use Rattle.pf_tally.specs.Log.{RiseFrom}

@@ -5,9 +5,9 @@ use Rattle.pf_window.specs.Group.{group_of}
 use Rattle.pf_order.specs.Priority.{priority_cmp}
 use Rattle.pf_scenario.specs.Event.{run_cmp}
 use Rattle.pf_scenario.specs.Scenario.{events_of}
-use Rattle.pf_engine.specs.Record.{done, in_force}
-use Rattle.pf_engine.specs.Inside.{inside, load_of, count_of, shift_of, member_of, ready}
-use Rattle.pf_engine.specs.Computed.{course_of}
+use Rattle.pf_run.specs.Record.{done, in_force}
+use Rattle.pf_run.specs.Inside.{inside, load_of, count_of, shift_of, member_of, ready}
+use Rattle.pf_run.specs.Computed.{course_of}
 use Rattle.pf_tally.specs.Clock.{clock_of}
 use Rattle.pf_tally.specs.Lags.{lags_of}
 use Rattle.pf_tally.specs.Misses.{miss_cmp, misses_of}

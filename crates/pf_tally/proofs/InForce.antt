@@ -12,14 +12,15 @@ use Rattle.std.proofs.lemmas.List.Kept.{AllPairs-filter}
 use Rattle.std.proofs.lemmas.List.Sorted.{searched, list_any-IsPermutation}
 use Rattle.pf_scenario.specs.Event.{slot_of}
 use Rattle.pf_scenario.specs.Scenario.{Plan, events_of, past}
-use Rattle.pf_scenario.specs.Edit.{IsScenario, most_events}
+use Rattle.pf_scenario.specs.Edit.{IsScenario}
+use Rattle.pf_scenario.specs.declared.scenario.TheConstants.{MOST_EVENTS}
 use Rattle.pf_scenario.specs.declared.event.Numbered.{Numbered}
-use Rattle.pf_engine.specs.declared.denied.Denied.{Denied}
-use Rattle.pf_engine.specs.Record.{is_denied, in_force}
-use Rattle.pf_engine.proofs.Containing.{pairs_append, pairs_tail}
-use Rattle.pf_engine.proofs.Joins.{contains_events_of, past_below, joins_once_in_force}
-use Rattle.pf_engine.proofs.Plans.{past_few, in_force_few}
-use Rattle.pf_engine.proofs.Bounding.{in_force_limits}
+use Rattle.pf_run.specs.declared.denied.Denied.{Denied}
+use Rattle.pf_run.specs.Record.{is_denied, in_force}
+use Rattle.pf_run.proofs.Containing.{pairs_append, pairs_tail}
+use Rattle.pf_run.proofs.Joins.{contains_events_of, past_below, joins_once_in_force}
+use Rattle.pf_run.proofs.Plans.{past_few, in_force_few}
+use Rattle.pf_run.proofs.Within.{in_force_limits}
 use Rattle.pf_tally.specs.Log.{RiseFrom, IsLog}
 use Rattle.pf_tally.specs.Standing.{AreNumbersOf}
 
@@ -108,7 +109,7 @@ standing_is_log s n denials scenario within = record {
   rise = in_force_rises s n denials;
   limits = in_force_limits s n denials scenario;
   below = in_force_below s n denials;
-  few = let few : length s.events ≤ most_events = scenario.few in
+  few = let few : length s.events ≤ MOST_EVENTS = scenario.few in
       omega (arith, in_force_few denials (past s n), past_few s n);
   joins_once = joins_once_in_force s n denials scenario;
 }

@@ -13,11 +13,11 @@ use Rattle.pf_scenario.specs.declared.event.Numbered.{Numbered}
 use Rattle.std.specs.Prelude.{not}
 use Rattle.std.specs.List.Sorted.{IsNonDecreasing}
 use Rattle.std.proofs.lemmas.List.Sums.{count_by-le-length}
-use Rattle.pf_engine.specs.Record.{Slot, runs}
-use Rattle.pf_engine.specs.Inside.{Joined, joined_by, join_of, has_left, inside}
-use Rattle.pf_engine.proofs.Containing.{from_filter}
-use Rattle.pf_engine.proofs.Limits.{join_task, join_weight, delay_by, weight_parts}
-use Rattle.pf_engine.proofs.Bounding.{joined_within, held_cond, horizon_within}
+use Rattle.pf_run.specs.Record.{Slot, runs}
+use Rattle.pf_run.specs.Inside.{Joined, joined_by, join_of, has_left, inside}
+use Rattle.pf_run.proofs.Containing.{from_filter}
+use Rattle.pf_run.proofs.Limits.{join_task, join_weight, delay_by, weight_parts}
+use Rattle.pf_run.proofs.Within.{joined_within, held_cond, horizon_within}
 use Rattle.pf_tally.specs.Log.{IsLog}
 use Rattle.pf_tally.specs.Held.{delayed, CanTally}
 use Rattle.pf_tally.specs.Quanta.{slots_of}
@@ -59,14 +59,6 @@ joined_is system (Join slot task cost period early) j of_system within is =
 joined_is system (Leave slot task) j of_system within is = cc
 joined_is system (Delay slot task by) j of_system within is = cc
 joined_is system (Limit slot count) j of_system within is = cc
-
--- Use: tasks that joined have numbers below 4,096.
-pub numbers_within : (system : System) (xs : List Numbered) → All (λ x. IsEvent system x.event) xs → All (λ j. j.task < 4096) (filter_map (join_of system.base) xs)
-numbers_within system xs limits k d within =
-    let js = filter_map (join_of system.base) xs in
-    let g = from_filter_map (join_of system.base) xs (get_or js k d) (Contains-get_or js k d within) in
-    let is = joined_within system g.giver.event (get_or js k d) g.gives (All-contains (λ x. IsEvent system x.event) xs g.giver limits g.stands) in
-    omega (arith, is.task_within)
 
 delay_short : (system : System) (j : Joined) (event : Event) → IsEvent system event → delayed j event ≤ 2 ^ 20
 delay_short system j (Delay slot task by) within = held_cond (task == j.task) by (delay_by system slot task by within)

@@ -12,16 +12,16 @@ use Rattle.pf_scenario.specs.Scenario.{Plan, past}
 use Rattle.pf_scenario.specs.Edit.{IsScenario}
 use Rattle.pf_scenario.specs.System.{System}
 use Rattle.pf_scenario.specs.declared.event.Numbered.{Numbered}
-use Rattle.pf_engine.specs.declared.denied.Denied.{Denied}
-use Rattle.pf_engine.specs.Record.{Slot, in_force}
-use Rattle.pf_engine.specs.Inside.{Joined, join_of, inside}
-use Rattle.pf_engine.specs.Run.{standing}
-use Rattle.pf_engine.specs.Computed.{run_of}
-use Rattle.pf_engine.specs.RunRows.{AreOfRun, rows_in, denials_in}
-use Rattle.pf_engine.proofs.Runs.{computed_length}
+use Rattle.pf_run.specs.declared.denied.Denied.{Denied}
+use Rattle.pf_run.specs.Record.{Slot, in_force}
+use Rattle.pf_run.specs.Inside.{Joined, join_of, inside}
+use Rattle.pf_run.specs.Run.{standing}
+use Rattle.pf_run.specs.Computed.{run_of}
+use Rattle.pf_run.specs.RunRows.{AreOfRun, rows_in, denials_in}
+use Rattle.pf_run.proofs.Runs.{computed_length}
 use Rattle.pf_tally.specs.Lags.{task_cmp, by_task, lag_of, lags_of}
 use Rattle.pf_scenario.proofs.Sorting.{sorted_keeps}
-use Rattle.pf_engine.proofs.Joins.{joined_differ}
+use Rattle.pf_run.proofs.Joins.{joined_differ}
 use Rattle.pf_tally.specs.Held.{CanTally, next_in, held_from}
 use Rattle.pf_tally.specs.Late.{late_misses, CanMiss}
 use Rattle.pf_tally.specs.Misses.{leaves_after, misses_of_task, miss_cmp, in_miss_order, misses_of}
@@ -29,7 +29,7 @@ use Rattle.pf_tally.specs.declared.held.Held.{Held}
 use Rattle.pf_tally.specs.declared.miss.Miss.{Miss}
 use Rattle.pf_tally.specs.Ledger.{IsLedger}
 use Rattle.pf_tally.specs.Log.{IsLog}
-use Rattle.pf_tally.specs.Notes.{noted_of}
+use Rattle.pf_table.specs.Lists.{noted_of}
 use Rattle.pf_tally.specs.Noted.{IsRow, IsTableOf}
 use Rattle.pf_tally.specs.Own.{own, AreDiaries}
 use Rattle.pf_tally.specs.Quanta.{slots_of, slots_in}
@@ -55,8 +55,8 @@ unfolding denials_in
 known_denials s n denials is = ap (λ ds. in_force ds (past s n)) is
 
 pub ledger_made : (s : Plan) (rows : List (List (Option Pick))) (denials : List Denied) (ledger : Ledger) → AreOfRun s (length rows) rows denials →
-    ledger.settings ≡ s.settings → ledger.now ≡ length rows → ledger.events.items ≡ in_force denials (past s (length rows)) → AreDiaries ledger.events.items ledger.diaries.items →
-    IsTableOf rows ledger.quanta.items → IsLedger s (length rows) ledger
+    ledger.settings ≡ s.settings → ledger.now ≡ length rows → ledger.events.items ≡ in_force denials (past s (length rows)) → AreDiaries ledger.events.items ledger.diaries →
+    IsTableOf rows ledger.quanta → IsLedger s (length rows) ledger
 ledger_made s rows denials ledger are settings now events diaries quanta =
     let n = length rows in
     let P : List Numbered → Type 0 = IsLog s.settings n in
@@ -68,7 +68,7 @@ ledger_made s rows denials ledger are settings now events diaries quanta =
       events = events ∙ known_denials s n denials are.are_denials;
       log = subst P (sym events) (standing_is_log s n denials are.scenario are.within);
       diaries = diaries;
-      quanta = λ task within. quanta.each task within ∙ ap (λ rows. slots_in rows task) are.are_rows ∙ slots_seated s n task are.scenario;
+      quanta = λ task. quanta.each task ∙ ap (λ rows. slots_in rows task) are.are_rows ∙ slots_seated s n task are.scenario;
     }
 
 -- what is known of a task of the ledger: its quanta, its own events, and that it can be tallied by these
@@ -82,13 +82,13 @@ module _ (s : Plan) (n : ℕ) (ledger : Ledger) (known : IsLedger s n ledger) (j
   task_share : IsShare j.weight
   task_share = let can = task_known in can.share
 
-  task_ran : (ran : List ℕ) → ran ≡ noted_of ledger.quanta.items j.task → ran ≡ slots_of (run_of s n) j.task
-  task_ran ran of_ran = let can = task_known in of_ran ∙ known.quanta j.task (omega (arith, can.number))
+  task_ran : (ran : List ℕ) → ran ≡ noted_of ledger.quanta j.task → ran ≡ slots_of (run_of s n) j.task
+  task_ran ran of_ran = of_ran ∙ known.quanta j.task
 
-  task_diary : (diary : List Numbered) → diary ≡ noted_of ledger.diaries.items j.task → diary ≡ own j.task ledger.events.items
-  task_diary diary of_diary = let can = task_known in of_diary ∙ known.diaries.each j.task (omega (arith, can.number))
+  task_diary : (diary : List Numbered) → diary ≡ noted_of ledger.diaries j.task → diary ≡ own j.task ledger.events.items
+  task_diary diary of_diary = of_diary ∙ known.diaries.each j.task
 
-  task_can : (ran : List ℕ) (diary : List Numbered) → ran ≡ noted_of ledger.quanta.items j.task → diary ≡ noted_of ledger.diaries.items j.task → CanTally j ran diary ledger.now
+  task_can : (ran : List ℕ) (diary : List Numbered) → ran ≡ noted_of ledger.quanta j.task → diary ≡ noted_of ledger.diaries j.task → CanTally j ran diary ledger.now
   task_can ran diary of_ran of_diary =
       let P : List ℕ → List Numbered → Type 0 = λ ran xs. CanTally j ran xs ledger.now in
       subst₂ P (sym (task_ran ran of_ran)) (sym (task_diary diary of_diary)) (can_own j (slots_of (run_of s n) j.task) ledger.events.items ledger.now task_known)
@@ -117,12 +117,12 @@ module _ (s : Plan) (n : ℕ) (ledger : Ledger) (known : IsLedger s n ledger) (t
       let P : Joined → Type 0 = Contains (filter_map (join_of ledger.settings.base) ledger.events.items) in
       subst P (sym is) (inside_known ledger.settings.base ledger.events.items tasks k j of_tasks within)
 
-  pub step_can : (k : ℕ) (j : Joined) (ran : List ℕ) (diary : List Numbered) → k < length tasks → j ≡ get_or tasks k j → ran ≡ noted_of ledger.quanta.items j.task →
-      diary ≡ noted_of ledger.diaries.items j.task → CanTally j ran diary ledger.now
+  pub step_can : (k : ℕ) (j : Joined) (ran : List ℕ) (diary : List Numbered) → k < length tasks → j ≡ get_or tasks k j → ran ≡ noted_of ledger.quanta j.task →
+      diary ≡ noted_of ledger.diaries j.task → CanTally j ran diary ledger.now
   step_can k j ran diary within is = task_can s n ledger known j (step_joined k j within is) ran diary
 
   pub step_lag : (k : ℕ) (j : Joined) (ran : List ℕ) (diary : List Numbered) (lag : Lag) (lags after : List Lag) → k < length tasks → j ≡ get_or tasks k j →
-      ran ≡ noted_of ledger.quanta.items j.task → diary ≡ noted_of ledger.diaries.items j.task →
+      ran ≡ noted_of ledger.quanta j.task → diary ≡ noted_of ledger.diaries j.task →
       ((r : List Slot) → length r ≡ ledger.now → slots_of r j.task ≡ ran → lag ≡ lag_of r diary j) →
       after ≡ lags ++ lag ∷ [] → lags ≡ map (lag_of (run_of s n) ledger.events.items) (take k tasks) → after ≡ map (lag_of (run_of s n) ledger.events.items) (take (k + 1) tasks)
   step_lag k j ran diary lag lags after within is of_ran of_diary of_lag push before =
@@ -160,12 +160,12 @@ module _ (s : Plan) (n : ℕ) (ledger : Ledger) (known : IsLedger s n ledger) (t
       let Q : Joined → Type 0 = Contains tasks in
       subst P of_tasks (subst Q (sym is) (Contains-get_or tasks k j within))
 
-  pub miss_can : (k : ℕ) (j : Joined) (ran : List ℕ) (diary : List Numbered) → k < length tasks → j ≡ get_or tasks k j → ran ≡ noted_of ledger.quanta.items j.task →
-      diary ≡ noted_of ledger.diaries.items j.task → CanTally j ran diary ledger.now
+  pub miss_can : (k : ℕ) (j : Joined) (ran : List ℕ) (diary : List Numbered) → k < length tasks → j ≡ get_or tasks k j → ran ≡ noted_of ledger.quanta j.task →
+      diary ≡ noted_of ledger.diaries j.task → CanTally j ran diary ledger.now
   miss_can k j ran diary within is = task_can s n ledger known j (joined_at k j within is) ran diary
 
   pub miss_step : (k : ℕ) (j : Joined) (ran : List ℕ) (diary : List Numbered) (misses after : List Miss) → k < length tasks → j ≡ get_or tasks k j →
-      ran ≡ noted_of ledger.quanta.items j.task → diary ≡ noted_of ledger.diaries.items j.task →
+      ran ≡ noted_of ledger.quanta j.task → diary ≡ noted_of ledger.diaries j.task →
       ((s : Plan) → IsScenario s → length (run_of s ledger.now) ≡ ledger.now → ran ≡ slots_of (run_of s ledger.now) j.task → after ≡ misses ++ misses_of_task (run_of s ledger.now) diary j) →
       misses ≡ flat_map (misses_of_task (run_of s n) ledger.events.items) (take k tasks) → after ≡ flat_map (misses_of_task (run_of s n) ledger.events.items) (take (k + 1) tasks)
   miss_step k j ran diary misses after within is of_ran of_diary of_misses before =

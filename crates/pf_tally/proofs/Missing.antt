@@ -22,12 +22,12 @@ use Rattle.pf_scenario.specs.Edit.{IsScenario}
 use Rattle.pf_scenario.specs.declared.event.Event.{Event}
 use Rattle.pf_scenario.specs.declared.event.Event.TheVariants.{Join, Leave, Delay, Limit}
 use Rattle.pf_scenario.specs.declared.event.Numbered.{Numbered}
-use Rattle.pf_engine.specs.Record.{Slot}
+use Rattle.pf_run.specs.Record.{Slot}
 use Rattle.pf_scenario.specs.Event.{is_leave_of}
-use Rattle.pf_engine.specs.Inside.{Joined, shift_of}
-use Rattle.pf_engine.specs.Computed.{run_of}
-use Rattle.pf_engine.proofs.Counting.{found_counted}
-use Rattle.pf_engine.proofs.Containing.{contains_none, pairs_append, pairs_tail}
+use Rattle.pf_run.specs.Inside.{Joined, shift_of}
+use Rattle.pf_run.specs.Computed.{run_of}
+use Rattle.pf_run.proofs.Counting.{found_counted}
+use Rattle.pf_run.proofs.Containing.{contains_none, pairs_append, pairs_tail}
 use Rattle.pf_tally.specs.Clock.{next_at}
 use Rattle.pf_tally.specs.Held.{held_from}
 use Rattle.pf_tally.specs.Late.{counted, due_at, is_late, late_miss, late_misses, miss_if}

@@ -9,8 +9,8 @@ use Rattle.std.proofs.lemmas.List.{append-nil, length-set, length_push, get_or_a
 use Rattle.std.proofs.lemmas.List.Folds.{list_any_more}
 use Rattle.pf_order.specs.declared.pick.Pick.{Pick}
 use Rattle.pf_place.specs.Occupancy.{sitter, sitters, is_seated, NoTaskTwice}
-use Rattle.pf_engine.proofs.Containing.{contains_head, contains_tail, pairs_head, pairs_tail}
-use Rattle.pf_tally.specs.Notes.{noted_of, noted, IsEmptyTable}
+use Rattle.pf_run.proofs.Containing.{contains_head, contains_tail, pairs_head, pairs_tail}
+use Rattle.pf_table.specs.Lists.{noted_of}
 use Rattle.pf_tally.specs.Noted.{IsRow, AreNoted, IsTableOf}
 use Rattle.pf_tally.proofs.Places.{places_push}
 
@@ -33,7 +33,7 @@ not_before (Some q ∷ row) (suc p) pick once within is =
     (not_before row p pick (pairs_tail (λ p q. p.task ≢ q.task) q (sitters row) once) (omega arith) is)
 
 pub none_noted : (table : List (List ℕ)) (row : List (Option Pick)) (t : ℕ) → AreNoted table table (take 0 row) t
-none_noted table row t = record { long = refl; each = λ task within. sym (append-nil (noted_of table task)) }
+none_noted table row t = record { each = λ task. sym (append-nil (noted_of table task)) }
 
 seated_more : (row : List (Option Pick)) (p : ℕ) (o : Option Pick) (task : ℕ) → p < length row → get_or row p None ≡ o →
     is_seated (take (p + 1) row) task ≡ (is_seated (take p row) task || option_map_or (λ q. q.task == task) o false)
@@ -45,72 +45,48 @@ seated_more row p o task within is =
 pub idle_noted : (old new : List (List ℕ)) (row : List (Option Pick)) (t p : ℕ) → p < length row → None ≡ sitter row p →
     AreNoted old new (take p row) t → AreNoted old new (take (p + 1) row) t
 idle_noted old new row t p within is before = record {
-  long = before.long;
-  each = λ task inside. before.each task inside
+  each = λ task. before.each task
       ∙ ap (λ b. noted_of old task ++ cond b (t ∷ []) []) (sym (seated_more row p None task within (sym is) ∙ or-false (is_seated (take p row) task)));
 }
 
 -- a place with a pick
 pub pick_noted : (old new : List (List ℕ)) (row : List (Option Pick)) (t p : ℕ) (pick : Pick) (after : List (List ℕ)) → NoTaskTwice (sitters row) →
-    p < length row → Some pick ≡ sitter row p → AreNoted old new (take p row) t → after ≡ noted new pick.task t → AreNoted old after (take (p + 1) row) t
-pick_noted old new row t p pick after once within is before e =
-    let P : List (List ℕ) → Type 0 = λ table. AreNoted old table (take (p + 1) row) t in
-    subst P (sym e) (record {
-      long = length-set new pick.task (noted_of new pick.task ++ t ∷ []) ∙ before.long;
-      each = λ task inside. ⊎_elim
-          (λ same.
-          let at_task : pick.task < length new = omega (arith, before.long) in
-          let here : is_seated (take (p + 1) row) task ≡ true =
-          seated_more row p (Some pick) task within (sym is)
-          ∙ ap₂ (λ a b. a || b) (ap (is_seated (take p row)) (sym same) ∙ not_before row p pick once within (sym is)) (eq-eqb pick.task task same) in
-          let none : is_seated (take p row) task ≡ false = ap (is_seated (take p row)) (sym same) ∙ not_before row p pick once within (sym is) in
-          ap (noted_of (noted new pick.task t)) (sym same)
-          ∙ get_or-set_same new pick.task (noted_of new pick.task ++ t ∷ []) [] at_task
-          ∙ ap (λ k. noted_of new k ++ t ∷ []) same
-          ∙ ap (λ xs. xs ++ t ∷ []) (before.each task inside ∙ ap (λ b. noted_of old task ++ cond b (t ∷ []) []) none ∙ append-nil (noted_of old task))
-          ∙ ap (λ b. noted_of old task ++ cond b (t ∷ []) []) (sym here))
-          (λ differ.
-          get_or-set_other new pick.task task (noted_of new pick.task ++ t ∷ []) [] (λ e. differ (sym e))
-          ∙ before.each task inside
-          ∙ ap (λ b. noted_of old task ++ cond b (t ∷ []) [])
-          (sym (seated_more row p (Some pick) task within (sym is) ∙ ap (λ b. is_seated (take p row) task || b) (ne_eqb pick.task task differ) ∙ or-false (is_seated (take p row) task))))
-          (cases_eq pick.task task);
-    })
+    p < length row → Some pick ≡ sitter row p → AreNoted old new (take p row) t →
+    ((task : ℕ) → noted_of after task ≡ noted_of new task ++ cond (pick.task == task) (t ∷ []) []) → AreNoted old after (take (p + 1) row) t
+pick_noted old new row t p pick after once within is before noted = record {
+  each = λ task. noted task ∙ ⊎_elim
+      (λ same.
+      let test = eq-eqb pick.task task same in
+      let none : is_seated (take p row) task ≡ false = ap (is_seated (take p row)) (sym same) ∙ not_before row p pick once within (sym is) in
+      let here : is_seated (take (p + 1) row) task ≡ true = seated_more row p (Some pick) task within (sym is) ∙ ap₂ (λ a b. a || b) none test in
+      ap (λ b. noted_of new task ++ cond b (t ∷ []) []) test
+      ∙ ap (λ xs. xs ++ t ∷ []) (before.each task ∙ ap (λ b. noted_of old task ++ cond b (t ∷ []) []) none ∙ append-nil (noted_of old task))
+      ∙ ap (λ b. noted_of old task ++ cond b (t ∷ []) []) (sym here))
+      (λ differ.
+      let test = ne_eqb pick.task task differ in
+      ap (λ b. noted_of new task ++ cond b (t ∷ []) []) test
+      ∙ append-nil (noted_of new task)
+      ∙ before.each task
+      ∙ ap (λ b. noted_of old task ++ cond b (t ∷ []) [])
+      (sym (seated_more row p (Some pick) task within (sym is) ∙ ap (λ b. is_seated (take p row) task || b) test ∙ or-false (is_seated (take p row) task))))
+      (cases_eq pick.task task);
+}
 
 pub all_noted : (old new : List (List ℕ)) (row : List (Option Pick)) (t p : ℕ) → length row ≤ p → AreNoted old new (take p row) t → AreNoted old new row t
 all_noted old new row t p over before = let P : List (Option Pick) → Type 0 = λ places. AreNoted old new places t in subst P (take_all p row over) before
 
 -- before any row, and after one more
-pub no_table : (rows : List (List (Option Pick))) (table : List (List ℕ)) → IsEmptyTable 4096 table → IsTableOf (take 0 rows) table
-no_table rows table empty = record { long = empty.long; each = λ task within. empty.each task }
-
-pub empty_none : {X : Type 0} (table : List (List X)) → table ≡ [] → IsEmptyTable 0 table
-empty_none {X} table is = let P : List (List X) → Type 0 = IsEmptyTable 0 in subst P (sym is) (record { long = refl; each = λ task. refl })
-
-one_empty : {X : Type 0} (k : ℕ) → noted_of {X = X} ([] ∷ []) k ≡ []
-one_empty zero = refl
-one_empty (suc k) = refl
-
-pub empty_more : {X : Type 0} (old new : List (List X)) (notes : List X) (n m : ℕ) → notes ≡ [] → new ≡ old ++ notes ∷ [] → m ≡ n + 1 → IsEmptyTable n old → IsEmptyTable m new
-empty_more {X} old new notes n m none is next empty =
-    let P : List (List X) → Type 0 = IsEmptyTable m in
-    subst P (sym (is ∙ ap (λ notes. old ++ notes ∷ []) none)) (record {
-      long = omega (arith, length_push old [], empty.long, next);
-      each = λ task. ⊎_elim
-          (λ below. get_or_append_left old ([] ∷ []) [] task below ∙ empty.each task)
-          (λ past. get_or-append_right old ([] ∷ []) (length old) task [] refl past ∙ one_empty (task - length old))
-          (cases_lt task (length old));
-    })
+pub no_table : (rows : List (List (Option Pick))) (table : List (List ℕ)) → ((task : ℕ) → noted_of table task ≡ []) → IsTableOf (take 0 rows) table
+no_table rows table empty = record { each = empty }
 
 pub table_more : (rows : List (List (Option Pick))) (old new : List (List ℕ)) (row : List (Option Pick)) (t : ℕ) → t < length rows → get_or rows t row ≡ row →
     IsTableOf (take t rows) old → AreNoted old new row t → IsTableOf (take (t + 1) rows) new
 table_more rows old new row t within is table more =
     let P : List (List (Option Pick)) → Type 0 = λ rows. IsTableOf rows new in
     subst P (sym (take_more rows t row within ∙ ap (λ row. take t rows ++ row ∷ []) is)) (record {
-      long = more.long ∙ table.long;
-      each = λ task inside.
-          more.each task (omega (arith, table.long))
-          ∙ ap (λ slots. slots ++ cond (is_seated row task) (t ∷ []) []) (table.each task inside)
+      each = λ task.
+          more.each task
+          ∙ ap (λ slots. slots ++ cond (is_seated row task) (t ∷ []) []) (table.each task)
           ∙ sym (places_push (λ row. is_seated row task) 0 t (take t rows) row (omega (arith, length-take-le t rows (let h : t ≤ length rows = omega arith in h))));
     })
 

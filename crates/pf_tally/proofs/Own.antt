@@ -9,12 +9,12 @@ use Rattle.std.proofs.lemmas.List.Elements.{All-filter, All-head, All-tail, filt
 use Rattle.std.proofs.lemmas.Map.Views.{any-filter_same}
 use Rattle.std.proofs.lemmas.List.Sums.{sum_by-cons, length-filter, count_by-le-length}
 use Rattle.pf_window.specs.Window.{release_of, deadline_of}
-use Rattle.pf_scenario.specs.Event.{slot_of, is_leave_of}
+use Rattle.pf_scenario.specs.Event.{slot_of, task_of, is_leave_of}
 use Rattle.pf_scenario.specs.declared.event.Event.{Event}
 use Rattle.pf_scenario.specs.declared.event.Event.TheVariants.{Join, Leave, Delay, Limit}
 use Rattle.pf_scenario.specs.declared.event.Numbered.{Numbered}
-use Rattle.pf_engine.specs.Record.{Slot, done}
-use Rattle.pf_engine.specs.Inside.{Joined, has_left, held_back, shift_of}
+use Rattle.pf_run.specs.Record.{Slot, done}
+use Rattle.pf_run.specs.Inside.{Joined, has_left, held_back, shift_of}
 use Rattle.pf_tally.specs.Clock.{Stop, next_at, stop_by, stops_behind, is_stopped, clock_of}
 use Rattle.pf_tally.specs.Lags.{lag_of}
 use Rattle.pf_tally.specs.Misses.{due_of, ran_in, leaves_after, misses_of_task}
@@ -22,8 +22,8 @@ use Rattle.pf_tally.specs.Log.{RiseFrom}
 use Rattle.pf_tally.specs.Held.{delayed, CanTally}
 use Rattle.pf_tally.specs.declared.lag.Lag.{Lag}
 use Rattle.pf_tally.specs.declared.miss.Miss.{Miss}
-use Rattle.pf_tally.specs.Notes.{noted_of, noted, IsEmptyTable}
-use Rattle.pf_tally.specs.Own.{owner_of, is_own, own, AreDiaries}
+use Rattle.pf_table.specs.Lists.{noted_of}
+use Rattle.pf_tally.specs.Own.{is_own, own, AreDiaries}
 
 -- an event of another task, or of none, holds nothing back, stops no clock and is no leave
 back_of_other : (r : List Slot) (task i : ℕ) (x : Event) → is_own task x ≡ false → held_back r task i x ≡ 0
@@ -128,11 +128,11 @@ filter_agree_on p q (x ∷ xs) agree =
     ap₂ (λ b ys. cond b (x ∷ ys) ys) (All-head (λ x. p x ≡ q x) x xs agree) (filter_agree_on p q xs (All-tail (λ x. p x ≡ q x) x xs agree))
 
 -- Use: the tasks that stay, by their own events.
-pub staying_own : (xs : List Numbered) (table : List (List Numbered)) (js : List Joined) → AreDiaries xs table → All (λ j. j.task < 4096) js →
+pub staying_own : (xs : List Numbered) (table : List (List Numbered)) (js : List Joined) → AreDiaries xs table →
     filter (λ j. not (has_left (noted_of table j.task) j.task)) js ≡ filter (λ j. not (has_left xs j.task)) js
-staying_own xs table js are numbers =
+staying_own xs table js are =
     filter_agree_on (λ j. not (has_left (noted_of table j.task) j.task)) (λ j. not (has_left xs j.task)) js
-    (λ k d within. let task = (get_or js k d).task in ap (λ ys. not (has_left ys task)) (are.each task (numbers k d within)) ∙ ap not (left_own xs task))
+    (λ k d within. let task = (get_or js k d).task in ap (λ ys. not (has_left ys task)) (are.each task) ∙ ap not (left_own xs task))
 
 find_own : (xs : List Numbered) (task : ℕ) → find (λ x. is_leave_of task x.event) (own task xs) ≡ find (λ x. is_leave_of task x.event) xs
 find_own [] task = refl
@@ -191,45 +191,33 @@ can_own j ran xs n can = record {
 }
 
 -- The walk that notes each event of the task that it is of: before any, after one more, and after all.
-pub no_diaries : (xs : List Numbered) (table : List (List Numbered)) → IsEmptyTable 4096 table → AreDiaries (take 0 xs) table
-no_diaries xs table empty = record { long = empty.long; each = λ task within. empty.each task }
+pub no_diaries : (xs : List Numbered) (table : List (List Numbered)) → ((task : ℕ) → noted_of table task ≡ []) → AreDiaries (take 0 xs) table
+no_diaries xs table empty = record { each = empty }
 
-own_push : (task : ℕ) (xs : List Numbered) (x : Numbered) (owner : Option ℕ) → owner ≡ owner_of x.event →
+own_push : (task : ℕ) (xs : List Numbered) (x : Numbered) (owner : Option ℕ) → owner ≡ task_of x.event →
     own task (xs ++ x ∷ []) ≡ own task xs ++ cond (option_map_or (λ o. o == task) owner false) (x ∷ []) []
 own_push task xs x owner of_owner =
     filter-append (λ x. is_own task x.event) xs (x ∷ [])
     ∙ ap (λ owner. own task xs ++ cond (option_map_or (λ o. o == task) owner false) (x ∷ []) []) (sym of_owner)
 
-pub diary_none : (xs : List Numbered) (table : List (List Numbered)) (k : ℕ) (d : Numbered) → k < length xs → None ≡ owner_of (get_or xs k d).event →
+pub diary_none : (xs : List Numbered) (table : List (List Numbered)) (k : ℕ) (d : Numbered) → k < length xs → None ≡ task_of (get_or xs k d).event →
     AreDiaries (take k xs) table → AreDiaries (take (k + 1) xs) table
 diary_none xs table k d within of_owner before =
     let P : List Numbered → Type 0 = λ ys. AreDiaries ys table in
     subst P (sym (take_more xs k d within)) (record {
-      long = before.long;
-      each = λ task inside. before.each task inside ∙ sym (own_push task (take k xs) (get_or xs k d) None of_owner ∙ append-nil (own task (take k xs)));
+      each = λ task. before.each task ∙ sym (own_push task (take k xs) (get_or xs k d) None of_owner ∙ append-nil (own task (take k xs)));
     })
 
-pub diary_some : (xs : List Numbered) (table after : List (List Numbered)) (k owner : ℕ) (d : Numbered) → k < length xs → Some owner ≡ owner_of (get_or xs k d).event →
-    after ≡ noted table owner (get_or xs k d) → AreDiaries (take k xs) table → AreDiaries (take (k + 1) xs) after
-diary_some xs table after k owner d within of_owner is before =
+pub diary_some : (xs : List Numbered) (table after : List (List Numbered)) (k owner : ℕ) (d : Numbered) → k < length xs → Some owner ≡ task_of (get_or xs k d).event →
+    ((task : ℕ) → noted_of after task ≡ noted_of table task ++ cond (owner == task) (get_or xs k d ∷ []) []) →
+    AreDiaries (take k xs) table → AreDiaries (take (k + 1) xs) after
+diary_some xs table after k owner d within of_owner noted before =
     let x = get_or xs k d in
-    let P : List Numbered → List (List Numbered) → Type 0 = λ ys table. AreDiaries ys table in
-    subst₂ P (sym (take_more xs k d within)) (sym is) (record {
-      long = length-set table owner (noted_of table owner ++ x ∷ []) ∙ before.long;
-      each = λ task inside.
-          let push = own_push task (take k xs) x (Some owner) of_owner in
-          ⊎_elim
-          (λ same.
-          ap (noted_of (noted table owner x)) (sym same)
-          ∙ get_or-set_same table owner (noted_of table owner ++ x ∷ []) [] (omega (arith, before.long, same))
-          ∙ ap (λ o. noted_of table o ++ x ∷ []) same
-          ∙ ap (λ ys. ys ++ x ∷ []) (before.each task inside)
-          ∙ sym (push ∙ ap (λ b. own task (take k xs) ++ cond b (x ∷ []) []) (eq-eqb owner task same)))
-          (λ differ.
-          get_or-set_other table owner task (noted_of table owner ++ x ∷ []) [] (λ e. differ (sym e))
-          ∙ before.each task inside
-          ∙ sym (push ∙ ap (λ b. own task (take k xs) ++ cond b (x ∷ []) []) (ne_eqb owner task differ) ∙ append-nil (own task (take k xs))))
-          (cases_eq owner task);
+    let P : List Numbered → Type 0 = λ ys. AreDiaries ys after in
+    subst P (sym (take_more xs k d within)) (record {
+      each = λ task.
+          noted task ∙ ap (λ ys. ys ++ cond (owner == task) (x ∷ []) []) (before.each task)
+          ∙ sym (own_push task (take k xs) x (Some owner) of_owner);
     })
 
 pub all_diaries : (xs : List Numbered) (table : List (List Numbered)) (k : ℕ) → length xs ≤ k → AreDiaries (take k xs) table → AreDiaries xs table

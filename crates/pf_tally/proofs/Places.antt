@@ -3,7 +3,7 @@ use Rattle.std.proofs.Common.{◌≡◌, ℕ, zero, suc, ◌+◌, ◌≤◌, Boo
 use Rattle.std.specs.List.Sorted.{IsNonDecreasingBy}
 use Rattle.std.proofs.lemmas.Bool.{cases_Bool, cond-true, cond-false}
 use Rattle.std.proofs.lemmas.List.Sums.{sum_by-cons}
-use Rattle.pf_engine.specs.Record.{Slot, runs, done}
+use Rattle.pf_run.specs.Record.{Slot, runs, done}
 use Rattle.pf_tally.specs.Quanta.{places_from, slots_of}
 
 module _ {X : Type 0} (test : X → Bool) where

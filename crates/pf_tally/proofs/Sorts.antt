@@ -13,7 +13,7 @@ use Rattle.std.proofs.lemmas.List.Sorted.{IsPermutation-sym, IsPermutation-trans
 use Rattle.pf_scenario.specs.Sorted.{sorted_by}
 use Rattle.pf_scenario.proofs.Lists.{AllPairs-from_pairs}
 use Rattle.pf_scenario.proofs.Sorting.{after, not_after, sorted_keeps, IsInOrder-sorted_by}
-use Rattle.pf_engine.proofs.Containing.{pairs_tail, one_in_order}
+use Rattle.pf_run.proofs.Containing.{pairs_tail, one_in_order}
 
 eq_is : (r : Ordering) → r ≡ Equal → is_eq r ≡ true
 eq_is r e = ap is_eq e

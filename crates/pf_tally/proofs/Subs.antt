@@ -13,12 +13,12 @@ use Rattle.pf_order.specs.declared.pick.Pick.{Pick}
 use Rattle.pf_scenario.specs.Scenario.{Plan}
 use Rattle.pf_scenario.specs.Edit.{IsScenario}
 use Rattle.pf_scenario.specs.declared.event.Numbered.{Numbered}
-use Rattle.pf_engine.specs.Record.{Slot, runs, done, next_sub}
-use Rattle.pf_engine.specs.Inside.{Joined, inside, ready, ready_key, next_key, member_of, eligible_from}
-use Rattle.pf_engine.specs.Run.{standing, pick_of, IsNextSlot, IsRun}
-use Rattle.pf_engine.specs.Computed.{run_of}
-use Rattle.pf_engine.proofs.Containing.{contains_none, contains_head, contains_tail, contains_cases}
-use Rattle.pf_engine.proofs.Runs.{run_is_computed}
+use Rattle.pf_run.specs.Record.{Slot, runs, done, next_sub}
+use Rattle.pf_run.specs.Inside.{Joined, inside, ready, ready_key, next_key, member_of, eligible_from}
+use Rattle.pf_run.specs.Run.{standing, pick_of, IsNextSlot, IsRun}
+use Rattle.pf_run.specs.Computed.{run_of}
+use Rattle.pf_run.proofs.Containing.{contains_none, contains_head, contains_tail, contains_cases}
+use Rattle.pf_run.proofs.Runs.{run_is_computed}
 use Rattle.pf_tally.specs.Quanta.{places_from, slots_of}
 use Rattle.pf_tally.specs.Misses.{ran_in}
 use Rattle.pf_tally.proofs.Turns.{slot_behind}

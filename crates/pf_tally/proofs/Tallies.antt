@@ -13,11 +13,11 @@ use Rattle.pf_scenario.specs.declared.event.Event.{Event}
 use Rattle.pf_scenario.specs.declared.event.Event.TheVariants.{Join, Leave, Delay, Limit}
 use Rattle.pf_scenario.specs.declared.event.Numbered.{Numbered}
 use Rattle.std.proofs.lemmas.List.{take_all}
-use Rattle.pf_engine.specs.Record.{Slot, runs, done}
+use Rattle.pf_run.specs.Record.{Slot, runs, done}
 use Rattle.std.specs.Prelude.{pos, ◌-ℤ◌}
-use Rattle.pf_engine.specs.Inside.{Joined, join_of, has_left, inside}
+use Rattle.pf_run.specs.Inside.{Joined, join_of, has_left, inside}
 use Rattle.pf_tally.specs.declared.lag.Lag.{Lag}
-use Rattle.pf_engine.proofs.Joins.{inside_differ}
+use Rattle.pf_run.proofs.Joins.{inside_differ}
 use Rattle.pf_tally.specs.Clock.{clock_of}
 use Rattle.pf_tally.specs.Lags.{by_task, lag_of}
 use Rattle.pf_tally.specs.Quanta.{slots_of}

@@ -11,12 +11,12 @@ use Rattle.pf_place.specs.Turns.{IsRow}
 use Rattle.pf_place.proofs.Seated.{row_seats_picks, row_is_row, idle_is_row}
 use Rattle.pf_scenario.specs.Scenario.{Plan}
 use Rattle.pf_scenario.specs.Edit.{IsScenario}
-use Rattle.pf_engine.specs.Record.{Slot, runs}
-use Rattle.pf_engine.specs.Run.{IsNextSlot, IsRun}
-use Rattle.pf_engine.specs.RunRows.{turns_behind, rows_in, count_in_last}
-use Rattle.pf_engine.specs.Computed.{run_of}
-use Rattle.pf_engine.proofs.Seating.{next_is_turn}
-use Rattle.pf_engine.proofs.Runs.{run_is_computed}
+use Rattle.pf_run.specs.Record.{Slot, runs}
+use Rattle.pf_run.specs.Run.{IsNextSlot, IsRun}
+use Rattle.pf_run.specs.RunRows.{turns_behind, rows_in, count_in_last}
+use Rattle.pf_run.specs.Computed.{run_of}
+use Rattle.pf_run.proofs.Seating.{next_is_turn}
+use Rattle.pf_run.proofs.Runs.{run_is_computed}
 use Rattle.pf_tally.specs.Quanta.{places_from, slots_of, slots_in}
 
 -- each row seats the picks of its slot

@@ -5,8 +5,8 @@ use Rattle.pf_window.specs.Window.{release_of}
 use Rattle.pf_scenario.specs.declared.event.Event.{Event}
 use Rattle.pf_scenario.specs.declared.event.Event.TheVariants.{Delay}
 use Rattle.pf_scenario.specs.declared.event.Numbered.{Numbered}
-use Rattle.pf_engine.specs.Record.{Slot, done}
-use Rattle.pf_engine.specs.Inside.{Joined, shift_of}
+use Rattle.pf_run.specs.Record.{Slot, done}
+use Rattle.pf_run.specs.Inside.{Joined, shift_of}
 
 -- a stop of a clock: the slots from `start` up to but not including `end`
 pub record Stop : Type 0 where

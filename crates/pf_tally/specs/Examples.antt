@@ -2,8 +2,8 @@
 use Rattle.std.specs.Prelude.{◌≡◌, ℕ, ℤ, pos, negsuc, Option, None, Some, List, [], ◌∷◌, ◌++◌}
 use Rattle.pf_scenario.specs.Scenario.{Plan}
 use Rattle.pf_scenario.specs.declared.event.Event.TheVariants.{Join, Leave, Delay, Limit}
-use Rattle.pf_engine.specs.Computed.{run_of}
-use Rattle.pf_engine.specs.Examples.{plan, two_joins, three_joins}
+use Rattle.pf_run.specs.Computed.{run_of}
+use Rattle.pf_run.specs.Examples.{plan, two_joins, three_joins}
 use Rattle.pf_tally.specs.Lags.{lags_of}
 use Rattle.pf_tally.specs.Misses.{misses_of}
 use Rattle.pf_tally.specs.declared.lag.Lag.{Lag}

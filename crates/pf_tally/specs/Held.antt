@@ -8,7 +8,7 @@ use Rattle.pf_tally.specs.Log.{RiseFrom}
 use Rattle.pf_scenario.specs.declared.event.Event.{Event}
 use Rattle.pf_scenario.specs.declared.event.Event.TheVariants.{Delay}
 use Rattle.pf_scenario.specs.declared.event.Numbered.{Numbered}
-use Rattle.pf_engine.specs.Inside.{Joined}
+use Rattle.pf_run.specs.Inside.{Joined}
 use Rattle.pf_tally.specs.declared.held.Held.{Held}
 
 -- by how much an event delays the task

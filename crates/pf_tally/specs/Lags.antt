@@ -5,9 +5,9 @@ use Rattle.std.specs.Ordering.{nat_cmp, on}
 use Rattle.pf_scenario.specs.Sorted.{sorted_by}
 use Rattle.pf_scenario.specs.Scenario.{Plan}
 use Rattle.pf_scenario.specs.declared.event.Numbered.{Numbered}
-use Rattle.pf_engine.specs.Record.{Slot, done}
-use Rattle.pf_engine.specs.Inside.{Joined, inside}
-use Rattle.pf_engine.specs.Run.{standing}
+use Rattle.pf_run.specs.Record.{Slot, done}
+use Rattle.pf_run.specs.Inside.{Joined, inside}
+use Rattle.pf_run.specs.Run.{standing}
 use Rattle.pf_tally.specs.Clock.{clock_of}
 use Rattle.pf_tally.specs.declared.lag.Lag.{Lag}
 

@@ -5,7 +5,7 @@ use Rattle.std.specs.Option.{option_map_or}
 use Rattle.pf_weight.specs.Share.{IsShare}
 use Rattle.pf_window.specs.Window.{deadline_of}
 use Rattle.pf_tally.specs.Held.{IsChain, IsSmall}
-use Rattle.pf_engine.specs.Inside.{Joined}
+use Rattle.pf_run.specs.Inside.{Joined}
 use Rattle.pf_tally.specs.declared.held.Held.{Held}
 use Rattle.pf_tally.specs.declared.miss.Miss.{Miss}
 

@@ -1,11 +1,11 @@
 -- What a tally of a scenario's run rests on.
-use Rattle.std.specs.Prelude.{◌≡◌, ℕ, ◌<◌, length}
+use Rattle.std.specs.Prelude.{◌≡◌, ℕ, length}
 use Rattle.pf_scenario.specs.Scenario.{Plan}
 use Rattle.pf_scenario.specs.Edit.{IsScenario}
-use Rattle.pf_engine.specs.Run.{standing}
-use Rattle.pf_engine.specs.Computed.{run_of}
+use Rattle.pf_run.specs.Run.{standing}
+use Rattle.pf_run.specs.Computed.{run_of}
 use Rattle.pf_tally.specs.Log.{IsLog}
-use Rattle.pf_tally.specs.Notes.{noted_of}
+use Rattle.pf_table.specs.Lists.{noted_of}
 use Rattle.pf_tally.specs.Own.{AreDiaries}
 use Rattle.pf_tally.specs.Quanta.{slots_of}
 use Rattle.pf_tally.specs.declared.ledger.Ledger.{Ledger}
@@ -18,5 +18,5 @@ pub record IsLedger (s : Plan) (n : ℕ) (ledger : Ledger) : Type 0 where
   pub slots : length (run_of s n) ≡ n
   pub events : ledger.events.items ≡ standing s (run_of s n) n
   pub log : IsLog s.settings n ledger.events.items
-  pub diaries : AreDiaries ledger.events.items ledger.diaries.items
-  pub quanta : (task : ℕ) → task < 4096 → noted_of ledger.quanta.items task ≡ slots_of (run_of s n) task
+  pub diaries : AreDiaries ledger.events.items ledger.diaries
+  pub quanta : (task : ℕ) → noted_of ledger.quanta task ≡ slots_of (run_of s n) task

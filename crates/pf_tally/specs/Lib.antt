@@ -3,11 +3,11 @@ pub use Rattle.pf_scenario.specs.System
 pub use Rattle.pf_scenario.specs.Scenario
 pub use Rattle.pf_scenario.specs.Edit
 pub use Rattle.pf_place.specs.Occupancy
-pub use Rattle.pf_engine.specs.Record
-pub use Rattle.pf_engine.specs.Inside
-pub use Rattle.pf_engine.specs.Run
-pub use Rattle.pf_engine.specs.Computed
-pub use Rattle.pf_engine.specs.RunRows
+pub use Rattle.pf_run.specs.Record
+pub use Rattle.pf_run.specs.Inside
+pub use Rattle.pf_run.specs.Run
+pub use Rattle.pf_run.specs.Computed
+pub use Rattle.pf_run.specs.RunRows
 pub mod Clock
 pub mod Lags
 pub mod Misses
@@ -16,7 +16,6 @@ pub mod Quanta
 pub mod Held
 pub mod Standing
 pub mod Log
-pub mod Notes
 pub mod Noted
 pub mod Own
 pub mod Ledger

@@ -9,9 +9,9 @@ use Rattle.pf_scenario.specs.Sorted.{sorted_by}
 use Rattle.pf_scenario.specs.Event.{slot_of, is_leave_of}
 use Rattle.pf_scenario.specs.Scenario.{Plan}
 use Rattle.pf_scenario.specs.declared.event.Numbered.{Numbered}
-use Rattle.pf_engine.specs.Record.{Slot}
-use Rattle.pf_engine.specs.Inside.{Joined, join_of, shift_of}
-use Rattle.pf_engine.specs.Run.{standing}
+use Rattle.pf_run.specs.Record.{Slot}
+use Rattle.pf_run.specs.Inside.{Joined, join_of, shift_of}
+use Rattle.pf_run.specs.Run.{standing}
 use Rattle.pf_tally.specs.declared.miss.Miss.{Miss}
 
 -- the shifted deadline of subtask i, where the events xs are in force

@@ -2,7 +2,7 @@
 use Rattle.std.specs.Prelude.{ℕ, ◌+◌, Bool, cond, Option, List, [], ◌∷◌}
 use Rattle.pf_order.specs.declared.pick.Pick.{Pick}
 use Rattle.pf_place.specs.Occupancy.{is_seated}
-use Rattle.pf_engine.specs.Record.{Slot, runs}
+use Rattle.pf_run.specs.Record.{Slot, runs}
 
 -- the places of those elements that pass the test, where the first element stands at t
 abbrev pub places_from : {X : Type 0} → (X → Bool) → ℕ → List X → List ℕ

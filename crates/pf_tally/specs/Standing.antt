@@ -1,7 +1,7 @@
 -- How the denied events are told.
 use Rattle.std.specs.Prelude.{ℕ, List, map}
 use Rattle.std.specs.List.Sorted.{IsPermutation, IsNonDecreasing}
-use Rattle.pf_engine.specs.declared.denied.Denied.{Denied}
+use Rattle.pf_run.specs.declared.denied.Denied.{Denied}
 
 -- the numbers of these denials, rising
 pub record AreNumbersOf (denials : List Denied) (numbers : List ℕ) : Type 0 where

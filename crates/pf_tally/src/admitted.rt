@@ -1,6 +1,6 @@
 ghost use Rattle.std.specs.Prelude.{◌≡◌, filter_map, All, IfOk};
 ghost use Rattle.pf_scenario.specs.Edit.{IsEvent};
-ghost use Rattle.pf_engine.specs.Inside.{joined_by, join_of};
+ghost use Rattle.pf_run.specs.Inside.{joined_by, join_of};
 
 use pf_scenario::event::{Event, Numbered};
 use pf_scenario::settings::Settings;
@@ -18,7 +18,7 @@ pub(crate) struct Admitted {
 }
 
 impl Model for Admitted {
-    ghost use Rattle.pf_engine.specs.Inside.{Joined};
+    ghost use Rattle.pf_run.specs.Inside.{Joined};
 
     ghost Value = { Joined };
 

@@ -1,14 +1,14 @@
 ghost use Rattle.std.specs.Prelude.{◌≡◌, false, All, AllPairs, filter, not, IfOk};
 ghost use Rattle.pf_scenario.specs.Edit.{IsEvent, join_alike};
-ghost use Rattle.pf_engine.specs.Inside.{is_leave_of, has_left, inside};
+ghost use Rattle.pf_run.specs.Inside.{is_leave_of, has_left, inside};
 ghost use Rattle.pf_tally.specs.Lags.{by_task};
-ghost use Rattle.pf_tally.specs.Notes.{noted_of};
+ghost use Rattle.pf_table.specs.Lists.{noted_of};
 ghost use Rattle.pf_tally.specs.Own.{AreDiaries};
 
 use crate::admitted::{Admitted, admitted_tasks};
-use crate::notes::{Notes, notes_of};
 use pf_scenario::event::{Event, Numbered};
 use pf_scenario::settings::Settings;
+use pf_table::lists::Lists;
 use std::alloc::{AllocError, Global};
 
 /// Whether the event is a leave of the task.
@@ -34,13 +34,13 @@ fn has_left(events: &[Numbered], task: u64) -> bool
 fn staying(
     alloc: Global,
     tasks: &[Admitted],
-    diaries: &[Notes<Numbered>],
+    diaries: &Lists<Numbered>,
 ) -> Result<Vec<Admitted>, AllocError>
     ensures { IfOk result (λ v. v.items ≡ filter (λ j. not (has_left (noted_of diaries.now j.task) j.task)) tasks.now) }
 {
     let mut staying = Vec::new(alloc);
     for task in tasks {
-        if !has_left(notes_of(diaries, task.task), task.task) {
+        if !has_left(diaries.get(task.task), task.task) {
             staying.push(*task)?;
         }
     }
@@ -52,7 +52,7 @@ pub(crate) fn tasks_inside(
     alloc: Global,
     settings: Settings,
     events: &[Numbered],
-    diaries: &[Notes<Numbered>],
+    diaries: &Lists<Numbered>,
 ) -> Result<Vec<Admitted>, AllocError>
     requires limits { All (λ x. IsEvent settings x.event) events.now }
     requires once { AllPairs (λ x y. join_alike x.event y.event ≡ false) events.now }

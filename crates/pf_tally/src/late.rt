@@ -1,5 +1,5 @@
 ghost use Rattle.std.specs.Prelude.{◌≡◌, ◌+◌, ◌^◌, ◌<◌, ◌≤◌, ◌&&◌, ℕ, nat_le, find, sum_by, All};
-ghost use Rattle.pf_engine.specs.Inside.{is_leave_of};
+ghost use Rattle.pf_run.specs.Inside.{is_leave_of};
 ghost use Rattle.pf_tally.specs.Held.{IsChain, IsSmall};
 ghost use Rattle.pf_tally.specs.Late.{counted, due_at};
 ghost use Rattle.pf_tally.specs.Misses.{leaves_after};

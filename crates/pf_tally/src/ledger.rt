@@ -1,17 +1,17 @@
 ghost use Rattle.std.specs.Prelude.{◌≡◌, length, IfOk};
-ghost use Rattle.pf_engine.specs.RunRows.{AreOfRun};
+ghost use Rattle.pf_run.specs.RunRows.{AreOfRun};
 ghost use Rattle.pf_tally.specs.Ledger.{IsLedger};
 
 use crate::admitted::Admitted;
 use crate::diary::diaries_by_task;
-use crate::notes::{Notes, notes_of};
 use crate::quanta::quanta_by_task;
 use crate::standing::standing_events;
-use pf_engine::denied::Denied;
 use pf_place::rows::Rows;
+use pf_run::denied::Denied;
 use pf_scenario::event::Numbered;
 use pf_scenario::scenario::Scenario;
 use pf_scenario::settings::Settings;
+use pf_table::lists::Lists;
 use std::alloc::{AllocError, Global};
 
 /// What a tally rests on.
@@ -23,26 +23,26 @@ pub(crate) struct Ledger {
     /// The events in force, in run order.
     pub(crate) events: Vec<Numbered>,
     /// Of each task number its own events in force, in run order.
-    pub(crate) diaries: Vec<Notes<Numbered>>,
+    pub(crate) diaries: Lists<Numbered>,
     /// Of each task number the slots in which it runs, rising.
-    pub(crate) quanta: Vec<Notes<u64>>,
+    pub(crate) quanta: Lists<u64>,
 }
 
 impl Ledger {
-    ghost use Rattle.pf_tally.specs.Notes.{noted_of};
+    ghost use Rattle.pf_table.specs.Lists.{noted_of};
 
     /// The task's own events in force, in run order.
     pub(crate) fn diary(&self, task: Admitted) -> &[Numbered]
-        ensures { result.now ≡ noted_of self.entry.now.diaries.items task.task }
+        ensures { result.now ≡ noted_of self.entry.now.diaries task.task }
     {
-        notes_of(&self.diaries, task.task)
+        self.diaries.get(task.task)
     }
 
     /// The slots in which the task runs, rising.
     pub(crate) fn quanta(&self, task: Admitted) -> &[u64]
-        ensures { result.now ≡ noted_of self.entry.now.quanta.items task.task }
+        ensures { result.now ≡ noted_of self.entry.now.quanta task.task }
     {
-        notes_of(&self.quanta, task.task)
+        self.quanta.get(task.task)
     }
 }
 

@@ -14,6 +14,5 @@ pub mod laws;
 mod ledger;
 pub mod miss;
 pub mod misses;
-mod notes;
 mod quanta;
 mod standing;

@@ -1,24 +1,25 @@
 ghost use Rattle.std.specs.Prelude.{All, IfOk, OnOk};
+ghost use Rattle.pf_place.specs.Lent.{lent_row};
 ghost use Rattle.pf_tally.specs.Noted.{IsRow, AreNoted, IsTableOf};
 
-use crate::notes::{Notes, no_notes, note};
-use pf_place::row::Row;
+use pf_place::row_view::RowView;
 use pf_place::rows::Rows;
+use pf_table::lists::Lists;
 use std::alloc::{AllocError, Global};
 
 /// Notes of the tasks of the row that they run in slot t.
 fn note_row(
-    table: &mut Vec<Notes<u64>>,
+    table: &mut Lists<u64>,
     processors: u32,
-    row: &Row,
+    row: RowView<'_>,
     t: u64,
 ) -> Result<(), AllocError>
-    requires { IsRow processors row.now }
-    ensures { OnOk result (AreNoted table.old.items table.new.items row.now t) }
+    requires { IsRow processors (lent_row row) }
+    ensures { OnOk result (AreNoted table.old table.new (lent_row row.entry) t) }
 {
     for processor in 0..processors {
         if let Some(pick) = row.get(processor) {
-            note(table, u64::from(pick.task), t)?;
+            table.note(u64::from(pick.task), t)?;
         }
     }
     Ok(())
@@ -29,11 +30,11 @@ pub(crate) fn quanta_by_task(
     alloc: Global,
     processors: u32,
     rows: &Rows,
-) -> Result<Vec<Notes<u64>>, AllocError>
+) -> Result<Lists<u64>, AllocError>
     requires { All (IsRow processors) rows.now }
-    ensures { IfOk result (λ table. IsTableOf rows.now table.items) }
+    ensures { IfOk result (λ table. IsTableOf rows.now table) }
 {
-    let mut table = no_notes(alloc)?;
+    let mut table = Lists::new(alloc);
     for t in 0..rows.len() {
         match rows.get(t as u64) {
             Some(row) => note_row(&mut table, processors, row, t as u64)?,

@@ -2,10 +2,10 @@ ghost use Rattle.std.specs.Prelude.{◌≡◌, ◌==◌, ◌++◌, not, map, fil
 ghost use Rattle.std.specs.List.{list_any};
 ghost use Rattle.std.specs.List.Sorted.{IsNonDecreasing};
 ghost use Rattle.pf_scenario.specs.Scenario.{past};
-ghost use Rattle.pf_engine.specs.Record.{in_force};
+ghost use Rattle.pf_run.specs.Record.{in_force};
 ghost use Rattle.pf_tally.specs.Standing.{AreNumbersOf};
 
-use pf_engine::denied::Denied;
+use pf_run::denied::Denied;
 use pf_scenario::event::Numbered;
 use pf_scenario::scenario::Scenario;
 use std::alloc::{AllocError, Global};

@@ -1,21 +1,25 @@
--- What a timeline stands for rests on the settings and on the events of its slots.
-use Rattle.std.proofs.Common.{◌≡◌, ℕ, zero-le, ◌+◌, ◌≤◌, List, [], ◌∷◌, ◌++◌, length, refl, sym, ap, ap₂, ◌∙◌, subst, arith, length-append}
+-- What a timeline keeps rests on the settings and on the events of its slots.
+use Rattle.std.proofs.Common.{◌≡◌, ℕ, zero-le, ◌+◌, ◌<◌, ◌≤◌, Option, List, [], ◌∷◌, ◌++◌, length, refl, sym, ap, ap₂, ◌∙◌, subst, arith, length-append}
 use Rattle.std.specs.Prelude.{nat_lt}
-use Rattle.std.proofs.lemmas.Bool.{cond-false, le-ltb}
+use Rattle.std.proofs.lemmas.Bool.{cond-false, le-ltb, lt-ltb, ltb-true}
+use Rattle.pf_order.specs.declared.pick.Pick.{Pick}
 use Rattle.pf_place.specs.RunRows.{rows_of}
 use Rattle.pf_scenario.specs.Event.{slot_of}
 use Rattle.pf_scenario.specs.Scenario.{Plan}
 use Rattle.pf_scenario.specs.Edit.{IsScenario}
 use Rattle.pf_scenario.specs.declared.event.Numbered.{Numbered}
-use Rattle.pf_engine.specs.Record.{Slot, denials_of, in_force}
-use Rattle.pf_engine.specs.Inside.{count_of}
-use Rattle.pf_engine.specs.Run.{standing, IsRun}
-use Rattle.pf_engine.specs.Computed.{run_of}
+use Rattle.pf_run.specs.declared.denied.Denied.{Denied}
+use Rattle.pf_run.specs.Record.{Slot, denials_of, in_force}
+use Rattle.pf_run.specs.Inside.{count_of}
+use Rattle.pf_run.specs.Run.{standing, IsRun}
+use Rattle.pf_run.specs.Computed.{run_of}
 use Rattle.pf_engine.specs.Fits.{Kept, kept_after, Fits}
-use Rattle.pf_engine.specs.Laws.{events_below}
-use Rattle.pf_engine.specs.RunRows.{count_in_last, turns_behind, turns_of, rows_in, denials_in}
-use Rattle.pf_engine.proofs.Runs.{same_past, run_is_computed, computed_length, computed_alike}
-use Rattle.pf_timeline.specs.Timeline.{KeptRun, StandsFor, StoodFor}
+use Rattle.pf_run.specs.Laws.{events_below}
+use Rattle.pf_run.specs.RunRows.{AreOfRun, count_in_last, turns_behind, turns_of, rows_in, denials_in}
+use Rattle.pf_run.proofs.Runs.{narrowed, same_past, run_is_computed, computed_length, computed_alike}
+use Rattle.pf_timeline.specs.Timeline.{KeptRun, StandsFor, AgreesBelow, past_below}
+use Rattle.pf_timeline.specs.Keeping.{kept_run, KeepsRun}
+use Rattle.pf_timeline.proofs.Grown.{kept_now}
 use Rattle.pf_timeline.specs.Laws.{TimelinesRestOnPast}
 
 -- between plans with the same settings, and the same events below n
@@ -63,33 +67,70 @@ module _ (s q : Plan) (n : ℕ) (settings : s.settings ≡ q.settings) (same : e
             ∙ ap (λ r. kept_after q.settings r (standing q r (length r))) alike;
       }
 
-  pub stands_alike : (kept : KeptRun) → IsScenario q → StandsFor s n kept → StandsFor q n kept
-  stands_alike kept of_q stands =
-      let of_s = stands.of_run.scenario in
-      let within : n ≤ s.settings.horizon = stands.of_run.within in
-      record {
-        of_run = record {
-          scenario = of_q;
-          within = subst (λ system. n ≤ system.horizon) settings within;
-          are_rows = stands.of_run.are_rows ∙ same_rows of_s of_q;
-          are_denials = stands.of_run.are_denials ∙ same_denials of_s of_q;
-        };
-        engine = same_fit kept.engine of_s of_q stands.engine;
-      }
+  pub of_run_alike : (rows : List (List (Option Pick))) (denials : List Denied) → IsScenario q → AreOfRun s n rows denials → AreOfRun q n rows denials
+  of_run_alike rows denials of_q of_run = record {
+    scenario = of_q;
+    within = let within : n ≤ s.settings.horizon = of_run.within in subst (λ system. n ≤ system.horizon) settings within;
+    are_rows = of_run.are_rows ∙ same_rows of_run.scenario of_q;
+    are_denials = of_run.are_denials ∙ same_denials of_run.scenario of_q;
+  }
+
+  keeps_alike : (rows : List (List (Option Pick))) (denials : List Denied) (e : Kept) → IsScenario q → KeepsRun s n rows denials e → KeepsRun q n rows denials e
+  keeps_alike rows denials e of_q keeps = record {
+    of_run = of_run_alike rows denials of_q keeps.of_run;
+    engine = same_fit e keeps.of_run.scenario of_q keeps.engine;
+  }
 
 pub timelines_rest_on_past : TimelinesRestOnPast
-timelines_rest_on_past s q n kept of_q settings same stands = stands_alike s q n settings same kept of_q stands
+timelines_rest_on_past s q n t of_q same stands = record {
+  slots = stands.slots;
+  past = stands.past ∙ same;
+  of_run = of_run_alike s q n (ap (λ past. past.settings) same) (ap (λ past. past.events) same) t.rows t.denials of_q stands.of_run;
+}
+
+-- Use: what is kept is of each scenario that the timeline stands for.
+pub keeps_standing : (s q : Plan) (n : ℕ) (rows : List (List (Option Pick))) (denials : List Denied) (e : Kept) (t : KeptRun) →
+    KeepsRun q e.now rows denials e → kept_run q rows denials e ≡ t → StandsFor s n t → KeepsRun s n rows denials e
+keeps_standing s q n rows denials e t keeps shows stands =
+    let here : StandsFor s n (kept_run q rows denials e) = subst (StandsFor s n) (sym shows) stands in
+    let same : past_below n q ≡ past_below n s = ap (λ now. past_below now q) (sym here.slots) ∙ here.past in
+    keeps_alike q s n (ap (λ past. past.settings) same) (ap (λ past. past.events) same) rows denials e stands.of_run.scenario
+    (subst (λ now. KeepsRun q now rows denials e) here.slots keeps)
+
+-- Use: as many slots as it has.
+pub stands_now : (s : Plan) (n : ℕ) (t : KeptRun) → StandsFor s n t → StandsFor s t.now t
+stands_now s n t stands = subst (λ k. StandsFor s k t) (sym stands.slots) stands
+
+-- Use: what is kept, where the scenario it is of has the same past, stands for this one.
+pub stands_kept : (s q : Plan) (n : ℕ) (rows : List (List (Option Pick))) (denials : List Denied) (e : Kept) → KeepsRun s n rows denials e →
+    past_below n q ≡ past_below n s → StandsFor s n (kept_run q rows denials e)
+stands_kept s q n rows denials e keeps same =
+    let now = kept_now s n rows denials e keeps in
+    record { slots = now; past = ap (λ now. past_below now q) now ∙ same; of_run = keeps.of_run }
+
+-- what is below `from` is the same in the past of more slots
+past_agrees : (from n : ℕ) (xs : List Numbered) → from ≤ n → events_below from (events_below n xs) ≡ events_below from xs
+past_agrees from n [] within = refl
+past_agrees from n (x ∷ xs) within =
+    narrowed (nat_lt (slot_of x.event) n) (λ y. nat_lt (slot_of y.event) from) x (events_below n xs) xs
+    (λ is. lt-ltb (slot_of x.event) n (let below : slot_of x.event < from = ltb-true (slot_of x.event) from is in omega arith))
+    (past_agrees from n xs within)
+
+-- Use: a scenario with the same settings and the same events below `from` agrees with a timeline that has so many slots.
+pub agrees_below : (s q : Plan) (from n : ℕ) (t : KeptRun) → from ≤ n → past_below from s ≡ past_below from q → StandsFor s n t →
+    AgreesBelow q from t
+agrees_below s q from n t within same stands = record {
+  settings = ap (λ past. past.settings) stands.past ∙ ap (λ past. past.settings) same;
+  events = ap (λ past. events_below from past.events) stands.past ∙ past_agrees from n s.events within ∙ ap (λ past. past.events) same;
+}
 
 -- no event is of a slot below 0
-none_below : (xs : List Numbered) → events_below 0 xs ≡ []
+pub none_below : (xs : List Numbered) → events_below 0 xs ≡ []
 none_below [] = refl
 none_below (x ∷ xs) = cond-false (nat_lt (slot_of x.event) 0) _ _ (le-ltb (slot_of x.event) 0 zero-le) ∙ none_below xs
 
--- Use: a timeline that stands for a scenario, where another with the same settings may differ from slot 0 on.
-pub stood_from_start : (s q : Plan) (n : ℕ) (kept : KeptRun) → s.settings ≡ q.settings → StandsFor s n kept → StoodFor q 0 n kept
-stood_from_start s q n kept settings stands = record {
-  former = s;
-  settings = settings;
-  events = none_below s.events ∙ sym (none_below q.events);
-  stood = stands;
-}
+-- Use: scenarios in the same settings have the same past of no slots.
+pub no_past : (s q : Plan) → q.settings ≡ s.settings → past_below 0 q ≡ past_below 0 s
+no_past s q same =
+    let events = none_below q.events ∙ sym (none_below s.events) in
+    λ i. record { settings = same i; events = events i }

@@ -1,27 +1,36 @@
--- What is kept of a scenario's run, and when it stands for that run.
+-- What a timeline shows, and when it stands for a scenario.
 use Rattle.std.specs.Prelude.{◌≡◌, ℕ, Option, List}
 use Rattle.pf_order.specs.declared.pick.Pick.{Pick}
+use Rattle.pf_scenario.specs.System.{System}
 use Rattle.pf_scenario.specs.Scenario.{Plan}
-use Rattle.pf_engine.specs.declared.denied.Denied.{Denied}
-use Rattle.pf_engine.specs.Computed.{run_of}
-use Rattle.pf_engine.specs.Fits.{Kept, Fits}
-use Rattle.pf_engine.specs.Laws.{events_below}
-use Rattle.pf_engine.specs.RunRows.{AreOfRun}
+use Rattle.pf_scenario.specs.declared.event.Numbered.{Numbered}
+use Rattle.pf_run.specs.declared.denied.Denied.{Denied}
+use Rattle.pf_run.specs.Laws.{events_below}
+use Rattle.pf_run.specs.RunRows.{AreOfRun}
 
--- what a timeline keeps: the rows and the denials of its slots, and an engine behind them
+-- what the run over some slots rests on: the settings, and the events of those slots
+pub record Past : Type 0 where
+  pub settings : System
+  pub events : List Numbered
+
+-- the past of the slots below n
+abbrev pub past_below : ℕ → Plan → Past
+past_below n s = record { settings = s.settings; events = events_below n s.events }
+
+-- a timeline: how many slots it has, their rows and their denials, and the past that they rest on
 pub record KeptRun : Type 0 where
+  pub now : ℕ
   pub rows : List (List (Option Pick))
   pub denials : List Denied
-  pub engine : Kept
+  pub past : Past
 
 -- the timeline stands for the scenario and its first n slots
-pub record StandsFor (s : Plan) (n : ℕ) (kept : KeptRun) : Type 0 where
-  pub of_run : AreOfRun s n kept.rows kept.denials
-  pub engine : Fits s (run_of s n) kept.engine
+pub record StandsFor (s : Plan) (n : ℕ) (t : KeptRun) : Type 0 where
+  pub slots : t.now ≡ n
+  pub past : t.past ≡ past_below n s
+  pub of_run : AreOfRun s n t.rows t.denials
 
--- the timeline stands for n slots of a scenario that agrees with this one in the settings and on the slots below `from`
-pub record StoodFor (s : Plan) (from n : ℕ) (kept : KeptRun) : Type 0 where
-  pub former : Plan
-  pub settings : former.settings ≡ s.settings
-  pub events : events_below from former.events ≡ events_below from s.events
-  pub stood : StandsFor former n kept
+-- the timeline's past agrees with this scenario in the settings and on the slots below `from`
+pub record AgreesBelow (s : Plan) (from : ℕ) (t : KeptRun) : Type 0 where
+  pub settings : t.past.settings ≡ s.settings
+  pub events : events_below from t.past.events ≡ events_below from s.events

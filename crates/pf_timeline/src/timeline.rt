@@ -1,26 +1,23 @@
-ghost use Rattle.std.specs.Prelude.{◌≡◌, ◌⊎◌, ◌<◌, ◌+◌, ◌↔◌, length, IfOk, OnOk, OnErr, Err};
+ghost use Rattle.std.specs.Prelude.{◌≡◌, ◌⊎◌, ◌<◌, ◌≤◌, ◌+◌, ◌++◌, ◌↔◌, length, vec_len, vec_capacity, IfOk, OnOk, OnErr, Err};
 ghost use Rattle.pf_order.specs.Counts.{one_more};
-ghost use Rattle.pf_place.specs.Occupancy.{row_of, idle_row};
+ghost use Rattle.pf_order.specs.Counted.{CountsAtMost};
 ghost use Rattle.pf_scenario.specs.Scenario.{Plan};
 ghost use Rattle.pf_scenario.specs.Edit.{IsScenario};
 ghost use Rattle.pf_timeline.specs.Checkpoints.{largest_distance};
-ghost use Rattle.pf_timeline.specs.Counted.{CountsAtMost};
-ghost use Rattle.pf_timeline.specs.Seated.{IsTurn, IsRow, last_row};
-ghost use Rattle.pf_timeline.specs.Timeline.{StandsFor, StoodFor};
+ghost use Rattle.pf_timeline.specs.Timeline.{StandsFor, AgreesBelow};
 ghost use Rattle.pf_timeline.specs.declared.fault.StepFault.TheVariants.{AtHorizon};
 ghost use Rattle.pf_timeline.specs.declared.fault.NewFault.TheVariants.{BadSettings};
 
 use crate::fault::{NewFault, StepFault};
-use pf_engine::denied::Denied;
 use pf_engine::engine::Engine;
-use pf_engine::outcome::Outcome;
 use pf_order::meter::Meter;
-use pf_place::row::Row;
 use pf_place::rows::Rows;
+use pf_run::denied::Denied;
 use pf_scenario::scenario::Scenario;
 use pf_scenario::settings::Settings;
 use std::alloc::{AllocError, Global};
 use std::marker::Model;
+use std::snapshot::Snapshot;
 
 /// The greatest distance of two checkpoints, in slots.
 pub const LARGEST_DISTANCE: u64 = 4096;
@@ -31,18 +28,25 @@ pub struct Timeline {
     rows: Rows,
     denials: Vec<Denied>,
     engine: Engine,
+
+    /// The scenario whose run this is, which clauses alone see.
+    scenario: Snapshot<Scenario>,
 }
 
 impl Model for Timeline {
     ghost use Rattle.pf_timeline.specs.Timeline.{KeptRun};
+    ghost use Rattle.pf_timeline.specs.Keeping.{kept_run, KeepsRun};
 
     ghost Value = { KeptRun };
 
-    ghost view = { λ t. record { rows = t.rows; denials = t.denials.items; engine = t.engine } };
+    ghost view = { λ t. kept_run t.scenario.value t.rows t.denials.items t.engine };
+
+    ghost invariant = { λ t. KeepsRun t.scenario.value t.engine.now t.rows t.denials.items t.engine };
 }
 
 impl Timeline {
-    /// A timeline of no slots. Its checkpoints lie `every` slots apart, 1 to `LARGEST_DISTANCE`.
+    /// A timeline of no slots. `every` is the distance of checkpoints in slots, 1 to `LARGEST_DISTANCE`: it is tried, and
+    /// no checkpoint is kept yet.
     ///
     /// # Errors
     ///
@@ -63,80 +67,87 @@ impl Timeline {
         ensures { IfOk result (λ t. (s : Plan) → s.settings ≡ settings → IsScenario s → StandsFor s 0 t) }
     {
         let engine = Engine::new(alloc, settings)?;
+        let opening = Scenario::new(alloc, settings);
         Ok(Timeline {
             rows: Rows::new(alloc),
             denials: Vec::new(alloc),
             engine,
+            scenario: Snapshot::of(&opening),
         })
     }
 
-    /// Takes the next slot of the scenario that the timeline stands for. Counts one slot; with `NoMemory` at most one,
-    /// with `AtHorizon` none.
+    /// Takes the next slot of the scenario that the timeline stands for. Counts one slot, and none with an error.
     ///
     /// # Errors
     ///
     /// `AtHorizon` where there is no next slot; `NoMemory` where memory is refused. The timeline is as before.
     pub fn step(&mut self, meter: &mut Meter, scenario: &Scenario) -> Result<(), StepFault>
-        requires { StandsFor scenario.now self.old.engine.now self.old }
-        ensures ok { OnOk result (StandsFor scenario.now (self.old.engine.now + 1) self.new) }
-        ensures horizon { (result ≡ Err AtHorizon) ↔ (self.old.engine.now ≡ scenario.now.settings.horizon) }
+        requires { StandsFor scenario.now self.old.now self.old }
+        ensures ok { OnOk result (StandsFor scenario.now (self.old.now + 1) self.new) }
+        ensures horizon { (result ≡ Err AtHorizon) ↔ (self.old.now ≡ scenario.now.settings.horizon) }
         ensures err { OnErr result (self.new ≡ self.old) }
         ensures counted { OnOk result (meter.new.slots ≡ one_more meter.old.slots) }
+        ensures uncounted { OnErr result (meter.new ≡ meter.old) }
         ensures at_most { CountsAtMost 1 meter.old meter.new }
-        ensures uncounted { result ≡ Err AtHorizon → meter.new ≡ meter.old }
+        ensures compared { meter.old.compared ≤ meter.new.compared }
     {
-        if self.engine.now() == scenario.settings().horizon() {
+        if self.now() == scenario.settings().horizon() {
             return Err(StepFault::AtHorizon);
         }
-        let engine = self.engine.copy()?;
-        if self.advance(meter, scenario).is_err() {
-            self.engine = engine;
-            return Err(StepFault::NoMemory);
-        }
+        self.advance(meter, scenario)?;
         Ok(())
     }
 
-    /// Takes the next slot, which is below the horizon. After an `Err` the engine may have moved on.
-    fn advance(&mut self, meter: &mut Meter, scenario: &Scenario) -> Result<(), AllocError>
-        requires stands { StandsFor scenario.now self.old.engine.now self.old }
-        requires below { self.old.engine.now < scenario.now.settings.horizon }
-        ensures ok { OnOk result (StandsFor scenario.now (self.old.engine.now + 1) self.new) }
-        ensures rows { OnErr result (self.new.rows ≡ self.old.rows) }
-        ensures denials { OnErr result (self.new.denials ≡ self.old.denials) }
+    /// Takes the next slot, which is below the horizon. Counts one slot, and none with an error.
+    ///
+    /// # Errors
+    ///
+    /// Where memory is refused: the timeline is as before.
+    pub fn advance(&mut self, meter: &mut Meter, scenario: &Scenario) -> Result<(), AllocError>
+        requires stands { StandsFor scenario.now self.old.now self.old }
+        requires below { self.old.now < scenario.now.settings.horizon }
+        ensures ok { OnOk result (StandsFor scenario.now (self.old.now + 1) self.new) }
+        ensures err { OnErr result (self.new ≡ self.old) }
         ensures counted { OnOk result (meter.new.slots ≡ one_more meter.old.slots) }
+        ensures uncounted { OnErr result (meter.new ≡ meter.old) }
         ensures at_most { CountsAtMost 1 meter.old meter.new }
+        ensures compared { meter.old.compared ≤ meter.new.compared }
     {
         let events = scenario.slot_events(self.engine.now())?;
-        let taken = self.engine.slot(meter, &events)?;
-        let alloc = *self.denials.allocator();
-        let m = scenario.settings().processors();
-        let row = next_row(alloc, m, &self.rows, &taken)?;
-        self.denials.reserve(taken.denials().len())?;
-        self.rows.push(row)?;
-        match self.denials.extend_from_slice(taken.denials()) {
-            Ok(()) => Ok(()),
-            Err(_) => unreachable!(),
-        }
+        self.denials.reserve(events.len())?;
+        self.rows.push_idle(scenario.settings().processors())?;
+        let taken = match self.engine.slot(meter, &events) {
+            Ok(taken) => taken,
+            Err(refused) => {
+                self.rows.pop();
+                return Err(refused);
+            }
+        };
+        self.rows.seat_last(taken.count(), taken.picks());
+        append(&mut self.denials, taken.denials());
+        self.scenario = Snapshot::of(scenario);
+        Ok(())
     }
 
-    /// A candidate one slot longer, for the scenario that this timeline stands for. Counts one slot; with `NoMemory` at
-    /// most one, with `AtHorizon` none.
+    /// A candidate one slot longer, for the scenario that this timeline stands for. Counts one slot, and none with an
+    /// error.
     ///
     /// # Errors
     ///
     /// `AtHorizon` where there is no next slot; `NoMemory` where memory is refused.
     pub fn stepped(&self, meter: &mut Meter, scenario: &Scenario) -> Result<Self, StepFault>
-        requires { StandsFor scenario.now self.now.engine.now self.now }
-        ensures ok { IfOk result (λ t. StandsFor scenario.now (self.now.engine.now + 1) t) }
-        ensures horizon { (result ≡ Err AtHorizon) ↔ (self.now.engine.now ≡ scenario.now.settings.horizon) }
+        requires { StandsFor scenario.now self.now.now self.now }
+        ensures ok { IfOk result (λ t. StandsFor scenario.now (self.now.now + 1) t) }
+        ensures horizon { (result ≡ Err AtHorizon) ↔ (self.now.now ≡ scenario.now.settings.horizon) }
         ensures counted { OnOk result (meter.new.slots ≡ one_more meter.old.slots) }
+        ensures uncounted { OnErr result (meter.new ≡ meter.old) }
         ensures at_most { CountsAtMost 1 meter.old meter.new }
-        ensures uncounted { result ≡ Err AtHorizon → meter.new ≡ meter.old }
+        ensures compared { meter.old.compared ≤ meter.new.compared }
     {
-        if self.engine.now() == scenario.settings().horizon() {
+        if self.now() == scenario.settings().horizon() {
             return Err(StepFault::AtHorizon);
         }
-        let mut longer = self.copy()?;
+        let mut longer = self.copy(scenario)?;
         longer.advance(meter, scenario)?;
         Ok(longer)
     }
@@ -154,29 +165,32 @@ impl Timeline {
         from: u64,
         scenario: &Scenario,
     ) -> Result<Self, AllocError>
-        requires below { from < length self.now.rows }
-        requires stood { StoodFor scenario.now from (length self.now.rows) self.now }
-        ensures stands { IfOk result (λ t. StandsFor scenario.now (length self.now.rows) t) }
-        ensures at_most { CountsAtMost (length self.now.rows) meter.old meter.new }
+        requires below { from < self.now.now }
+        requires agrees { AgreesBelow scenario.now from self.now }
+        ensures stands { IfOk result (λ t. StandsFor scenario.now self.now.now t) }
+        ensures at_most { CountsAtMost self.now.now meter.old meter.new }
+        ensures compared { meter.old.compared ≤ meter.new.compared }
     {
         // No engine of an earlier slot is kept to start from, so `from` serves the contract alone.
         let _ = from;
         let alloc = *self.denials.allocator();
         let mut fresh = Timeline::at_start(alloc, scenario.settings())?;
-        for _ in 0..self.rows.len() {
+        for _ in 0..self.engine.now() {
             fresh.advance(meter, scenario)?;
         }
         Ok(fresh)
     }
 
-    /// An equal timeline.
-    fn copy(&self) -> Result<Self, AllocError>
+    /// An equal timeline, where this one stands for the scenario.
+    fn copy(&self, scenario: &Scenario) -> Result<Self, AllocError>
+        requires { StandsFor scenario.now self.now.now self.now }
         ensures { IfOk result (λ t. t ≡ self.now) }
     {
         Ok(Timeline {
             rows: self.rows.copy()?,
             denials: Vec::from_slice(*self.denials.allocator(), &self.denials)?,
             engine: self.engine.copy()?,
+            scenario: Snapshot::of(scenario),
         })
     }
 
@@ -196,24 +210,18 @@ impl Timeline {
 
     /// How many slots it has.
     pub fn now(&self) -> u64
-        ensures { result ≡ self.now.engine.now }
+        ensures { result ≡ self.now.now }
     {
         self.engine.now()
     }
 }
 
-/// The row of the slot that was taken, behind these rows of m processors.
-fn next_row(alloc: Global, m: u32, rows: &Rows, taken: &Outcome) -> Result<Row, AllocError>
-    requires turn { IsTurn m taken.now.count taken.now.slot.picks }
-    requires row { IsRow m (last_row (idle_row m) rows.now) }
-    ensures { IfOk result (λ row. row
-        ≡ row_of m taken.now.count (last_row (idle_row m) rows.now) taken.now.slot.picks) }
+/// Appends these denials, for which there is room.
+fn append(denials: &mut Vec<Denied>, more: &[Denied])
+    requires { vec_len denials.old + length more.now ≤ vec_capacity denials.old }
+    ensures { denials.new.items ≡ denials.old.items ++ more.now }
 {
-    match rows.last() {
-        Some(last) => Row::place(alloc, m, taken.count(), last, taken.picks()),
-        None => {
-            let idle = Row::idle(alloc, m)?;
-            Row::place(alloc, m, taken.count(), &idle, taken.picks())
-        }
+    for denied in more {
+        denials.push_reserved(*denied);
     }
 }

@@ -1,5 +1,6 @@
 -- Weights: what a task asks for, as cost quanta in each period, over a base that every period divides.
-use Rattle.std.specs.Prelude.{ℕ, Bool, ◌*◌, ◌/◌, ◌^◌, ◌≤◌, nat_le}
+use Rattle.std.specs.Prelude.{ℕ, Bool, ◌*◌, ◌/◌, ◌≤◌, nat_le}
+use Rattle.pf_weight.specs.declared.base.TheConstants.{LARGEST_BASE}
 
 -- a task's share of a processor: cost quanta in each period slots, which is `units` in 1/h
 pub record Share : Type 0 where
@@ -15,15 +16,15 @@ share_of base cost period = record { cost = cost; period = period; units = cost 
 abbrev pub is_heavy : Share → Bool
 is_heavy w = nat_le w.period (2 * w.cost)
 
--- what holds of every base: it is 1 to 2^30
+-- what holds of every base: it is 1 to the greatest one
 pub record IsBase (base : ℕ) : Type 0 where
   pub some : 1 ≤ base
-  pub within : base ≤ 2 ^ 30
+  pub within : base ≤ LARGEST_BASE
 
 -- what holds of every weight: its cost is 1 to its period, and neither its period nor its units pass the greatest base
 pub record IsShare (w : Share) : Type 0 where
   pub some : 1 ≤ w.cost
   pub within : w.cost ≤ w.period
-  pub short : w.period ≤ 2 ^ 30
+  pub short : w.period ≤ LARGEST_BASE
   pub units_some : 1 ≤ w.units
-  pub units_within : w.units ≤ 2 ^ 30
+  pub units_within : w.units ≤ LARGEST_BASE

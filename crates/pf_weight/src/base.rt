@@ -5,7 +5,7 @@ use crate::fault::BaseOutOfRange;
 use std::marker::Model;
 
 /// The greatest base.
-const LARGEST: u64 = 1 << 30;
+pub const LARGEST_BASE: u64 = 1 << 30;
 
 /// The base h of a system: weights are counted in units of 1/h, and every period divides h.
 #[derive(Clone, Copy, Debug, PartialEq, Eq)]
@@ -33,7 +33,7 @@ impl Base {
         ensures in_range { IsOk result ↔ IsBase h }
         ensures value { IfOk result (λ base. base ≡ h) }
     {
-        if h == 0 || h > LARGEST {
+        if h == 0 || h > LARGEST_BASE {
             return Err(BaseOutOfRange);
         }
         Ok(Base { units: h })

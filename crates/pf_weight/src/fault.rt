@@ -1,3 +1,6 @@
+ghost use Rattle.std.specs.Prelude.{◌≡◌};
+ghost use Rattle.pf_weight.specs.Refusals.{weight_fault_code, weight_fault_name};
+
 use std::error::Error;
 use std::fmt;
 
@@ -22,6 +25,30 @@ pub enum WeightFault {
     CostAbovePeriod,
     /// The period does not divide the base.
     PeriodNotInBase,
+}
+
+impl WeightFault {
+    /// Its number in the table of refusals, 2 to 4.
+    pub fn code(self) -> u64
+        ensures { result ≡ weight_fault_code self }
+    {
+        match self {
+            WeightFault::ZeroCost => 2,
+            WeightFault::CostAbovePeriod => 3,
+            WeightFault::PeriodNotInBase => 4,
+        }
+    }
+
+    /// Its name in the table of refusals.
+    pub fn name(self) -> &'static str
+        ensures { result.now ≡ weight_fault_name self }
+    {
+        match self {
+            WeightFault::ZeroCost => "ZeroCost",
+            WeightFault::CostAbovePeriod => "CostAbovePeriod",
+            WeightFault::PeriodNotInBase => "PeriodNotInBase",
+        }
+    }
 }
 
 impl fmt::Display for WeightFault {

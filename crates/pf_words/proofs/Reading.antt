@@ -5,11 +5,11 @@ use Rattle.clap.specs.declared.error.kind.ErrorKind.{ErrorKind}
 use Rattle.clap.specs.declared.error.kind.ErrorKind.TheVariants.{OutOfMemory}
 use Rattle.pf_words.specs.declared.format.Format.{Format}
 use Rattle.pf_words.specs.declared.request.Request.{Request}
-use Rattle.pf_words.specs.declared.request.Request.TheVariants.{Run, Help}
+use Rattle.pf_words.specs.declared.request.Request.TheVariants.{Run, Show}
 use Rattle.pf_words.specs.declared.request.WordsFault.{WordsFault}
 use Rattle.pf_words.specs.declared.request.WordsFault.TheVariants.{Refused, UnknownFormat, NoMemory}
 use Rattle.pf_words.specs.CommandLine.{kinds_of, name_behind_run, name_given, program}
-use Rattle.pf_words.specs.Asked.{IsAsked, ShowsError, format_asked, format_or_tables, run_in, run_of}
+use Rattle.pf_words.specs.Asked.{IsAsked, IsShown, ShowsError, format_asked, format_or_tables, run_in, run_of}
 
 -- one function after another over what may be there
 pub option_map-option_map : {X Y Z : Type 0} (f : Y → Z) (g : X → Y) (o : Option X) → option_map f (option_map g o) ≡ option_map (λ x. f (g x)) o
@@ -51,13 +51,21 @@ pub taken_words : (words : List Text) (found : Option (Text × List Row)) → ki
 taken_words words found taken is =
     asked_in words (format_or_tables (name_behind_run found)) taken (taken_format words found taken is)
 
+-- want of memory shows nothing
+not_shown : (kind : ErrorKind) → kind ≡ OutOfMemory → ¬ IsShown kind
+not_shown kind memory (inl help) = cc
+not_shown kind memory (inr version) = cc
+
 -- words that it does not take, by the kind of its error
 pub untaken_words : (words : List Text) (kind : ErrorKind) (answer : Result Request WordsFault)
     → (kind ≡ OutOfMemory) ⊎ IsAmong kind (kinds_of words) → ShowsError kind answer → IsAsked words answer
 untaken_words words kind (Ok (Run format)) among shows = absurd shows
-untaken_words words kind (Ok (Help text)) among shows = elim among [
-  | inl memory ↦ cc
-  | inr here ↦ subst (λ (k : ErrorKind). IsAmong k (kinds_of words)) shows here
+untaken_words words kind (Ok (Show text)) among shows = elim among [
+  | inl memory ↦ absurd (not_shown kind memory shows)
+  | inr here ↦ elim shows [
+    | inl help ↦ inl (subst (λ (k : ErrorKind). IsAmong k (kinds_of words)) help here)
+    | inr version ↦ inr (subst (λ (k : ErrorKind). IsAmong k (kinds_of words)) version here)
+  ]
 ]
 untaken_words words kind (Err (Refused text)) among shows = elim among [
   | inl memory ↦ absurd (shows.0 memory)

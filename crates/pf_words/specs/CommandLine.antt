@@ -5,9 +5,10 @@ use Rattle.clap.specs.Words.{App, Kinds, Row, Rule, Text, fault_of, first_of, ne
 use Rattle.clap.specs.Simple.{on_top}
 use Rattle.clap.specs.declared.builder.action.ArgAction.TheVariants.{Set}
 
--- the option `--format`, with one text
+-- the option `--format`, or `-f`, with one text
 abbrev pub format_option : Rule
 format_option = record (new_rule (codes "format")) {
+  short = Some 102;
   long = Some (codes "format");
   value_names = 1;
   action = Some Set;
@@ -17,13 +18,13 @@ format_option = record (new_rule (codes "format")) {
 abbrev pub run_command : App
 run_command = with_rule (new_app (codes "run")) format_option
 
--- the program's own name is not among the words
-abbrev pub without_own_name : App → App
-without_own_name = on_top (λ s. record s { no_binary_name = true })
+-- the program's own name is not among the words, and it tells its version
+abbrev pub as_program : App → App
+as_program = on_top (λ s. record s { no_binary_name = true; has_version = true })
 
 -- `pfair`, with the subcommand `run`
 abbrev pub program : App
-program = with_subcommand (without_own_name (new_app (codes "pfair"))) run_command.top
+program = with_subcommand (as_program (new_app (codes "pfair"))) run_command.top
 
 -- the kinds of error by which the grammar does not take the words; it takes them where there is none
 unfoldable pub kinds_of : List Text → Kinds

@@ -2,7 +2,7 @@
 use Rattle.std.specs.Prelude.{ℕ, Bool, true, false, if◌then◌else◌, List, Option, Some, None, codes}
 use Rattle.std.specs.Str.{bytes_eq}
 use Rattle.pf_words.specs.declared.format.Format.{Format}
-use Rattle.pf_words.specs.declared.format.Format.TheVariants.{Schedule, Tables, Json}
+use Rattle.pf_words.specs.declared.format.Format.TheVariants.{Schedule, Tables, Json, Report, Replies, Lags, Misses, Denials, Events, Processors}
 
 -- the format of this name
 abbrev pub format_named : List ℕ → Option Format
@@ -10,9 +10,18 @@ format_named name =
     if bytes_eq name (codes "schedule") then Some Schedule
     else if bytes_eq name (codes "tables") then Some Tables
     else if bytes_eq name (codes "json") then Some Json
+    else if bytes_eq name (codes "report") then Some Report
+    else if bytes_eq name (codes "replies") then Some Replies
+    else if bytes_eq name (codes "lags") then Some Lags
+    else if bytes_eq name (codes "misses") then Some Misses
+    else if bytes_eq name (codes "denials") then Some Denials
+    else if bytes_eq name (codes "events") then Some Events
+    else if bytes_eq name (codes "processors") then Some Processors
     else None
 
--- only the format `schedule` has no reply lines
+-- the formats that have reply lines
 abbrev pub has_replies : Format → Bool
-has_replies Schedule = false
-has_replies format = true
+has_replies Tables = true
+has_replies Json = true
+has_replies Replies = true
+has_replies format = false

@@ -1,10 +1,13 @@
-ghost use Rattle.std.specs.Prelude.{◌≡◌, IfOk, false};
-ghost use Rattle.clap.specs.Words.{app_of};
+ghost use Rattle.std.specs.Prelude.{◌≡◌, IfOk, false, codes};
+ghost use Rattle.clap.specs.Words.{app_of, new_app};
 ghost use Rattle.clap.specs.declared.builder.command.Command.TheViews.{out-Command};
-ghost use Rattle.pf_words.specs.CommandLine.{program, run_command};
+ghost use Rattle.pf_words.specs.CommandLine.{program, as_program, run_command};
 
 use clap::{Arg, ArgAction, Command};
 use std::alloc::{AllocError, Global};
+
+// What `--version` tells behind the program's name.
+const VERSION: &str = "0.2.0";
 
 // What `--help` says of the program.
 const ABOUT: &str =
@@ -14,7 +17,8 @@ The script is read from standard input, and the answer is written to standard ou
 // What `--help` teaches behind the words.
 const LESSON: &str = "A script is a list of comma-separated records, one a line:
   settings,M,BASE,CAP,EVERY           first: M processors, the base that each period divides, the most
-                                      load in 1/BASE, and a checkpoint at every so many slots
+                                      load in 1/BASE (M * BASE fills the processors), and the distance of
+                                      checkpoints in slots, 1 to 4096, which changes no answer
   join,SLOT,TASK,COST,PERIOD,EARLY    a task of weight COST/PERIOD joins, each quantum up to EARLY slots early
   leave,SLOT,TASK                     it leaves
   delay,SLOT,TASK,BY                  its next quanta come BY slots later
@@ -36,6 +40,13 @@ Formats:
   schedule    the schedule: for each slot the task/subtask on each processor
   tables      a reply to each record, then the schedule, the lags, the misses and the denials
   json        a reply to each record, then one JSON object of these
+  report      the JSON object alone
+  replies     the replies alone
+  lags        the lags alone: how far each task is from its fair share
+  misses      the missed windows alone
+  denials     the denied events alone
+  events      the events held, each with its number
+  processors  how many quanta each processor gave, how long it was idle, how often its task changed
 
 Status: 0 done, 1 a bad record or a script that is too long, 2 words that are not understood, 3 a fault of reading or
 writing, 4 out of memory. What is wrong is told on standard error.";
@@ -45,12 +56,20 @@ pub(crate) fn program<'a>(alloc: Global) -> Result<Command<'a>, AllocError>
     ensures { IfOk result (λ c. app_of c ≡ program) }
 {
     let run = run_command(alloc)?;
-    Command::new(alloc, "pfair")
+    let program = bare_program(alloc)?;
+    program.subcommand(run)
+}
+
+// The program without its subcommand.
+fn bare_program<'a>(alloc: Global) -> Result<Command<'a>, AllocError>
+    ensures { IfOk result (λ c. app_of c ≡ as_program (new_app (codes "pfair"))) }
+{
+    let program = Command::new(alloc, "pfair")
         .no_binary_name(true)
-        .bin_name("pfair")?
+        .version(VERSION)
         .about(ABOUT)
-        .after_help(LESSON)
-        .subcommand(run)
+        .after_help(LESSON);
+    program.bin_name("pfair")
 }
 
 // `run`, with `--format` and a text.
@@ -59,9 +78,10 @@ fn run_command<'a>(alloc: Global) -> Result<Command<'a>, AllocError>
     ensures globals { IfOk result (λ c. (out-Command c).has_globals ≡ false) }
 {
     let format = Arg::new(alloc, "format")
+        .short('f')
         .long("format")
         .value_name("FORMAT")
-        .help("schedule, tables or json [default: tables]")
+        .help("one of the formats below [default: tables]")
         .action(ArgAction::Set);
     Command::new(alloc, "run")
         .about("Runs the script; also without any words")

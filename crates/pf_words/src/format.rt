@@ -10,10 +10,25 @@ pub enum Format {
     Tables,
     /// The replies, then one JSON object.
     Json,
+    /// The JSON object alone.
+    Report,
+    /// The replies alone.
+    Replies,
+    /// The lags alone, as a table.
+    Lags,
+    /// The misses alone, as a table.
+    Misses,
+    /// The denials alone, as a table.
+    Denials,
+    /// The events held, as a table.
+    Events,
+    /// How the processors were used, as a table.
+    Processors,
 }
 
 impl Format {
-    /// The format of this name: `schedule`, `tables` or `json`. `None` where the text is none of these.
+    /// The format of this name: `schedule`, `tables`, `json`, `report`, `replies`, `lags`, `misses`, `denials`,
+    /// `events` or `processors`. `None` where the text is none of these.
     pub fn named(name: &str) -> Option<Format>
         ensures { result ≡ format_named name.now }
     {
@@ -21,6 +36,13 @@ impl Format {
             "schedule" => Some(Format::Schedule),
             "tables" => Some(Format::Tables),
             "json" => Some(Format::Json),
+            "report" => Some(Format::Report),
+            "replies" => Some(Format::Replies),
+            "lags" => Some(Format::Lags),
+            "misses" => Some(Format::Misses),
+            "denials" => Some(Format::Denials),
+            "events" => Some(Format::Events),
+            "processors" => Some(Format::Processors),
             _ => None,
         }
     }
@@ -29,6 +51,6 @@ impl Format {
     pub fn has_replies(self) -> bool
         ensures { result ≡ has_replies self }
     {
-        !matches!(self, Format::Schedule)
+        matches!(self, Format::Tables | Format::Json | Format::Replies)
     }
 }

@@ -10,8 +10,8 @@ use thiserror::Error;
 pub enum Request {
     /// To run the script in this format.
     Run(Format),
-    /// To show this help.
-    Help(String),
+    /// To show this text: help, or the version.
+    Show(String),
 }
 
 /// Why the words ask for nothing.

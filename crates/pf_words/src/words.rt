@@ -44,7 +44,7 @@ fn format_name<'a>(matches: &ArgMatches<'a>) -> Option<&'a str>
     matches.subcommand_matches("run")?.get_str("format")
 }
 
-// What words ask for that the grammar does not take: help, or nothing.
+// What words ask for that the grammar does not take: help, the version, or nothing.
 fn read_error(alloc: Global, error: &clap::Error) -> Result<Request, WordsFault>
     ensures { ShowsError (kind_of error.now) result }
 {
@@ -53,8 +53,8 @@ fn read_error(alloc: Global, error: &clap::Error) -> Result<Request, WordsFault>
         return Err(WordsFault::NoMemory);
     }
     let text = format!(in alloc; "{error}")?;
-    if kind == ErrorKind::DisplayHelp {
-        return Ok(Request::Help(text));
+    if kind == ErrorKind::DisplayHelp || kind == ErrorKind::DisplayVersion {
+        return Ok(Request::Show(text));
     }
     Err(WordsFault::Refused(text))
 }

@@ -1,4 +1,7 @@
-//! The first slot of a scenario.
+//! Two slots of a scenario, and the second again on a copy.
+
+ghost use Rattle.std.specs.Prelude.{◌≡◌, ◌+◌, ◌^◌, ◌<◌, IfOk, OnOk};
+ghost use Rattle.run_tests.specs.Fitting.{FitsSome};
 
 use crate::events::three_tasks;
 use pf_engine::engine::Engine;
@@ -9,31 +12,52 @@ use pf_scenario::scenario::Scenario;
 use std::alloc::{AllocError, Global};
 use std::test::Fail;
 
-/// A slot, and the engine after it.
-#[derive(Drop)]
-struct Taken {
-    engine: Engine,
-    outcome: Outcome,
+/// An engine before any slot of the scenario.
+fn start(alloc: Global, scenario: &Scenario) -> Result<Engine, AllocError>
+    ensures now { IfOk result (λ e. e.now ≡ 0) }
+    ensures fits { IfOk result (λ e. FitsSome scenario.now e) }
+{
+    Engine::new(alloc, scenario.settings())
 }
 
-fn first_slot(alloc: Global, meter: &mut Meter, scenario: &Scenario) -> Result<Taken, AllocError> {
-    let mut engine = Engine::new(alloc, scenario.settings())?;
-    let events = scenario.slot_events(0)?;
-    let outcome = engine.slot(meter, &events)?;
-    Ok(Taken { engine, outcome })
+/// Takes the slot that comes next.
+fn next_slot(
+    engine: &mut Engine,
+    meter: &mut Meter,
+    scenario: &Scenario,
+) -> Result<Outcome, AllocError>
+    requires below { engine.old.now < 2 ^ 20 }
+    requires fits { FitsSome scenario.now engine.old }
+    ensures now { OnOk result (engine.new.now ≡ engine.old.now + 1) }
+    ensures fits { OnOk result (FitsSome scenario.now engine.new) }
+{
+    let events = scenario.slot_events(engine.now())?;
+    engine.slot(meter, &events)
 }
 
 #[test]
 fn three_tasks_on_two_processors(rt: HostRuntime) -> Result<(), Fail> {
     let mut meter = Meter::new();
     let scenario = three_tasks(rt.alloc())?;
-    let Taken { engine, outcome } = first_slot(rt.alloc(), &mut meter, &scenario)?;
-    let picks = [Pick { task: 1, sub: 1 }, Pick { task: 2, sub: 1 }];
-    assert_eq!(rt; outcome.picks(), picks.as_slice());
-    assert!(rt; outcome.denials().is_empty());
-    assert_eq!(rt; outcome.count(), 2);
-    let copy = engine.copy()?;
-    assert_eq!(rt; copy.now(), 1);
+    let mut engine = start(rt.alloc(), &scenario)?;
+    let first = next_slot(&mut engine, &mut meter, &scenario)?;
+    assert_eq!(rt;
+        first.picks(),
+        [Pick { task: 1, sub: 1 }, Pick { task: 2, sub: 1 }].as_slice()
+    );
+    assert!(rt; first.denials().is_empty());
+    assert_eq!(rt; first.count(), 2);
+    let mut copy = engine.copy()?;
+    let wanted = [Pick { task: 3, sub: 1 }, Pick { task: 1, sub: 2 }];
+    let second = next_slot(&mut engine, &mut meter, &scenario)?;
+    assert_eq!(rt; second.picks(), wanted.as_slice());
+    assert!(rt; second.denials().is_empty());
+    assert_eq!(rt; engine.now(), 2);
+    let again = next_slot(&mut copy, &mut meter, &scenario)?;
+    assert_eq!(rt; again.picks(), wanted.as_slice());
+    assert!(rt; again.denials().is_empty());
+    assert_eq!(rt; again.count(), second.count());
+    assert_eq!(rt; copy.now(), 2);
     assert_eq!(rt; copy.settings().processors(), 2);
     Ok(())
 }

@@ -7,6 +7,7 @@ mod growths;
 
 use pf_order::pick::Pick;
 use pf_place::row::Row;
+use pf_place::row_view::RowView;
 use pf_place::rows::Rows;
 use std::alloc::{AllocError, Global};
 use std::test::Fail;
@@ -54,7 +55,7 @@ fn a_lone_task_keeps_its_place(rt: HostRuntime) -> Result<(), Fail> {
     let wanted = [None, Some(SEVEN_NEXT), None, None];
     assert_eq!(rt; places(&row.copy()?).as_slice(), wanted.as_slice());
     let mut other = Row::idle(rt.alloc(), 3)?;
-    other.assign(&row);
+    other.assign(row.view());
     assert_eq!(rt; places(&other).as_slice(), wanted.as_slice());
     Ok(())
 }
@@ -65,8 +66,8 @@ fn rows_are_kept_in_order(rt: HostRuntime) -> Result<(), Fail> {
     let busy = placed(rt.alloc(), &[], &[FIVE])?;
     let mut rows = Rows::new(rt.alloc());
     assert!(rt; rows.is_empty());
-    rows.push(idle)?;
-    rows.push(busy)?;
+    rows.push(&idle)?;
+    rows.push(&busy)?;
     let copy = rows.copy()?;
     assert_eq!(rt; two_rows(&rows), (2, None, Some(FIVE), Some(FIVE)));
     assert_eq!(rt; two_rows(&copy), (2, None, Some(FIVE), Some(FIVE)));
@@ -75,7 +76,7 @@ fn rows_are_kept_in_order(rt: HostRuntime) -> Result<(), Fail> {
 }
 
 /// Who sits on the lowest place of the row, where there is one.
-fn sitter(row: Option<&Row>) -> Option<Pick> {
+fn sitter(row: Option<RowView<'_>>) -> Option<Pick> {
     row?.get(0)
 }
 
@@ -87,4 +88,89 @@ fn two_rows(rows: &Rows) -> (usize, Option<Pick>, Option<Pick>, Option<Pick>) {
         sitter(rows.get(1)),
         sitter(rows.last()),
     )
+}
+
+/// The row of one processor, on which the task runs.
+fn row_of_task(alloc: Global, task: u32) -> Result<Row, AllocError> {
+    let idle = Row::idle(alloc, 1)?;
+    Row::place(alloc, 1, 1, &idle, &[Pick { task, sub: 1 }])
+}
+
+/// As many rows. In that of slot t task t + 1 runs.
+fn rows_of_tasks(alloc: Global, count: u32) -> Result<Rows, AllocError> {
+    let mut rows = Rows::new(alloc);
+    for t in 0..count {
+        rows.push(&row_of_task(alloc, t + 1)?)?;
+    }
+    Ok(rows)
+}
+
+/// Which task runs in slot t.
+fn task_at(rows: &Rows, t: u64) -> Option<u32> {
+    Some(sitter(rows.get(t))?.task)
+}
+
+/// How many rows there are, and which tasks run in the slots 0, 255 and 256.
+fn tasks_at_bounds(rows: &Rows) -> (usize, Option<u32>, Option<u32>, Option<u32>) {
+    (
+        rows.len(),
+        task_at(rows, 0),
+        task_at(rows, 255),
+        task_at(rows, 256),
+    )
+}
+
+#[test]
+fn rows_go_on_behind_a_full_block(rt: HostRuntime) -> Result<(), Fail> {
+    let rows = rows_of_tasks(rt.alloc(), 255)?;
+    assert_eq!(rt; tasks_at_bounds(&rows), (255, Some(1), None, None));
+    assert!(rt; rows.get(255).is_none());
+    let rows = rows_of_tasks(rt.alloc(), 256)?;
+    assert_eq!(rt; tasks_at_bounds(&rows), (256, Some(1), Some(256), None));
+    assert!(rt; rows.get(256).is_none());
+    let rows = rows_of_tasks(rt.alloc(), 257)?;
+    assert_eq!(rt;
+        tasks_at_bounds(&rows),
+        (257, Some(1), Some(256), Some(257))
+    );
+    assert!(rt; rows.get(257).is_none());
+    let rows = rows_of_tasks(rt.alloc(), 513)?;
+    assert_eq!(rt;
+        tasks_at_bounds(&rows),
+        (513, Some(1), Some(256), Some(257))
+    );
+    assert_eq!(rt; task_at(&rows, 512), Some(513));
+    assert!(rt; rows.get(513).is_none());
+    Ok(())
+}
+
+#[test]
+fn a_copy_keeps_rows_that_are_taken_off(rt: HostRuntime) -> Result<(), Fail> {
+    let mut rows = rows_of_tasks(rt.alloc(), 257)?;
+    let copy = rows.copy()?;
+    rows.pop();
+    rows.pop();
+    assert_eq!(rt; tasks_at_bounds(&rows), (255, Some(1), None, None));
+    rows.push(&row_of_task(rt.alloc(), 9)?)?;
+    assert_eq!(rt; tasks_at_bounds(&rows), (256, Some(1), Some(9), None));
+    assert_eq!(rt;
+        tasks_at_bounds(&copy),
+        (257, Some(1), Some(256), Some(257))
+    );
+    Ok(())
+}
+
+#[test]
+fn picks_are_seated_in_the_last_row(rt: HostRuntime) -> Result<(), Fail> {
+    let mut rows = Rows::new(rt.alloc());
+    rows.push_idle(3)?;
+    rows.seat_last(3, &[FIVE, SEVEN]);
+    rows.push_idle(3)?;
+    rows.seat_last(3, &[NINE, SEVEN_NEXT, TWO]);
+    let last = rows.last().ok_or("no row")?;
+    let wanted = [Some(NINE), Some(SEVEN_NEXT), Some(TWO)];
+    let seated = [last.get(0), last.get(1), last.get(2)];
+    assert_eq!(rt; seated.as_slice(), wanted.as_slice());
+    assert_eq!(rt; last.processors(), 3);
+    Ok(())
 }

@@ -69,12 +69,24 @@ fn settings_at_their_limits(rt: HostRuntime) -> Result<(), Fail> {
 fn events_out_of_their_limits(rt: HostRuntime) -> Result<(), Fail> {
     let mut s = Scenario::new(rt.alloc(), Settings::new(2, 1, 2)?);
     let cases = [
+        (leave(0, 0), EditFault::TaskOutOfRange),
+        (leave(0, 4096), EditFault::TaskOutOfRange),
+        (join(0, 1, 1, 1, 1_048_577), EditFault::EarlyOutOfRange),
         (delay(0, 1, 1_048_577), EditFault::DelayOutOfRange),
         (limit(0, 0), EditFault::CountOutOfRange),
         (limit(0, 3), EditFault::CountOutOfRange),
         (limit(1_048_576, 0), EditFault::SlotOutOfRange),
     ];
     refusals(&rt, &mut s, &cases);
+    Ok(())
+}
+
+#[test]
+fn events_at_their_limits(rt: HostRuntime) -> Result<(), Fail> {
+    let mut s = Scenario::new(rt.alloc(), Settings::new(2, 1, 2)?);
+    let last = join(1_048_575, 4095, 1, 1, 1_048_576);
+    insert_all(&mut s, &[last, delay(0, 4095, 1_048_576), limit(0, 2)])?;
+    assert_eq!(rt; s.events().len(), 3);
     Ok(())
 }
 
@@ -108,6 +120,27 @@ fn small(alloc: Global) -> Result<Scenario, Fail> {
     let mut s = Scenario::new(alloc, Settings::new(1, 6, 6)?);
     insert_all(&mut s, &[leave(9, 1), join(2, 1, 1, 6, 0), delay(2, 1, 4)])?;
     Ok(s)
+}
+
+/// Checks the change, and then makes it.
+fn check_and_make(s: &mut Scenario, change: Change) -> Result<u64, ApplyFault> {
+    s.check(&change).map_err(ApplyFault::Refused)?;
+    Ok(s.make(change)?)
+}
+
+#[test]
+fn changes_made_once_checked(rt: HostRuntime) -> Result<(), Fail> {
+    let mut s = small(rt.alloc())?;
+    let before = s.copy()?;
+    assert_eq!(rt; check_and_make(&mut s, Change::Insert(delay(4, 1, 1)))?, 4);
+    assert_eq!(rt;
+        check_and_make(&mut s, Change::Alter(4, delay(5, 1, 1)))?,
+        4
+    );
+    assert!(rt; s.events() != before.events());
+    assert_eq!(rt; check_and_make(&mut s, Change::Strike(4))?, 4);
+    assert_eq!(rt; s.events(), before.events());
+    Ok(())
 }
 
 #[test]

@@ -1,6 +1,6 @@
 //! Edits in the past, the distance of checkpoints, and the horizon.
 
-ghost use Rattle.std.specs.Prelude.{◌≡◌, ◌<◌, length, IfOk, OnOk};
+ghost use Rattle.std.specs.Prelude.{◌≡◌, ◌<◌, IfOk, OnOk};
 ghost use Rattle.pf_timeline.specs.Timeline.{StandsFor};
 
 use crate::events::three_tasks;
@@ -17,15 +17,15 @@ use std::test::Fail;
 
 /// A timeline of no slots of the scenario.
 fn start(alloc: Global, scenario: &Scenario) -> Result<Timeline, NewFault>
-    ensures { IfOk result (λ t. StandsFor scenario.now t.engine.now t) }
+    ensures { IfOk result (λ t. StandsFor scenario.now t.now t) }
 {
     Timeline::new(alloc, scenario.settings(), 64)
 }
 
 /// Takes the next slot.
 fn step(timeline: &mut Timeline, meter: &mut Meter, scenario: &Scenario) -> Result<(), StepFault>
-    requires { StandsFor scenario.now timeline.old.engine.now timeline.old }
-    ensures { OnOk result (StandsFor scenario.now timeline.new.engine.now timeline.new) }
+    requires { StandsFor scenario.now timeline.old.now timeline.old }
+    ensures { OnOk result (StandsFor scenario.now timeline.new.now timeline.new) }
 {
     timeline.step(meter, scenario)
 }
@@ -37,7 +37,7 @@ fn slots(
     scenario: &Scenario,
     count: u64,
 ) -> Result<Timeline, Fail>
-    ensures { IfOk result (λ t. StandsFor scenario.now t.engine.now t) }
+    ensures { IfOk result (λ t. StandsFor scenario.now t.now t) }
 {
     let mut timeline = start(alloc, scenario)?;
     for _ in 0..count {
@@ -62,10 +62,10 @@ fn rewritten(
     former: &Scenario,
     scenario: &Scenario,
 ) -> Result<Timeline, AllocError>
-    requires some { 0 < length kept.now.rows }
-    requires stands { StandsFor former.now kept.now.engine.now kept.now }
+    requires some { 0 < kept.now.now }
+    requires stands { StandsFor former.now kept.now.now kept.now }
     requires settings { scenario.now.settings ≡ former.now.settings }
-    ensures { IfOk result (λ t. StandsFor scenario.now t.engine.now t) }
+    ensures { IfOk result (λ t. StandsFor scenario.now t.now t) }
 {
     kept.rewritten(meter, 0, scenario)
 }
@@ -86,7 +86,7 @@ fn sitters(alloc: Global, timeline: &Timeline) -> Result<Vec<Pick>, AllocError> 
 fn with_a_strike(rt: &impl Abort, alloc: Global, scenario: &Scenario) -> Result<Timeline, Fail> {
     let mut meter = Meter::new();
     let kept = slots(alloc, &mut meter, scenario, 3)?;
-    assert!(rt; !kept.rows().is_empty());
+    assert!(rt; kept.now() > 0);
     let struck = struck(scenario, 3)?;
     let rewritten = rewritten(&mut meter, &kept, scenario, &struck)?;
     Ok(rewritten.stepped(&mut meter, &struck)?)

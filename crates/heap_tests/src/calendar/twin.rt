@@ -61,7 +61,9 @@ impl Twin {
         key: Key,
     ) -> Result<(), AllocError> {
         let found = pick(self.take_listed(key.task()));
+        assert!(rt; self.calendar.len() <= 4095);
         self.calendar.reserve(1)?;
+        self.calendar.reserve_task(key.task())?;
         match self.calendar.take_out(meter, key.task()) {
             Some(taken) => assert_eq!(rt; pick(Some(taken)), found),
             None => {

@@ -61,6 +61,7 @@ impl Twin {
     ) -> Result<(), AllocError>
         requires heap { self.old.heap < length arena.old.lists }
         requires room { 1 ≤ arena.old.spare }
+        requires placed { key.task < arena.old.tasks }
         requires absent { ¬ IsHeld arena.old.lists key.task }
         ensures same { self.new.heap ≡ self.old.heap }
         ensures lists { length arena.new.lists ≡ length arena.old.lists }

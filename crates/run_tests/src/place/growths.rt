@@ -3,7 +3,7 @@
 ghost use Rattle.std.specs.Prelude.{◌≡◌, IfOk};
 ghost use Rattle.pf_place.specs.Occupancy.{idle_row};
 
-use super::{FIVE, sitter};
+use super::{FIVE, rows_of_tasks, sitter};
 use crate::refused::say;
 use pf_place::row::Row;
 use pf_place::rows::Rows;
@@ -30,8 +30,6 @@ fn place_again(alloc: Global, before: &Row) -> Result<(Row, bool), AllocError>
     }
 }
 
-// The standard library asks a second time for the places in use and for the picks to seat, so that one refusal is none
-// of the call; the places out of use are a growth that it asks for once.
 #[test]
 fn a_row_is_placed_again(rt: HostRuntime) -> Result<(), Fail> {
     let (before, refused) = idle_again(rt.alloc(), 64)?;
@@ -67,13 +65,13 @@ fn a_row_is_copied_again(rt: HostRuntime) -> Result<(), Fail> {
 /// refused.
 fn push_again(rows: &mut Rows, alloc: Global) -> Result<bool, AllocError> {
     let (first, _) = idle_again(alloc, 2)?;
-    if rows.push(first).is_ok() {
+    if rows.push(&first).is_ok() {
         return Ok(false);
     }
     if !rows.is_empty() {
         return Err(AllocError);
     }
-    rows.push(Row::idle(alloc, 2)?)?;
+    rows.push(&Row::idle(alloc, 2)?)?;
     Ok(true)
 }
 
@@ -95,5 +93,24 @@ fn rows_are_pushed_and_copied_again(rt: HostRuntime) -> Result<(), Fail> {
     assert_eq!(rt; rows.len(), 1);
     assert_eq!(rt; copy.len(), 1);
     assert_eq!(rt; sitter(copy.last()), None);
+    Ok(())
+}
+
+/// 512 rows, again where memory is refused.
+fn many_rows(alloc: Global) -> Result<Rows, AllocError> {
+    match rows_of_tasks(alloc, 512) {
+        Ok(rows) => Ok(rows),
+        Err(_) => rows_of_tasks(alloc, 512),
+    }
+}
+
+// Full blocks are shared: a copy asks for the list of them and for the two pieces of the open one.
+#[test]
+fn many_rows_are_copied_again(rt: HostRuntime) -> Result<(), Fail> {
+    let rows = many_rows(rt.alloc())?;
+    let (copy, refused) = copy_all_again(&rows)?;
+    say(&rt, "Rows::copy", refused)?;
+    assert_eq!(rt; rows.len(), 512);
+    assert_eq!(rt; copy.len(), 512);
     Ok(())
 }

@@ -1,6 +1,7 @@
 use Rattle.std.proofs.Common.{◌≡◌, ◌+◌, ◌*◌, ◌<◌, [], ◌∷◌, ◌++◌, length, take, refl, sym, ap, ◌∙◌, arith, append_assoc}
 use Rattle.std.specs.FinSet as set
 use Rattle.std.specs.Prelude.{sum_by}
+use Rattle.pf_order.proofs.Comparing.{compares_none, compares_within, compares_both}
 use Rattle.pf_heap.specs.Keys.{list_of}
 use Rattle.pf_heap.specs.Digits.{digits}
 use Rattle.pf_heap.proofs.Digits.{digits-mono}
@@ -15,8 +16,7 @@ loop-entry-init c = record {
   long = omega arith;
   capacity = refl;
   shrinks = omega arith;
-  compared = omega arith;
-  slots = refl;
+  counted = compares_within (omega arith) (compares_none _);
 }
 
 pub loop-entry-preserved : goal.loop-entry-preserved
@@ -38,6 +38,5 @@ loop-entry-preserved c =
       long = omega (arith, i.long, c.push_reserved.ensures.len);
       capacity = c.push_reserved.ensures.capacity ∙ i.capacity;
       shrinks = s.1;
-      compared = omega (arith, i.compared, c.meld.ensures.comparisons, digits-mono _ total s.0, more);
-      slots = c.meld.ensures.slots ∙ i.slots;
+      counted = compares_within (omega (arith, digits-mono _ total s.0, more)) (compares_both i.counted c.meld.ensures.comparisons);
     }

@@ -2,6 +2,7 @@ use Rattle.std.proofs.Common.{◌≡◌, ◌+◌, ◌*◌, ◌≤◌, ◌++◌, 
 use Rattle.std.specs.Prelude.{sum_by}
 use Rattle.std.specs.Vec.{vec_capacity}
 use Rattle.std.specs.FinSet as set
+use Rattle.pf_order.specs.Counts.{Compares}
 use Rattle.pf_heap.specs.Keys.{list_of}
 use Rattle.pf_heap.specs.Digits.{digits}
 use Rattle.pf_calendar.specs.Invariant.{names_of}
@@ -16,7 +17,7 @@ invariant-loop-entry l = record {
   capacity : vec_capacity l.aside ≡ vec_capacity l.initial.aside;
   shrinks : set.len (list_of l.heaps l.into) + sum_by (λ e. set.len (list_of l.initial.heaps e.heap)) (drop l.entry-index l.entries)
       ≤ set.len (list_of l.initial.heaps l.into) + sum_by (λ e. set.len (list_of l.initial.heaps e.heap)) l.entries;
-  compared : l.meter.compared ≤ l.initial.meter.compared
-      + l.entry-index * digits (set.len (list_of l.initial.heaps l.into) + sum_by (λ e. set.len (list_of l.initial.heaps e.heap)) l.entries);
-  slots : l.meter.slots ≡ l.initial.meter.slots;
+  counted : Compares
+      (l.entry-index * digits (set.len (list_of l.initial.heaps l.into) + sum_by (λ e. set.len (list_of l.initial.heaps e.heap)) l.entries))
+      l.initial.meter l.meter;
 }

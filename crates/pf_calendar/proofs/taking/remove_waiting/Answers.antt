@@ -1,9 +1,10 @@
-use Rattle.std.proofs.Common.{◌≡◌, ◌<◌, length, get_or, ap, ◌∙◌, arith}
+use Rattle.std.proofs.Common.{◌≡◌, ◌<◌, ◌*◌, length, get_or, ap, ◌∙◌, subst, arith}
 use Rattle.std.specs.Prelude.{sum_by}
 use Rattle.std.specs.FinSet as set
 use Rattle.std.proofs.lemmas.List.{get_or_read}
 use Rattle.std.proofs.lemmas.List.Sums.{get_or-le-sum_by}
-use Rattle.pf_order.specs.Counts.{Counts}
+use Rattle.pf_order.specs.Counts.{Counts, Compares}
+use Rattle.pf_order.proofs.Comparing.{compares_within}
 use Rattle.pf_heap.specs.Keys.{Heaps, list_of}
 use Rattle.pf_heap.specs.Digits.{digits}
 use Rattle.pf_heap.proofs.Digits.{digits-mono}
@@ -20,11 +21,11 @@ returns-in-Some-clause-comparisons c =
     let lt : c.loop-at.at < length es = omega (arith, c.loop-at-test.true) in
     let here : set.len (list_of c.loop-at.heaps e.heap) ≡ set.len (list_of heaps (get_or es c.loop-at.at no_entry).heap) =
     ap (λ (h : Heaps). set.len (list_of h e.heap)) i.heaps ∙ ap (λ (x : Entry). set.len (list_of heaps x.heap)) (get_or_read es c.loop-at.at e lt c.index-entries-at.is no_entry) in
-    omega (
+    compares_within
+    (omega (
       arith,
-      c.in-Some.ensures.comparisons,
-      ap (λ (m : Counts). m.compared) i.meter,
       ap digits here,
       digits-mono (set.len (list_of heaps (get_or es c.loop-at.at no_entry).heap)) (sum_by (λ (x : Entry). set.len (list_of heaps x.heap)) es)
           (get_or-le-sum_by (λ (x : Entry). set.len (list_of heaps x.heap)) es c.loop-at.at no_entry lt),
-    )
+    ))
+    (subst (λ (m : Counts). Compares (2 * digits (set.len (list_of c.loop-at.heaps e.heap))) m c.remove.new.meter) i.meter c.in-Some.ensures.comparisons)

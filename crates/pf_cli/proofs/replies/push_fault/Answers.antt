@@ -10,6 +10,6 @@ spaced a b c = sym (simp append_assoc)
 
 pub returns-in-WouldDeny : goal.returns-in-WouldDeny
 returns-in-WouldDeny c =
-    rw (c.in-WouldDeny.is, ← c.denial_code-code.ensures, ← c.denial_name-name.ensures)
+    rw (c.in-WouldDeny.is, ← c.code-code.ensures, ← c.name-name.ensures)
     (subst (λ t. OnOk c.write.result (string_bytes c.write.new.self ≡ string_bytes c.args.text.now ++ (codes "31 WouldDeny " ++ t)))
-    (spaced (decimal c.in-WouldDeny.id) (decimal c.denial_code-code.result) c.denial_name-name.result.now) c.write.ensures.bytes)
+    (spaced (decimal c.in-WouldDeny.id) (decimal c.code-code.result) c.name-name.result.now) c.write.ensures.bytes)

@@ -1,4 +1,4 @@
-use Rattle.std.proofs.Common.{◌∙◌}
+use Rattle.std.proofs.Common.{◌∙◌, arith}
 use Rattle.std.proofs.lemmas.List.Sorted.{IsPermutation-trans}
 use Rattle.pf_engine.proofs.Choosing.{arranged_more, one_of_each_moved}
 use Rattle.pf_engine.proofs.choice.arrange.Goals as goal
@@ -12,4 +12,5 @@ loop-place-preserved c =
           (one_of_each_moved c.args.keys.now keys c.loop-place.invariant.same c.requires.apart) c.loop-place.invariant.ahead
           c.least_from-least.ensures.least c.swap.ensures.by_index c.swap.ensures.len;
       slots = c.least_from-least.ensures.slots ∙ c.loop-place.invariant.slots;
+      compared = omega (arith, c.least_from-least.ensures.compared, c.loop-place.invariant.compared);
     }

@@ -14,4 +14,4 @@ returns-then-y-eq-NOWHERE c = λ can.
 pub returns : goal.returns
 returns c = λ can.
     two_joined c.args.nodes.now _ _ _ _ _ _ _ can.first can.second can.others can.first_is can.second_is can.first_tree can.second_tree
-    can.parts c.if-x-eq-NOWHERE.false c.if-y-eq-NOWHERE.false c.join.ensures.joined c.join.ensures.compared c.join.ensures.slots
+    can.parts c.if-x-eq-NOWHERE.false c.if-y-eq-NOWHERE.false c.join.ensures.joined c.join.ensures.counted

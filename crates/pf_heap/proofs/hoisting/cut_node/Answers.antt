@@ -12,8 +12,8 @@ pop_root-left-requires c =
     let small : length c.hoist-hole.new.nodes < 2 ^ 32 = omega (arith, can.small) in
     record { can = pops_hole can t c.hoist-hole.ensures.no_parent small (hole_root can t c.hoist-hole.ensures.no_parent small) }
 
-pub returns : goal.returns
-returns c = λ can.
+pub returns-clause-cut : goal.returns-clause-cut
+returns-clause-cut c = λ can.
     let t = c.hoist-hole.ensures.hoisted (can_hoist can) in
     let small : length c.hoist-hole.new.nodes < 2 ^ 32 = omega (arith, can.small) in
     let r = hole_root can t c.hoist-hole.ensures.no_parent small in

@@ -33,7 +33,7 @@ loop-step-preserved c = λ can.
     let t = c.loop-step.invariant can in
     seek_step c.args.nodes.now can.heap c.loop-step.best _ c.loop-step.rest _ c.loop-step.step c.args.meter.now c.loop-step.meter c.earlier-best.new.meter
     c.if-rest.false (sibling_at c.args.nodes.now c.loop-step.rest c.index-nodes-rest.result (seeking_within t c.if-rest.false))
-    can.parts.stand.0 c.earlier-best.ensures.earlier c.earlier-best.ensures.compared c.earlier-best.ensures.slots t
+    can.parts.stand.0 c.earlier-best.ensures.earlier c.earlier-best.ensures.counted t
 
 pub returns : goal.returns
 returns c = λ can. found_all (c.loop-step.invariant can) (omega arith) can.small can.parts

@@ -1,5 +1,5 @@
 use Rattle.std.proofs.Common.{◌∙◌, ap, arith}
-use Rattle.pf_engine.specs.Inside.{inside}
+use Rattle.pf_run.specs.Inside.{inside}
 use Rattle.pf_tally.specs.Lags.{by_task}
 use Rattle.pf_tally.proofs.Ledgers.{step_can, step_lag, lags_known}
 use Rattle.pf_tally.proofs.lags.lags.Goals as goal

@@ -1,5 +1,5 @@
 use Rattle.std.proofs.Common.{◌≡◌, map, take, length}
-use Rattle.pf_engine.specs.Computed.{run_of}
+use Rattle.pf_run.specs.Computed.{run_of}
 use Rattle.pf_tally.specs.Lags.{lag_of}
 use Rattle.pf_tally.proofs.lags.lags.Given as goal
 

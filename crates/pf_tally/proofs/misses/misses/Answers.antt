@@ -1,7 +1,7 @@
 use Rattle.std.proofs.Common.{◌∙◌, ap, arith, rules}
 use Rattle.std.proofs.lemmas.List.Sorted.{answers_always}
 use Rattle.std.specs.Prelude.{filter_map}
-use Rattle.pf_engine.specs.Inside.{join_of}
+use Rattle.pf_run.specs.Inside.{join_of}
 use Rattle.pf_tally.specs.Misses.{miss_cmp}
 use Rattle.pf_tally.specs.declared.miss.Miss.{Miss}
 use Rattle.pf_tally.proofs.Ledgers.{miss_can, miss_step, misses_known}

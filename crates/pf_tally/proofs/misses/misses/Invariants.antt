@@ -1,6 +1,6 @@
 use Rattle.std.proofs.Common.{◌≡◌, take, length}
 use Rattle.std.specs.List.{flat_map}
-use Rattle.pf_engine.specs.Computed.{run_of}
+use Rattle.pf_run.specs.Computed.{run_of}
 use Rattle.pf_tally.specs.Misses.{misses_of_task}
 use Rattle.pf_tally.proofs.misses.misses.Given as goal
 

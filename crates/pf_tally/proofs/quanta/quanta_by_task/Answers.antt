@@ -3,7 +3,7 @@ use Rattle.pf_tally.proofs.Noting.{no_table, table_more, got_at, got_none, row_a
 use Rattle.pf_tally.proofs.quanta.quanta_by_task.Goals as goal
 
 pub loop-t-init : goal.loop-t-init
-loop-t-init c = no_table c.args.rows.now _ c.in_ok-table.ensures
+loop-t-init c = no_table c.args.rows.now _ c.new-table.ensures
 
 pub note_row-requires : goal.note_row-requires
 note_row-requires c = row_at _ c.args.rows.now c.loop-t.t _ c.requires (omega arith) (got_at c.args.rows.now c.loop-t.t _ c.in-Some.ensures)

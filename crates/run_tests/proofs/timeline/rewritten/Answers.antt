@@ -1,22 +1,14 @@
-use Rattle.std.proofs.Common.{length, sym, subst}
+use Rattle.std.proofs.Common.{zero-le, sym}
 use Rattle.std.proofs.lemmas.Result.{IfOk-weaker}
 use Rattle.pf_timeline.specs.Timeline.{StandsFor}
-use Rattle.pf_timeline.proofs.Grown.{standing_rows}
-use Rattle.pf_timeline.proofs.Past.{stood_from_start}
-use Rattle.run_tests.proofs.Standing.{stands_now}
+use Rattle.pf_timeline.proofs.Past.{stands_now, agrees_below, no_past}
 use Rattle.run_tests.proofs.timeline.rewritten.Goals as goal
 
-pub rewritten-requires-clause-stood : goal.rewritten-requires-clause-stood
-rewritten-requires-clause-stood c =
-    let s = c.args.former.now in
-    let kept = c.args.kept.now in
-    let rows = standing_rows s kept.engine.now kept c.requires.stands in
-    stood_from_start s c.args.scenario.now (length kept.rows) kept (sym c.requires.settings)
-    (subst (λ n. StandsFor s n kept) (sym rows) c.requires.stands)
+pub rewritten-requires-clause-agrees : goal.rewritten-requires-clause-agrees
+rewritten-requires-clause-agrees c =
+    agrees_below c.args.former.now c.args.scenario.now 0 _ _ zero-le
+    (no_past c.args.scenario.now c.args.former.now (sym c.requires.settings)) c.requires.stands
 
 pub returns : goal.returns
 returns c =
-    let s = c.args.scenario.now in
-    IfOk-weaker c.rewritten.result _ (λ t. StandsFor s t.engine.now t)
-    (λ t stands. stands_now s (length c.args.kept.now.rows) t stands)
-    c.rewritten.ensures.stands
+    IfOk-weaker c.rewritten.result _ (λ t. StandsFor c.args.scenario.now t.now t) (λ t stands. stands_now _ _ t stands) c.rewritten.ensures.stands

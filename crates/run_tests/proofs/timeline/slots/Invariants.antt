@@ -2,4 +2,4 @@ use Rattle.pf_timeline.specs.Timeline.{StandsFor}
 use Rattle.run_tests.proofs.timeline.slots.Given as goal
 
 abbrev pub invariant-loop : goal.invariant-loop
-invariant-loop l = StandsFor l.scenario l.timeline.engine.now l.timeline
+invariant-loop l = StandsFor l.scenario l.timeline.now l.timeline

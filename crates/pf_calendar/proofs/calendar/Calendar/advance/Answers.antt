@@ -5,6 +5,8 @@ use Rattle.std.specs.Vec.{vec_capacity}
 use Rattle.std.proofs.lemmas.Bool.{leb-true, leb-false}
 use Rattle.std.proofs.lemmas.List.Sorted.{IsPartitionPoint-from_clause, IsPartitionedBy-leb}
 use Rattle.std.specs.Prelude.{sum_by}
+use Rattle.pf_order.specs.Counts.{Compares}
+use Rattle.pf_order.proofs.Comparing.{compares_within}
 use Rattle.pf_heap.specs.Keys.{list_of}
 use Rattle.pf_calendar.specs.Steps.{MergesAll}
 use Rattle.pf_calendar.proofs.Merging.{CanMergeAll}
@@ -13,7 +15,7 @@ use Rattle.pf_heap.specs.Digits.{digits}
 use Rattle.pf_calendar.specs.declared.entry.Entry.{Entry}
 use Rattle.pf_calendar.specs.Queues.{later, due}
 use Rattle.pf_calendar.specs.Invariant.{names_of}
-use Rattle.pf_calendar.proofs.Whole.{IsCalendarAfter, slots_rise, with_room}
+use Rattle.pf_calendar.proofs.Whole.{none_empty, IsCalendarAfter, slots_rise, with_room}
 use Rattle.pf_calendar.proofs.Advancing.{AreDue, can_merge, merges_cost, advanced}
 use Rattle.pf_calendar.proofs.calendar.Calendar.advance.Goals.{After-partition_point-due, After-deref-2, After-drop}
 use Rattle.pf_calendar.proofs.calendar.Calendar.advance.Goals as goal
@@ -71,7 +73,10 @@ pub returns-clause-comparisons : goal.returns-clause-comparisons
 returns-clause-comparisons c =
     let heaps = c.self.inside.heaps in
     let cost = merges_cost c.self.invariant.laid (are_due (goal.at.returns-clause-comparisons c).After-partition_point-due) c.self.view_is in
-    let made = subst (λ (l : List Entry). c.merge_all.new.meter.compared
-    ≤ c.args.meter.now.compared + length (take c.partition_point-due.result l) * digits (set.len (list_of heaps c.self.inside.ready)
-    + sum_by (λ (e : Entry). set.len (list_of heaps e.heap)) (take c.partition_point-due.result l))) c.deref-2.ensures.value c.merge_all.ensures.comparisons in
-    omega (arith, made, cost)
+    compares_within cost
+    (subst (λ (l : List Entry). Compares (length (take c.partition_point-due.result l) * digits (set.len (list_of heaps c.self.inside.ready)
+    + sum_by (λ (e : Entry). set.len (list_of heaps e.heap)) (take c.partition_point-due.result l))) c.args.meter.now c.merge_all.new.meter)
+    c.deref-2.ensures.value c.merge_all.ensures.comparisons)
+
+pub returns-clause-some : goal.returns-clause-some
+returns-clause-some c = let g = goal.at.returns-clause-some c in none_empty (done g.After-drop (are_due g.After-partition_point-due)).calendar

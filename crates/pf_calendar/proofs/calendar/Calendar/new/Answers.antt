@@ -13,4 +13,5 @@ pub returns : goal.returns
 returns c =
     new_seen c.new_heap.new.self c.in_ok-ready.ready c.new-2.result.items
     (ap (λ h. h.lists) c.in_ok-ready.ensures.ok.1 ∙ ap (λ h. h.lists ++ set.empty ∷ []) c.in_ok-heaps.ensures)
+    (ap (λ h. h.tasks) c.in_ok-ready.ensures.ok.1 ∙ ap (λ h. h.tasks) c.in_ok-heaps.ensures)
     (c.in_ok-ready.ensures.ok.0 ∙ ap (λ h. length h.lists) c.in_ok-heaps.ensures) c.new-2.ensures.items

@@ -1,15 +1,17 @@
-use Rattle.std.proofs.Common.{subst, arith}
-use Rattle.pf_heap.specs.Keys.{IsFirst}
-use Rattle.pf_calendar.specs.Queues.{Queues}
+use Rattle.std.proofs.Common.{sym, subst, arith}
+use Rattle.pf_order.proofs.Comparing.{compares_within}
+use Rattle.pf_heap.specs.Keys.{Heaps, IsFirst}
+use Rattle.pf_calendar.specs.Invariant.{waiting_in}
+use Rattle.pf_calendar.specs.Queues.{Queues, NoneEmpty}
 use Rattle.pf_calendar.proofs.Arranged.{ready_listed}
-use Rattle.pf_calendar.proofs.Whole.{ready_digits, popped}
+use Rattle.pf_calendar.proofs.Whole.{none_empty, ready_digits, popped}
 use Rattle.pf_calendar.proofs.calendar.Calendar.pop_ready.Goals as goal
 
 pub pop-requires : goal.pop-requires
 pop-requires c = ready_listed c.self.invariant.laid
 
 pub returns-in_err-key-clause-comparisons : goal.returns-in_err-key-clause-comparisons
-returns-in_err-key-clause-comparisons c = omega (arith, c.pop.ensures.comparisons, ready_digits c.self.invariant.laid c.self.view_is)
+returns-in_err-key-clause-comparisons c = compares_within (omega (arith, ready_digits c.self.invariant.laid c.self.view_is)) c.pop.ensures.comparisons
 
 pub overflow_sub-self : goal.overflow_sub-self
 overflow_sub-self c = (popped c.self.invariant c.self.view_is c.in_ok-key.key c.in_ok-key.ensures.popped.0.0 c.in_ok-key.ensures.popped.1).0
@@ -24,4 +26,11 @@ returns-clause-popped c = (
 )
 
 pub returns-clause-comparisons : goal.returns-clause-comparisons
-returns-clause-comparisons c = omega (arith, c.pop.ensures.comparisons, ready_digits c.self.invariant.laid c.self.view_is)
+returns-clause-comparisons c = compares_within (omega (arith, ready_digits c.self.invariant.laid c.self.view_is)) c.pop.ensures.comparisons
+
+pub returns-in_err-key-clause-some : goal.returns-in_err-key-clause-some
+returns-in_err-key-clause-some c =
+    subst (λ (h : Heaps). NoneEmpty (waiting_in h c.self.inside.waiting.items)) (sym c.in_err-key.ensures.popped.1) (none_empty c.self.invariant)
+
+pub returns-clause-some : goal.returns-clause-some
+returns-clause-some c = none_empty (popped c.self.invariant c.self.view_is c.in_ok-key.key c.in_ok-key.ensures.popped.0.0 c.in_ok-key.ensures.popped.1).1.calendar

@@ -3,13 +3,14 @@ use Rattle.std.specs.FinSet as set
 use Rattle.std.specs.FinMap as map
 use Rattle.std.specs.Vec.{vec_capacity}
 use Rattle.std.proofs.lemmas.List.{get_or_read}
+use Rattle.pf_order.proofs.Comparing.{compares_within}
 use Rattle.pf_heap.specs.Keys.{list_of}
 use Rattle.pf_heap.proofs.Digits.{digits-mono}
 use Rattle.pf_calendar.specs.declared.entry.Entry.{Entry}
-use Rattle.pf_calendar.specs.Queues.{list_at, count_of}
+use Rattle.pf_calendar.specs.Queues.{Queues, list_at, count_of}
 use Rattle.pf_calendar.proofs.Naming.{no_entry}
 use Rattle.pf_calendar.proofs.Arranged.{entry_listed}
-use Rattle.pf_calendar.proofs.Whole.{IsCalendarAfter, has_unused, slots_rise, some_free, absent_from, opened, opened_within, opened_size, put_done, with_room, count_is}
+use Rattle.pf_calendar.proofs.Whole.{none_empty, IsCalendarAfter, has_unused, slots_rise, some_free, absent_from, opened, opened_within, opened_size, put_done, with_room, count_is}
 use Rattle.pf_calendar.proofs.calendar.Calendar.put.Goals.{After-index-entry, After-index_mut}
 use Rattle.pf_calendar.proofs.calendar.Calendar.put.Goals as goal
 
@@ -64,15 +65,20 @@ returns-clause-comparisons c =
     let laid = c.self.invariant.laid in
     let heaps = c.self.inside.heaps in
     let e = c.index-entry.result.now in
-    omega (
+    compares_within
+    (
+    digits-mono (set.len (list_of heaps e.heap) + 1) (count_of c.args.self.now + 1)
+    (omega (
       arith,
-      c.insert.ensures.comparisons,
-      digits-mono (set.len (list_of heaps e.heap) + 1) (count_of c.args.self.now + 1)
-          (omega (
-            arith,
-            ap (λ (x : Entry). set.len (list_of heaps x.heap)) (entry_is (goal.at.returns-clause-comparisons c).After-index-entry),
-            opened_size laid c.open-at.ensures.opened,
-            ap count_of c.self.view_is,
-            count_is laid (c.self.inside.limit - c.self.inside.held),
-          )),
-    )
+      ap (λ (x : Entry). set.len (list_of heaps x.heap)) (entry_is (goal.at.returns-clause-comparisons c).After-index-entry),
+      opened_size laid c.open-at.ensures.opened,
+      ap count_of c.self.view_is,
+      count_is laid (c.self.inside.limit - c.self.inside.held),
+    ))
+    ) c.insert.ensures.comparisons
+
+pub returns-clause-some : goal.returns-clause-some
+returns-clause-some c = none_empty (done (goal.at.returns-clause-some c).After-index_mut).calendar
+
+pub insert-requires-clause-placed : goal.insert-requires-clause-placed
+insert-requires-clause-placed c = omega (arith, c.requires.placed, ap (λ (q : Queues). q.tasks) c.self.view_is)

@@ -1,12 +1,12 @@
-use Rattle.std.proofs.Common.{◌≡◌, ℕ, ◌+◌, ◌-◌, ◌≤◌, length, ◌++◌, sym, ap, ◌∙◌, arith, OnErr, Result, Ok, Err}
+use Rattle.std.proofs.Common.{◌≡◌, ℕ, ◌+◌, ◌-◌, ◌^◌, ◌≤◌, length, ◌++◌, sym, ap, ◌∙◌, arith, OnErr, Result, Ok, Err}
 use Rattle.std.specs.Prelude.{replicate}
 use Rattle.std.specs.FinSet as set
 use Rattle.std.specs.Vec.{vec_capacity}
-use Rattle.pf_calendar.specs.Queues.{Queues}
+use Rattle.pf_calendar.specs.Queues.{Queues, count_of}
 use Rattle.pf_calendar.specs.Invariant.{IsCalendar}
 use Rattle.pf_calendar.specs.Steps.{AddsHeaps}
 use Rattle.pf_calendar.proofs.Merging.{append_none}
-use Rattle.pf_calendar.proofs.Whole.{seen}
+use Rattle.pf_calendar.proofs.Whole.{seen, count_is}
 use Rattle.pf_calendar.proofs.Growing.{reserved_seen, reserved}
 use Rattle.pf_calendar.proofs.calendar.Calendar.reserve.Goals.{After-reserve-2, After-add_heaps}
 use Rattle.pf_calendar.proofs.calendar.Calendar.reserve.Goals as goal
@@ -19,13 +19,20 @@ on_err (Err e) P p = p
 roomier : (c : After-reserve-2) → seen c.reserve.new.self c.self.inside.ready c.reserve-2.new.self.items (c.self.inside.limit - c.self.inside.held) ≡ c.args.self.now
 roomier c =
     reserved_seen c.self.invariant.laid c.reserve.new.self c.reserve-2.new.self.items 0 (c.self.inside.limit - c.self.inside.held)
-    (c.in_ok-reserve.ensures.lists ∙ sym (append_none c.self.inside.heaps.lists)) c.reserve-2.ensures.items ∙ c.self.view_is
+    (c.in_ok-reserve.ensures.lists ∙ sym (append_none c.self.inside.heaps.lists)) c.in_ok-reserve.ensures.tasks c.reserve-2.ensures.items ∙ c.self.view_is
 
 grown : (c : After-add_heaps) → seen c.add_heaps.new.heaps c.self.inside.ready c.reserve-2.new.self.items (c.self.inside.limit - c.self.inside.held) ≡ c.args.self.now
 grown c =
     let a = c.add_heaps.ensures.added in
     reserved_seen c.self.invariant.laid c.add_heaps.new.heaps c.reserve-2.new.self.items a.0 (c.self.inside.limit - c.self.inside.held)
-    (a.2.lists ∙ ap (λ l. l ++ replicate a.0 set.empty) c.in_ok-reserve.ensures.lists) c.reserve-2.ensures.items ∙ c.self.view_is
+    (a.2.lists ∙ ap (λ l. l ++ replicate a.0 set.empty) c.in_ok-reserve.ensures.lists) (a.2.tasks ∙ c.in_ok-reserve.ensures.tasks)
+    c.reserve-2.ensures.items ∙ c.self.view_is
+
+-- with the keys held, no more than can be named
+fits : (c : After-add_heaps) → c.self.inside.held + c.args.n ≤ 2 ^ 32 - 3
+fits c =
+    let laid = c.self.invariant.laid in
+    omega (arith, c.requires, laid.held_is, ap count_of c.self.view_is, count_is laid (c.self.inside.limit - c.self.inside.held))
 
 -- the calendar with n more heaps, under a limit that they are enough for
 enough : (c : After-add_heaps) (n limit : ℕ) → n ≤ c.saturating_sub-more.result → AddsHeaps c.reserve.new.self c.add_heaps.new.heaps c.reserve-3.new.self.items c.add_heaps.new.names.items n →
@@ -36,7 +43,7 @@ enough c n limit made adds within few spare =
     let laid = c.self.invariant.laid in
     reserved c.self.invariant c.reserve.new.self c.add_heaps.new.heaps c.reserve-2.new.self.items c.reserve-3.new.self.items c.add_heaps.new.names.items n limit _ _
     c.in_ok-reserve.ensures.lists c.reserve-2.ensures.items c.reserve-3.ensures.items adds within few spare
-    (omega (arith, made, c.self.inside.waiting.ok.0, c.self.inside.unused.ok.0, c.len.ensures, c.len-2.ensures, c.saturating_sub-more.ensures, laid.small, laid.within, c.if-n-self-2.false))
+    (omega (arith, made, c.self.inside.waiting.ok.0, c.self.inside.unused.ok.0, c.len.ensures, c.len-2.ensures, c.saturating_sub-more.ensures, laid.small, laid.within, fits c))
     (omega (arith, made, c.self.inside.waiting.ok.0, c.self.inside.unused.ok.0, c.len.ensures, c.len-2.ensures, c.saturating_sub-more.ensures, c.len-3.ensures, c.in_ok-reserve-2.ensures.ok, c.reserve-2.ensures.len))
     (omega (arith, made, c.self.inside.waiting.ok.0, c.self.inside.unused.ok.0, c.len.ensures, c.len-2.ensures, c.saturating_sub-more.ensures, c.len-4.ensures, c.in_ok-reserve-3.ensures.ok, c.reserve-3.ensures.len, c.reserve-2.ensures.len, c.add_heaps.ensures.capacity))
 
@@ -74,3 +81,22 @@ invariant_of-self-2 c =
 
 pub returns-clause-waiting : goal.returns-clause-waiting
 returns-clause-waiting c = ap (λ (q : Queues). q.waiting) (grown (goal.at.returns-clause-waiting c).After-add_heaps)
+
+pub add_heaps-requires-clause-few : goal.add_heaps-requires-clause-few
+add_heaps-requires-clause-few c =
+    let laid = c.self.invariant.laid in
+    omega (
+      arith,
+      c.requires,
+      laid.held_is,
+      ap count_of c.self.view_is,
+      count_is laid (c.self.inside.limit - c.self.inside.held),
+      laid.many,
+      laid.small,
+      ap length c.in_ok-reserve.ensures.lists,
+      c.self.inside.waiting.ok.0,
+      c.self.inside.unused.ok.0,
+      c.len.ensures,
+      c.len-2.ensures,
+      c.saturating_sub-more.ensures,
+    )

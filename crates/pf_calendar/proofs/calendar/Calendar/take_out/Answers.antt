@@ -3,16 +3,18 @@ use Rattle.std.specs.Prelude.{All, sum_by}
 use Rattle.std.specs.FinSet as set
 use Rattle.std.specs.Vec.{vec_capacity}
 use Rattle.std.proofs.lemmas.List.{get_or_default}
-use Rattle.pf_order.specs.Counts.{Counts}
+use Rattle.pf_order.specs.Counts.{Counts, Compares}
+use Rattle.pf_order.proofs.Comparing.{compares_within}
 use Rattle.pf_heap.specs.Keys.{Heaps, list_of, HasNone}
 use Rattle.pf_heap.specs.Digits.{digits}
 use Rattle.pf_heap.proofs.Digits.{digits-mono}
+use Rattle.pf_calendar.specs.Invariant.{waiting_in}
 use Rattle.pf_calendar.specs.declared.entry.Entry.{Entry}
-use Rattle.pf_calendar.specs.Queues.{Queues, count_of, IsHeld, TakesOut}
+use Rattle.pf_calendar.specs.Queues.{Queues, count_of, IsHeld, TakesOut, EachTaskOnce, NoneEmpty}
 use Rattle.pf_calendar.specs.Steps.{RemovesAt}
 use Rattle.pf_calendar.proofs.Naming.{no_entry}
 use Rattle.pf_calendar.proofs.Arranged.{ready_listed, entry_listed}
-use Rattle.pf_calendar.proofs.Whole.{IsCalendarAfter, ready_digits, waiting_within, popped, seen, with_room}
+use Rattle.pf_calendar.proofs.Whole.{none_empty, each_task_once, IsCalendarAfter, ready_digits, waiting_within, popped, seen, with_room}
 use Rattle.pf_calendar.proofs.Leaving.{ready_removed, not_held, some_held, discounted_calendar, takes_out}
 use Rattle.pf_calendar.proofs.calendar.Calendar.take_out.Goals.{In-Some, In-Some-remove_waiting}
 use Rattle.pf_calendar.proofs.calendar.Calendar.take_out.Goals as goal
@@ -20,13 +22,12 @@ use Rattle.pf_calendar.proofs.calendar.Calendar.take_out.Goals as goal
 -- the first look compared nothing, and changed no list
 waiting_made : (first second third : Counts) (heaps same : Heaps) (es lent : List Entry) (k : ℕ) → second ≡ first → same ≡ heaps → lent ≡ es →
     sum_by (λ (e : Entry). set.len (list_of heaps e.heap)) es ≤ k →
-    third.compared ≤ second.compared + 2 * digits (sum_by (λ (e : Entry). set.len (list_of same e.heap)) lent) → third.compared ≤ first.compared + 2 * digits k
+    Compares (2 * digits (sum_by (λ (e : Entry). set.len (list_of same e.heap)) lent)) second third → Compares (2 * digits k) first third
 waiting_made first second third heaps same es lent k idle lists value le made =
     let size = sum_by (λ (e : Entry). set.len (list_of heaps e.heap)) es in
-    let here : third.compared ≤ second.compared + 2 * digits size =
-    subst (λ (h : Heaps). third.compared ≤ second.compared + 2 * digits (sum_by (λ (e : Entry). set.len (list_of h e.heap)) es)) lists
-    (subst (λ (l : List Entry). third.compared ≤ second.compared + 2 * digits (sum_by (λ (e : Entry). set.len (list_of same e.heap)) l)) value made) in
-    omega (arith, here, ap (λ (m : Counts). m.compared) idle, digits-mono size k le)
+    compares_within (omega (arith, digits-mono size k le))
+    (subst (λ (a : Counts × (Heaps × List Entry)). Compares (2 * digits (sum_by (λ (e : Entry). set.len (list_of a.1.0 e.heap)) a.1.1)) a.0 third)
+    (λ i. (idle i, (lists i, value i))) made)
 
 pub remove-requires : goal.remove-requires
 remove-requires c = ready_listed c.self.invariant.laid
@@ -56,7 +57,7 @@ returns-in-Some-clause-taken c =
     )
 
 pub returns-in-Some-clause-comparisons : goal.returns-in-Some-clause-comparisons
-returns-in-Some-clause-comparisons c = omega (arith, c.in-Some.ensures.comparisons, ready_digits c.self.invariant.laid c.self.view_is)
+returns-in-Some-clause-comparisons c = compares_within (omega (arith, ready_digits c.self.invariant.laid c.self.view_is)) c.in-Some.ensures.comparisons
 
 pub remove_waiting-requires : goal.remove_waiting-requires
 remove_waiting-requires c = λ k d lt.
@@ -121,3 +122,27 @@ returns-clause-comparisons c =
     waiting_made _ c.remove.new.meter c.remove_waiting.new.meter _ c.remove.new.self _ c.deref.result.now (count_of c.args.self.now) c.in_default.ensures.unfound c.in_default.ensures.removed.1 c.deref.ensures.value
     (waiting_within c.self.invariant.laid c.self.view_is)
     c.in-Some-remove_waiting.ensures.comparisons
+
+pub returns-in-Some-clause-some : goal.returns-in-Some-clause-some
+returns-in-Some-clause-some c = none_empty (from_ready (goal.at.returns-in-Some-clause-some c).In-Some).1.calendar
+
+pub returns-in_default-remove_waiting-clause-some : goal.returns-in_default-remove_waiting-clause-some
+returns-in_default-remove_waiting-clause-some c =
+    subst (λ (h : Heaps). NoneEmpty (waiting_in h c.self.inside.waiting.items))
+    (sym (c.in_default-remove_waiting.ensures.removed.0 ∙ c.in_default.ensures.removed.1)) (none_empty c.self.invariant)
+
+pub returns-clause-some : goal.returns-clause-some
+returns-clause-some c =
+    none_empty
+    (discounted_calendar c.self.invariant.laid c.remove_waiting.new.heaps c.args.task c.in-Some-remove_waiting.found.0 c.in-Some-remove_waiting.found.1
+    (removes (goal.at.returns-clause-some c).In-Some-remove_waiting) c.discount.new.entries.items c.discount.new.unused.items c.self.invariant.some
+    c.discount.ensures.discounted)
+
+pub returns-in-Some-clause-once : goal.returns-in-Some-clause-once
+returns-in-Some-clause-once c = subst EachTaskOnce c.self.view_is (each_task_once c.self.invariant (c.self.inside.limit - c.self.inside.held))
+
+pub returns-in_default-remove_waiting-clause-once : goal.returns-in_default-remove_waiting-clause-once
+returns-in_default-remove_waiting-clause-once c = subst EachTaskOnce c.self.view_is (each_task_once c.self.invariant (c.self.inside.limit - c.self.inside.held))
+
+pub returns-clause-once : goal.returns-clause-once
+returns-clause-once c = subst EachTaskOnce c.self.view_is (each_task_once c.self.invariant (c.self.inside.limit - c.self.inside.held))

@@ -1,5 +1,5 @@
 use Rattle.std.proofs.Common.{◌∙◌, sym}
-use Rattle.pf_desk.proofs.Entering.{Edits, is_desk, edited_kept, edited_answers}
+use Rattle.pf_desk.proofs.Entering.{Edits, edited_kept, edited_handles}
 use Rattle.pf_desk.proofs.desk.Desk.edit_past.Goals as goal
 use Rattle.pf_desk.proofs.desk.Desk.edit_past.Goals.{After-push_reserved}
 
@@ -19,8 +19,5 @@ edits c = record {
 pub invariant_of-self-2 : goal.invariant_of-self-2
 invariant_of-self-2 c = edited_kept _ _ _ _ _ _ _ _ _ _ (edits c)
 
-pub returns-clause-ok : goal.returns-clause-ok
-returns-clause-ok c = rw (← c.self.view_is) (edited_answers _ _ _ _ _ _ _ _ _ _ (edits c))
-
-pub returns-clause-desk : goal.returns-clause-desk
-returns-clause-desk c = is_desk _ _ _ (invariant_of-self-2 c)
+pub returns-clause-handles : goal.returns-clause-handles
+returns-clause-handles c = rw (← c.self.view_is) (edited_handles _ _ _ _ _ _ _ _ _ _ (edits c))

@@ -1,8 +1,8 @@
 use Rattle.std.proofs.Common.{length, ap, ◌∙◌}
 use Rattle.std.proofs.lemmas.Result.{IfOk-weaker}
-use Rattle.pf_engine.specs.Computed.{run_of}
+use Rattle.pf_run.specs.Computed.{run_of}
 use Rattle.pf_tally.specs.Misses.{misses_of}
-use Rattle.pf_timeline.proofs.Grown.{standing_rows}
+use Rattle.pf_timeline.proofs.Grown.{row_each}
 use Rattle.pf_desk.proofs.Stepping.{kept_of_run}
 use Rattle.pf_desk.proofs.desk.Desk.misses.Goals as goal
 
@@ -11,7 +11,7 @@ misses-requires c = rw (c.rows.ensures, c.denials.ensures) (kept_of_run _ _ _ c.
 
 pub returns : goal.returns
 returns c =
-    let long = ap length c.rows.ensures ∙ standing_rows _ _ _ c.self.invariant.stands in
+    let long = ap length c.rows.ensures ∙ row_each _ _ _ _ c.self.invariant.stands.of_run in
     IfOk-weaker c.misses.result _ _
     (λ v is. is ∙ ap (λ n. misses_of c.self.inside.scenario (run_of c.self.inside.scenario n)) long
     ∙ ap (λ d. misses_of d.state.plan (run_of d.state.plan d.state.now)) c.self.view_is)

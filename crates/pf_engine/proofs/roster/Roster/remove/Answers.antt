@@ -1,6 +1,6 @@
 use Rattle.std.proofs.Common.{position, sym, ap, ◌∙◌}
 use Rattle.pf_engine.specs.Roll.{Roll}
-use Rattle.pf_engine.specs.Kept.{without_task}
+use Rattle.pf_engine.specs.Kept.{other_tasks}
 use Rattle.pf_engine.proofs.Places.{has_number, none_to_leave, tasks_removed}
 use Rattle.pf_engine.proofs.roster.Roster.remove.Goals as goal
 
@@ -12,4 +12,4 @@ returns-clause-tasks c =
     rw c.remove.ensures.items
     (tasks_removed c.self.inside.places.items c.self.inside.entries.items c.args.task c.in-Some.place c.self.invariant
     (ap (λ (r : Roll). position (has_number c.args.task) r.tasks) c.self.view_is ∙ sym c.place_of.ensures ∙ c.in-Some.is)
-    ∙ ap (λ (r : Roll). without_task c.args.task r.tasks) c.self.view_is)
+    ∙ ap (λ (r : Roll). other_tasks c.args.task r.tasks) c.self.view_is)

@@ -1,5 +1,5 @@
 use Rattle.std.proofs.Common.{◌≡◌, ◌+◌, ◌≤◌, ◌++◌, filter_map, take, vec_len, vec_capacity}
-use Rattle.pf_engine.specs.Inside.{ready_key}
+use Rattle.pf_run.specs.Inside.{ready_key}
 use Rattle.pf_engine.proofs.state.State.ready.Given as goal
 
 abbrev pub invariant-loop-place : goal.invariant-loop-place

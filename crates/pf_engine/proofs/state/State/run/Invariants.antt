@@ -1,11 +1,11 @@
 use Rattle.std.proofs.Common.{◌≡◌, ◌+◌, ◌++◌, map, take, fold, vec_len, vec_capacity}
-use Rattle.pf_engine.specs.Run.{pick_of}
-use Rattle.pf_engine.specs.Kept.{after_pick}
+use Rattle.pf_run.specs.Run.{pick_of}
+use Rattle.pf_engine.specs.Kept.{tasks_after_pick}
 use Rattle.pf_engine.proofs.state.State.run.Given as goal
 
 abbrev pub invariant-loop-key : goal.invariant-loop-key
 invariant-loop-key l = record {
-  tasks : l.self.tasks.tasks ≡ fold after_pick l.fn.self.tasks.tasks (map pick_of (take l.key-index l.keys));
+  tasks : l.self.tasks.tasks ≡ fold tasks_after_pick l.fn.self.tasks.tasks (map pick_of (take l.key-index l.keys));
   settings : l.self.settings ≡ l.fn.self.settings;
   slots : l.self.slots ≡ l.fn.self.slots;
   load : l.self.load ≡ l.fn.self.load;

@@ -1,10 +1,9 @@
-use Rattle.std.proofs.Common.{◌<◌, length, get_or, ap, ◌∙◌, arith}
+use Rattle.std.proofs.Common.{◌<◌, length, get_or, ◌∙◌, arith}
 use Rattle.pf_scenario.specs.declared.event.Event.TheVariants.{Join}
 use Rattle.pf_scenario.specs.declared.event.Numbered.{Numbered}
-use Rattle.pf_engine.specs.Fits.{Kept}
 use Rattle.pf_engine.specs.Kept.{denial_at}
 use Rattle.pf_engine.specs.Keeping.{kept_of}
-use Rattle.pf_engine.proofs.Turns.{can_one, can_more, judged_more, given_more, given_denied, given_none, after_now}
+use Rattle.pf_engine.proofs.Turns.{can_take, at_next, events_more, given_more, given_denied, given_none, same_now}
 use Rattle.pf_engine.proofs.state.State.take_events.Goals as goal
 use Rattle.pf_engine.proofs.state.State.take_events.Goals.{in-Err, in_default}
 
@@ -14,7 +13,7 @@ no_event = record { id = 0; event = Join 0 0 0 0 0 }
 pub take_event-requires-clause-can : goal.take_event-requires-clause-can
 unfolding no_event
 take_event-requires-clause-can c =
-    can_one (kept_of c.loop-x.self) c.args.events.now c.loop-x.x-index no_event (omega arith) c.loop-x.invariant.can
+    can_take (kept_of c.loop-x.self) c.args.events.now c.loop-x.x-index no_event (omega arith) c.loop-x.invariant.at
 
 pub loop-x-preserved : goal.loop-x-preserved
 unfolding no_event
@@ -26,15 +25,15 @@ loop-x-preserved c =
     let e' = kept_of c.take_event.new.self in
     let x = get_or events i no_event in
     let after = c.take_event.ensures.state in
-    let now = ap (λ (k : Kept). k.now) after ∙ after_now e x.event in
+    let now = same_now e e' events i no_event within after c.loop-x.invariant.at in
     record {
-      can = can_more e e' events i no_event within after c.loop-x.invariant.can;
+      at = at_next e e' events i no_event within after c.loop-x.invariant.at;
       spare = omega (arith, c.take_event.ensures.spare, c.loop-x.invariant.spare);
       room = elim c.match-take_event.branch [
         | in-Err w ↦ rw w.denials-is (omega (arith, w.push_reserved.ensures.len, w.push_reserved.ensures.capacity, c.loop-x.invariant.room))
         | in_default w ↦ rw w.denials-is (omega (arith, c.loop-x.invariant.room))
       ];
-      state = judged_more e e' events i no_event within after ∙ c.loop-x.invariant.state;
+      state = events_more e e' events i no_event within after ∙ c.loop-x.invariant.state;
       given = given_more e e' events i no_event c.loop-x.denials.items c.match-take_event.denials.items within after
           (elim c.match-take_event.branch [
             | in-Err w ↦ rw (w.denials-is, w.push_reserved.ensures.items)

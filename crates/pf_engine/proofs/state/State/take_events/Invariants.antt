@@ -1,14 +1,14 @@
 use Rattle.std.proofs.Common.{◌≡◌, ◌+◌, ◌≤◌, ◌++◌, length, drop, vec_len, vec_capacity}
-use Rattle.pf_engine.specs.Kept.{judged, denials_in}
-use Rattle.pf_engine.specs.Taking.{CanJudge}
+use Rattle.pf_engine.specs.Kept.{kept_after_events, denials_in}
+use Rattle.pf_engine.specs.Points.{IsAt}
 use Rattle.pf_engine.specs.Keeping.{kept_of}
 use Rattle.pf_engine.proofs.state.State.take_events.Given as goal
 
 abbrev pub invariant-loop-x : goal.invariant-loop-x
 invariant-loop-x l = record {
-  can : CanJudge (kept_of l.self) (drop l.x-index l.events);
+  at : IsAt (kept_of l.self) (drop l.x-index l.events);
   spare : length l.events ≤ l.self.tasks.spare + l.x-index;
   room : vec_len l.denials + length l.events ≤ vec_capacity l.denials + l.x-index;
-  state : judged (kept_of l.self) (drop l.x-index l.events) ≡ judged (kept_of l.fn.self) l.events;
+  state : kept_after_events (kept_of l.self) (drop l.x-index l.events) ≡ kept_after_events (kept_of l.fn.self) l.events;
   given : l.denials.items ++ denials_in (kept_of l.self) (drop l.x-index l.events) ≡ l.fn.denials.items ++ denials_in (kept_of l.fn.self) l.events;
 }

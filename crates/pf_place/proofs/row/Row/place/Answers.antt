@@ -1,14 +1,10 @@
-use Rattle.std.proofs.Common.{◌≡◌, ◌∙◌, take, rules}
-use Rattle.pf_place.specs.Seating.{seats_in_use}
-use Rattle.pf_place.proofs.Seats.{row_from_resized}
+use Rattle.std.proofs.Common.{arith}
+use Rattle.std.proofs.lemmas.Grind.{common_steps}
 use Rattle.pf_place.proofs.Seated.{row_seats_picks, row_seats_once}
 use Rattle.pf_place.proofs.row.Row.place.Goals as goal
 
 pub returns-clause-row : goal.returns-clause-row
-returns-clause-row c =
-    let seats : c.in_ok-places.places.items ≡ seats_in_use (take c.args.count c.args.before.now) c.args.picks.now = search rules in
-    c.in_ok-resize.ensures.items
-    ∙ row_from_resized c.args.count c.args.before.now c.args.picks.now c.args.m _ _ c.requires.in_use c.requires.places c.in_ok-places.places.ok.0 seats
+returns-clause-row c = grind (arith, common_steps)
 
 pub returns-clause-seated : goal.returns-clause-seated
 returns-clause-seated c =

@@ -11,4 +11,4 @@ pub returns : goal.returns
 returns c =
     let place = rw c.deref.ensures.value at c.in_ok-i.ensures in
     let slot = held_slot_at _ _ _ c.self.invariant.scenario.rising place c.index.result.now c.index.ensures in
-    rw (c.slot_of.ensures, ← c.self.view_is) (sym slot)
+    rw (c.slot.ensures, ← c.self.view_is) (sym slot)

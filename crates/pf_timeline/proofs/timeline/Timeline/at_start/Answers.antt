@@ -1,11 +1,19 @@
 -- The engine is new, and there are no rows and no denials.
-use Rattle.std.proofs.Common.{sym, ap₂, subst}
-use Rattle.pf_timeline.specs.Timeline.{StandsFor}
-use Rattle.pf_timeline.proofs.Grown.{stands_at_start}
+use Rattle.std.proofs.Common.{sym, ap, ◌∙◌}
+use Rattle.pf_timeline.proofs.Grown.{keeps_at_start, keeps_now}
+use Rattle.pf_timeline.proofs.Past.{stands_kept, no_past}
 use Rattle.pf_timeline.proofs.timeline.Timeline.at_start.Goals as goal
+
+pub invariant_of-result : goal.invariant_of-result
+invariant_of-result c =
+    let same = ap (λ s. s.settings) (c.of.ensures ∙ c.new-opening.ensures.value) in
+    keeps_now _ _ _ _ _
+    (keeps_at_start c.of.result.value _ _ _ (rw c.of.ensures c.new-opening.ensures.scenario) (c.in_ok-engine.ensures.fits c.of.result.value same)
+    c.new-2.ensures c.new-3.ensures.items)
 
 pub returns : goal.returns
 returns c = λ s same scenario.
-    let e = c.in_ok-engine.engine in
-    subst (StandsFor s 0) (ap₂ (λ rows denials. record { rows = rows; denials = denials; engine = e }) (sym c.new-2.ensures) (sym c.new-3.ensures.items))
-    (stands_at_start s e scenario (c.in_ok-engine.ensures.fits s same))
+    let of_settings = ap (λ s. s.settings) (c.of.ensures ∙ c.new-opening.ensures.value) in
+    stands_kept s c.of.result.value 0 _ _ _
+    (keeps_at_start s _ _ _ scenario (c.in_ok-engine.ensures.fits s same) c.new-2.ensures c.new-3.ensures.items)
+    (no_past s c.of.result.value (of_settings ∙ sym same))

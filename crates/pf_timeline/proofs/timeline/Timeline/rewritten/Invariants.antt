@@ -1,4 +1,5 @@
-use Rattle.pf_timeline.specs.Counted.{CountsAtMost}
+use Rattle.std.proofs.Common.{◌≤◌}
+use Rattle.pf_order.specs.Counted.{CountsAtMost}
 use Rattle.pf_timeline.specs.Timeline.{StandsFor}
 use Rattle.pf_timeline.proofs.timeline.Timeline.rewritten.Given as goal
 
@@ -6,4 +7,5 @@ abbrev pub invariant-loop : goal.invariant-loop
 invariant-loop l = record {
   stands : StandsFor l.scenario l.counter l.fresh;
   counted : CountsAtMost l.counter l.initial.meter l.meter;
+  compared : l.initial.meter.compared ≤ l.meter.compared;
 }

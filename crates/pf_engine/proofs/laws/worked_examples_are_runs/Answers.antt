@@ -1,5 +1,0 @@
-use Rattle.pf_engine.proofs.Examples.{worked_examples}
-use Rattle.pf_engine.proofs.laws.worked_examples_are_runs.Goals as goal
-
-pub returns : goal.returns
-returns c = worked_examples

@@ -1,0 +1,15 @@
+pub mod Containing
+pub mod Counting
+pub mod Numbers
+pub mod Judged
+pub mod Firsts
+pub mod Joins
+pub mod Points
+pub mod Plans
+pub mod Limits
+pub mod Later
+pub mod Keys
+pub mod Within
+pub mod Seating
+pub mod Runs
+pub mod Examples

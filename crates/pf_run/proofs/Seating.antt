@@ -1,0 +1,42 @@
+-- Each slot of a run can be seated: no more picks than processors in use, and no task twice.
+use Rattle.std.proofs.Common.{◌≡◌, ◌≢◌, suc, ◌≤◌, List, [], ◌∷◌, ◌++◌, length, map, sym, ap, subst, subst₂, arith}
+use Rattle.std.proofs.lemmas.List.{get_or-map, length-map}
+use Rattle.pf_order.specs.Priority.{Priority}
+use Rattle.pf_place.specs.Occupancy.{NoTaskTwice}
+use Rattle.pf_place.specs.Turns.{IsTurn}
+use Rattle.pf_scenario.specs.Scenario.{Plan}
+use Rattle.pf_scenario.specs.Edit.{IsScenario}
+use Rattle.pf_run.specs.Record.{Slot, denials_of}
+use Rattle.pf_run.specs.Inside.{count_of}
+use Rattle.pf_run.specs.Run.{standing, pick_of, IsNextSlot}
+use Rattle.pf_run.specs.RunRows.{count_in_last}
+use Rattle.pf_run.proofs.Firsts.{TasksDiffer, first_few, first_differ}
+use Rattle.pf_run.proofs.Joins.{ready_differ, joins_once_in_force}
+use Rattle.pf_run.proofs.Judged.{length_snoc}
+use Rattle.pf_run.proofs.Within.{in_force_limits, count_within}
+
+picks_differ : (chosen : List Priority) → TasksDiffer chosen → NoTaskTwice (map pick_of chosen)
+picks_differ chosen differ i j d before within =
+    let long : length (map pick_of chosen) ≡ length chosen = length-map chosen pick_of in
+    let none : Priority = record { deadline = 0; bit = 0; group = 0; task = 0; sub = 0 } in
+    subst₂ (λ p q. p.task ≢ q.task)
+    (sym (get_or-map pick_of chosen i none d (omega arith)))
+    (sym (get_or-map pick_of chosen j none d (omega arith)))
+    (differ i j none before (omega arith))
+
+-- Use: the next slot of a run can be seated.
+pub next_is_turn : (s : Plan) (r : List Slot) (slot : Slot) → IsScenario s → IsNextSlot s r slot →
+    IsTurn s.settings.processors (count_in_last s (r ++ slot ∷ [])) slot.picks
+next_is_turn s r slot scenario next =
+    let m = s.settings.processors in
+    let denials = denials_of (r ++ slot ∷ []) in
+    let xs = standing s (r ++ slot ∷ []) (suc (length r)) in
+    let chosen = next.picks.chosen in
+    let differ = ready_differ s.settings.base r xs (joins_once_in_force s (suc (length r)) denials scenario) in
+    let few : length chosen ≤ count_of m xs = first_few _ _ chosen next.picks.are_first in
+    subst (λ t. IsTurn m (count_of m (standing s (r ++ slot ∷ []) t)) slot.picks) (sym (length_snoc r slot)) (record {
+      in_use = count_within s.settings xs (in_force_limits s (suc (length r)) denials scenario);
+      few = omega (arith, ap length next.picks.subtasks, length-map chosen pick_of);
+      once = subst NoTaskTwice (sym next.picks.subtasks)
+          (picks_differ chosen (first_differ _ _ chosen differ next.picks.are_first));
+    })
