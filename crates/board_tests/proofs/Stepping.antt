@@ -6,24 +6,24 @@ use Rattle.pf_board.specs.declared.quantum.Quantum.{Quantum}
 use Rattle.pf_board.specs.Quanta.{one_if, is_same, times, issues}
 use Rattle.pf_board.proofs.Weights.{weigh_push}
 use Rattle.board_tests.specs.declared.entry.Entry.{Entry}
-use Rattle.board_tests.specs.Entries.{quanta_of, step_of, numbered, IsFreshFrom}
+use Rattle.board_tests.specs.Entries.{quanta_of, step_of, race_quantum, IsFreshFrom}
 
 -- its own quantum is left as often as the history issues it
 pub issues_one : (q : Quantum) (log : List (ℕ × Entry)) (me : ℕ) → times q (issues quanta_of log) ≡ 0 → times q (issues quanta_of (log ++ (me, step_of q) ∷ [])) ≡ times q (q ∷ [])
 issues_one q log me none = let p = weigh_push quanta_of (λ e. e.is_step) (λ r. one_if (is_same q r)) log (me, step_of q) in omega arith
 
-others : (m n : ℕ) → m ≢ n → times (numbered m) (numbered n ∷ []) ≡ 0
+others : (m n : ℕ) → m ≢ n → times (race_quantum m) (race_quantum n ∷ []) ≡ 0
 others m n apart = grind (arith, common_steps, nat_tests)
 
 -- the numbers after it are fresh still
-pub fresh_next : (n : ℕ) (log : List (ℕ × Entry)) (me : ℕ) → IsFreshFrom n log → IsFreshFrom (n + 1) (log ++ (me, step_of (numbered n)) ∷ [])
+pub fresh_next : (n : ℕ) (log : List (ℕ × Entry)) (me : ℕ) → IsFreshFrom n log → IsFreshFrom (n + 1) (log ++ (me, step_of (race_quantum n)) ∷ [])
 fresh_next n log me fresh m le =
-    let p = weigh_push quanta_of (λ e. e.is_step) (λ r. one_if (is_same (numbered m) r)) log (me, step_of (numbered n)) in
+    let p = weigh_push quanta_of (λ e. e.is_step) (λ r. one_if (is_same (race_quantum m) r)) log (me, step_of (race_quantum n)) in
     let f = fresh m (omega arith) in
     let o = others m n (λ e. absurd (omega arith)) in
     omega arith
 
-pub fresh_after : (n : ℕ) (log log' : List (ℕ × Entry)) (me : ℕ) → log' ≡ log ++ (me, step_of (numbered n)) ∷ [] → IsFreshFrom n log → IsFreshFrom (n + 1) log'
+pub fresh_after : (n : ℕ) (log log' : List (ℕ × Entry)) (me : ℕ) → log' ≡ log ++ (me, step_of (race_quantum n)) ∷ [] → IsFreshFrom n log → IsFreshFrom (n + 1) log'
 fresh_after n log log' me e fresh = subst (λ (l : List (ℕ × Entry)). IsFreshFrom (n + 1) l) (sym e) (fresh_next n log me fresh)
 
 pub fresh_same : (n : ℕ) (log log' : List (ℕ × Entry)) → log' ≡ log → IsFreshFrom n log → IsFreshFrom n log'

@@ -12,9 +12,9 @@ abbrev pub step_of : Quantum → Entry
 step_of q = record { is_step = true; quantum = q }
 
 -- the quanta of the race
-abbrev pub numbered : ℕ → Quantum
-numbered n = record { slot = 0; processor = 0; task = 1; sub = n }
+abbrev pub race_quantum : ℕ → Quantum
+race_quantum n = record { slot = 0; processor = 0; task = 1; sub = n }
 
 -- the history issues none of these from n on
 abbrev pub IsFreshFrom : ℕ → List (ℕ × Entry) → Type 0
-IsFreshFrom n log = (m : ℕ) → n ≤ m → times (numbered m) (issues quanta_of log) ≡ 0
+IsFreshFrom n log = (m : ℕ) → n ≤ m → times (race_quantum m) (issues quanta_of log) ≡ 0

@@ -15,9 +15,9 @@ abbrev pub planner : ℕ
 planner = 0
 
 -- a task joins in slot 0 that asks for two quanta in each three slots
-abbrev pub join_of : ℕ → Command
-join_of task = Edit (Insert (Join 0 task 2 3 0)) false
+abbrev pub join_command : ℕ → Command
+join_command task = Edit (Insert (Join 0 task 2 3 0)) false
 
 -- three joins, three steps, and the strike of the third event
-abbrev pub planned : List Command
-planned = join_of 1 ∷ join_of 2 ∷ join_of 3 ∷ Step ∷ Step ∷ Step ∷ Edit (Strike 3) false ∷ []
+abbrev pub planned_commands : List Command
+planned_commands = join_command 1 ∷ join_command 2 ∷ join_command 3 ∷ Step ∷ Step ∷ Step ∷ Edit (Strike 3) false ∷ []

@@ -1,6 +1,6 @@
 ghost use Rattle.std.specs.Prelude.{◌≡◌, map, All, IfOk};
 ghost use Rattle.pf_desk.specs.Desk.{IsDesk};
-ghost use Rattle.first_desk.specs.Planned.{join_of, planner, planned_settings, planned};
+ghost use Rattle.first_desk.specs.Planned.{join_command, planner, planned_settings, planned_commands};
 
 use pf_desk::command::Command;
 use pf_desk::desk::Desk;
@@ -32,7 +32,7 @@ const PLANNER: u32 = 0;
 
 /// A join in slot 0 of a task that asks for two quanta in each three slots.
 fn join(task: u64) -> Command
-    ensures { result ≡ join_of task }
+    ensures { result ≡ join_command task }
 {
     let event = Event::Join {
         slot: 0,
@@ -55,7 +55,7 @@ fn join(task: u64) -> Command
 pub fn plan(alloc: Global) -> Result<Desk, PlanFault>
     ensures desk { IfOk result (λ desk. IsDesk desk) }
     ensures settings { IfOk result (λ desk. desk.state.plan.settings ≡ planned_settings) }
-    ensures asked { IfOk result (λ desk. map (λ e. e.command) desk.history ≡ planned) }
+    ensures asked { IfOk result (λ desk. map (λ e. e.command) desk.history ≡ planned_commands) }
     ensures callers { IfOk result (λ desk. All (λ e. e.caller ≡ planner) desk.history) }
 {
     let mut desk = Desk::open(alloc, Settings::new(2, 3, 6)?, 64)?;

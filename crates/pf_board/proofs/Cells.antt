@@ -10,7 +10,7 @@ use Rattle.atomic_table.specs.Table.{State, keeps, Allows}
 use Rattle.pf_board.specs.declared.quantum.Quantum.{Quantum}
 use Rattle.pf_board.specs.declared.view.View.{View}
 use Rattle.pf_board.specs.declared.charter.Charter.{Charter}
-use Rattle.pf_board.specs.Quanta.{weigh, times, one_if, is_same, issues, without}
+use Rattle.pf_board.specs.Quanta.{weigh, times, one_if, is_same, issues, quanta_without}
 use Rattle.pf_board.specs.Words.{quantum_at, on_word, on_words}
 use Rattle.pf_board.specs.Passes.{IsIn, but}
 use Rattle.pf_board.specs.Kept.{held, AreEmpty, Core, Fits, Balances, Kept}
@@ -111,7 +111,7 @@ module _ {E T : Type 0} (legal : T → List (ℕ × E) → Type 0) (quanta : E �
 
   -- the balance after a quantum was put onto its empty word
   put_balance : (c : Core E) (views : List (View E T)) (q : Quantum) (x : ℕ) → slice_index c.cells q.processor ≡ 0 → q.processor < length c.cells → 0 < x → quantum_at q.processor x ≡ q → 0 < times q c.left → times q c.issued ≡ 0 → Balances quanta steps c views
-      → Balances quanta steps (record c { cells = slice_set c.cells q.processor x; issued = c.issued ++ q ∷ []; left = without q c.left }) views
+      → Balances quanta steps (record c { cells = slice_set c.cells q.processor x; issued = c.issued ++ q ∷ []; left = quanta_without q c.left }) views
   put_balance c views q x none inside some_word is there fresh b =
       let p = q.processor in
       let moved : (h : Quantum → ℕ) → weigh h (on_words 0 (slice_set c.cells p x)) ≡ weigh h (on_words 0 c.cells) + h q = λ h.
@@ -136,8 +136,8 @@ module _ {E T : Type 0} (legal : T → List (ℕ × E) → Type 0) (quanta : E �
       let f = k.fits id v at in
       let all = f.whole on in
       let none : slice_index k.core.cells p ≡ 0 = all.empty p free in
-      let core : Core E = record k.core { cells = slice_set k.core.cells p x; issued = k.core.issued ++ q ∷ []; left = without q k.core.left } in
-      let w : View E T = record v { left = without q v.left; issued = v.issued ++ q ∷ []; empty = but p v.empty } in
+      let core : Core E = record k.core { cells = slice_set k.core.cells p x; issued = k.core.issued ++ q ∷ []; left = quanta_without q k.core.left } in
+      let w : View E T = record v { left = quanta_without q v.left; issued = v.issued ++ q ∷ []; empty = but p v.empty } in
       let left_is = ap (times q) all.left in
       let whole_is = ap (λ (l : List (ℕ × E)). times q (issues quanta l)) all.whole in
       let fresh : times q k.core.issued ≡ 0 = let e = k.balances.issues_are (λ r. one_if (is_same q r)) in omega arith in
@@ -153,7 +153,7 @@ module _ {E T : Type 0} (legal : T → List (ℕ × E) → Type 0) (quanta : E �
           next = all.next;
           empty = λ y in_it. let r = in_but p v.empty y in_it in untouched k.core.cells p y x r.0 ∙ all.empty y r.1;
           issued = ap (λ l. l ++ q ∷ []) all.issued;
-          left = ap (without q) all.left;
+          left = ap (quanta_without q) all.left;
         };
       } in
       let others : (i : ℕ) (u : View E T) → i ≢ id → get_elem? s.views i ≡ some u → Fits charter.terms.value core i u = λ i u apart e.

@@ -5,7 +5,7 @@ use Rattle.std.proofs.lemmas.Grind.{common_steps}
 use Rattle.std.proofs.lemmas.Bool.Decides.{nat_tests}
 use lib.ListN.{replicate}
 use Rattle.pf_board.specs.declared.quantum.Quantum.{Quantum}
-use Rattle.pf_board.specs.Quanta.{one_if, is_same, is_some_list, weigh, times, without, issues, is_step, issues_after, last_issues, IsOnceEach}
+use Rattle.pf_board.specs.Quanta.{one_if, is_same, is_some_list, weigh, times, quanta_without, issues, is_step, issues_after, last_issues, IsOnceEach}
 use Rattle.pf_board.specs.Words.{on_word, on_words, quantum_at}
 
 -- the test for equal quanta is one
@@ -25,13 +25,13 @@ weigh_snoc h xs q = let t = weigh-append h xs (q ∷ []) in omega arith
 pub times_own : (q : Quantum) (xs : List Quantum) → times q (xs ++ q ∷ []) ≡ times q xs + 1
 times_own q xs = let t = weigh_snoc (λ r. one_if (is_same q r)) xs q in let s = ap one_if (same_self q) in omega arith
 
-without_step : (h : Quantum → ℕ) (q x : Quantum) (xs : List Quantum) (b : Bool) → is_same q x ≡ b → (0 < times q xs → weigh h (without q xs) + h q ≡ weigh h xs) → 0 < one_if b + times q xs
-    → weigh h (if b then xs else x ∷ without q xs) + h q ≡ weigh h (x ∷ xs)
+without_step : (h : Quantum → ℕ) (q x : Quantum) (xs : List Quantum) (b : Bool) → is_same q x ≡ b → (0 < times q xs → weigh h (quanta_without q xs) + h q ≡ weigh h xs) → 0 < one_if b + times q xs
+    → weigh h (if b then xs else x ∷ quanta_without q xs) + h q ≡ weigh h (x ∷ xs)
 without_step h q x xs true e rec some = let s = ap h (same_quantum q x e) in omega arith
 without_step h q x xs false e rec some = let t = rec (omega arith) in omega arith
 
 -- what is left out is gone once
-pub weigh_without : (h : Quantum → ℕ) (q : Quantum) (xs : List Quantum) → 0 < times q xs → weigh h (without q xs) + h q ≡ weigh h xs
+pub weigh_without : (h : Quantum → ℕ) (q : Quantum) (xs : List Quantum) → 0 < times q xs → weigh h (quanta_without q xs) + h q ≡ weigh h xs
 weigh_without h q [] some = absurd (omega arith)
 weigh_without h q (x ∷ xs) some = without_step h q x xs (is_same q x) refl (weigh_without h q xs) some
 

@@ -17,10 +17,10 @@ weigh h (q ∷ qs) = h q + weigh h qs
 abbrev pub times : Quantum → List Quantum → ℕ
 times q qs = weigh (λ r. one_if (is_same q r)) qs
 
--- the list without the first q in it
-abbrev pub without : Quantum → List Quantum → List Quantum
-without q [] = []
-without q (r ∷ rs) = if is_same q r then rs else r ∷ without q rs
+-- the list quanta_without the first q in it
+abbrev pub quanta_without : Quantum → List Quantum → List Quantum
+quanta_without q [] = []
+quanta_without q (r ∷ rs) = if is_same q r then rs else r ∷ quanta_without q rs
 
 -- the two lists have the same quanta, each as often
 abbrev pub HasSame : List Quantum → List Quantum → Type 0
@@ -31,8 +31,8 @@ abbrev pub IsOnceEach : List Quantum → Type 0
 IsOnceEach qs = (q : Quantum) → times q qs < 2
 
 -- no quantum stands in both lists, or twice in one
-abbrev pub AreApart : List Quantum → List Quantum → Type 0
-AreApart xs ys = IsOnceEach (xs ++ ys)
+abbrev pub AreApartQuanta : List Quantum → List Quantum → Type 0
+AreApartQuanta xs ys = IsOnceEach (xs ++ ys)
 
 module _ {E : Type 0} (quanta : E → List Quantum) where
   -- the quanta of these entries, in order

@@ -6,7 +6,7 @@ use lib.ListN.{get_elem?}
 use Rattle.pf_board.specs.declared.quantum.Quantum.{Quantum}
 use Rattle.pf_board.specs.declared.hand.Hand.{Hand}
 use Rattle.pf_board.specs.declared.view.View.{View}
-use Rattle.pf_board.specs.Quanta.{times, issues, without, AreApart}
+use Rattle.pf_board.specs.Quanta.{times, issues, quanta_without, AreApartQuanta}
 use Rattle.pf_board.specs.Words.{quantum_at}
 use Rattle.pf_board.specs.Passes.{calls_by, but}
 use Rattle.pf_board.specs.Kept.{total}
@@ -18,7 +18,7 @@ module _ {E T : Type 0} (legal : T → List (ℕ × E) → Type 0) where
     pub grew : IsPrefix v.seen w.seen
     pub guest : IsPrefix g.seen w.seen
     pub guest_mine : g.mine ≡ calls_by g.me w.seen
-    pub apart : AreApart g.taken v.taken
+    pub apart : AreApartQuanta g.taken v.taken
     pub is_legal : (t : T) → v.terms ≡ t ∷ [] → legal t w.seen
     pub mine : v.named ≡ true → v.mine ≡ calls_by v.me w.seen
     pub whole : v.turn ≡ true → v.whole ≡ w.seen
@@ -66,7 +66,7 @@ module _ {E T : Type 0} where
 
   -- the keeper put a quantum onto the word of its processor
   pub record Put (q : Quantum) (v w : View E T) : Type 0 where
-    pub same : w ≡ record v { left = without q v.left; issued = v.issued ++ q ∷ []; empty = but q.processor v.empty }
+    pub same : w ≡ record v { left = quanta_without q v.left; issued = v.issued ++ q ∷ []; empty = but q.processor v.empty }
 
   -- the word held what was expected, and the pass took its quantum; or another value, and the load is listed
   abbrev pub after_take : Bool → ℕ → ℕ → View E T → ℕ → View E T

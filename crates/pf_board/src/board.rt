@@ -4,7 +4,7 @@ ghost use Rattle.std.specs.Vec.{vec_capacity};
 ghost use Rattle.std.specs.Mem.Slots.{slots_items, slots_len, IsFull};
 ghost use mathlib.Core.List.{IsPrefix};
 ghost use Rattle.pf_board.specs.declared.quantum.Quantum.{Quantum};
-ghost use Rattle.pf_board.specs.Quanta.{times, issues, is_step, without, AreApart};
+ghost use Rattle.pf_board.specs.Quanta.{times, issues, is_step, quanta_without, AreApartQuanta};
 ghost use Rattle.pf_board.specs.Closed.{Closes, hands_in};
 ghost use Rattle.pf_board.specs.Seats.{IsTurn};
 ghost use Rattle.pf_board.specs.Takes.{Grabs, Misses, Takes};
@@ -245,7 +245,7 @@ impl<E, I: Issues<E>> Board<E, I> {
         ensures into { into.new ≡ record into.old { seen = into.new.seen } }
         ensures seen { IsPrefix from.old.seen into.new.seen × IsPrefix into.old.seen into.new.seen }
         ensures front { IsFront I.legal into.new }
-        ensures apart { AreApart from.old.taken into.old.taken }
+        ensures apart { AreApartQuanta from.old.taken into.old.taken }
     {
         self.visit(&mut from.seat, &mut into.seat);
     }
@@ -300,7 +300,7 @@ impl<E, I: Issues<E>> Board<E, I> {
         requires left { 0 < times quantum keeper.old.left }
         requires unissued { times quantum (issues I.quanta keeper.old.seen) ≡ times quantum keeper.old.left }
         requires empty { IsIn keeper.old.empty quantum.processor }
-        ensures { keeper.new ≡ record keeper.old { left = without quantum keeper.old.left; empty = but quantum.processor keeper.old.empty } }
+        ensures { keeper.new ≡ record keeper.old { left = quanta_without quantum keeper.old.left; empty = but quantum.processor keeper.old.empty } }
     {
         let word = quantum.processor as usize + 1;
         let bits = Word::encode(&quantum).bits;

@@ -16,10 +16,10 @@ use Rattle.pf_heap.specs.Keys.{Heaps, list_of, EachTaskOnce}
 use Rattle.pf_heap.specs.Digits.{digits}
 use Rattle.pf_heap.proofs.Digits.{digits-mono}
 use Rattle.pf_calendar.specs.declared.entry.Entry.{Entry}
-use Rattle.pf_calendar.specs.Queues.{Queues, all_of, until, later, due, count_of}
-use Rattle.pf_calendar.specs.Invariant.{lists_in, waiting_in, names_of, times, IsLaidOut}
+use Rattle.pf_calendar.specs.Queues.{Queues, all_of, until, later, due, key_count}
+use Rattle.pf_calendar.specs.Invariant.{lists_in, waiting_in, names_of, name_count, IsLaidOut}
 use Rattle.pf_calendar.specs.Steps.{MergesAll}
-use Rattle.pf_calendar.proofs.Naming.{no_entry, times-cons, times-append, times-take-drop, at_named, named_at, name_at, length-names, lists_same, length-lists, slot_at, one_of}
+use Rattle.pf_calendar.proofs.Naming.{no_entry, name_count-cons, name_count-append, name_count-take-drop, at_named, named_at, name_at, length-names, lists_same, length-lists, slot_at, one_of}
 use Rattle.pf_calendar.proofs.Sets.{has_none, union_cases, some_list, len-union_apart}
 use Rattle.pf_calendar.proofs.Apart.{Has, apart_by}
 use Rattle.pf_calendar.proofs.Slots.{where_front, where_back}
@@ -41,7 +41,7 @@ names-drop : (n : ℕ) (es : List Entry) → names_of (drop n es) ≡ drop n (na
 names-drop n es = sym (drop-map (λ e. e.heap) n es)
 
 -- lists that are named once share no key
-len-all_named : (heaps : Heaps) (names : List ℕ) → EachTaskOnce heaps.lists → ((h : ℕ) → times h names ≤ 1) →
+len-all_named : (heaps : Heaps) (names : List ℕ) → EachTaskOnce heaps.lists → ((h : ℕ) → name_count h names ≤ 1) →
     fin.len (all_of (map (list_of heaps) names)) ≡ sum_by fin.len (map (list_of heaps) names)
 len-all_named heaps [] apart once = len-empty key_cmp
 len-all_named heaps (n ∷ names) apart once =
@@ -50,11 +50,11 @@ len-all_named heaps (n ∷ names) apart once =
     let lk : m.0 < length names = omega (arith, m.1, length-map names (list_of heaps)) in
     let also : fin.contains (list_of heaps (get_or names m.0 0)) q ≡ true = sym (ap (λ l. fin.contains l q) (get_or-map (list_of heaps) names m.0 0 fin.empty lk)) ∙ m.2 in
     let same : n ≡ get_or names m.0 0 = (apart n (get_or names m.0 0) q q here also refl).0 in
-    absurd (omega (arith, once n, times-cons n n names, one_of n n refl, at_named n names m.0 lk (sym same))) in
+    absurd (omega (arith, once n, name_count-cons n n names, one_of n n refl, at_named n names m.0 lk (sym same))) in
     omega (
       arith,
       len-union_apart (list_of heaps n) (all_of (map (list_of heaps) names)) shared,
-      len-all_named heaps names apart (λ h. omega (arith, once h, times-cons h n names)),
+      len-all_named heaps names apart (λ h. omega (arith, once h, name_count-cons h n names)),
       sum_by-cons fin.len (list_of heaps n) (map (list_of heaps) names),
     )
 
@@ -77,8 +77,8 @@ module _ {heaps : Heaps} {ready : ℕ} {es : List Entry} {unused : List ℕ} {he
   long_back : length back + n ≡ length es
   long_back = omega (arith, length-drop n es, are_due.within)
 
-  split_times : (h : ℕ) → times h (names_of front) + times h (names_of back) ≡ times h (names_of es)
-  split_times h = omega (arith, ap (times h) (names-take n es), ap (times h) (names-drop n es), times-take-drop h (names_of es) n)
+  split_times : (h : ℕ) → name_count h (names_of front) + name_count h (names_of back) ≡ name_count h (names_of es)
+  split_times h = omega (arith, ap (name_count h) (names-take n es), ap (name_count h) (names-drop n es), name_count-take-drop h (names_of es) n)
 
   pub can_merge : CanMergeAll heaps ready front
   can_merge = (
@@ -93,13 +93,13 @@ module _ {heaps : Heaps} {ready : ℕ} {es : List Entry} {unused : List ℕ} {he
     λ h. omega (arith, once laid h, split_times h),
   )
 
-  ready_unmerged : times ready (names_of front) ≡ 0
+  ready_unmerged : name_count ready (names_of front) ≡ 0
   ready_unmerged = omega (arith, once laid ready, split_times ready, one_of ready ready refl)
 
   back_at : (k : ℕ) → k < length back → get_or back k no_entry ≡ get_or es (n + k) no_entry
   back_at k lt = get_or-drop n es k no_entry
 
-  back_unmerged : (k : ℕ) → k < length back → times (get_or back k no_entry).heap (names_of front) ≡ 0
+  back_unmerged : (k : ℕ) → k < length back → name_count (get_or back k no_entry).heap (names_of front) ≡ 0
   back_unmerged k lt =
       omega (
         arith,
@@ -156,19 +156,19 @@ module _ {heaps : Heaps} {ready : ℕ} {es : List Entry} {unused : List ℕ} {he
   merged_count : finmap.len (until t (waiting_in heaps es)) ≡ n
   merged_count = finmap.len-entries (until t (waiting_in heaps es)) ∙ ap length entries_until ∙ length-lists heaps front ∙ long_front
 
-  merged_size : (m : ℕ) → fin.len (list_of heaps ready) + sum_by (λ (e : Entry). fin.len (list_of heaps e.heap)) front ≤ count_of (seen heaps ready es m)
+  merged_size : (m : ℕ) → fin.len (list_of heaps ready) + sum_by (λ (e : Entry). fin.len (list_of heaps e.heap)) front ≤ key_count (seen heaps ready es m)
   merged_size m =
       omega (arith, count_is laid m, sum_counts laid es laid.counted, sum_by-take-drop (λ (e : Entry). fin.len (list_of heaps e.heap)) es n)
 
   -- what the merges cost, on what contracts see
   pub merges_cost : {m : ℕ} {now : Queues} → seen heaps ready es m ≡ now →
-      length front * digits (fin.len (list_of heaps ready) + sum_by (λ (e : Entry). fin.len (list_of heaps e.heap)) front) ≤ finmap.len (until t now.waiting) * digits (count_of now)
+      length front * digits (fin.len (list_of heaps ready) + sum_by (λ (e : Entry). fin.len (list_of heaps e.heap)) front) ≤ finmap.len (until t now.waiting) * digits (key_count now)
   merges_cost {m} {now} view =
       let size = fin.len (list_of heaps ready) + sum_by (λ (e : Entry). fin.len (list_of heaps e.heap)) front in
-      let more : n * digits size ≤ n * digits (count_of now) =
-      mul-le-mul_left n (digits-mono size (count_of now) (omega (arith, merged_size m, ap count_of view))) in
+      let more : n * digits size ≤ n * digits (key_count now) =
+      mul-le-mul_left n (digits-mono size (key_count now) (omega (arith, merged_size m, ap key_count view))) in
       let counted : finmap.len (until t now.waiting) ≡ n = ap (λ (q : Queues). finmap.len (until t q.waiting)) (sym view) ∙ merged_count in
-      omega (arith, more, ap (λ k. k * digits size) long_front, ap (λ k. k * digits (count_of now)) counted)
+      omega (arith, more, ap (λ k. k * digits size) long_front, ap (λ k. k * digits (key_count now)) counted)
 
   -- ---- after the merges
 
@@ -188,13 +188,13 @@ module _ {heaps : Heaps} {ready : ℕ} {es : List Entry} {unused : List ℕ} {he
         λ i. record { ready = here i; waiting = waits i; spare = m; tasks = merges.tasks i }
 
     abbrev goes : ℕ → ℕ
-    goes j = cond (eqb (times j (names_of front)) 0) j ready
+    goes j = cond (eqb (name_count j (names_of front)) 0) j ready
 
-    goes_front : (j : ℕ) → 1 ≤ times j (names_of front) → goes j ≡ ready
-    goes_front j le = ap (λ b. cond b j ready) (ne_eqb (times j (names_of front)) 0 (λ e. omega (arith, le, e)))
+    goes_front : (j : ℕ) → 1 ≤ name_count j (names_of front) → goes j ≡ ready
+    goes_front j le = ap (λ b. cond b j ready) (ne_eqb (name_count j (names_of front)) 0 (λ e. omega (arith, le, e)))
 
-    goes_other : (j : ℕ) → times j (names_of front) ≡ 0 → goes j ≡ j
-    goes_other j e = ap (λ b. cond b j ready) (eq-eqb (times j (names_of front)) 0 e)
+    goes_other : (j : ℕ) → name_count j (names_of front) ≡ 0 → goes j ≡ j
+    goes_other j e = ap (λ b. cond b j ready) (eq-eqb (name_count j (names_of front)) 0 e)
 
     comes_from : (i : ℕ) (p : Priority) → Has heaps'.lists i p → (j : ℕ) × (Has heaps.lists j p) × (goes j ≡ i)
     comes_from i p h =
@@ -212,12 +212,12 @@ module _ {heaps : Heaps} {ready : ℕ} {es : List Entry} {unused : List ℕ} {he
         (sym (ap (λ j. fin.contains (list_of heaps' j) p) at_ready ∙ ap (λ l. fin.contains l p) merges.merged) ∙ h)))
         (λ ne. ⊎_elim
         (λ none.
-        let zero_times : times i (names_of front) ≡ 0 = omega (arith, none) in
+        let zero_times : name_count i (names_of front) ≡ 0 = omega (arith, none) in
         (i, sym (ap (λ l. fin.contains l p) (merges.others i ne zero_times)) ∙ h, goes_other i zero_times))
         (λ le.
         let m = named_at i (names_of front) (omega (arith, le)) in
         absurd (has_none p (sym (ap (λ l. fin.contains l p) (sym (ap (list_of heaps') m.2) ∙ merges.emptied m.0 0 m.1)) ∙ h)))
-        (cases_lt (times i (names_of front)) 1))
+        (cases_lt (name_count i (names_of front)) 1))
         (cases_eq i ready)
 
     advanced_laid : (unused' : List ℕ) → unused' ≡ unused ++ names_of front → IsLaidOut heaps' ready back unused' held limit room unused_room
@@ -235,10 +235,10 @@ module _ {heaps : Heaps} {ready : ℕ} {es : List Entry} {unused : List ℕ} {he
           rise = ap (is_sorted nat_cmp) back_same ∙ is_later.0;
           named = λ h. omega (
             arith,
-            ap (λ l. times h (ready ∷ (names_of back ++ l))) names,
-            times-cons h ready (names_of back ++ (unused ++ names_of front)),
-            times-append h (names_of back) (unused ++ names_of front),
-            times-append h unused (names_of front),
+            ap (λ l. name_count h (ready ∷ (names_of back ++ l))) names,
+            name_count-cons h ready (names_of back ++ (unused ++ names_of front)),
+            name_count-append h (names_of back) (unused ++ names_of front),
+            name_count-append h unused (names_of front),
             split_times h,
             split_names laid h,
             ap (λ m. cond {A = ℕ} (ltb h m) 1 0) merges.long,
@@ -257,7 +257,7 @@ module _ {heaps : Heaps} {ready : ℕ} {es : List Entry} {unused : List ℕ} {he
             laid.held_is,
             ap fin.len merges.merged,
             len-all_named heaps (ready ∷ names_of front) laid.apart
-                (λ h. omega (arith, once laid h, split_times h, times-cons h ready (names_of front))),
+                (λ h. omega (arith, once laid h, split_times h, name_count-cons h ready (names_of front))),
             sum_by-cons fin.len (list_of heaps ready) (map (list_of heaps) (names_of front)),
             sum-named heaps front,
             sum_counts laid front (All-take (λ (e : Entry). e.count ≡ fin.len (list_of heaps e.heap)) n es laid.counted),

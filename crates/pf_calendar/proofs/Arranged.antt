@@ -15,9 +15,9 @@ use Rattle.std.specs.FinMap.Entries.{is_sorted}
 use Rattle.pf_order.specs.Priority.{key_cmp}
 use Rattle.pf_heap.specs.Keys.{Keys, Heaps, list_of, EachTaskOnce}
 use Rattle.pf_calendar.specs.declared.entry.Entry.{Entry}
-use Rattle.pf_calendar.specs.Invariant.{lists_in, names_of, times, IsLaidOut}
-use Rattle.pf_calendar.specs.Steps.{IsPlace, HasEntry}
-use Rattle.pf_calendar.proofs.Naming.{no_entry, times-cons, times-append, times-nil, one_of, none_of, named_at, at_named, one_place, name_at, length-names, names-set, times-insert, lists_same, lists_set, lists-insert, length-lists, slot_at}
+use Rattle.pf_calendar.specs.Invariant.{lists_in, names_of, name_count, IsLaidOut}
+use Rattle.pf_calendar.specs.Steps.{IsSlotPlace, HasEntry}
+use Rattle.pf_calendar.proofs.Naming.{no_entry, name_count-cons, name_count-append, name_count-nil, one_of, none_of, named_at, at_named, one_place, name_at, length-names, names-set, name_count-insert, lists_same, lists_set, lists-insert, length-lists, slot_at}
 use Rattle.pf_calendar.proofs.Maps.{in_order, set_in, insert_in}
 
 module _ {heaps : Heaps} {ready : ℕ} {es : List Entry} {unused : List ℕ} {held limit room unused_room : ℕ} (laid : IsLaidOut heaps ready es unused held limit room unused_room) where
@@ -30,19 +30,19 @@ module _ {heaps : Heaps} {ready : ℕ} {es : List Entry} {unused : List ℕ} {he
   one_from : (h n : ℕ) → h < n → cond {A = ℕ} (ltb h n) 1 0 ≡ 1
   one_from h n lt = ap (λ b. cond {A = ℕ} b 1 0) (lt-ltb h n lt)
 
-  pub split_names : (h : ℕ) → cond {A = ℕ} (eqb ready h) 1 0 + (times h (names_of es) + times h unused) ≡ cond {A = ℕ} (ltb h (length heaps.lists)) 1 0
-  split_names h = omega (arith, laid.named h, times-cons h ready (names_of es ++ unused), times-append h (names_of es) unused)
+  pub split_names : (h : ℕ) → cond {A = ℕ} (eqb ready h) 1 0 + (name_count h (names_of es) + name_count h unused) ≡ cond {A = ℕ} (ltb h (length heaps.lists)) 1 0
+  split_names h = omega (arith, laid.named h, name_count-cons h ready (names_of es ++ unused), name_count-append h (names_of es) unused)
 
-  pub once : (h : ℕ) → cond {A = ℕ} (eqb ready h) 1 0 + (times h (names_of es) + times h unused) ≤ 1
+  pub once : (h : ℕ) → cond {A = ℕ} (eqb ready h) 1 0 + (name_count h (names_of es) + name_count h unused) ≤ 1
   once h = omega (arith, split_names h, one_or_none h (length heaps.lists))
 
-  pub listed : (h : ℕ) → 1 ≤ cond {A = ℕ} (eqb ready h) 1 0 + (times h (names_of es) + times h unused) → h < length heaps.lists
+  pub listed : (h : ℕ) → 1 ≤ cond {A = ℕ} (eqb ready h) 1 0 + (name_count h (names_of es) + name_count h unused) → h < length heaps.lists
   listed h le = below_from h (length heaps.lists) (omega (arith, split_names h, le))
 
   pub ready_listed : ready < length heaps.lists
   ready_listed = listed ready (omega (arith, one_of ready ready refl))
 
-  named_in : (k : ℕ) → k < length es → 1 ≤ times (get_or es k no_entry).heap (names_of es)
+  named_in : (k : ℕ) → k < length es → 1 ≤ name_count (get_or es k no_entry).heap (names_of es)
   named_in k lt = at_named (get_or es k no_entry).heap (names_of es) k (omega (arith, lt, length-names es)) (name_at es k)
 
   pub entry_listed : (k : ℕ) → k < length es → (get_or es k no_entry).heap < length heaps.lists
@@ -56,7 +56,7 @@ module _ {heaps : Heaps} {ready : ℕ} {es : List Entry} {unused : List ℕ} {he
       ne (one_place (get_or es j no_entry).heap (names_of es) k j (omega (arith, once (get_or es j no_entry).heap))
       (omega (arith, lk, length-names es)) (omega (arith, lj, length-names es)) (name_at es k ∙ e) (name_at es j))
 
-  pub unused_apart : (k h : ℕ) → k < length unused → 1 ≤ cond {A = ℕ} (eqb ready h) 1 0 + times h (names_of es) → get_or unused k 0 ≢ h
+  pub unused_apart : (k h : ℕ) → k < length unused → 1 ≤ cond {A = ℕ} (eqb ready h) 1 0 + name_count h (names_of es) → get_or unused k 0 ≢ h
   unused_apart k h lt le e = absurd (omega (arith, once h, le, at_named h unused k lt e))
 
   -- whose list it is
@@ -68,7 +68,7 @@ module _ {heaps : Heaps} {ready : ℕ} {es : List Entry} {unused : List ℕ} {he
       inr (ap (list_of heaps) (sym m.2) ∙ laid.empty m.0 0 m.1))
       (λ le. let m = named_at i (names_of es) (omega (arith, le)) in
       inl (m.0, omega (arith, m.1, length-names es), sym (name_at es m.0) ∙ m.2))
-      (cases_lt (times i (names_of es)) 1)))
+      (cases_lt (name_count i (names_of es)) 1)))
       (cases_eq ready i)
 
   counted_of : (heaps' : Heaps) (x y : Entry) → x ≡ y → y.count ≡ fin.len (list_of heaps' y.heap) → x.count ≡ fin.len (list_of heaps' x.heap)
@@ -93,7 +93,7 @@ module _ {heaps : Heaps} {ready : ℕ} {es : List Entry} {unused : List ℕ} {he
       let ready_other : list_of heaps' ready ≡ list_of heaps ready = other ready (λ i. entry_apart at lt (sym i)) in
       record {
         rise = ap (is_sorted nat_cmp) lists ∙ (set_in (lists_in heaps es) at e.slot keys laid.rise (omega (arith, lt, length-lists heaps es)) (slot_at heaps es at fin.empty lt)).0;
-        named = λ h. ap (λ ns. times h (ready ∷ (ns ++ unused))) (names-set es at e' refl) ∙ laid.named h ∙ ap (λ n. cond {A = ℕ} (ltb h n) 1 0) (sym long);
+        named = λ h. ap (λ ns. name_count h (ready ∷ (ns ++ unused))) (names-set es at e' refl) ∙ laid.named h ∙ ap (λ n. cond {A = ℕ} (ltb h n) 1 0) (sym long);
         many = omega (arith, laid.many, long, long_es);
         small = omega (arith, laid.small, long_es);
         empty = λ k d lk. other (get_or unused k d) (λ i. unused_apart k e.heap lk (omega (arith, named_in at lt)) (get_or_default unused k 0 d lk ∙ i)) ∙ laid.empty k d lk;
@@ -140,25 +140,25 @@ module _ {heaps : Heaps} {ready : ℕ} {es : List Entry} {unused : List ℕ} {he
         unused_room_is = laid.unused_room_is;
       }
 
-  before_in : (slot at : ℕ) → IsPlace es slot at → (k : ℕ) → k < at → (get_or (lists_in heaps es) k (0, fin.empty)).0 < slot
+  before_in : (slot at : ℕ) → IsSlotPlace es slot at → (k : ℕ) → k < at → (get_or (lists_in heaps es) k (0, fin.empty)).0 < slot
   before_in slot at place k lt =
       omega (arith, slot_at heaps es k fin.empty (omega (arith, lt, place.within)), place.before k no_entry lt)
 
-  fresh_in : (slot at : ℕ) → IsPlace es slot at → ¬ (HasEntry es slot at) → at < length (lists_in heaps es) → slot < (get_or (lists_in heaps es) at (0, fin.empty)).0
+  fresh_in : (slot at : ℕ) → IsSlotPlace es slot at → ¬ (HasEntry es slot at) → at < length (lists_in heaps es) → slot < (get_or (lists_in heaps es) at (0, fin.empty)).0
   fresh_in slot at place fresh lt =
       let within : at < length es = omega (arith, lt, length-lists heaps es) in
       let ne : slot ≢ (get_or es at no_entry).slot = λ e. fresh (within, λ d. ap (λ (x : Entry). x.slot) (get_or_default es at d no_entry within) ∙ sym e) in
       omega (arith, place.after at no_entry (omega arith) within, ne, slot_at heaps es at fin.empty within)
 
   -- a list for a slot that had none
-  pub opened_lists : (keys : Keys) (slot at : ℕ) → IsPlace es slot at → ¬ (HasEntry es slot at) →
+  pub opened_lists : (keys : Keys) (slot at : ℕ) → IsSlotPlace es slot at → ¬ (HasEntry es slot at) →
       (in_order (insert (lists_in heaps es) at (slot, keys)) ≡ true)
       × (finmap.from_sorted {R = nat_cmp} (insert (lists_in heaps es) at (slot, keys)) ≡ finmap.insert (finmap.from_sorted (lists_in heaps es)) slot keys)
   opened_lists keys slot at place fresh =
       insert_in (lists_in heaps es) at slot keys laid.rise (omega (arith, place.within, length-lists heaps es)) (before_in slot at place) (fresh_in slot at place fresh)
 
   -- an entry that names an unused heap
-  pub entry_opened : (left : List ℕ) (h slot at : ℕ) → unused ≡ left ++ h ∷ [] → IsPlace es slot at → ¬ (HasEntry es slot at) →
+  pub entry_opened : (left : List ℕ) (h slot at : ℕ) → unused ≡ left ++ h ∷ [] → IsSlotPlace es slot at → ¬ (HasEntry es slot at) →
       IsLaidOut heaps ready (insert es at (record { slot = slot; heap = h; count = 0 })) left held limit room unused_room
   entry_opened left h slot at is place fresh =
       let e : Entry = record { slot = slot; heap = h; count = 0 } in
@@ -172,15 +172,15 @@ module _ {heaps : Heaps} {ready : ℕ} {es : List Entry} {unused : List ℕ} {he
         named = λ i. omega (
           arith,
           laid.named i,
-          times-cons i ready (names_of es ++ unused),
-          times-append i (names_of es) unused,
-          ap (times i) is,
-          times-append i left (h ∷ []),
-          times-cons i h [],
-          times-nil i,
-          times-cons i ready (names_of (insert es at e) ++ left),
-          times-append i (names_of (insert es at e)) left,
-          times-insert i es at e,
+          name_count-cons i ready (names_of es ++ unused),
+          name_count-append i (names_of es) unused,
+          ap (name_count i) is,
+          name_count-append i left (h ∷ []),
+          name_count-cons i h [],
+          name_count-nil i,
+          name_count-cons i ready (names_of (insert es at e) ++ left),
+          name_count-append i (names_of (insert es at e)) left,
+          name_count-insert i es at e,
         );
         many = omega (arith, laid.many, long, long_unused);
         small = omega (arith, laid.small, long, long_unused);

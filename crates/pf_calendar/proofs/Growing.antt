@@ -12,9 +12,9 @@ use Rattle.std.specs.FinMap as finmap
 use Rattle.std.specs.FinMap.Entries.{is_sorted}
 use Rattle.pf_heap.specs.Keys.{Keys, Heaps, list_of}
 use Rattle.pf_calendar.specs.declared.entry.Entry.{Entry}
-use Rattle.pf_calendar.specs.Invariant.{lists_in, waiting_in, names_of, times, IsLaidOut, IsCalendar}
+use Rattle.pf_calendar.specs.Invariant.{lists_in, waiting_in, names_of, name_count, IsLaidOut, IsCalendar}
 use Rattle.pf_calendar.specs.Steps.{AddsHeaps}
-use Rattle.pf_calendar.proofs.Naming.{no_entry, times-cons, times-append, times-nil, lists_same}
+use Rattle.pf_calendar.proofs.Naming.{no_entry, name_count-cons, name_count-append, name_count-nil, lists_same}
 use Rattle.pf_calendar.proofs.Apart.{apart_by}
 use Rattle.pf_calendar.proofs.Whole.{seen, waiting_is}
 
@@ -35,10 +35,10 @@ length_more (suc n) = ap suc (length_more n)
 below_or_at : (h a : ℕ) → cond {A = ℕ} (ltb h a) 1 0 + cond {A = ℕ} (eqb a h) 1 0 ≡ cond {A = ℕ} (ltb h (a + 1)) 1 0
 below_or_at h a = grind (arith, nat_tests)
 
-times-range : (h a n b : ℕ) → b ≡ a + n → cond {A = ℕ} (ltb h a) 1 0 + times h (range_with_len a n) ≡ cond {A = ℕ} (ltb h b) 1 0
-times-range h a zero b e = omega (arith, times-nil h, ap (λ m. cond {A = ℕ} (ltb h m) 1 0) (let s : a ≡ b = omega arith in s))
-times-range h a (suc n) b e =
-    omega (arith, times-cons h a (range_with_len (a + 1) n), below_or_at h a, times-range h (a + 1) n b (omega arith))
+name_count-range : (h a n b : ℕ) → b ≡ a + n → cond {A = ℕ} (ltb h a) 1 0 + name_count h (range_with_len a n) ≡ cond {A = ℕ} (ltb h b) 1 0
+name_count-range h a zero b e = omega (arith, name_count-nil h, ap (λ m. cond {A = ℕ} (ltb h m) 1 0) (let s : a ≡ b = omega arith in s))
+name_count-range h a (suc n) b e =
+    omega (arith, name_count-cons h a (range_with_len (a + 1) n), below_or_at h a, name_count-range h (a + 1) n b (omega arith))
 
 module _ {heaps : Heaps} {ready : ℕ} {es : List Entry} {unused : List ℕ} {held limit room unused_room : ℕ} (laid : IsLaidOut heaps ready es unused held limit room unused_room)
     (heaps' : Heaps) (n : ℕ) (lists : heaps'.lists ≡ heaps.lists ++ replicate n fin.empty) where
@@ -69,13 +69,13 @@ module _ {heaps : Heaps} {ready : ℕ} {es : List Entry} {unused : List ℕ} {he
         named = λ h. omega (
           arith,
           laid.named h,
-          ap (λ l. times h (ready ∷ (names_of es ++ l))) names,
-          times-cons h ready (names_of es ++ unused),
-          times-append h (names_of es) unused,
-          times-cons h ready (names_of es ++ (unused ++ range_with_len (length heaps.lists) n)),
-          times-append h (names_of es) (unused ++ range_with_len (length heaps.lists) n),
-          times-append h unused (range_with_len (length heaps.lists) n),
-          times-range h (length heaps.lists) n (length heaps'.lists) long,
+          ap (λ l. name_count h (ready ∷ (names_of es ++ l))) names,
+          name_count-cons h ready (names_of es ++ unused),
+          name_count-append h (names_of es) unused,
+          name_count-cons h ready (names_of es ++ (unused ++ range_with_len (length heaps.lists) n)),
+          name_count-append h (names_of es) (unused ++ range_with_len (length heaps.lists) n),
+          name_count-append h unused (range_with_len (length heaps.lists) n),
+          name_count-range h (length heaps.lists) n (length heaps'.lists) long,
         );
         many = omega (arith, laid.many, long, long_names);
         small = omega (arith, small, long_names);

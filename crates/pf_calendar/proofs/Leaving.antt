@@ -18,12 +18,12 @@ use Rattle.std.specs.FinMap.Entries.{is_sorted, find, where_key, find-where_key}
 use Rattle.pf_order.specs.Priority.{Priority, key_cmp}
 use Rattle.pf_order.proofs.Order.{key_cmp_total, only_equal_keys_tie}
 use Rattle.pf_heap.specs.Keys as keys
-use Rattle.pf_heap.specs.Keys.{Keys, Heaps, list_of, without, HasNone, EachTaskOnce}
+use Rattle.pf_heap.specs.Keys.{Keys, Heaps, list_of, other_keys, HasNone, EachTaskOnce}
 use Rattle.pf_calendar.specs.declared.entry.Entry.{Entry}
-use Rattle.pf_calendar.specs.Queues.{list_at, with_list, IsHeld, TakesOut}
+use Rattle.pf_calendar.specs.Queues.{list_at, with_waiting_list, IsQueued, TakesOut}
 use Rattle.pf_calendar.specs.Invariant.{lists_in, waiting_in, names_of, IsLaidOut, IsCalendar}
 use Rattle.pf_calendar.specs.Steps.{RemovesAt, Discounts}
-use Rattle.pf_calendar.proofs.Naming.{no_entry, times-cons, times-append, times-nil, times-remove, lists_set, lists-remove, length-lists, slot_at, list_at_place}
+use Rattle.pf_calendar.proofs.Naming.{no_entry, name_count-cons, name_count-append, name_count-nil, name_count-remove, lists_set, lists-remove, length-lists, slot_at, list_at_place}
 use Rattle.pf_heap.proofs.Sets.{key_alike, tied_keys}
 use Rattle.pf_calendar.proofs.Sets.{some_has, remove_in, len-remove_one}
 use Rattle.pf_calendar.proofs.Apart.{Has}
@@ -48,7 +48,7 @@ same_answers true e t h = h refl ∙ sym (and-true (not e))
 same_answers false e t h = sym (and-false (not e))
 
 -- to take out a task is to take out its key
-pub without_is : (list : Keys) (task : ℕ) (k : Priority) → k.task ≡ task → ((q : Priority) → fin.contains list q ≡ true → q.task ≡ task → q ≡ k) → without list task ≡ fin.remove list k
+pub without_is : (list : Keys) (task : ℕ) (k : Priority) → k.task ≡ task → ((q : Priority) → fin.contains list q ≡ true → q.task ≡ task → q ≡ k) → other_keys list task ≡ fin.remove list k
 without_is list task k of_task only =
     same_set key_cmp_total only_equal_keys_tie _ _ (λ q.
     contains-retain list (λ x. not (eqb x.task task)) q (λ x t. ap (λ (y : Priority). not (eqb y.task task)) (sym (only_equal_keys_tie q x t)))
@@ -107,14 +107,14 @@ module _ {heaps : Heaps} {ready : ℕ} {es : List Entry} {unused : List ℕ} {he
         named = λ h. omega (
           arith,
           laid.named h,
-          times-cons h ready (names_of es ++ unused),
-          times-append h (names_of es) unused,
-          times-cons h ready (names_of (remove es at) ++ (unused ++ e.heap ∷ [])),
-          times-append h (names_of (remove es at)) (unused ++ e.heap ∷ []),
-          times-append h unused (e.heap ∷ []),
-          times-cons h e.heap [],
-          times-nil h,
-          times-remove h es at lt,
+          name_count-cons h ready (names_of es ++ unused),
+          name_count-append h (names_of es) unused,
+          name_count-cons h ready (names_of (remove es at) ++ (unused ++ e.heap ∷ [])),
+          name_count-append h (names_of (remove es at)) (unused ++ e.heap ∷ []),
+          name_count-append h unused (e.heap ∷ []),
+          name_count-cons h e.heap [],
+          name_count-nil h,
+          name_count-remove h es at lt,
         );
         many = omega (arith, laid.many, long, long_unused);
         small = omega (arith, laid.small, long, long_unused);
@@ -136,7 +136,7 @@ module _ {heaps : Heaps} {ready : ℕ} {es : List Entry} {unused : List ℕ} {he
   only_key i task k of_task has q h same = (laid.apart i i q k h has (same ∙ sym of_task)).1
 
   -- a task that no list has isn't held
-  pub not_held : (n task : ℕ) → HasNone (list_of heaps ready) task → All (λ e. HasNone (list_of heaps e.heap) task) es → ¬ (IsHeld (seen heaps ready es n) task)
+  pub not_held : (n task : ℕ) → HasNone (list_of heaps ready) task → All (λ e. HasNone (list_of heaps e.heap) task) es → ¬ (IsQueued (seen heaps ready es n) task)
   not_held n task none_ready none_waiting w =
       ⊎_elim
       (λ h. none_ready w.key h w.of_task)
@@ -148,7 +148,7 @@ module _ {heaps : Heaps} {ready : ℕ} {es : List Entry} {unused : List ℕ} {he
 
   -- from the ready list
   pub ready_removed : (heaps' : Heaps) (task : ℕ) (k : Priority) → k.task ≡ task → fin.contains (list_of heaps ready) k ≡ true →
-      heaps' ≡ record (keys.with_list heaps ready (without (list_of heaps ready) task)) { spare = heaps.spare + 1 } →
+      heaps' ≡ record (keys.with_list heaps ready (other_keys (list_of heaps ready) task)) { spare = heaps.spare + 1 } →
       heaps' ≡ record (keys.with_list heaps ready (fin.remove (list_of heaps ready) k)) { spare = heaps.spare + 1 }
   ready_removed heaps' task k of_task has is =
       is ∙ ap (λ l. record (keys.with_list heaps ready l) { spare = heaps.spare + 1 }) (without_is (list_of heaps ready) task k of_task (only_key ready task k of_task has))
@@ -231,7 +231,7 @@ module _ {heaps : Heaps} {ready : ℕ} {es : List Entry} {unused : List ℕ} {he
         (ap (λ h. list_of h e.heap) left_is ∙ get_or-set_same heaps.lists e.heap left fin.empty (entry_listed laid at removes.within))
 
     -- what waits afterwards
-    waits_gone : e.count ≡ 1 → waiting_in heaps' (remove es at) ≡ with_list (waiting_in heaps es) e.slot left
+    waits_gone : e.count ≡ 1 → waiting_in heaps' (remove es at) ≡ with_waiting_list (waiting_in heaps es) e.slot left
     waits_gone one =
         let lt : at < length (lists_in heaps es) = omega (arith, removes.within, length-lists heaps es) in
         let lists : lists_in heaps' (remove es at) ≡ remove (lists_in heaps es) at =
@@ -244,7 +244,7 @@ module _ {heaps : Heaps} {ready : ℕ} {es : List Entry} {unused : List ℕ} {he
           removed_set : (l : List (ℕ × Keys)) (i : ℕ) (x : ℕ × Keys) → remove (set l i x) i ≡ remove l i
           removed_set l i x = λ j. take-set l i x j ++ drop-set-lt (suc i) l i x (omega arith) j
 
-    waits_less : e.count ≢ 1 → waiting_in heaps' (set es at less) ≡ with_list (waiting_in heaps es) e.slot left
+    waits_less : e.count ≢ 1 → waiting_in heaps' (set es at less) ≡ with_waiting_list (waiting_in heaps es) e.slot left
     waits_less more =
         let lt : at < length (lists_in heaps es) = omega (arith, removes.within, length-lists heaps es) in
         waiting_is heaps' (set es at less) ∙ ap finmap.from_sorted lists_taken
@@ -252,7 +252,7 @@ module _ {heaps : Heaps} {ready : ℕ} {es : List Entry} {unused : List ℕ} {he
         ∙ ap (λ x. finmap.insert x e.slot left) (sym (waiting_is heaps es))
         ∙ sym (ap (λ b. cond b (finmap.remove (waiting_in heaps es) e.slot) (finmap.insert (waiting_in heaps es) e.slot left)) (ne_eqb (fin.len left) 0 (λ z. omega (arith, size_left, some_there, more, z))))
 
-    pub discounted_waits : (es' : List Entry) (unused' : List ℕ) → Discounts es es' unused unused' at → waiting_in heaps' es' ≡ with_list (waiting_in heaps es) e.slot left
+    pub discounted_waits : (es' : List Entry) (unused' : List ℕ) → Discounts es es' unused unused' at → waiting_in heaps' es' ≡ with_waiting_list (waiting_in heaps es) e.slot left
     discounted_waits es' unused' ways =
         ⊎_elim (λ w. ap (waiting_in heaps') w.1 ∙ waits_gone w.0) (λ w. ap (waiting_in heaps') w.1 ∙ waits_less w.0) (ways no_entry)
 
@@ -261,7 +261,7 @@ module _ {heaps : Heaps} {ready : ℕ} {es : List Entry} {unused : List ℕ} {he
     takes_out es' unused' ways =
         let here : list_of heaps' ready ≡ list_of heaps ready =
         ap (λ h. list_of h ready) left_is ∙ get_or-set_other heaps.lists e.heap ready left fin.empty (λ i. entry_apart laid at removes.within (sym i)) in
-        let waits : waiting_in heaps' es' ≡ with_list (waiting_in heaps es) e.slot (fin.remove (list_at (waiting_in heaps es) e.slot) k) =
-        discounted_waits es' unused' ways ∙ ap (λ l. with_list (waiting_in heaps es) e.slot (fin.remove l k)) (sym slot_list) in
+        let waits : waiting_in heaps' es' ≡ with_waiting_list (waiting_in heaps es) e.slot (fin.remove (list_at (waiting_in heaps es) e.slot) k) =
+        discounted_waits es' unused' ways ∙ ap (λ l. with_waiting_list (waiting_in heaps es) e.slot (fin.remove l k)) (sym slot_list) in
         let places : limit - (held - 1) ≡ (limit - held) + 1 = omega (arith, some_held, laid.within) in
         inr (e.slot, ap (λ l. fin.contains l k) slot_list ∙ removes.has no_entry, λ i. record { ready = here i; waiting = waits i; spare = places i; tasks = (left_is i).tasks })

@@ -9,9 +9,9 @@ use Rattle.std.specs.FinSet as fin
 use Rattle.pf_heap.specs.Keys.{Keys, Heaps, list_of, with_list}
 use Rattle.pf_calendar.specs.declared.entry.Entry.{Entry}
 use Rattle.pf_calendar.specs.Queues.{all_of}
-use Rattle.pf_calendar.specs.Invariant.{times, names_of}
+use Rattle.pf_calendar.specs.Invariant.{name_count, names_of}
 use Rattle.pf_calendar.specs.Steps.{AddsHeaps, MergesAll}
-use Rattle.pf_calendar.proofs.Naming.{no_entry, times-nil, times-cons, times-append, times-take-drop, one_of, times-self, name_at, length-names}
+use Rattle.pf_calendar.proofs.Naming.{no_entry, name_count-nil, name_count-cons, name_count-append, name_count-take-drop, one_of, name_count-self, name_at, length-names}
 use Rattle.pf_calendar.proofs.Sets.{union_assoc, union-empty, all_of-push, len-union-le}
 
 range_push : (a n j : ℕ) → j ≡ a + n → range_with_len a (suc n) ≡ range_with_len a n ++ j ∷ []
@@ -56,7 +56,7 @@ merges_none heaps into = record {
 
 -- one more list is merged into the first
 pub merges_more : (old mid new : Heaps) (into x : ℕ) (names : List ℕ) → MergesAll old mid into names → into < length old.lists → x < length old.lists → into ≢ x →
-    ((k : ℕ) → k < length names → get_or names k 0 ≢ into) → times x names ≡ 0 →
+    ((k : ℕ) → k < length names → get_or names k 0 ≢ into) → name_count x names ≡ 0 →
     new ≡ with_list (with_list mid x fin.empty) into (fin.union (list_of mid into) (list_of mid x)) → MergesAll old new into (names ++ x ∷ [])
 merges_more old mid new into x names m in_into in_x differ apart fresh is =
     let lists_is : new.lists ≡ set (set mid.lists x fin.empty) into (fin.union (list_of mid into) (list_of mid x)) = ap (λ n. n.lists) is in
@@ -90,7 +90,7 @@ merges_more old mid new into x names m in_into in_x differ apart fresh is =
           (λ le. ap (list_of new) (get_or_push names x d k (omega (arith, le, lt, length_push names x))) ∙ at_x)
           (cases_lt k (length names));
       others = λ h ni none.
-          let apart_x : times h names + cond (eqb x h) 1 0 ≡ 0 = omega (arith, none, times-append h names (x ∷ []), times-cons h x [], times-nil h) in
+          let apart_x : name_count h names + cond (eqb x h) 1 0 ≡ 0 = omega (arith, none, name_count-append h names (x ∷ []), name_count-cons h x [], name_count-nil h) in
           let nx : h ≢ x = λ e. absurd (omega (arith, apart_x, one_of h x (sym e))) in
           at_other h ni nx ∙ m.others h ni (omega (arith, apart_x));
     }
@@ -98,19 +98,19 @@ merges_more old mid new into x names m in_into in_x differ apart fresh is =
 -- the entries name heaps, each once, and not this one
 abbrev pub CanMergeAll : Heaps → ℕ → List Entry → Type 0
 CanMergeAll heaps into es =
-    (into < length heaps.lists) × All (λ e. (e.heap < length heaps.lists) × (e.heap ≢ into)) es × ((h : ℕ) → times h (names_of es) ≤ 1)
+    (into < length heaps.lists) × All (λ e. (e.heap < length heaps.lists) × (e.heap ≢ into)) es × ((h : ℕ) → name_count h (names_of es) ≤ 1)
 
 pub names_more : (es : List Entry) (k : ℕ) (e : Entry) → k < length es → e ≡ get_or es k e → names_of (take (k + 1) es) ≡ names_of (take k es) ++ e.heap ∷ []
 names_more es k e lt is =
     ap names_of (take_more es k e lt) ∙ map_push (λ d. d.heap) (take k es) (get_or es k e) ∙ ap (λ d. names_of (take k es) ++ d.heap ∷ []) (sym is)
 
-fresh_at : (es : List Entry) (k : ℕ) (e : Entry) → ((h : ℕ) → times h (names_of es) ≤ 1) → k < length es → e ≡ get_or es k e → times e.heap (names_of (take k es)) ≡ 0
+fresh_at : (es : List Entry) (k : ℕ) (e : Entry) → ((h : ℕ) → name_count h (names_of es) ≤ 1) → k < length es → e ≡ get_or es k e → name_count e.heap (names_of (take k es)) ≡ 0
 fresh_at es k e once lt is =
     let front : names_of (take k es) ≡ take k (names_of es) = sym (take-map (λ d. d.heap) k es) in
     let at : get_or (names_of es) k 0 ≡ e.heap = name_at es k ∙ ap (λ d. d.heap) (get_or_default es k no_entry e lt ∙ sym is) in
     let more : drop k (names_of es) ≡ e.heap ∷ drop (k + 1) (names_of es) =
     drop_more (names_of es) k 0 (omega (arith, lt, length-names es)) ∙ ap (λ n. n ∷ drop (k + 1) (names_of es)) at in
-    omega (arith, once e.heap, ap (times e.heap) front, times-take-drop e.heap (names_of es) k, ap (times e.heap) more, times-self e.heap e.heap (drop (k + 1) (names_of es)) refl)
+    omega (arith, once e.heap, ap (name_count e.heap) front, name_count-take-drop e.heap (names_of es) k, ap (name_count e.heap) more, name_count-self e.heap e.heap (drop (k + 1) (names_of es)) refl)
 
 pub merges_step : (old mid new : Heaps) (into : ℕ) (es : List Entry) (k : ℕ) (e : Entry) → CanMergeAll old into es →
     MergesAll old mid into (names_of (take k es)) → k < length es → e ≡ get_or es k e →

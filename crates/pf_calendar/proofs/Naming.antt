@@ -5,13 +5,13 @@ use Rattle.std.proofs.lemmas.Bool.{cases_eq, ne_eqb, eq-eqb}
 use Rattle.std.proofs.lemmas.List.Sums.{sum_by-cons, sum_by-append, sum_by-take-drop}
 use Rattle.pf_heap.specs.Keys.{Keys, Heaps, list_of}
 use Rattle.pf_calendar.specs.declared.entry.Entry.{Entry}
-use Rattle.pf_calendar.specs.Invariant.{lists_in, names_of, times}
+use Rattle.pf_calendar.specs.Invariant.{lists_in, names_of, name_count}
 
 -- an entry that isn't there
 abbrev pub no_entry : Entry
 no_entry = record { slot = 0; heap = 0; count = 0 }
 
--- ---- times
+-- ---- name_count
 
 pub one_of : (h n : ℕ) → n ≡ h → cond {A = ℕ} (eqb n h) 1 0 ≡ 1
 one_of h n e = ap (λ b. cond b 1 0) (eq-eqb n h e)
@@ -19,48 +19,48 @@ one_of h n e = ap (λ b. cond b 1 0) (eq-eqb n h e)
 pub none_of : (h n : ℕ) → n ≢ h → cond {A = ℕ} (eqb n h) 1 0 ≡ 0
 none_of h n e = ap (λ b. cond b 1 0) (ne_eqb n h e)
 
-pub times-nil : (h : ℕ) → times h [] ≡ 0
-unfolding times
-times-nil h = refl
+pub name_count-nil : (h : ℕ) → name_count h [] ≡ 0
+unfolding name_count
+name_count-nil h = refl
 
-pub times-cons : (h n : ℕ) (ns : List ℕ) → times h (n ∷ ns) ≡ cond (eqb n h) 1 0 + times h ns
-unfolding times
-times-cons h n ns = sum_by-cons (λ m. cond (eqb m h) 1 0) n ns
+pub name_count-cons : (h n : ℕ) (ns : List ℕ) → name_count h (n ∷ ns) ≡ cond (eqb n h) 1 0 + name_count h ns
+unfolding name_count
+name_count-cons h n ns = sum_by-cons (λ m. cond (eqb m h) 1 0) n ns
 
-pub times-append : (h : ℕ) (ns ms : List ℕ) → times h (ns ++ ms) ≡ times h ns + times h ms
-unfolding times
-times-append h ns ms = sum_by-append (λ n. cond (eqb n h) 1 0) ns ms
+pub name_count-append : (h : ℕ) (ns ms : List ℕ) → name_count h (ns ++ ms) ≡ name_count h ns + name_count h ms
+unfolding name_count
+name_count-append h ns ms = sum_by-append (λ n. cond (eqb n h) 1 0) ns ms
 
-pub times-take-drop : (h : ℕ) (ns : List ℕ) (k : ℕ) → times h (take k ns) + times h (drop k ns) ≡ times h ns
-unfolding times
-times-take-drop h ns k = sum_by-take-drop (λ n. cond (eqb n h) 1 0) ns k
+pub name_count-take-drop : (h : ℕ) (ns : List ℕ) (k : ℕ) → name_count h (take k ns) + name_count h (drop k ns) ≡ name_count h ns
+unfolding name_count
+name_count-take-drop h ns k = sum_by-take-drop (λ n. cond (eqb n h) 1 0) ns k
 
-pub times-self : (h n : ℕ) (ns : List ℕ) → n ≡ h → 1 ≤ times h (n ∷ ns)
-times-self h n ns e = omega (arith, times-cons h n ns, one_of h n e)
+pub name_count-self : (h n : ℕ) (ns : List ℕ) → n ≡ h → 1 ≤ name_count h (n ∷ ns)
+name_count-self h n ns e = omega (arith, name_count-cons h n ns, one_of h n e)
 
 -- a heap that is named stands at some place
-pub named_at : (h : ℕ) (ns : List ℕ) → 1 ≤ times h ns → (k : ℕ) × (k < length ns) × (get_or ns k 0 ≡ h)
-named_at h [] le = absurd (omega (arith, le, times-nil h))
+pub named_at : (h : ℕ) (ns : List ℕ) → 1 ≤ name_count h ns → (k : ℕ) × (k < length ns) × (get_or ns k 0 ≡ h)
+named_at h [] le = absurd (omega (arith, le, name_count-nil h))
 named_at h (n ∷ ns) le =
     ⊎_elim (λ e. (0, omega arith, e))
-    (λ ne. let m = named_at h ns (omega (arith, le, times-cons h n ns, none_of h n ne)) in (suc m.0, omega (arith, m.1), m.2))
+    (λ ne. let m = named_at h ns (omega (arith, le, name_count-cons h n ns, none_of h n ne)) in (suc m.0, omega (arith, m.1), m.2))
     (cases_eq n h)
 
-pub at_named : (h : ℕ) (ns : List ℕ) (k : ℕ) → k < length ns → get_or ns k 0 ≡ h → 1 ≤ times h ns
+pub at_named : (h : ℕ) (ns : List ℕ) (k : ℕ) → k < length ns → get_or ns k 0 ≡ h → 1 ≤ name_count h ns
 at_named h [] k lt e = absurd (omega (arith, lt))
-at_named h (n ∷ ns) zero lt e = times-self h n ns e
-at_named h (n ∷ ns) (suc k) lt e = omega (arith, times-cons h n ns, at_named h ns k (omega (arith, lt)) e)
+at_named h (n ∷ ns) zero lt e = name_count-self h n ns e
+at_named h (n ∷ ns) (suc k) lt e = omega (arith, name_count-cons h n ns, at_named h ns k (omega (arith, lt)) e)
 
 -- a heap that is named once stands at one place
-pub one_place : (h : ℕ) (ns : List ℕ) (j k : ℕ) → times h ns ≤ 1 → j < length ns → k < length ns → get_or ns j 0 ≡ h → get_or ns k 0 ≡ h → j ≡ k
+pub one_place : (h : ℕ) (ns : List ℕ) (j k : ℕ) → name_count h ns ≤ 1 → j < length ns → k < length ns → get_or ns j 0 ≡ h → get_or ns k 0 ≡ h → j ≡ k
 one_place h [] j k once lj lk ej ek = absurd (omega (arith, lj))
 one_place h (n ∷ ns) zero zero once lj lk ej ek = refl
 one_place h (n ∷ ns) zero (suc k) once lj lk ej ek =
-    absurd (omega (arith, once, times-cons h n ns, one_of h n ej, at_named h ns k (omega (arith, lk)) ek))
+    absurd (omega (arith, once, name_count-cons h n ns, one_of h n ej, at_named h ns k (omega (arith, lk)) ek))
 one_place h (n ∷ ns) (suc j) zero once lj lk ej ek =
-    absurd (omega (arith, once, times-cons h n ns, one_of h n ek, at_named h ns j (omega (arith, lj)) ej))
+    absurd (omega (arith, once, name_count-cons h n ns, one_of h n ek, at_named h ns j (omega (arith, lj)) ej))
 one_place h (n ∷ ns) (suc j) (suc k) once lj lk ej ek =
-    ap suc (one_place h ns j k (omega (arith, once, times-cons h n ns)) (omega (arith, lj)) (omega (arith, lk)) ej ek)
+    ap suc (one_place h ns j k (omega (arith, once, name_count-cons h n ns)) (omega (arith, lj)) (omega (arith, lk)) ej ek)
 
 -- ---- names of entries
 
@@ -73,17 +73,17 @@ name_at [] k = refl
 name_at (e ∷ es) zero = refl
 name_at (e ∷ es) (suc k) = name_at es k
 
-pub times-insert : (h : ℕ) (es : List Entry) (at : ℕ) (e : Entry) → times h (names_of (insert es at e)) ≡ times h (names_of es) + cond (eqb e.heap h) 1 0
-times-insert h es zero e = omega (arith, times-cons h e.heap (names_of es))
-times-insert h [] (suc at) e = omega (arith, times-cons h e.heap [])
-times-insert h (d ∷ es) (suc at) e =
-    omega (arith, times-cons h d.heap (names_of (insert es at e)), times-cons h d.heap (names_of es), times-insert h es at e)
+pub name_count-insert : (h : ℕ) (es : List Entry) (at : ℕ) (e : Entry) → name_count h (names_of (insert es at e)) ≡ name_count h (names_of es) + cond (eqb e.heap h) 1 0
+name_count-insert h es zero e = omega (arith, name_count-cons h e.heap (names_of es))
+name_count-insert h [] (suc at) e = omega (arith, name_count-cons h e.heap [])
+name_count-insert h (d ∷ es) (suc at) e =
+    omega (arith, name_count-cons h d.heap (names_of (insert es at e)), name_count-cons h d.heap (names_of es), name_count-insert h es at e)
 
-pub times-remove : (h : ℕ) (es : List Entry) (at : ℕ) → at < length es → times h (names_of (remove es at)) + cond (eqb (get_or es at no_entry).heap h) 1 0 ≡ times h (names_of es)
-times-remove h [] at lt = absurd (omega (arith, lt))
-times-remove h (e ∷ es) zero lt = omega (arith, times-cons h e.heap (names_of es))
-times-remove h (e ∷ es) (suc at) lt =
-    omega (arith, times-cons h e.heap (names_of (remove es at)), times-cons h e.heap (names_of es), times-remove h es at (omega (arith, lt)))
+pub name_count-remove : (h : ℕ) (es : List Entry) (at : ℕ) → at < length es → name_count h (names_of (remove es at)) + cond (eqb (get_or es at no_entry).heap h) 1 0 ≡ name_count h (names_of es)
+name_count-remove h [] at lt = absurd (omega (arith, lt))
+name_count-remove h (e ∷ es) zero lt = omega (arith, name_count-cons h e.heap (names_of es))
+name_count-remove h (e ∷ es) (suc at) lt =
+    omega (arith, name_count-cons h e.heap (names_of (remove es at)), name_count-cons h e.heap (names_of es), name_count-remove h es at (omega (arith, lt)))
 
 -- the same heap under another slot or count
 pub names-set : (es : List Entry) (at : ℕ) (e : Entry) → e.heap ≡ (get_or es at no_entry).heap → names_of (set es at e) ≡ names_of es

@@ -18,11 +18,11 @@ use Rattle.pf_heap.specs.Keys.{Keys, Heaps, list_of, with_list, EachTaskOnce}
 use Rattle.pf_heap.specs.Digits.{digits}
 use Rattle.pf_heap.proofs.Digits.{digits-mono}
 use Rattle.pf_calendar.specs.declared.entry.Entry.{Entry}
-use Rattle.pf_calendar.specs.Queues.{Queues, list_at, list_in, count_of, IsHeld, NoneEmpty}
+use Rattle.pf_calendar.specs.Queues.{Queues, list_at, list_in, key_count, IsQueued, NoneEmpty}
 use Rattle.pf_calendar.specs.Queues as queues
 use Rattle.pf_calendar.specs.Invariant.{lists_in, waiting_in, IsLaidOut, IsCalendar}
 use Rattle.pf_calendar.specs.Steps.{HasEntry, Opens}
-use Rattle.pf_calendar.proofs.Naming.{no_entry, times-cons, times-nil, lists_same, lists_set, lists-insert, length-lists, slot_at, list_at_place}
+use Rattle.pf_calendar.proofs.Naming.{no_entry, name_count-cons, name_count-nil, lists_same, lists_set, lists-insert, length-lists, slot_at, list_at_place}
 use Rattle.pf_calendar.proofs.Sets.{has_none, insert_cases, remove_in, some_has, len-insert_new, len-remove_one}
 use Rattle.pf_calendar.proofs.Apart.{Has, apart_by, apart_but}
 use Rattle.pf_calendar.proofs.Slots.{rises, find_at}
@@ -94,11 +94,11 @@ module _ {heaps : Heaps} {ready : ℕ} {es : List Entry} {unused : List ℕ} {he
         sum_counts l (λ k d lt. h (suc k) d (omega (arith, lt))),
       )
 
-  pub count_is : (n : ℕ) → count_of (seen heaps ready es n) ≡ fin.len (list_of heaps ready) + sum_by (λ (e : Entry). e.count) es
+  pub count_is : (n : ℕ) → key_count (seen heaps ready es n) ≡ fin.len (list_of heaps ready) + sum_by (λ (e : Entry). e.count) es
   count_is n = ap (λ m. fin.len (list_of heaps ready) + m) (sum_in heaps es laid.rise ∙ sum_counts es laid.counted)
 
   -- a task that isn't held has no key in a heap
-  absent_below : (n task : ℕ) → ¬ (IsHeld (seen heaps ready es n) task) → ¬ (keys.IsHeld heaps.lists task)
+  absent_below : (n task : ℕ) → ¬ (IsQueued (seen heaps ready es n) task) → ¬ (keys.IsHeld heaps.lists task)
   absent_below n task free w =
       ⊎_elim
       (λ e. free (record { key = w.key; has = inl (ap (λ i. fin.contains (list_of heaps i) w.key) e ∙ w.has); of_task = w.of_task }))
@@ -117,15 +117,15 @@ module _ {heaps : Heaps} {ready : ℕ} {es : List Entry} {unused : List ℕ} {he
       (list_cases laid w.list w.listed)
 
   module _ {n : ℕ} {now : Queues} (view : seen heaps ready es n ≡ now) where
-    pub absent_from : (task : ℕ) → ¬ (IsHeld now task) → ¬ (keys.IsHeld heaps.lists task)
-    absent_from task absent = absent_below n task (subst (λ (q : Queues). ¬ (IsHeld q task)) (sym view) absent)
+    pub absent_from : (task : ℕ) → ¬ (IsQueued now task) → ¬ (keys.IsHeld heaps.lists task)
+    absent_from task absent = absent_below n task (subst (λ (q : Queues). ¬ (IsQueued q task)) (sym view) absent)
 
     -- the keys that are ready are held, and those that wait
-    pub ready_digits : digits (fin.len (list_of heaps ready)) ≤ digits (count_of now)
-    ready_digits = digits-mono (fin.len (list_of heaps ready)) (count_of now) (omega (arith, ap count_of view, count_is n))
+    pub ready_digits : digits (fin.len (list_of heaps ready)) ≤ digits (key_count now)
+    ready_digits = digits-mono (fin.len (list_of heaps ready)) (key_count now) (omega (arith, ap key_count view, count_is n))
 
-    pub waiting_within : sum_by (λ (e : Entry). fin.len (list_of heaps e.heap)) es ≤ count_of now
-    waiting_within = omega (arith, ap count_of view, count_is n, sum_counts es laid.counted)
+    pub waiting_within : sum_by (λ (e : Entry). fin.len (list_of heaps e.heap)) es ≤ key_count now
+    waiting_within = omega (arith, ap key_count view, count_is n, sum_counts es laid.counted)
 
   pub some_free : {now : Queues} → seen heaps ready es (limit - held) ≡ now → 1 ≤ now.spare → held < limit
   some_free view some = omega (arith, some, ap (λ (q : Queues). q.spare) view)
@@ -181,7 +181,7 @@ new_calendar heaps ready es unused room unused_room lists first no_entries no_na
     (record {
       laid = record {
         rise = refl;
-        named = λ h. times-cons h 0 [] ∙ ap (λ n. cond {A = ℕ} (eqb 0 h) 1 0 + n) (times-nil h) ∙ one_name h ∙ ap (λ l. cond {A = ℕ} (ltb h (length l)) 1 0) (sym lists);
+        named = λ h. name_count-cons h 0 [] ∙ ap (λ n. cond {A = ℕ} (eqb 0 h) 1 0 + n) (name_count-nil h) ∙ one_name h ∙ ap (λ l. cond {A = ℕ} (ltb h (length l)) 1 0) (sym lists);
         many = ap length lists;
         small = omega arith;
         empty = λ k d lt. absurd (omega (arith, lt));
@@ -374,7 +374,7 @@ module _ {heaps : Heaps} {ready : ℕ} {es : List Entry} {unused : List ℕ} {he
       λ i. record { ready = here i; waiting = waits i; spare = places i; tasks = (is i).tasks }
 
   -- the calendar after the put, as the code reads and writes the entry
-  pub put_done : {now : Queues} → seen heaps ready es (limit - held) ≡ now → 1 ≤ now.spare → (key : Priority) → ¬ (IsHeld now key.task) →
+  pub put_done : {now : Queues} → seen heaps ready es (limit - held) ≡ now → 1 ≤ now.spare → (key : Priority) → ¬ (IsQueued now key.task) →
       {heaps' : Heaps} {e f : Entry} → e ≡ get_or es1 at e → f ≡ get_or es1 at f →
       heaps' ≡ record (with_list heaps e.heap (fin.insert (list_of heaps e.heap) key)) { spare = heaps.spare - 1 } → All (λ x. 1 ≤ x.count) es →
       IsCalendarAfter heaps' ready (set es1 at (record { slot = f.slot; heap = f.heap; count = e.count + 1 })) left (held + 1) limit room unused_room

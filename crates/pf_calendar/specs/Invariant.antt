@@ -20,14 +20,14 @@ abbrev pub names_of : List Entry → List ℕ
 names_of entries = map (λ e. e.heap) entries
 
 -- how often a heap is named
-unfoldable pub times : ℕ → List ℕ → ℕ
-times h names = count_by (λ n. n == h) names
+unfoldable pub name_count : ℕ → List ℕ → ℕ
+name_count h names = count_by (λ n. n == h) names
 
 -- each heap has one name: it is the ready one, or an entry's, or it is unused and then empty; the slots of the entries
 -- rise; each entry counts its keys; and there are heaps, and room for their names, for the keys held and the spare ones
 pub record IsLaidOut (heaps : Heaps) (ready : ℕ) (entries : List Entry) (unused : List ℕ) (held limit room unused_room : ℕ) : Type 0 where
   pub rise : fin.is_sorted nat_cmp (lists_in heaps entries) ≡ true
-  pub named : (h : ℕ) → times h (ready ∷ (names_of entries ++ unused)) ≡ (if nat_lt h (length heaps.lists) then 1 else 0)
+  pub named : (h : ℕ) → name_count h (ready ∷ (names_of entries ++ unused)) ≡ (if nat_lt h (length heaps.lists) then 1 else 0)
   pub many : length heaps.lists ≡ length entries + length unused + 1
   pub small : length entries + length unused ≤ 2 ^ 32 - 3
   pub empty : All (λ h. list_of heaps h ≡ set.empty) unused

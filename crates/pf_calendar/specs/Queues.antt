@@ -41,15 +41,15 @@ abbrev pub due : ℕ → Waiting → Keys
 due t waiting = all_of (map.values (until t waiting))
 
 -- how many keys are held
-abbrev pub count_of : Queues → ℕ
-count_of q = set.len q.ready + sum_by set.len (map.values q.waiting)
+abbrev pub key_count : Queues → ℕ
+key_count q = set.len q.ready + sum_by set.len (map.values q.waiting)
 
 -- the key is ready, or it waits for some slot
 abbrev pub Holds : Queues → Priority → Type 0
 Holds q k = (set.contains q.ready k ≡ true) ⊎ ((s : ℕ) × (set.contains (list_at q.waiting s) k ≡ true))
 
 -- some list has a key of this task
-pub record IsHeld (q : Queues) (task : ℕ) : Type 0 where
+pub record IsQueued (q : Queues) (task : ℕ) : Type 0 where
   pub key : Priority
   pub has : Holds q key
   pub of_task : key.task ≡ task
@@ -69,15 +69,15 @@ abbrev pub NoneEmpty : Waiting → Type 0
 NoneEmpty waiting = All (λ keys. 1 ≤ set.len keys) (map.values waiting)
 
 -- slot s has this list, or none where it is empty
-abbrev pub with_list : Waiting → ℕ → Keys → Waiting
-with_list waiting s keys = if set.len keys == 0 then map.remove waiting s else map.insert waiting s keys
+abbrev pub with_waiting_list : Waiting → ℕ → Keys → Waiting
+with_waiting_list waiting s keys = if set.len keys == 0 then map.remove waiting s else map.insert waiting s keys
 
 -- the key was ready, or it waited for some slot, and is there no longer
 abbrev pub TakesOut : Queues → Queues → Priority → Type 0
 TakesOut old new k =
     ((set.contains old.ready k ≡ true) × (new ≡ record old { ready = set.remove old.ready k; spare = old.spare + 1 }))
     ⊎ ((s : ℕ) × (set.contains (list_at old.waiting s) k ≡ true)
-    × (new ≡ record old { waiting = with_list old.waiting s (set.remove (list_at old.waiting s) k); spare = old.spare + 1 }))
+    × (new ≡ record old { waiting = with_waiting_list old.waiting s (set.remove (list_at old.waiting s) k); spare = old.spare + 1 }))
 
 abbrev pub queues_code : Coded Queues
 queues_code =

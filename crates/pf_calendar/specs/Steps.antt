@@ -4,10 +4,10 @@ use Rattle.std.specs.List.{range_with_len}
 use Rattle.std.specs.FinSet as set
 use Rattle.pf_order.specs.Priority.{Priority}
 use Rattle.pf_heap.specs.Keys as heaps
-use Rattle.pf_heap.specs.Keys.{Keys, Heaps, list_of, without}
+use Rattle.pf_heap.specs.Keys.{Keys, Heaps, list_of, other_keys}
 use Rattle.pf_calendar.specs.declared.entry.Entry.{Entry}
 use Rattle.pf_calendar.specs.Queues.{all_of}
-use Rattle.pf_calendar.specs.Invariant.{times}
+use Rattle.pf_calendar.specs.Invariant.{name_count}
 
 -- n empty heaps were added, and their names noted
 pub record AddsHeaps (old new : Heaps) (names longer : List ℕ) (n : ℕ) : Type 0 where
@@ -23,10 +23,10 @@ pub record MergesAll (old new : Heaps) (into : ℕ) (names : List ℕ) : Type 0 
   pub long : length new.lists ≡ length old.lists
   pub merged : list_of new into ≡ set.union (list_of old into) (all_of (map (list_of old) names))
   pub emptied : All (λ h. list_of new h ≡ set.empty) names
-  pub others : (h : ℕ) → h ≢ into → times h names ≡ 0 → list_of new h ≡ list_of old h
+  pub others : (h : ℕ) → h ≢ into → name_count h names ≡ 0 → list_of new h ≡ list_of old h
 
 -- the entries before place `at` are for slots below this one, and the others aren't
-pub record IsPlace (entries : List Entry) (slot at : ℕ) : Type 0 where
+pub record IsSlotPlace (entries : List Entry) (slot at : ℕ) : Type 0 where
   pub within : at ≤ length entries
   pub before : (k : ℕ) (d : Entry) → k < at → (slice_index_or entries k d).slot < slot
   pub after : (k : ℕ) (d : Entry) → at ≤ k → k < length entries → slot ≤ (slice_index_or entries k d).slot
@@ -37,7 +37,7 @@ HasEntry entries slot at = (at < length entries) × ((d : Entry) → (slice_inde
 
 -- the slot has an entry: either it had one, or it got one that counts no key and has the last unused name
 pub record Opens (old new : List Entry) (unused left : List ℕ) (slot at : ℕ) : Type 0 where
-  pub place : IsPlace old slot at
+  pub place : IsSlotPlace old slot at
   pub ways : ((HasEntry old slot at) × (new ≡ old) × (left ≡ unused))
       ⊎ ((h : ℕ) × (¬ (HasEntry old slot at)) × (unused ≡ left ++ h ∷ []) × (new ≡ insert old at (record { slot = slot; heap = h; count = 0 })))
 
@@ -47,7 +47,7 @@ pub record RemovesAt (old new : Heaps) (entries : List Entry) (task at : ℕ) (k
   pub of_task : key.task ≡ task
   pub has : (d : Entry) → set.contains (list_of old (slice_index_or entries at d).heap) key ≡ true
   pub removed : (d : Entry) → new ≡ record (heaps.with_list old (slice_index_or entries at d).heap
-      (without (list_of old (slice_index_or entries at d).heap) task)) { spare = old.spare + 1 }
+      (other_keys (list_of old (slice_index_or entries at d).heap) task)) { spare = old.spare + 1 }
 
 -- the entry at this place counts one key less: where none is left it is gone, and its heap is unused
 abbrev pub Discounts : List Entry → List Entry → List ℕ → List ℕ → ℕ → Type 0

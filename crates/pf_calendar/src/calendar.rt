@@ -6,7 +6,7 @@ ghost use Rattle.std.specs.FinMap as map;
 ghost use Rattle.pf_order.specs.Counts.{Compares};
 ghost use Rattle.pf_heap.specs.Keys.{IsFirst};
 ghost use Rattle.pf_heap.specs.Digits.{digits};
-ghost use Rattle.pf_calendar.specs.Queues.{list_at, until, later, due, count_of, IsHeld, TakesOut, EachTaskOnce, NoneEmpty};
+ghost use Rattle.pf_calendar.specs.Queues.{list_at, until, later, due, key_count, IsQueued, TakesOut, EachTaskOnce, NoneEmpty};
 
 use crate::entry::Entry;
 use crate::merge::merge_all;
@@ -73,7 +73,7 @@ impl Calendar {
 
     /// How many keys are held.
     pub fn len(&self) -> usize
-        ensures { result ≡ count_of self.now }
+        ensures { result ≡ key_count self.now }
     {
         self.held
     }
@@ -84,7 +84,7 @@ impl Calendar {
     ///
     /// Where memory is refused: all is as before.
     pub fn reserve(&mut self, n: usize) -> Result<(), AllocError>
-        requires few { count_of self.old + n ≤ 2 ^ 32 - 3 }
+        requires few { key_count self.old + n ≤ 2 ^ 32 - 3 }
         ensures ready { self.new.ready ≡ self.old.ready }
         ensures waiting { self.new.waiting ≡ self.old.waiting }
         ensures tasks { self.new.tasks ≡ self.old.tasks }
@@ -123,13 +123,13 @@ impl Calendar {
     pub fn put(&mut self, meter: &mut Meter, slot: u64, key: Key)
         requires room { 1 ≤ self.old.spare }
         requires placed { key.task < self.old.tasks }
-        requires absent { ¬ IsHeld self.old key.task }
+        requires absent { ¬ IsQueued self.old key.task }
         ensures put { self.new ≡ record self.old {
           waiting = map.insert self.old.waiting slot (set.insert (list_at self.old.waiting slot) key);
           spare = self.old.spare - 1;
         } }
         ensures some { NoneEmpty self.new.waiting }
-        ensures comparisons { Compares (digits (count_of self.old + 1)) meter.old meter.new }
+        ensures comparisons { Compares (digits (key_count self.old + 1)) meter.old meter.new }
     {
         let at = open(&mut self.waiting, &mut self.unused, slot);
         let entry = self.waiting[at];
@@ -145,7 +145,7 @@ impl Calendar {
           waiting = later t self.old.waiting;
         } }
         ensures some { NoneEmpty self.new.waiting }
-        ensures comparisons { Compares (map.len (until t self.old.waiting) * digits (count_of self.old)) meter.old meter.new }
+        ensures comparisons { Compares (map.len (until t self.old.waiting) * digits (key_count self.old)) meter.old meter.new }
     {
         let due = self.waiting.partition_point(|entry| entry.slot <= t);
         merge_all(
@@ -164,7 +164,7 @@ impl Calendar {
             (λ k. IsFirst self.old.ready k
             × (self.new ≡ record self.old { ready = set.remove self.old.ready k; spare = self.old.spare + 1 })) }
         ensures some { NoneEmpty self.new.waiting }
-        ensures comparisons { Compares (2 * digits (count_of self.old)) meter.old meter.new }
+        ensures comparisons { Compares (2 * digits (key_count self.old)) meter.old meter.new }
     {
         let key = self.heaps.pop(meter, self.ready)?;
         self.held -= 1;
@@ -173,11 +173,11 @@ impl Calendar {
 
     /// Takes the key of this task out, wherever it is. A waiting list that becomes empty is gone.
     pub fn take_out(&mut self, meter: &mut Meter, task: u32) -> Option<Key>
-        ensures taken { MatchOption result ((¬ IsHeld self.old task) × (self.new ≡ self.old))
+        ensures taken { MatchOption result ((¬ IsQueued self.old task) × (self.new ≡ self.old))
             (λ k. (k.task ≡ task) × TakesOut self.old self.new k) }
         ensures once { EachTaskOnce self.old }
         ensures some { NoneEmpty self.new.waiting }
-        ensures comparisons { Compares (2 * digits (count_of self.old)) meter.old meter.new }
+        ensures comparisons { Compares (2 * digits (key_count self.old)) meter.old meter.new }
     {
         if let Some(key) = self.heaps.remove(meter, self.ready, task) {
             self.held -= 1;

@@ -4,7 +4,7 @@ ghost use Rattle.std.specs.FinSet as set;
 ghost use Rattle.pf_order.specs.Counts.{Compares};
 ghost use Rattle.pf_heap.specs.Keys.{list_of};
 ghost use Rattle.pf_heap.specs.Digits.{digits};
-ghost use Rattle.pf_calendar.specs.Invariant.{names_of, times};
+ghost use Rattle.pf_calendar.specs.Invariant.{names_of, name_count};
 ghost use Rattle.pf_calendar.specs.Steps.{MergesAll};
 
 use crate::entry::Entry;
@@ -21,7 +21,7 @@ pub(crate) fn merge_all(
 )
     requires into { into < length heaps.old.lists }
     requires heaps { All (λ e. (e.heap < length heaps.old.lists) × (e.heap ≢ into)) entries.now }
-    requires once { (h : ℕ) → times h (names_of entries.now) ≤ 1 }
+    requires once { (h : ℕ) → name_count h (names_of entries.now) ≤ 1 }
     requires room { vec_len aside.old + length entries.now ≤ vec_capacity aside.old }
     ensures merged { MergesAll heaps.old heaps.new into (names_of entries.now) }
     ensures aside { aside.new.items ≡ aside.old.items ++ names_of entries.now }

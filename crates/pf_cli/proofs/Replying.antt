@@ -5,7 +5,7 @@ use Rattle.std.specs.List.{slice_get}
 use Rattle.pf_order.specs.declared.pick.Pick.{Pick}
 use Rattle.pf_scenario.specs.declared.change.Change.{Change}
 use Rattle.pf_scenario.specs.declared.fault.EditFault.{EditFault}
-use Rattle.pf_scenario.specs.Scenario.{changed}
+use Rattle.pf_scenario.specs.Scenario.{plan_after}
 use Rattle.pf_scenario.specs.Edit.{IsScenario, edit_fault}
 use Rattle.pf_run.specs.declared.denied.Denied.{Denied}
 use Rattle.pf_run.specs.RunRows.{denials_in}
@@ -28,7 +28,7 @@ edit_takes_none : (st : State) (change : Change) (strict : Bool) (slot : ℕ) (r
     → Stepped slot row ≡ edit_reply st change strict o → ⊥
 edit_takes_none st change strict slot row (Some fault) e = cc
 edit_takes_none st change true slot row None e =
-    strict_takes_none st change slot row (slice_get (denials_in (changed st.plan change) st.now) 0) e
+    strict_takes_none st change slot row (slice_get (denials_in (plan_after st.plan change) st.now) 0) e
 edit_takes_none st change false slot row None e = cc
 
 -- the row of a step

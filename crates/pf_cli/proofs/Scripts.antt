@@ -16,7 +16,7 @@ use Rattle.pf_cli.specs.declared.output_fault.OutputFault.TheVariants.{Write, Me
 use Rattle.pf_words.specs.declared.format.Format.{Format}
 use Rattle.pf_cli.specs.declared.session.Session.{Session}
 use Rattle.pf_cli.specs.Answers.{Answers, CountsOutput, CountsWrites, IsPastReading, fault_of_output}
-use Rattle.pf_cli.specs.Meaning.{Meaning, Done, BadRecord, behind, commands_of, course_behind, line_meaning, lines_meaning, settings_meaning, shown, report_text, seen_at}
+use Rattle.pf_cli.specs.Meaning.{Meaning, Done, BadRecord, text_and_then, commands_of, course_behind, line_meaning, lines_meaning, settings_meaning, text_if_replies, report_text, seen_at}
 use Rattle.pf_cli.specs.Replies.{line_end}
 use Rattle.pf_cli.specs.Session.{course_at, replies_of, HasAnswered, HasPut, Opened}
 use Rattle.pf_scenario.specs.System.{System}
@@ -32,7 +32,7 @@ pub record IsUnderWay (version : Version) (number : ℕ) (s : Session) (records 
   pub text : TookAllBut (s.lines ++ (to_come version number s records).text) start now whole.text
 
 pub begun : (version : Version) (number : ℕ) (s : Session) (records : List (List (List ℕ))) (x : Option (List ℕ))
-    → IsUnderWay version number s records x x (behind s.lines (to_come version number s records))
+    → IsUnderWay version number s records x x (text_and_then s.lines (to_come version number s records))
 begun version number s records x = record { end = refl; text = all_to_come x _ }
 
 -- the session has put all but the rest of the whole
@@ -108,7 +108,7 @@ pub past_stopped : (A : Type 0) (fault : OutputFault) → IsPastReading {A = A} 
 past_stopped A Write = tt
 past_stopped A Memory = tt
 
--- a text of which some waits, and a further text behind it
+-- a text of which some waits, and a further text text_and_then it
 with_rest : (waiting text rest : List ℕ) (old mid : Option (List ℕ)) → TookAllBut waiting old mid text → TookAllBut (waiting ++ rest) old mid (text ++ rest)
 with_rest waiting text rest old mid h = (h.0, h.1, sym (append_assoc h.0 waiting rest) ∙ ap (λ t. t ++ rest) h.2)
 
@@ -120,9 +120,9 @@ front_on : (waiting text rest : List ℕ) (old mid new : Option (List ℕ)) → 
     → TookFront old new (text ++ rest)
 front_on waiting text rest old mid new h k = so-far-unfinished old mid new (waiting ++ rest) (text ++ rest) (with_rest waiting text rest old mid h) k
 
--- Use: of a meaning behind a text, where some of the text waits, and the rest is taken already.
+-- Use: of a meaning text_and_then a text, where some of the text waits, and the rest is taken already.
 pub answers_behind : {A : Type 0} (m : Meaning) (result : Result A RunFault) (waiting text : List ℕ) (old mid new : Option (List ℕ))
-    → TookAllBut waiting old mid text → IsPastReading result → Answers (behind waiting m) result mid new → Answers (behind text m) result old new
+    → TookAllBut waiting old mid text → IsPastReading result → Answers (text_and_then waiting m) result mid new → Answers (text_and_then text m) result old new
 answers_behind m (Ok done) waiting text old mid new h past a = (a.0, appends_on waiting text m.text old mid new h a.1)
 answers_behind m (Err (BadLine number)) waiting text old mid new h past a = (a.0, appends_on waiting text m.text old mid new h a.1)
 answers_behind m (Err ScriptTooLong) waiting text old mid new h past a = (a.0, appends_on waiting text m.text old mid new h a.1)
@@ -155,30 +155,30 @@ bad_opening A format version number records settings x none = rw none (refl, App
 pub opened_meaning : (format : Format) (version : Version) (number : ℕ) (records : List (List (List ℕ))) (settings : Option System) (system : System) (before after : Session)
     (old mid : Option (List ℕ)) → settings ≡ Some system → Opened system format before → HasPut (codes "ready" ++ line_end) before after old mid
     → settings_meaning format version number records settings
-    ≡ behind (shown before.format (codes "ready" ++ line_end)) (to_come version (number + 1) after records)
+    ≡ text_and_then (text_if_replies before.format (codes "ready" ++ line_end)) (to_come version (number + 1) after records)
 opened_meaning format version number records settings system before after old mid is opening put =
     ap (settings_meaning format version number records) is
-    ∙ (λ i. behind (shown (sym opening.format i) (codes "ready" ++ line_end)) (lines_meaning (sym (put.format ∙ opening.format) i) version (number + 1) (sym (ap course_at put.desk ∙ opening.course) i) records))
+    ∙ (λ i. text_and_then (text_if_replies (sym opening.format i) (codes "ready" ++ line_end)) (lines_meaning (sym (put.format ∙ opening.format) i) version (number + 1) (sym (ap course_at put.desk ∙ opening.course) i) records))
 
 -- Use: the answer to the lines is the answer to the settings and the lines.
 pub opened_answers : (A : Type 0) (format : Format) (version : Version) (number : ℕ) (records : List (List (List ℕ))) (settings : Option System) (system : System)
     (before after : Session) (result : Result A RunFault) (old mid new : Option (List ℕ)) → settings ≡ Some system → Opened system format before
     → HasPut (codes "ready" ++ line_end) before after old mid → IsPastReading result
-    → Answers (behind after.lines (to_come version (number + 1) after records)) result mid new
+    → Answers (text_and_then after.lines (to_come version (number + 1) after records)) result mid new
     → Answers (settings_meaning format version number records settings) result old new
 opened_answers A format version number records settings system before after result old mid new is opening put past answers =
-    let none : before.lines ++ shown before.format (codes "ready" ++ line_end) ≡ shown before.format (codes "ready" ++ line_end) =
-    ap (λ t. t ++ shown before.format (codes "ready" ++ line_end)) opening.lines in
+    let none : before.lines ++ text_if_replies before.format (codes "ready" ++ line_end) ≡ text_if_replies before.format (codes "ready" ++ line_end) =
+    ap (λ t. t ++ text_if_replies before.format (codes "ready" ++ line_end)) opening.lines in
     subst (λ m. Answers m result old new) (sym (opened_meaning format version number records settings system before after old mid is opening put))
-    (answers_behind (to_come version (number + 1) after records) result after.lines (shown before.format (codes "ready" ++ line_end)) old mid new
+    (answers_behind (to_come version (number + 1) after records) result after.lines (text_if_replies before.format (codes "ready" ++ line_end)) old mid new
     (subst (λ t. TookAllBut after.lines old mid t) none put.text) past answers)
 
 -- and where its writing stopped there
 pub opened_stopped : (format : Format) (version : Version) (number : ℕ) (records : List (List (List ℕ))) (settings : Option System) (system : System)
     (before : Session) (old mid : Option (List ℕ)) → settings ≡ Some system → Opened system format before
-    → TookFront old mid (before.lines ++ shown before.format (codes "ready" ++ line_end))
+    → TookFront old mid (before.lines ++ text_if_replies before.format (codes "ready" ++ line_end))
     → TookFront old mid (settings_meaning format version number records settings).text
 opened_stopped format version number records settings system before old mid is opening h =
-    let none : before.lines ++ shown before.format (codes "ready" ++ line_end) ≡ shown format (codes "ready" ++ line_end) =
-    ap (λ t. t ++ shown before.format (codes "ready" ++ line_end)) opening.lines ∙ ap (λ f. shown f (codes "ready" ++ line_end)) opening.format in
-    rw is (took-before old mid (shown format (codes "ready" ++ line_end)) _ (subst (λ t. TookFront old mid t) none h))
+    let none : before.lines ++ text_if_replies before.format (codes "ready" ++ line_end) ≡ text_if_replies format (codes "ready" ++ line_end) =
+    ap (λ t. t ++ text_if_replies before.format (codes "ready" ++ line_end)) opening.lines ∙ ap (λ f. text_if_replies f (codes "ready" ++ line_end)) opening.format in
+    rw is (took-before old mid (text_if_replies format (codes "ready" ++ line_end)) _ (subst (λ t. TookFront old mid t) none h))

@@ -9,13 +9,13 @@ use Rattle.pf_desk.specs.declared.command.Command.{Command}
 use Rattle.pf_desk.specs.declared.command.Command.TheVariants.{Step}
 use Rattle.pf_desk.specs.declared.reply.Reply.{Reply}
 use Rattle.pf_desk.specs.Machine.{reply_to, state_after}
-use Rattle.pf_desk.specs.Desk.{Shown, Answers, Seen, StandsForHistory}
+use Rattle.pf_desk.specs.Desk.{Shown, AnswersCaller, Seen, StandsForHistory}
 use Rattle.pf_stream.specs.Lines.{TookAllBut, TookFront}
 use Rattle.pf_words.specs.declared.format.Format.{Format}
 use Rattle.pf_cli.specs.declared.session.Session.{Session}
 use Rattle.pf_cli.specs.Replies.{reply_line}
 use Rattle.pf_words.specs.Formats.{has_replies}
-use Rattle.pf_cli.specs.Meaning.{Course, course_after, course_behind, shown, reply_lines, report_text, seen_at}
+use Rattle.pf_cli.specs.Meaning.{ScriptCourse, course_after, course_behind, text_if_replies, reply_lines, report_text, seen_at}
 use Rattle.pf_cli.specs.Session.{course_at, replies_of, HasAnswered}
 
 -- a text is still to come, in whole
@@ -39,9 +39,9 @@ pub stopped_on_the_way : (start mid new : Option (List ℕ)) (was more rest whol
     → TookFront mid new (was ++ more) → TookFront start new whole
 stopped_on_the_way start mid new was more rest whole h k = (k.0 ++ rest, on_the_way start mid new was k.0 more rest whole h k.1)
 
--- what is shown, by format
-shown-append : (format : Format) (xs ys : List ℕ) → shown format (xs ++ ys) ≡ shown format xs ++ shown format ys
-shown-append format xs ys = by (has_replies format)
+-- what is text_if_replies, by format
+text_if_replies-append : (format : Format) (xs ys : List ℕ) → text_if_replies format (xs ++ ys) ≡ text_if_replies format xs ++ text_if_replies format ys
+text_if_replies-append format xs ys = by (has_replies format)
   where
     by : (b : Bool) → (if b then xs ++ ys else []) ≡ (if b then xs else []) ++ (if b then ys else [])
     by true = refl
@@ -51,27 +51,27 @@ either_way : (b : Bool) (xs : List ℕ) → (if b then xs else xs) ≡ xs
 either_way true xs = refl
 either_way false xs = refl
 
-pub shown-nil : (format : Format) → shown format [] ≡ []
-shown-nil format = either_way (has_replies format) []
+pub text_if_replies-nil : (format : Format) → text_if_replies format [] ≡ []
+text_if_replies-nil format = either_way (has_replies format) []
 
 -- the replies to some commands, and then to others
-reply_lines-append : (c : Course) (xs ys : List Command) → reply_lines c (xs ++ ys) ≡ reply_lines c xs ++ reply_lines (course_behind c xs) ys
+reply_lines-append : (c : ScriptCourse) (xs ys : List Command) → reply_lines c (xs ++ ys) ≡ reply_lines c xs ++ reply_lines (course_behind c xs) ys
 reply_lines-append c [] ys = refl
 reply_lines-append c (x ∷ xs) ys =
     ap (λ t. reply_line (reply_to c.state x) ++ t) (reply_lines-append (course_after c x) xs ys)
     ∙ sym (append_assoc (reply_line (reply_to c.state x)) (reply_lines (course_after c x) xs) (reply_lines (course_behind c (x ∷ xs)) ys))
 
-shown_lines-append : (format : Format) (c : Course) (xs ys : List Command)
-    → shown format (reply_lines c (xs ++ ys)) ≡ shown format (reply_lines c xs) ++ shown format (reply_lines (course_behind c xs) ys)
+shown_lines-append : (format : Format) (c : ScriptCourse) (xs ys : List Command)
+    → text_if_replies format (reply_lines c (xs ++ ys)) ≡ text_if_replies format (reply_lines c xs) ++ text_if_replies format (reply_lines (course_behind c xs) ys)
 shown_lines-append format c xs ys =
-    ap (shown format) (reply_lines-append c xs ys) ∙ shown-append format (reply_lines c xs) (reply_lines (course_behind c xs) ys)
+    ap (text_if_replies format) (reply_lines-append c xs ys) ∙ text_if_replies-append format (reply_lines c xs) (reply_lines (course_behind c xs) ys)
 
 -- the replies to the commands left, where some of them are answered
 replies_left : (xs ys : List Command) (a b : Session) (old new : Option (List ℕ)) → HasAnswered xs a b old new
     → replies_of a (xs ++ ys) ≡ replies_of a xs ++ replies_of b ys
 replies_left xs ys a b old new h =
     shown_lines-append a.format (course_at a.desk) xs ys
-    ∙ ap (λ t. replies_of a xs ++ t) (ap₂ (λ f c. shown f (reply_lines c ys)) (sym h.format) (sym h.course))
+    ∙ ap (λ t. replies_of a xs ++ t) (ap₂ (λ f c. text_if_replies f (reply_lines c ys)) (sym h.format) (sym h.course))
 
 -- Use: of these commands some are answered, and the others come then.
 pub answered_on : (xs ys : List Command) (a b : Session) (start mid new : Option (List ℕ)) (whole : List ℕ) → HasAnswered xs a b mid new
@@ -83,10 +83,10 @@ answered_on xs ys a b start mid new whole h way =
 pub stopped_in_answers : (xs ys : List Command) (a : Session) (start mid new : Option (List ℕ)) (whole : List ℕ)
     → TookAllBut (a.lines ++ replies_of a (xs ++ ys)) start mid whole → TookFront mid new (a.lines ++ replies_of a xs) → TookFront start new whole
 stopped_in_answers xs ys a start mid new whole way h =
-    stopped_on_the_way start mid new a.lines (replies_of a xs) (shown a.format (reply_lines (course_behind (course_at a.desk) xs) ys)) whole
+    stopped_on_the_way start mid new a.lines (replies_of a xs) (text_if_replies a.format (reply_lines (course_behind (course_at a.desk) xs) ys)) whole
     (subst (λ t. TookAllBut (a.lines ++ t) start mid whole) (shown_lines-append a.format (course_at a.desk) xs ys) way) h
 
-course_behind-append : (c : Course) (xs ys : List Command) → course_behind c (xs ++ ys) ≡ course_behind (course_behind c xs) ys
+course_behind-append : (c : ScriptCourse) (xs ys : List Command) → course_behind c (xs ++ ys) ≡ course_behind (course_behind c xs) ys
 course_behind-append c [] ys = refl
 course_behind-append c (x ∷ xs) ys = course_behind-append (course_after c x) xs ys
 
@@ -104,7 +104,7 @@ pub none_left : (count turn : ℕ) → count - turn ≡ 0 → replicate (count -
 none_left count turn h = ap (λ n. replicate n Step) h
 
 -- a command's reply is one entry more of the course
-pub course_entered : (caller : ℕ) (command : Command) (before after : Shown) (reply : Reply) → Answers caller command before reply after
+pub course_entered : (caller : ℕ) (command : Command) (before after : Shown) (reply : Reply) → AnswersCaller caller command before reply after
     → course_at after ≡ course_behind (course_at before) (command ∷ [])
 course_entered caller command before after reply h =
     let entries : length after.history ≡ length before.history + 1 = ap length h.entered ∙ length-append before.history _ in
@@ -129,9 +129,9 @@ seen_there d s stands shows =
     ap (λ x. x.denials) (sym shows) ∙ stands.of_run.are_denials ∙ ap (λ x. denials_in x.state.plan x.state.now) shows in
     shows ∙ (λ i. record { version = length d.history; state = d.state; rows = rows i; denials = denials i })
 
--- Use: a command was answered, and its reply isn't shown, or was put.
+-- Use: a command was answered, and its reply isn't text_if_replies, or was put.
 pub answered_unshown : (caller : ℕ) (command : Command) (a b : Session) (reply : Reply) (x : Option (List ℕ)) →
-    Answers caller command a.desk reply b.desk → b.format ≡ a.format → b.lines ≡ a.lines → has_replies a.format ≡ false →
+    AnswersCaller caller command a.desk reply b.desk → b.format ≡ a.format → b.lines ≡ a.lines → has_replies a.format ≡ false →
     HasAnswered (command ∷ []) a b x x
 answered_unshown caller command a b reply x h format lines hides = record {
   format = format;
@@ -141,12 +141,12 @@ answered_unshown caller command a b reply x h format lines hides = record {
 
 -- what was put is the one reply
 pub put_replies : (caller : ℕ) (command : Command) (a : Session) (after : Shown) (reply : Reply) (bytes : List ℕ) →
-    Answers caller command a.desk reply after → bytes ≡ reply_line reply → has_replies a.format ≡ true → bytes ≡ replies_of a (command ∷ [])
+    AnswersCaller caller command a.desk reply after → bytes ≡ reply_line reply → has_replies a.format ≡ true → bytes ≡ replies_of a (command ∷ [])
 put_replies caller command a after reply bytes h line shows =
     line ∙ ap reply_line h.answer ∙ sym (replies_of_one a command shows)
 
 pub answered_shown : (caller : ℕ) (command : Command) (a b : Session) (reply : Reply) (bytes : List ℕ) (old new : Option (List ℕ)) →
-    Answers caller command a.desk reply b.desk → b.format ≡ a.format → bytes ≡ reply_line reply → has_replies a.format ≡ true →
+    AnswersCaller caller command a.desk reply b.desk → b.format ≡ a.format → bytes ≡ reply_line reply → has_replies a.format ≡ true →
     TookAllBut b.lines old new (a.lines ++ bytes) → HasAnswered (command ∷ []) a b old new
 answered_shown caller command a b reply bytes old new h format line shows took = record {
   format = format;
@@ -161,10 +161,10 @@ anyway (Err e) P h = h
 
 -- nothing of a text was put, as the format shows none
 pub put_unshown : (format : Format) (bytes waiting : List ℕ) (x : Option (List ℕ)) → has_replies format ≡ false →
-    TookAllBut waiting x x (waiting ++ shown format bytes)
+    TookAllBut waiting x x (waiting ++ text_if_replies format bytes)
 put_unshown format bytes waiting x hides = rw hides ([], Appends-nil x, sym (append-nil waiting))
 
-pub shown_whole : (format : Format) (bytes : List ℕ) → has_replies format ≡ true → shown format bytes ≡ bytes
+pub shown_whole : (format : Format) (bytes : List ℕ) → has_replies format ≡ true → text_if_replies format bytes ≡ bytes
 shown_whole format bytes shows = rw shows refl
 
 -- an equal text in its place
@@ -211,7 +211,7 @@ pub steps_end : (count turn : ℕ) (s : Session) (start new : Option (List ℕ))
     → TookAllBut (s.lines ++ replies_of s (replicate (count - turn) Step)) start new whole → TookAllBut s.lines start new whole
 steps_end count turn s start new whole none way =
     let same : s.lines ++ replies_of s (replicate (count - turn) Step) ≡ s.lines =
-    ap (λ cs. s.lines ++ replies_of s cs) (none_left count turn none) ∙ ap (λ t. s.lines ++ t) (shown-nil s.format) ∙ append-nil s.lines in
+    ap (λ cs. s.lines ++ replies_of s cs) (none_left count turn none) ∙ ap (λ t. s.lines ++ t) (text_if_replies-nil s.format) ∙ append-nil s.lines in
     subst (λ t. TookAllBut t start new whole) same way
 
 -- the report at the session's course

@@ -9,8 +9,8 @@ abbrev pub Means : Format → List ℕ → List ℕ → End → Type 0
 Means format script text end = script_meaning format script ≡ record { text = text; end = end }
 
 -- three tasks on two processors
-abbrev pub three_tasks : List ℕ
-three_tasks = codes "settings,2,3,6,2\njoin,0,1,2,3,0\njoin,0,2,2,3,0\njoin,0,3,2,3,0\nstep,3\n"
+abbrev pub three_tasks_script : List ℕ
+three_tasks_script = codes "settings,2,3,6,2\njoin,0,1,2,3,0\njoin,0,2,2,3,0\njoin,0,3,2,3,0\nstep,3\n"
 
 abbrev pub three_tasks_replies : List ℕ
 three_tasks_replies = codes "ready\nevent 1\nevent 2\nevent 3\nslot 0: 1/1 2/1\nslot 1: 1/2 3/1\nslot 2: 2/2 3/2\n"
@@ -23,12 +23,12 @@ three_tasks_lags = codes "task,cost,period,received,lag\n1,2,3,2,0\n2,2,3,2,0\n3
 
 -- scripts that are carried out to their end
 pub record WholeScripts : Type 0 where
-  pub tables : Means Tables three_tasks
+  pub tables : Means Tables three_tasks_script
       (three_tasks_replies ++ codes "schedule\n" ++ three_tasks_schedule ++ codes "lags\n" ++ three_tasks_lags
       ++ codes "misses\ntask,sub,deadline,ran\ndenials\nslot,event,code,reason\n") Done
-  pub schedule : Means Schedule three_tasks three_tasks_schedule Done
+  pub schedule : Means Schedule three_tasks_script three_tasks_schedule Done
   -- behind the heading the same script
-  pub second_version : Means Schedule (codes "pfair,2\n" ++ three_tasks) three_tasks_schedule Done
+  pub second_version : Means Schedule (codes "pfair,2\n" ++ three_tasks_script) three_tasks_schedule Done
 
 -- scripts with a bad record
 pub record BadScripts : Type 0 where

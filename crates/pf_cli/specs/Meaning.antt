@@ -24,7 +24,7 @@ use Rattle.pf_words.specs.declared.format.Format.TheVariants.{Schedule, Tables, 
 use Rattle.pf_words.specs.Formats.{has_replies}
 use Rattle.pf_cli.specs.Replies.{reply_line, line_end}
 
--- how a script ends: well, at a bad record of this number, or because it is too long
+-- how a script ends: well, at a bad_record record of this number, or because it is too long
 pub data End : Type 0 where
   Done : End
   BadRecord : ℕ → End
@@ -35,31 +35,31 @@ pub record Meaning : Type 0 where
   pub end : End
 
 -- a text before what follows
-abbrev pub behind : List ℕ → Meaning → Meaning
-behind text m = record { text = text ++ m.text; end = m.end }
+abbrev pub text_and_then : List ℕ → Meaning → Meaning
+text_and_then text m = record { text = text ++ m.text; end = m.end }
 
--- a bad record ends the script, with no report
-abbrev pub bad : ℕ → Meaning
-bad number = record { text = []; end = BadRecord number }
+-- a bad_record record ends the script, with no report
+abbrev pub bad_record : ℕ → Meaning
+bad_record number = record { text = []; end = BadRecord number }
 
 -- how far a script is: the state of the desk machine, and how many commands it has answered
-pub record Course : Type 0 where
+pub record ScriptCourse : Type 0 where
   pub state : State
   pub entries : ℕ
 
-abbrev pub course_after : Course → Command → Course
+abbrev pub course_after : ScriptCourse → Command → ScriptCourse
 course_after c command = record { state = state_after c.state command (reply_to c.state command); entries = c.entries + 1 }
 
-abbrev pub course_behind : Course → List Command → Course
+abbrev pub course_behind : ScriptCourse → List Command → ScriptCourse
 course_behind c [] = c
 course_behind c (command ∷ commands) = course_behind (course_after c command) commands
 
 -- the text where the format has reply lines, else nothing
-abbrev pub shown : Format → List ℕ → List ℕ
-shown format text = if has_replies format then text else []
+abbrev pub text_if_replies : Format → List ℕ → List ℕ
+text_if_replies format text = if has_replies format then text else []
 
 -- the reply lines of these commands, one after another
-abbrev pub reply_lines : Course → List Command → List ℕ
+abbrev pub reply_lines : ScriptCourse → List Command → List ℕ
 reply_lines c [] = []
 reply_lines c (command ∷ commands) = reply_line (reply_to c.state command) ++ reply_lines (course_after c command) commands
 
@@ -69,7 +69,7 @@ commands_of (line.Edit change strict) = command.Edit change strict ∷ []
 commands_of (line.Steps count) = replicate count command.Step
 
 -- what the desk shows there
-abbrev pub seen_at : Course → Seen
+abbrev pub seen_at : ScriptCourse → Seen
 seen_at c = record {
   version = c.entries;
   state = c.state;
@@ -77,19 +77,19 @@ seen_at c = record {
   denials = denials_in c.state.plan c.state.now;
 }
 
--- a table behind a line with its name
-abbrev pub titled : List ℕ → List ℕ → List ℕ
-titled title table = title ++ line_end ++ table
+-- a table text_and_then a line with its name
+abbrev pub text_under_title : List ℕ → List ℕ → List ℕ
+text_under_title title table = title ++ line_end ++ table
 
 -- the four tables
 abbrev pub tables_text : Seen → List ℕ
 tables_text seen =
-    titled (codes "schedule") (schedule_text seen)
-    ++ titled (codes "lags") (lags_text seen)
-    ++ titled (codes "misses") (misses_text seen)
-    ++ titled (codes "denials") (denials_text seen)
+    text_under_title (codes "schedule") (schedule_text seen)
+    ++ text_under_title (codes "lags") (lags_text seen)
+    ++ text_under_title (codes "misses") (misses_text seen)
+    ++ text_under_title (codes "denials") (denials_text seen)
 
--- what stands behind all replies
+-- what stands text_and_then all replies
 unfoldable pub report_text : Format → Seen → List ℕ
 report_text Schedule seen = schedule_text seen
 report_text Tables seen = tables_text seen
@@ -102,14 +102,14 @@ report_text Denials seen = denials_text seen
 report_text Events seen = events_text seen
 report_text Processors seen = processors_text seen
 
--- the record is this line, or it is bad
-abbrev pub line_meaning : Format → ℕ → Course → (Course → Meaning) → Option Line → Meaning
-line_meaning format number c next None = bad number
+-- the record is this line, or it is bad_record
+abbrev pub line_meaning : Format → ℕ → ScriptCourse → (ScriptCourse → Meaning) → Option Line → Meaning
+line_meaning format number c next None = bad_record number
 line_meaning format number c next (Some line) =
-    behind (shown format (reply_lines c (commands_of line))) (next (course_behind c (commands_of line)))
+    text_and_then (text_if_replies format (reply_lines c (commands_of line))) (next (course_behind c (commands_of line)))
 
--- the records behind the settings, the first of them of this number
-abbrev pub lines_meaning : Format → Version → ℕ → Course → List (List (List ℕ)) → Meaning
+-- the records text_and_then the settings, the first of them of this number
+abbrev pub lines_meaning : Format → Version → ℕ → ScriptCourse → List (List (List ℕ)) → Meaning
 lines_meaning format version number c [] = record { text = report_text format (seen_at c); end = Done }
 lines_meaning format version number c (fields ∷ records) =
     line_meaning format number c (λ d. lines_meaning format version (number + 1) d records) (line_of version fields)
@@ -126,24 +126,24 @@ system_of version o =
     else None
 
 abbrev pub settings_meaning : Format → Version → ℕ → List (List (List ℕ)) → Option System → Meaning
-settings_meaning format version number records None = bad number
+settings_meaning format version number records None = bad_record number
 settings_meaning format version number records (Some settings) =
-    behind (shown format (codes "ready" ++ line_end))
+    text_and_then (text_if_replies format (codes "ready" ++ line_end))
     (lines_meaning format version (number + 1) (record { state = opening_state settings; entries = 0 }) records)
 
-abbrev pub opened : Version → Option Opening → Option System
-opened version None = None
-opened version (Some opening) = system_of version opening
+abbrev pub system_opened_by : Version → Option Opening → Option System
+system_opened_by version None = None
+system_opened_by version (Some opening) = system_of version opening
 
 -- the records from the one of this number on, which is to be the settings; a script needs one
 abbrev pub opening_meaning : Format → Version → ℕ → List (List (List ℕ)) → Meaning
-opening_meaning format version number [] = bad number
+opening_meaning format version number [] = bad_record number
 opening_meaning format version number (fields ∷ records) =
-    settings_meaning format version number records (opened version (opening_of fields))
+    settings_meaning format version number records (system_opened_by version (opening_of fields))
 
 -- a script of version 2 begins with its heading
 abbrev pub records_meaning : Format → List (List (List ℕ)) → Meaning
-records_meaning format [] = bad 1
+records_meaning format [] = bad_record 1
 records_meaning format (fields ∷ records) =
     if is_heading fields then opening_meaning format Second 2 records
     else opening_meaning format First 1 (fields ∷ records)

@@ -7,14 +7,14 @@ use Rattle.pf_desk.specs.Desk.{Shown}
 use Rattle.pf_stream.specs.Lines.{TookAllBut}
 use Rattle.pf_words.specs.declared.format.Format.{Format}
 use Rattle.pf_cli.specs.declared.session.Session.{Session}
-use Rattle.pf_cli.specs.Meaning.{Course, course_behind, shown, reply_lines}
+use Rattle.pf_cli.specs.Meaning.{ScriptCourse, course_behind, text_if_replies, reply_lines}
 
 -- how far a desk is
-abbrev pub course_at : Shown → Course
+abbrev pub course_at : Shown → ScriptCourse
 course_at d = record { state = d.state; entries = length d.history }
 
 -- the course of a desk that was opened and has answered no command
-abbrev pub opening_course : System → Course
+abbrev pub opening_course : System → ScriptCourse
 opening_course settings = record { state = opening_state settings; entries = 0 }
 
 -- a session of this format, at the opening of its desk, with no text yet
@@ -28,11 +28,11 @@ pub record Opened (settings : System) (asked : Format) (s : Session) : Type 0 wh
 pub record HasPut (bytes : List ℕ) (before after : Session) (old new : Option (List ℕ)) : Type 0 where
   pub format : after.format ≡ before.format
   pub desk : after.desk ≡ before.desk
-  pub text : TookAllBut after.lines old new (before.lines ++ shown before.format bytes)
+  pub text : TookAllBut after.lines old new (before.lines ++ text_if_replies before.format bytes)
 
 -- what these commands add to the text
 abbrev pub replies_of : Session → List Command → List ℕ
-replies_of s commands = shown s.format (reply_lines (course_at s.desk) commands)
+replies_of s commands = text_if_replies s.format (reply_lines (course_at s.desk) commands)
 
 -- the session answered these commands: its desk is behind them, the writer took the front of what waited and of the
 -- replies, and the rest waits

@@ -36,7 +36,7 @@ fn push_reply_text(text: &mut String, reply: &Reply) -> Result<(), AllocError>
     }
 }
 
-// Who sits on each processor, in order.
+/// Who sits on each processor, in order.
 fn push_row(text: &mut String, row: &Row) -> Result<(), AllocError>
     requires { length row.now ≤ 64 }
     ensures { OnOk result (string_bytes text.new ≡ string_bytes text.old ++ flat_map place_text row.now) }
@@ -61,7 +61,7 @@ fn push_place(text: &mut String, place: Option<Pick>) -> Result<(), AllocError>
     }
 }
 
-// Why a command was refused.
+/// Why a command was refused.
 fn push_fault(text: &mut String, fault: Fault) -> Result<(), AllocError>
     ensures { OnOk result (string_bytes text.new ≡ string_bytes text.old ++ fault_text fault) }
 {
@@ -76,7 +76,7 @@ fn push_fault(text: &mut String, fault: Fault) -> Result<(), AllocError>
     }
 }
 
-// The number and the name of a change's fault.
+/// The number and the name of a change's fault.
 fn push_edit_fault(text: &mut String, fault: EditFault) -> Result<(), AllocError>
     ensures { OnOk result (string_bytes text.new ≡ string_bytes text.old ++ edit_fault_text fault) }
 {
@@ -86,7 +86,7 @@ fn push_edit_fault(text: &mut String, fault: EditFault) -> Result<(), AllocError
     push_weight_code(text, fault)
 }
 
-// Behind a weight's fault, the number of what is wrong with the weight.
+/// Behind a weight's fault, the number of what is wrong with the weight.
 fn push_weight_code(text: &mut String, fault: EditFault) -> Result<(), AllocError>
     ensures { OnOk result (string_bytes text.new ≡ string_bytes text.old ++ weight_text fault) }
 {

@@ -1,6 +1,6 @@
 ghost use Rattle.std.specs.Prelude.{◌≡◌, ◌++◌, IfOk, OnOk};
 ghost use Rattle.pf_report.specs.Json.{json_text};
-ghost use Rattle.pf_cli.specs.Meaning.{report_text, tables_text, titled};
+ghost use Rattle.pf_cli.specs.Meaning.{report_text, tables_text, text_under_title};
 ghost use Rattle.pf_cli.specs.Replies.{line_end};
 
 use pf_desk::snapshot::Snapshot;
@@ -36,7 +36,7 @@ pub fn report_text(
     }
 }
 
-// The JSON object, as a line.
+/// The JSON object, as a line.
 fn json_line(alloc: Global, snapshot: &Snapshot) -> Result<Vec<u8>, AllocError>
     ensures { IfOk result (λ text. text.items ≡ json_text snapshot.now ++ line_end) }
 {
@@ -45,7 +45,7 @@ fn json_line(alloc: Global, snapshot: &Snapshot) -> Result<Vec<u8>, AllocError>
     Ok(text)
 }
 
-// The four tables, each behind a line with its name.
+/// The four tables, each behind a line with its name.
 fn tables_text(alloc: Global, snapshot: &Snapshot) -> Result<Vec<u8>, AllocError>
     ensures { IfOk result (λ text. text.items ≡ tables_text snapshot.now) }
 {
@@ -61,9 +61,9 @@ fn tables_text(alloc: Global, snapshot: &Snapshot) -> Result<Vec<u8>, AllocError
     Ok(text)
 }
 
-// Adds a table behind a line with its name.
+/// Adds a table behind a line with its name.
 fn extend_titled(text: &mut Vec<u8>, title: &[u8], table: &[u8]) -> Result<(), AllocError>
-    ensures { OnOk result (text.new.items ≡ text.old.items ++ titled title.now table.now) }
+    ensures { OnOk result (text.new.items ≡ text.old.items ++ text_under_title title.now table.now) }
 {
     text.extend_from_slice(title)?;
     text.push(b'\n')?;

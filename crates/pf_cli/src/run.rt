@@ -5,7 +5,7 @@ ghost use Rattle.pf_stream.specs.Reading.{longest_script, TakesAtMost};
 ghost use Rattle.pf_script.specs.Grammar.{opening_of};
 ghost use Rattle.pf_cli.specs.declared.fault.RunFault.TheVariants.{ReadFault};
 ghost use Rattle.pf_cli.specs.Answers.{Answers, CountsReads, CountsWrites, IsPastReading};
-ghost use Rattle.pf_cli.specs.Meaning.{script_meaning, settings_meaning, lines_meaning, behind, opened, system_of};
+ghost use Rattle.pf_cli.specs.Meaning.{script_meaning, settings_meaning, lines_meaning, text_and_then, system_opened_by, system_of};
 ghost use Rattle.pf_cli.specs.Session.{course_at};
 
 use crate::fault::RunFault;
@@ -52,7 +52,7 @@ pub fn run<R: Source, W: Sink>(
     carry_out(alloc, &text, writer, format)
 }
 
-// Carries out a script of these bytes.
+/// Carries out a script of these bytes.
 fn carry_out<W: Sink>(
     alloc: Global,
     bytes: &[u8],
@@ -79,7 +79,7 @@ fn carry_out<W: Sink>(
     carry_out_from(alloc, script, row, writer, format, Version::Second, 2)
 }
 
-// Carries out a script from the record in `row` on, which has this number and is to be the settings.
+/// Carries out a script from the record in `row` on, which has this number and is to be the settings.
 fn carry_out_from<W: Sink>(
     alloc: Global,
     script: Script,
@@ -91,7 +91,7 @@ fn carry_out_from<W: Sink>(
 ) -> Result<(), RunFault>
     requires counted { number + length script < 2 ^ 64 - 1 }
     requires writes { W.failed writer.old < 2 ^ 64 - 1 }
-    ensures meaning { Answers (settings_meaning format version number script.entry (opened version (opening_of (fields_of row)))) result
+    ensures meaning { Answers (settings_meaning format version number script.entry (system_opened_by version (opening_of (fields_of row)))) result
         (W.contents writer.old) (W.contents writer.new) }
     ensures read { IsPastReading result }
     ensures writes { CountsWrites result (W.failed writer.old) (W.failed writer.new) }
@@ -107,7 +107,7 @@ fn carry_out_from<W: Sink>(
     carry_out_lines(alloc, session, script, row, writer, version, number + 1)
 }
 
-// The settings of an opening, where its numbers are within their limits.
+/// The settings of an opening, where its numbers are within their limits.
 fn settings(version: Version, opening: Opening) -> Option<Settings>
     ensures { result ≡ system_of version opening }
 {
@@ -121,7 +121,7 @@ fn settings(version: Version, opening: Opening) -> Option<Settings>
     }
 }
 
-// Carries out the records behind the settings, the first of which has this number. Each is read into `row`.
+/// Carries out the records behind the settings, the first of which has this number. Each is read into `row`.
 fn carry_out_lines<W: Sink>(
     alloc: Global,
     mut session: Session,
@@ -133,7 +133,7 @@ fn carry_out_lines<W: Sink>(
 ) -> Result<(), RunFault>
     requires counted { first + length script < 2 ^ 64 }
     requires writes { W.failed writer.old < 2 ^ 64 - 1 }
-    ensures meaning { Answers (behind session.lines (lines_meaning session.format version first (course_at session.desk) script.entry)) result
+    ensures meaning { Answers (text_and_then session.lines (lines_meaning session.format version first (course_at session.desk) script.entry)) result
         (W.contents writer.old) (W.contents writer.new) }
     ensures read { IsPastReading result }
     ensures writes { CountsWrites result (W.failed writer.old) (W.failed writer.new) }

@@ -4,7 +4,7 @@ ghost use Rattle.pf_desk.specs.declared.command.Command.TheVariants.{Step};
 ghost use Rattle.pf_timeline.specs.Checkpoints.{largest_distance};
 ghost use Rattle.pf_stream.specs.Lines.{TookAllBut, TookFront};
 ghost use Rattle.pf_cli.specs.Answers.{CountsOutput};
-ghost use Rattle.pf_cli.specs.Meaning.{shown, commands_of, seen_at, report_text};
+ghost use Rattle.pf_cli.specs.Meaning.{text_if_replies, commands_of, seen_at, report_text};
 ghost use Rattle.pf_cli.specs.Replies.{line_end};
 ghost use Rattle.pf_cli.specs.Session.{Opened, HasPut, HasAnswered, course_at, replies_of};
 
@@ -70,19 +70,19 @@ impl Session {
         ensures ok { OnOk result
             (HasPut (codes "ready" ++ line_end) self.old self.new (W.contents writer.old) (W.contents writer.new)) }
         ensures err { OnErr result
-            (TookFront (W.contents writer.old) (W.contents writer.new) (self.old.lines ++ shown self.old.format (codes "ready" ++ line_end))) }
+            (TookFront (W.contents writer.old) (W.contents writer.new) (self.old.lines ++ text_if_replies self.old.format (codes "ready" ++ line_end))) }
         ensures count { CountsOutput result (W.failed writer.old) (W.failed writer.new) }
     {
         self.show(writer, b"ready\n")
     }
 
-    // Puts a text where the format has replies.
+    /// Puts a text where the format has replies.
     fn show<W: Sink>(&mut self, writer: &mut W, text: &[u8]) -> Result<(), OutputFault>
         requires { W.failed writer.old < 2 ^ 64 - 1 }
         ensures ok { OnOk result
             (HasPut text.now self.old self.new (W.contents writer.old) (W.contents writer.new)) }
         ensures err { OnErr result
-            (TookFront (W.contents writer.old) (W.contents writer.new) (self.old.lines ++ shown self.old.format text.now)) }
+            (TookFront (W.contents writer.old) (W.contents writer.new) (self.old.lines ++ text_if_replies self.old.format text.now)) }
         ensures count { CountsOutput result (W.failed writer.old) (W.failed writer.new) }
     {
         if !self.format.has_replies() {
@@ -107,7 +107,7 @@ impl Session {
         }
     }
 
-    // Takes so many steps.
+    /// Takes so many steps.
     fn step<W: Sink>(&mut self, writer: &mut W, count: u64) -> Result<(), OutputFault>
         requires { W.failed writer.old < 2 ^ 64 - 1 }
         ensures ok { OnOk result
@@ -122,7 +122,7 @@ impl Session {
         Ok(())
     }
 
-    // Answers a command, and puts the reply.
+    /// Answers a command, and puts the reply.
     fn answer<W: Sink>(&mut self, writer: &mut W, command: Command) -> Result<(), OutputFault>
         requires { W.failed writer.old < 2 ^ 64 - 1 }
         ensures ok { OnOk result

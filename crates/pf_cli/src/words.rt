@@ -66,7 +66,7 @@ pub fn tell_unread<F: Write>(fault: &io::Error, faults: &mut F) -> u8
     2
 }
 
-// Runs the script, and answers the status.
+/// Runs the script, and answers the status.
 fn run_told<R: Source, W: Sink, F: Write>(
     alloc: Global,
     format: Format,
@@ -85,7 +85,7 @@ fn run_told<R: Source, W: Sink, F: Write>(
     tell_outcome(outcome, faults)
 }
 
-// Writes a text that was asked for, and answers the status.
+/// Writes a text that was asked for, and answers the status.
 fn show<W: Sink, F: Write>(text: &str, writer: &mut W, faults: &mut F) -> u8
     requires { W.failed writer.old < 2 ^ 64 - 1 }
     ensures shown { result ≡ 0 → Appends (W.contents writer.old) (W.contents writer.new) text.now }
@@ -101,7 +101,7 @@ fn show<W: Sink, F: Write>(text: &str, writer: &mut W, faults: &mut F) -> u8
     tell_outcome(outcome, faults)
 }
 
-// Tells why the words ask for nothing, and answers the status.
+/// Tells why the words ask for nothing, and answers the status.
 fn refuse<F: Write>(fault: &WordsFault, faults: &mut F) -> u8
     ensures { result ≡ status_of_words fault.now }
 {
@@ -121,7 +121,7 @@ fn refuse<F: Write>(fault: &WordsFault, faults: &mut F) -> u8
     }
 }
 
-// Tells a fault, and answers the status.
+/// Tells a fault, and answers the status.
 fn tell_outcome<F: Write>(outcome: Result<(), RunFault>, faults: &mut F) -> u8
     ensures status { result ≡ status_of outcome }
     ensures quiet { IsOk outcome → Keeps (F.contents faults.old) (F.contents faults.new) }
@@ -137,7 +137,7 @@ fn tell_outcome<F: Write>(outcome: Result<(), RunFault>, faults: &mut F) -> u8
     }
 }
 
-// The text of a fault, as a line. A fault of writing it is passed over: it could be told nowhere.
+/// The text of a fault, as a line. A fault of writing it is passed over: it could be told nowhere.
 fn tell<D: Display, F: Write>(fault: &D, faults: &mut F) {
     let _ = writeln!(faults, "{fault}");
 }

@@ -5,7 +5,7 @@ use Rattle.std.proofs.lemmas.List.Elements.{All-nil, All-cons, All-append}
 use Rattle.pf_desk.specs.declared.command.Command.{Command}
 use Rattle.pf_desk.specs.declared.reply.Reply.{Reply}
 use Rattle.pf_desk.specs.Machine.{reply_to, state_after}
-use Rattle.pf_desk.specs.Desk.{Shown, Answers, AnswersAll, entry_of}
+use Rattle.pf_desk.specs.Desk.{Shown, AnswersCaller, AnswersAll, entry_of}
 use Rattle.pf_desk.proofs.Histories.{legal_append, behind_append}
 
 -- none is answered
@@ -21,7 +21,7 @@ answers_none caller d = record {
 
 -- one more is answered
 pub answers_more : (caller : ℕ) (commands : List Command) (command : Command) (reply : Reply) (before between after : Shown) →
-    AnswersAll caller commands before between → Answers caller command between reply after →
+    AnswersAll caller commands before between → AnswersCaller caller command between reply after →
     AnswersAll caller (commands ++ command ∷ []) before after
 answers_more caller commands command reply before between after all one =
     let e = entry_of caller command reply in
@@ -39,7 +39,7 @@ answers_more caller commands command reply before between after all one =
 
 -- Use: the turn of a loop over the commands.
 pub answers_turn : (caller : ℕ) (commands : List Command) (i : ℕ) (d : Command) (reply : Reply) (before between after : Shown) →
-    i < length commands → AnswersAll caller (take i commands) before between → Answers caller (get_or commands i d) between reply after →
+    i < length commands → AnswersAll caller (take i commands) before between → AnswersCaller caller (get_or commands i d) between reply after →
     AnswersAll caller (take (i + 1) commands) before after
 answers_turn caller commands i d reply before between after within all one =
     subst (λ cs. AnswersAll caller cs before after) (sym (take_more commands i d within))

@@ -1,9 +1,9 @@
--- What a desk keeps, from its opening on and through one entry more.
+-- What a desk keeps, from its opening_plan on and through one entry more.
 use Rattle.std.proofs.Common.{◌≡◌, ℕ, ◌≤◌, Bool, true, false, if◌then◌else◌, IfSome, Ok, Some, None, List, [], ◌∷◌, ◌++◌, refl, sym, ap, ◌∙◌, subst}
 use Rattle.std.specs.List.{slice_get}
 use Rattle.std.proofs.lemmas.List.{nil_from_length}
 use Rattle.pf_scenario.specs.System.{System}
-use Rattle.pf_scenario.specs.Scenario.{Plan, opening, changed, concerned, touched_slot}
+use Rattle.pf_scenario.specs.Scenario.{Plan, opening_plan, plan_after, number_of_change, slot_touched}
 use Rattle.pf_scenario.specs.Edit.{edit_fault}
 use Rattle.pf_scenario.proofs.Scenarios.{changes_keep_scenarios}
 use Rattle.pf_scenario.specs.declared.change.Change.{Change}
@@ -21,27 +21,27 @@ use Rattle.pf_desk.specs.declared.entry.Entry.{Entry}
 use Rattle.pf_desk.specs.Machine.{State, opening_state, edit_reply, strict_reply, reply_to, state_after}
 use Rattle.pf_desk.specs.History.{IsLegal, last_state}
 use Rattle.pf_desk.specs.Desk.{IsDesk, Handles, entry_of}
-use Rattle.pf_desk.specs.Kept.{state_of, shown_by, IsKept}
+use Rattle.pf_desk.specs.Kept.{state_of, shown_by, IsKeptDesk}
 use Rattle.pf_desk.proofs.Histories.{legal_append, behind_append, settings_after}
 use Rattle.pf_desk.proofs.Changes.{past_rest}
 
--- at the opening
-pub opening_kept : (settings : System) (kept : KeptRun) → StandsFor (opening settings) 0 kept → IsKept (opening settings) kept []
+-- at the opening_plan
+pub opening_kept : (settings : System) (kept : KeptRun) → StandsFor (opening_plan settings) 0 kept → IsKeptDesk (opening_plan settings) kept []
 opening_kept settings kept stands = record {
-  stands = stands_now (opening settings) 0 kept stands;
+  stands = stands_now (opening_plan settings) 0 kept stands;
   legal = tt;
-  last = ap (λ n. record { plan = opening settings; now = n }) (sym stands.slots);
+  last = ap (λ n. record { plan = opening_plan settings; now = n }) (sym stands.slots);
 }
 
-pub opening_shown : (settings : System) (kept : KeptRun) → StandsFor (opening settings) 0 kept →
-    shown_by (opening settings) kept [] ≡ record { state = opening_state settings; rows = []; denials = []; history = [] }
+pub opening_shown : (settings : System) (kept : KeptRun) → StandsFor (opening_plan settings) 0 kept →
+    shown_by (opening_plan settings) kept [] ≡ record { state = opening_state settings; rows = []; denials = []; history = [] }
 opening_shown settings kept stands =
-    let rows = nil_from_length kept.rows (row_each (opening settings) 0 kept.rows kept.denials stands.of_run) in
-    let denials = stands.of_run.are_denials ∙ no_denials (opening settings) in
-    λ i. record { state = record { plan = opening settings; now = stands.slots i }; rows = rows i; denials = denials i; history = [] }
+    let rows = nil_from_length kept.rows (row_each (opening_plan settings) 0 kept.rows kept.denials stands.of_run) in
+    let denials = stands.of_run.are_denials ∙ no_denials (opening_plan settings) in
+    λ i. record { state = record { plan = opening_plan settings; now = stands.slots i }; rows = rows i; denials = denials i; history = [] }
 
 -- what is kept makes a desk
-pub is_desk : (plan : Plan) (kept : KeptRun) (es : List Entry) → IsKept plan kept es → IsDesk (shown_by plan kept es)
+pub is_desk : (plan : Plan) (kept : KeptRun) (es : List Entry) → IsKeptDesk plan kept es → IsDesk (shown_by plan kept es)
 is_desk plan kept es is = record { legal = is.legal; last = is.last; of_run = is.stands.of_run }
 
 -- one entry more, whose reply is the machine's, where the parts are then where the machine is
@@ -50,8 +50,8 @@ pub record Enters (plan plan' : Plan) (kept kept' : KeptRun) (e : Entry) : Type 
   pub state : state_after (state_of plan kept) e.command e.reply ≡ state_of plan' kept'
   pub stands : StandsFor plan' kept'.now kept'
 
-pub kept_entered : (plan plan' : Plan) (kept kept' : KeptRun) (es : List Entry) (e : Entry) → IsKept plan kept es →
-    Enters plan plan' kept kept' e → IsKept plan' kept' (es ++ e ∷ [])
+pub kept_entered : (plan plan' : Plan) (kept kept' : KeptRun) (es : List Entry) (e : Entry) → IsKeptDesk plan kept es →
+    Enters plan plan' kept kept' e → IsKeptDesk plan' kept' (es ++ e ∷ [])
 kept_entered plan plan' kept kept' es e is enters =
     let settings : plan.settings ≡ plan'.settings =
     sym (settings_after (state_of plan kept) e.command e.reply) ∙ ap (λ st. st.plan.settings) enters.state in
@@ -68,14 +68,14 @@ kept_entered plan plan' kept kept' es e is enters =
 
 -- Use: a refusal enters and leaves the parts.
 pub refused_kept : (plan : Plan) (kept : KeptRun) (es : List Entry) (caller : ℕ) (command : Command) (fault : Fault) →
-    IsKept plan kept es → reply_to (state_of plan kept) command ≡ Refused fault →
-    IsKept plan kept (es ++ entry_of caller command (Refused fault) ∷ [])
+    IsKeptDesk plan kept es → reply_to (state_of plan kept) command ≡ Refused fault →
+    IsKeptDesk plan kept (es ++ entry_of caller command (Refused fault) ∷ [])
 refused_kept plan kept es caller command fault is answer =
     kept_entered plan plan kept kept es (entry_of caller command (Refused fault)) is
     (record { answer = sym answer; state = refl; stands = is.stands })
 
 pub refused_handles : (plan : Plan) (kept : KeptRun) (es : List Entry) (caller : ℕ) (command : Command) (fault : Fault) →
-    IsKept plan kept es → reply_to (state_of plan kept) command ≡ Refused fault →
+    IsKeptDesk plan kept es → reply_to (state_of plan kept) command ≡ Refused fault →
     Handles caller command (shown_by plan kept es) (Ok (Refused fault)) (shown_by plan kept (es ++ entry_of caller command (Refused fault) ∷ []))
 refused_handles plan kept es caller command fault is answer = record {
   ok = record { answer = sym answer; entered = refl; state = refl };
@@ -86,27 +86,27 @@ refused_handles plan kept es caller command fault is answer = record {
 
 -- the reply to an edit without a fault, by the first denial where it is strict
 edited_reply : (st : State) (change : Change) (strict : Bool) (denials : List Denied) → edit_fault st.plan change ≡ None →
-    denials ≡ denials_in (changed st.plan change) st.now → (if strict then slice_get denials 0 else None) ≡ None →
-    reply_to st (Edit change strict) ≡ Edited (concerned st.plan change)
+    denials ≡ denials_in (plan_after st.plan change) st.now → (if strict then slice_get denials 0 else None) ≡ None →
+    reply_to st (Edit change strict) ≡ Edited (number_of_change st.plan change)
 edited_reply st change true denials faultless are none =
     ap (edit_reply st change true) faultless
     ∙ ap (strict_reply st change) (ap (λ ds. slice_get ds 0) (sym are) ∙ none)
 edited_reply st change false denials faultless are none = ap (edit_reply st change false) faultless
 
 pub denied_reply : (st : State) (change : Change) (strict : Bool) (denials : List Denied) (d : Denied) → edit_fault st.plan change ≡ None →
-    denials ≡ denials_in (changed st.plan change) st.now → (if strict then slice_get denials 0 else None) ≡ Some d →
+    denials ≡ denials_in (plan_after st.plan change) st.now → (if strict then slice_get denials 0 else None) ≡ Some d →
     reply_to st (Edit change strict) ≡ Refused (WouldDeny d.id d.denial)
 denied_reply st change true denials d faultless are some =
     ap (edit_reply st change true) faultless
     ∙ ap (strict_reply st change) (ap (λ ds. slice_get ds 0) (sym are) ∙ some)
 denied_reply st change false denials d faultless are some = cc
 
--- an edit that is made: the changed scenario, its kept run without an objection, and one entry more
+-- an edit that is made: the plan_after scenario, its kept run without an objection, and one entry more
 pub record Edits (plan plan' : Plan) (kept kept' : KeptRun) (es es' : List Entry) (caller : ℕ) (change : Change) (strict : Bool) (id : ℕ) : Type 0 where
-  pub is : IsKept plan kept es
+  pub is : IsKeptDesk plan kept es
   pub faultless : edit_fault plan change ≡ None
-  pub plan_is : plan' ≡ changed plan change
-  pub id_is : id ≡ concerned plan change
+  pub plan_is : plan' ≡ plan_after plan change
+  pub id_is : id ≡ number_of_change plan change
   pub entered : es' ≡ es ++ entry_of caller (Edit change strict) (Edited id) ∷ []
   pub stands : StandsFor plan' kept.now kept'
   pub none : (if strict then slice_get kept'.denials 0 else None) ≡ None
@@ -126,9 +126,9 @@ made_state plan plan' kept kept' es es' caller change strict id edits =
 
 -- Use: what is kept then, and that the machine answers so.
 pub edited_kept : (plan plan' : Plan) (kept kept' : KeptRun) (es es' : List Entry) (caller : ℕ) (change : Change) (strict : Bool) (id : ℕ) →
-    Edits plan plan' kept kept' es es' caller change strict id → IsKept plan' kept' es'
+    Edits plan plan' kept kept' es es' caller change strict id → IsKeptDesk plan' kept' es'
 edited_kept plan plan' kept kept' es es' caller change strict id edits =
-    subst (IsKept plan' kept') (sym edits.entered)
+    subst (IsKeptDesk plan' kept') (sym edits.entered)
     (kept_entered plan plan' kept kept' es (entry_of caller (Edit change strict) (Edited id)) edits.is
     (record {
       answer = made_reply plan plan' kept kept' es es' caller change strict id edits;
@@ -151,18 +151,18 @@ edited_handles plan plan' kept kept' es es' caller change strict id edits = reco
 }
 
 -- a change that touches no slot below now leaves what stands
-pub ahead_stands : (plan : Plan) (kept : KeptRun) (es : List Entry) (change : Change) → IsKept plan kept es →
-    edit_fault plan change ≡ None → IfSome (touched_slot plan change) (λ t. kept.now ≤ t) →
-    StandsFor (changed plan change) kept.now kept
+pub ahead_stands : (plan : Plan) (kept : KeptRun) (es : List Entry) (change : Change) → IsKeptDesk plan kept es →
+    edit_fault plan change ≡ None → IfSome (slot_touched plan change) (λ t. kept.now ≤ t) →
+    StandsFor (plan_after plan change) kept.now kept
 ahead_stands plan kept es change is faultless ahead =
     let scenario = is.stands.of_run.scenario in
-    timelines_rest_on_past plan (changed plan change) kept.now kept
+    timelines_rest_on_past plan (plan_after plan change) kept.now kept
     (changes_keep_scenarios plan change scenario faultless)
     (past_rest plan change kept.now scenario faultless ahead) is.stands
 
 -- Use: a strict edit of slots not below now is refused with the first kept denial.
-pub ahead_denied : (plan : Plan) (kept : KeptRun) (es : List Entry) (change : Change) (strict : Bool) (d : Denied) → IsKept plan kept es →
-    edit_fault plan change ≡ None → IfSome (touched_slot plan change) (λ t. kept.now ≤ t) →
+pub ahead_denied : (plan : Plan) (kept : KeptRun) (es : List Entry) (change : Change) (strict : Bool) (d : Denied) → IsKeptDesk plan kept es →
+    edit_fault plan change ≡ None → IfSome (slot_touched plan change) (λ t. kept.now ≤ t) →
     (if strict then slice_get kept.denials 0 else None) ≡ Some d →
     reply_to (state_of plan kept) (Edit change strict) ≡ Refused (WouldDeny d.id d.denial)
 ahead_denied plan kept es change strict d is faultless ahead some =

@@ -1,6 +1,6 @@
 -- Histories with more entries.
 use Rattle.std.proofs.Common.{◌≡◌, List, [], ◌∷◌, ◌++◌, refl, ◌∙◌}
-use Rattle.pf_scenario.specs.Scenario.{Plan, changed}
+use Rattle.pf_scenario.specs.Scenario.{Plan, plan_after}
 use Rattle.pf_scenario.specs.declared.change.Change.{Change}
 use Rattle.pf_scenario.specs.declared.change.Change.TheVariants.{Insert, Alter, Strike}
 use Rattle.pf_desk.specs.declared.command.Command.{Command}
@@ -21,7 +21,7 @@ behind_append st [] fs = refl
 behind_append st (e ∷ es) fs = behind_append (state_after st e.command e.reply) es fs
 
 -- no command changes the settings
-pub settings_changed : (s : Plan) (c : Change) → (changed s c).settings ≡ s.settings
+pub settings_changed : (s : Plan) (c : Change) → (plan_after s c).settings ≡ s.settings
 settings_changed s (Insert event) = refl
 settings_changed s (Alter id event) = refl
 settings_changed s (Strike id) = refl

@@ -6,7 +6,7 @@ use Rattle.std.proofs.lemmas.List.Elements.{All-head, All-tail}
 use Rattle.pf_place.specs.RunRows.{rows_of}
 use Rattle.pf_scenario.specs.System.{System, near_horizon, wide_horizon}
 use Rattle.pf_scenario.specs.Event.{slot_of}
-use Rattle.pf_scenario.specs.Scenario.{Plan, events_of, past, concerned, changed, without}
+use Rattle.pf_scenario.specs.Scenario.{Plan, events_of, past, number_of_change, plan_after, events_without}
 use Rattle.pf_scenario.specs.Edit.{or_else, unless, event_fault, edit_fault}
 use Rattle.pf_scenario.specs.declared.event.Event.{Event}
 use Rattle.pf_scenario.specs.declared.event.Event.TheVariants.{Join, Leave, Delay, Limit}
@@ -19,8 +19,8 @@ use Rattle.pf_run.specs.declared.denied.Denied.{Denied}
 use Rattle.pf_run.specs.Record.{Slot, denials_of, in_force}
 use Rattle.pf_run.specs.Inside.{count_of}
 use Rattle.pf_run.specs.Denials.{denial_of, denied_for}
-use Rattle.pf_run.specs.Run.{pick_of}
-use Rattle.pf_run.specs.Computed.{Course, with_event, after_events, denials_among, picks_of, next_course, course_of, run_of}
+use Rattle.pf_run.specs.Run.{pick_of_key}
+use Rattle.pf_run.specs.Computed.{RunCourse, with_event, after_events, denials_among, picks_of, next_course, course_of, run_of}
 use Rattle.pf_run.specs.RunRows.{turns_behind, turns_of, rows_in, denials_in}
 use Rattle.pf_desk.specs.declared.command.Command.{Command}
 use Rattle.pf_desk.specs.declared.command.Command.TheVariants.{Edit, Step}
@@ -29,33 +29,33 @@ use Rattle.pf_desk.specs.declared.reply.Reply.TheVariants.{Edited, Stepped, Refu
 use Rattle.pf_desk.specs.declared.entry.Entry.{Entry}
 use Rattle.pf_desk.specs.Machine.{State, opening_state, strict_reply, edit_reply, reply_to, state_after}
 use Rattle.pf_desk.specs.History.{IsLegalFrom, state_behind}
-use Rattle.pf_desk.specs.Horizon.{widened, IsShortOfHorizon, HorizonIsOutOfSight}
+use Rattle.pf_desk.specs.Horizon.{with_wide_horizon, IsShortOfHorizon, HorizonIsOutOfSight}
 use Rattle.pf_desk.proofs.Histories.{settings_after}
 
 -- the same plan, and the same state, with the wide horizon
 abbrev wide_plan : Plan → Plan
-wide_plan s = record s { settings = widened s.settings }
+wide_plan s = record s { settings = with_wide_horizon s.settings }
 
 abbrev wide_state : State → State
 wide_state st = record st { plan = wide_plan st.plan }
 
 -- No run rests on the horizon.
-wide_denial : (s : System) (r : List Slot) (xs : List Numbered) (x : Event) → denial_of (widened s) r xs x ≡ denial_of s r xs x
+wide_denial : (s : System) (r : List Slot) (xs : List Numbered) (x : Event) → denial_of (with_wide_horizon s) r xs x ≡ denial_of s r xs x
 wide_denial s r xs (Join slot task cost period early) = refl
 wide_denial s r xs (Leave slot task) = refl
 wide_denial s r xs (Delay slot task by) = refl
 wide_denial s r xs (Limit slot count) = refl
 
-wide_after : (s : System) (r : List Slot) (xs ys : List Numbered) → after_events (widened s) r xs ys ≡ after_events s r xs ys
+wide_after : (s : System) (r : List Slot) (xs ys : List Numbered) → after_events (with_wide_horizon s) r xs ys ≡ after_events s r xs ys
 wide_after s r xs [] = refl
 wide_after s r xs (y ∷ ys) =
-    ap (λ o. after_events (widened s) r (with_event xs y o) ys) (wide_denial s r xs y.event)
+    ap (λ o. after_events (with_wide_horizon s) r (with_event xs y o) ys) (wide_denial s r xs y.event)
     ∙ wide_after s r (with_event xs y (denial_of s r xs y.event)) ys
 
-wide_denials : (s : System) (r : List Slot) (xs ys : List Numbered) → denials_among (widened s) r xs ys ≡ denials_among s r xs ys
+wide_denials : (s : System) (r : List Slot) (xs ys : List Numbered) → denials_among (with_wide_horizon s) r xs ys ≡ denials_among s r xs ys
 wide_denials s r xs [] = refl
 wide_denials s r xs (y ∷ ys) =
-    ap (λ o. denied_for y (length r) o ++ denials_among (widened s) r (with_event xs y o) ys) (wide_denial s r xs y.event)
+    ap (λ o. denied_for y (length r) o ++ denials_among (with_wide_horizon s) r (with_event xs y o) ys) (wide_denial s r xs y.event)
     ∙ ap (λ denials. denied_for y (length r) (denial_of s r xs y.event) ++ denials)
     (wide_denials s r (with_event xs y (denial_of s r xs y.event)) ys)
 
@@ -63,10 +63,10 @@ wide_events : (s : Plan) (t : ℕ) → events_of (wide_plan s) t ≡ events_of s
 unfolding events_of
 wide_events s t = refl
 
-wide_next : (s : Plan) (c : Course) (events : List Numbered) → next_course (wide_plan s) c events ≡ next_course s c events
+wide_next : (s : Plan) (c : RunCourse) (events : List Numbered) → next_course (wide_plan s) c events ≡ next_course s c events
 wide_next s c events =
     ap₂ (λ after denials. record {
-      slots = c.slots ++ record { picks = map pick_of (picks_of s.settings c.slots after); denials = denials } ∷ [];
+      slots = c.slots ++ record { picks = map pick_of_key (picks_of s.settings c.slots after); denials = denials } ∷ [];
       standing = after;
     }) (wide_after s.settings c.slots c.standing events) (wide_denials s.settings c.slots c.standing events)
 
@@ -114,7 +114,7 @@ behind None rest wide f short same = same short
 behind (Some g) rest wide f short same = refl
 
 wide_event : (s : System) (others : List Numbered) (event : Event) → s.horizon ≡ near_horizon →
-    event_fault s others event ≢ Some SlotOutOfRange → event_fault (widened s) others event ≡ event_fault s others event
+    event_fault s others event ≢ Some SlotOutOfRange → event_fault (with_wide_horizon s) others event ≡ event_fault s others event
 wide_event s others event near short =
     tested (nat_lt (slot_of event) s.horizon) (nat_lt (slot_of event) wide_horizon) SlotOutOfRange _
     (λ is. lt-ltb (slot_of event) wide_horizon (omega (arith, near, ltb-true (slot_of event) s.horizon is))) short
@@ -122,20 +122,20 @@ wide_event s others event near short =
 wide_fault : (s : Plan) (c : Change) → s.settings.horizon ≡ near_horizon → edit_fault s c ≢ Some SlotOutOfRange →
     edit_fault (wide_plan s) c ≡ edit_fault s c
 wide_fault s (Insert event) near short =
-    ahead (event_fault s.settings s.events event) (event_fault (widened s.settings) s.events event) _ SlotOutOfRange short
+    ahead (event_fault s.settings s.events event) (event_fault (with_wide_horizon s.settings) s.events event) _ SlotOutOfRange short
     (wide_event s.settings s.events event near)
 wide_fault s (Alter id event) near short =
-    behind _ (event_fault s.settings (without id s.events) event) (event_fault (widened s.settings) (without id s.events) event)
-    SlotOutOfRange short (wide_event s.settings (without id s.events) event near)
+    behind _ (event_fault s.settings (events_without id s.events) event) (event_fault (with_wide_horizon s.settings) (events_without id s.events) event)
+    SlotOutOfRange short (wide_event s.settings (events_without id s.events) event near)
 wide_fault s (Strike id) near short = refl
 
 -- The replies and the states.
-wide_changed : (s : Plan) (c : Change) → changed (wide_plan s) c ≡ wide_plan (changed s c)
+wide_changed : (s : Plan) (c : Change) → plan_after (wide_plan s) c ≡ wide_plan (plan_after s c)
 wide_changed s (Insert event) = refl
 wide_changed s (Alter id event) = refl
 wide_changed s (Strike id) = refl
 
-wide_concerned : (s : Plan) (c : Change) → concerned (wide_plan s) c ≡ concerned s c
+wide_concerned : (s : Plan) (c : Change) → number_of_change (wide_plan s) c ≡ number_of_change s c
 wide_concerned s (Insert event) = refl
 wide_concerned s (Alter id event) = refl
 wide_concerned s (Strike id) = refl
@@ -150,7 +150,7 @@ wide_edit st c false None = ap (λ id. Edited id) (wide_concerned st.plan c)
 wide_edit st c true None =
     wide_strict st c _
     ∙ ap (λ denials. strict_reply st c (slice_get denials 0))
-    (ap (λ s. denials_in s st.now) (wide_changed st.plan c) ∙ wide_denied (changed st.plan c) st.now)
+    (ap (λ s. denials_in s st.now) (wide_changed st.plan c) ∙ wide_denied (plan_after st.plan c) st.now)
 
 -- a step that is answered with a row is taken below the horizon
 below_horizon : (st : State) → st.plan.settings.horizon ≡ near_horizon → st.now ≤ near_horizon → IsShortOfHorizon (reply_to st Step) →

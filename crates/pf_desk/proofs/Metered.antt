@@ -9,7 +9,7 @@ use Rattle.pf_desk.specs.declared.command.Command.TheVariants.{Edit, Step}
 use Rattle.pf_desk.specs.declared.reply.Reply.{Reply}
 use Rattle.pf_desk.specs.declared.reply.Reply.TheVariants.{Edited, Stepped, Refused}
 use Rattle.pf_desk.specs.Machine.{State, state_after}
-use Rattle.pf_desk.specs.Desk.{Shown, Answers, most_slots}
+use Rattle.pf_desk.specs.Desk.{Shown, AnswersCaller, most_slots}
 
 -- no command goes back
 now_grows : (st : State) (command : Command) (reply : Reply) → st.now ≤ (state_after st command reply).now
@@ -21,7 +21,7 @@ now_grows st (Edit change strict) (Stepped slot row) = omega arith
 
 -- Use: nor does one that is answered.
 pub answered_later : (caller : ℕ) (command : Command) (before : Shown) (reply : Reply) (after : Shown) →
-    Answers caller command before reply after → before.state.now ≤ after.state.now
+    AnswersCaller caller command before reply after → before.state.now ≤ after.state.now
 answered_later caller command before reply after answer =
     subst (λ (st : State). before.state.now ≤ st.now) (sym answer.state) (now_grows before.state command reply)
 

@@ -13,14 +13,14 @@ use Rattle.pf_desk.specs.declared.reply.Reply.TheVariants.{Stepped, Refused}
 use Rattle.pf_desk.specs.declared.entry.Entry.{Entry}
 use Rattle.pf_desk.specs.Machine.{State, row_at, reply_to, state_after}
 use Rattle.pf_desk.specs.Desk.{Handles, Seen, StandsForHistory, entry_of}
-use Rattle.pf_desk.specs.Kept.{state_of, shown_by, IsKept}
+use Rattle.pf_desk.specs.Kept.{state_of, shown_by, IsKeptDesk}
 use Rattle.pf_timeline.proofs.Grown.{row_each}
 use Rattle.pf_timeline.proofs.Past.{stands_now}
 use Rattle.pf_desk.proofs.Entering.{is_desk, kept_entered}
 
 -- a slot that is taken: the kept run is one slot longer, the row is its last, and there is one entry more
 pub record Steps (plan : Plan) (kept kept' : KeptRun) (es es' : List Entry) (caller slot : ℕ) (row : List (Option Pick)) : Type 0 where
-  pub is : IsKept plan kept es
+  pub is : IsKeptDesk plan kept es
   pub below : kept.now ≢ plan.settings.horizon
   pub stands : StandsFor plan (kept.now + 1) kept'
   pub slot_is : slot ≡ kept.now
@@ -48,9 +48,9 @@ step_state_is plan kept kept' es es' caller slot row steps =
 
 -- Use: what is kept then, and that the machine answers so.
 pub stepped_kept : (plan : Plan) (kept kept' : KeptRun) (es es' : List Entry) (caller slot : ℕ) (row : List (Option Pick)) →
-    Steps plan kept kept' es es' caller slot row → IsKept plan kept' es'
+    Steps plan kept kept' es es' caller slot row → IsKeptDesk plan kept' es'
 stepped_kept plan kept kept' es es' caller slot row steps =
-    subst (IsKept plan kept') (sym steps.entered)
+    subst (IsKeptDesk plan kept') (sym steps.entered)
     (kept_entered plan plan kept kept' es (entry_of caller Step (Stepped slot row)) steps.is
     (record {
       answer = step_reply_is plan kept kept' es es' caller slot row steps;
@@ -73,12 +73,12 @@ stepped_handles plan kept kept' es es' caller slot row steps = record {
 }
 
 -- What is kept is of the run over as many slots as there are rows.
-pub kept_of_run : (plan : Plan) (kept : KeptRun) (es : List Entry) → IsKept plan kept es →
+pub kept_of_run : (plan : Plan) (kept : KeptRun) (es : List Entry) → IsKeptDesk plan kept es →
     AreOfRun plan (length kept.rows) kept.rows kept.denials
 kept_of_run plan kept es is =
     subst (λ n. AreOfRun plan n kept.rows kept.denials) (sym (row_each plan kept.now kept.rows kept.denials is.stands.of_run)) is.stands.of_run
 
-snapshot_stands : (plan : Plan) (kept : KeptRun) (es : List Entry) → IsKept plan kept es →
+snapshot_stands : (plan : Plan) (kept : KeptRun) (es : List Entry) → IsKeptDesk plan kept es →
     StandsForHistory es (record { version = length es; state = record { plan = plan; now = length kept.rows }; rows = kept.rows; denials = kept.denials })
 snapshot_stands plan kept es is = record {
   legal = is.legal;
@@ -88,7 +88,7 @@ snapshot_stands plan kept es is = record {
 }
 
 pub seen_stands : (plan : Plan) (kept : KeptRun) (es : List Entry) (version : ℕ) (rows : List (List (Option Pick))) (denials : List Denied) (seen : Seen) →
-    IsKept plan kept es → version ≡ length es → rows ≡ kept.rows → denials ≡ kept.denials →
+    IsKeptDesk plan kept es → version ≡ length es → rows ≡ kept.rows → denials ≡ kept.denials →
     seen ≡ record { version = version; state = record { plan = plan; now = length rows }; rows = rows; denials = denials } →
     StandsForHistory es seen
 seen_stands plan kept es version rows denials seen is entries of_rows of_denials shows =
@@ -98,7 +98,7 @@ seen_stands plan kept es version rows denials seen is entries of_rows of_denials
 
 -- the snapshot is what the desk shows
 pub seen_is_shown : (plan : Plan) (kept : KeptRun) (es : List Entry) (version : ℕ) (rows : List (List (Option Pick))) (denials : List Denied) (seen : Seen) →
-    IsKept plan kept es → version ≡ length es → rows ≡ kept.rows → denials ≡ kept.denials →
+    IsKeptDesk plan kept es → version ≡ length es → rows ≡ kept.rows → denials ≡ kept.denials →
     seen ≡ record { version = version; state = record { plan = plan; now = length rows }; rows = rows; denials = denials } →
     seen ≡ record { version = length es; state = state_of plan kept; rows = kept.rows; denials = kept.denials }
 seen_is_shown plan kept es version rows denials seen is entries of_rows of_denials shows =

@@ -2,7 +2,7 @@
 use Rattle.std.specs.Prelude.{⊤, ◌≡◌, ◌⊎◌, ◌≤◌, ℕ, Option, IsSome, IfSome, Result, IfOk, OnErr, List, [], ◌∷◌, ◌++◌, length, map, All}
 use Rattle.std.specs.declared.alloc.AllocError.{AllocError}
 use Rattle.pf_order.specs.declared.pick.Pick.{Pick}
-use Rattle.pf_scenario.specs.Scenario.{touched_slot}
+use Rattle.pf_scenario.specs.Scenario.{slot_touched}
 use Rattle.pf_scenario.specs.Edit.{edit_fault}
 use Rattle.pf_run.specs.declared.denied.Denied.{Denied}
 use Rattle.pf_run.specs.RunRows.{AreOfRun}
@@ -32,7 +32,7 @@ abbrev pub entry_of : ℕ → Command → Reply → Entry
 entry_of caller command reply = record { caller = caller; command = command; reply = reply }
 
 -- the desk answered a caller's command as the machine does, entered it, and is then where the machine is
-pub record Answers (caller : ℕ) (command : Command) (before : Shown) (reply : Reply) (after : Shown) : Type 0 where
+pub record AnswersCaller (caller : ℕ) (command : Command) (before : Shown) (reply : Reply) (after : Shown) : Type 0 where
   pub answer : reply ≡ reply_to before.state command
   pub entered : after.history ≡ before.history ++ entry_of caller command reply ∷ []
   pub state : after.state ≡ state_after before.state command reply
@@ -54,7 +54,7 @@ LeavesRest reply before after = ⊤
 -- the desk answered a caller's command, and with a refusal it left all but the history; or memory was refused, and the
 -- desk is as before
 pub record Handles (caller : ℕ) (command : Command) (before : Shown) (result : Result Reply AllocError) (after : Shown) : Type 0 where
-  pub ok : IfOk result (λ reply. Answers caller command before reply after)
+  pub ok : IfOk result (λ reply. AnswersCaller caller command before reply after)
   pub err : OnErr result (after ≡ before)
   pub desk : IsDesk after
   pub refused : IfOk result (λ reply. LeavesRest reply before after)
@@ -63,7 +63,7 @@ pub record Handles (caller : ℕ) (command : Command) (before : Shown) (result :
 abbrev pub IsUncounted : State → Command → Type 0
 IsUncounted st Step = st.now ≡ st.plan.settings.horizon
 IsUncounted st (Edit change strict) =
-    IsSome (edit_fault st.plan change) ⊎ IfSome (touched_slot st.plan change) (λ t. st.now ≤ t)
+    IsSome (edit_fault st.plan change) ⊎ IfSome (slot_touched st.plan change) (λ t. st.now ≤ t)
 
 -- how many slots a command may count: a step one, an edit as many as were stepped
 abbrev pub most_slots : State → Command → ℕ

@@ -11,8 +11,8 @@ use Rattle.pf_desk.specs.Machine.{State}
 use Rattle.pf_desk.specs.History.{IsLegal, last_state}
 
 -- the same settings with the wide horizon
-abbrev pub widened : System → System
-widened s = record s { horizon = wide_horizon }
+abbrev pub with_wide_horizon : System → System
+with_wide_horizon s = record s { horizon = wide_horizon }
 
 -- the reply does not show the horizon
 abbrev pub IsShortOfHorizon : Reply → Type 0
@@ -27,4 +27,4 @@ HaveOneRun x y = run_of x.plan x.now ≡ run_of y.plan y.now
 abbrev pub HorizonIsOutOfSight : Type 0
 HorizonIsOutOfSight = (s : System) (es : List Entry) → s.horizon ≡ near_horizon →
     All (λ e. IsShortOfHorizon e.reply) es → IsLegal s es →
-    IsLegal (widened s) es × HaveOneRun (last_state s es) (last_state (widened s) es)
+    IsLegal (with_wide_horizon s) es × HaveOneRun (last_state s es) (last_state (with_wide_horizon s) es)

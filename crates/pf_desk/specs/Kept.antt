@@ -21,7 +21,7 @@ shown_by plan kept history = record {
 }
 
 -- the parts of a desk: the kept run stands for the scenario, and the history is legal and ends there
-pub record IsKept (plan : Plan) (kept : KeptRun) (history : List Entry) : Type 0 where
+pub record IsKeptDesk (plan : Plan) (kept : KeptRun) (history : List Entry) : Type 0 where
   pub stands : StandsFor plan kept.now kept
   pub legal : IsLegal plan.settings history
   pub last : last_state plan.settings history ≡ state_of plan kept

@@ -1,6 +1,6 @@
 ghost use Rattle.std.specs.Prelude.{◌≡◌, ◌<◌, ◌≤◌, None, IfOk};
 ghost use Rattle.pf_order.specs.Counted.{CountsAtMost};
-ghost use Rattle.pf_scenario.specs.Scenario.{changed, concerned, touched_slot};
+ghost use Rattle.pf_scenario.specs.Scenario.{plan_after, number_of_change, slot_touched};
 ghost use Rattle.pf_scenario.specs.Edit.{edit_fault};
 ghost use Rattle.pf_timeline.specs.Timeline.{StandsFor};
 
@@ -37,10 +37,10 @@ impl Candidate {
     ) -> Result<Self, AllocError>
         requires stands { StandsFor scenario.now timeline.now.now timeline.now }
         requires faultless { edit_fault scenario.now change ≡ None }
-        requires touched { touched_slot scenario.now change ≡ Some from }
+        requires touched { slot_touched scenario.now change ≡ Some from }
         requires below { from < timeline.now.now }
-        ensures id { IfOk result (λ c. c.id ≡ concerned scenario.now change) }
-        ensures scenario { IfOk result (λ c. c.scenario ≡ changed scenario.now change) }
+        ensures id { IfOk result (λ c. c.id ≡ number_of_change scenario.now change) }
+        ensures scenario { IfOk result (λ c. c.scenario ≡ plan_after scenario.now change) }
         ensures stands { IfOk result (λ c. StandsFor c.scenario timeline.now.now c.timeline) }
         ensures at_most { CountsAtMost timeline.now.now meter.old meter.new }
         ensures compared { meter.old.compared ≤ meter.new.compared }

@@ -2,7 +2,7 @@ ghost use Rattle.std.specs.Prelude.{ℕ, if◌then◌else◌, ◌≡◌, ◌⊎�
 ghost use Rattle.std.specs.List.{slice_get, slice_index_or};
 ghost use Rattle.pf_order.specs.Counts.{one_more};
 ghost use Rattle.pf_order.specs.Counted.{CountsAtMost};
-ghost use Rattle.pf_scenario.specs.Scenario.{touched_slot};
+ghost use Rattle.pf_scenario.specs.Scenario.{slot_touched};
 ghost use Rattle.pf_scenario.specs.Edit.{edit_fault};
 ghost use Rattle.pf_run.specs.Computed.{run_of};
 ghost use Rattle.pf_tally.specs.Lags.{lags_of};
@@ -13,7 +13,7 @@ ghost use Rattle.pf_desk.specs.declared.command.Command.TheVariants.{Edit, Step}
 ghost use Rattle.pf_desk.specs.declared.reply.Reply.TheVariants.{Refused};
 ghost use Rattle.pf_desk.specs.declared.reply.Fault.TheVariants.{WouldDeny};
 ghost use Rattle.pf_desk.specs.Machine.{opening_state, reply_to, IsStepped};
-ghost use Rattle.pf_desk.specs.Desk.{IsDesk, Answers, AnswersAll, LeavesRest, Handles, IsUncounted, most_slots, StandsForHistory};
+ghost use Rattle.pf_desk.specs.Desk.{IsDesk, AnswersCaller, AnswersAll, LeavesRest, Handles, IsUncounted, most_slots, StandsForHistory};
 
 use crate::candidate::Candidate;
 use crate::command::Command;
@@ -46,13 +46,13 @@ pub struct Desk {
 
 impl Model for Desk {
     ghost use Rattle.pf_desk.specs.Desk.{Shown};
-    ghost use Rattle.pf_desk.specs.Kept.{shown_by, IsKept};
+    ghost use Rattle.pf_desk.specs.Kept.{shown_by, IsKeptDesk};
 
     ghost Value = { Shown };
 
     ghost view = { λ d. shown_by d.scenario d.timeline d.history.items };
 
-    ghost invariant = { λ d. IsKept d.scenario d.timeline d.history.items };
+    ghost invariant = { λ d. IsKeptDesk d.scenario d.timeline d.history.items };
 }
 
 impl Desk {
@@ -93,7 +93,7 @@ impl Desk {
         caller: u32,
         command: Command,
     ) -> Result<Reply, AllocError>
-        ensures ok { IfOk result (λ reply. Answers caller command self.old reply self.new) }
+        ensures ok { IfOk result (λ reply. AnswersCaller caller command self.old reply self.new) }
         ensures err { OnErr result (self.new ≡ self.old) }
         ensures desk { IsDesk self.new }
         ensures refused { IfOk result (λ reply. LeavesRest reply self.old self.new) }
@@ -288,7 +288,7 @@ impl Desk {
     /// Makes a change without a fault that touches no slot below now: the run so far stays.
     fn edit_ahead(&mut self, caller: u32, change: Change, strict: bool) -> Result<Reply, AllocError>
         requires faultless { edit_fault self.old.state.plan change ≡ None }
-        requires ahead { IfSome (touched_slot self.old.state.plan change) (λ t. self.old.state.now ≤ t) }
+        requires ahead { IfSome (slot_touched self.old.state.plan change) (λ t. self.old.state.now ≤ t) }
         ensures handles { Handles caller (Edit change strict) self.old result self.new }
         ensures edited { IfOk result (λ reply. ¬ IsStepped reply) }
     {
@@ -316,7 +316,7 @@ impl Desk {
         strict: bool,
     ) -> Result<Reply, AllocError>
         requires faultless { edit_fault self.old.state.plan change ≡ None }
-        requires touched { touched_slot self.old.state.plan change ≡ Some from }
+        requires touched { slot_touched self.old.state.plan change ≡ Some from }
         requires below { from < self.old.state.now }
         ensures handles { Handles caller (Edit change strict) self.old result self.new }
         ensures edited { IfOk result (λ reply. ¬ IsStepped reply) }

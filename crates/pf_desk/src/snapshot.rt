@@ -1,6 +1,6 @@
 ghost use Rattle.std.specs.Prelude.{◌≡◌, length, IfOk};
 ghost use Rattle.std.specs.List.{slice_get};
-ghost use Rattle.pf_place.specs.Lent.{lent};
+ghost use Rattle.pf_place.specs.Lent.{places_lent};
 ghost use Rattle.pf_run.specs.Computed.{run_of};
 ghost use Rattle.pf_run.specs.RunRows.{AreOfRun};
 ghost use Rattle.pf_tally.specs.Lags.{lags_of};
@@ -99,7 +99,7 @@ impl Snapshot {
 
     /// Who runs where in slot t; none where t is not below now.
     pub fn row(&self, t: u64) -> Option<RowView<'_>>
-        ensures { lent result ≡ slice_get self.now.rows t }
+        ensures { places_lent result ≡ slice_get self.now.rows t }
     {
         self.rows.get(t)
     }

@@ -8,7 +8,7 @@ use Rattle.pf_scenario.specs.declared.event.Numbered.{Numbered}
 use Rattle.pf_admit.specs.declared.denial.Denial.{Denial}
 use Rattle.pf_run.specs.Computed.{after_events}
 use Rattle.pf_engine.specs.Fits.{KeptTask, Kept, kept_after}
-use Rattle.pf_engine.specs.Kept.{changed_task, member_after_delay, new_task, denial_at, kept_with_event, kept_unless_denied, kept_after_event, kept_after_events, ready_keys}
+use Rattle.pf_engine.specs.Kept.{changed_task, member_after_delay, new_task, denial_at, kept_with_event, kept_after_verdict, kept_after_event, kept_after_events, ready_keys}
 use Rattle.pf_engine.specs.Choice.{OneOfEach}
 use Rattle.pf_engine.specs.Points.{IsAt}
 use Rattle.pf_run.proofs.Keys.{ready_count}
@@ -24,7 +24,7 @@ with_event_few e (Leave slot task) =
 with_event_few e (Delay slot task by) = omega (arith, length-map e.tasks (changed_task task (member_after_delay by)))
 with_event_few e (Limit slot count) = omega arith
 
-unless_denied_few : (o : Option Denial) (e after : Kept) → length after.tasks ≤ length e.tasks + 1 → length (kept_unless_denied o e after).tasks ≤ length e.tasks + 1
+unless_denied_few : (o : Option Denial) (e after : Kept) → length after.tasks ≤ length e.tasks + 1 → length (kept_after_verdict o e after).tasks ≤ length e.tasks + 1
 unless_denied_few None e after few = few
 unless_denied_few (Some denial) e after few = omega arith
 

@@ -9,7 +9,7 @@ use Rattle.pf_scenario.specs.declared.scenario.TheConstants.{MOST_EVENTS}
 use Rattle.pf_scenario.specs.declared.event.Numbered.{Numbered}
 use Rattle.pf_run.specs.Record.{Slot, done, next_sub}
 use Rattle.pf_run.specs.Inside.{Joined, inside, load_of, member_of}
-use Rattle.pf_run.specs.Run.{standing}
+use Rattle.pf_run.specs.Run.{events_in_force}
 use Rattle.pf_engine.specs.Fits.{KeptTask, Kept, kept_task, kept_after, Fits, Taken, CanTake}
 use Rattle.pf_engine.specs.Engines.{IsInside, IsEngine}
 use Rattle.pf_engine.specs.Points.{CanFollow, IsAt}
@@ -68,7 +68,7 @@ pub at_slot : (s : Plan) (r : List Slot) (e : Kept) → IsScenario s → Fits s 
 at_slot s r e scenario fits reached = record {
   settings = s.settings;
   run = r;
-  standing = standing s r (length r);
+  standing = events_in_force s r (length r);
   is_system = scenario.settings;
   reached = reached;
   follow = can_follow s r scenario (point_of_run s scenario (length r) r fits.is_run);

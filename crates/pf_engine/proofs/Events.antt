@@ -14,15 +14,15 @@ use Rattle.pf_scenario.specs.declared.event.Numbered.{Numbered}
 use Rattle.pf_admit.specs.Admission.{leave_denial, delay_denial}
 use Rattle.pf_admit.specs.declared.denial.Denial.{Denial}
 use Rattle.pf_run.specs.Record.{Slot}
-use Rattle.pf_run.specs.Inside.{inside, held_back, member_of, member_at}
+use Rattle.pf_run.specs.Inside.{inside, hold_back_of, member_of, member_at}
 use Rattle.pf_run.specs.Denials.{denial_of, denied_for}
 use Rattle.pf_run.specs.Computed.{with_event, after_events, denials_among}
 use Rattle.pf_engine.specs.Fits.{kept_after}
-use Rattle.pf_engine.specs.Kept.{kept_with_event, kept_unless_denied, kept_after_event, kept_after_events, denials_in}
+use Rattle.pf_engine.specs.Kept.{kept_with_event, kept_after_verdict, kept_after_event, kept_after_events, denials_of_slot}
 use Rattle.pf_run.specs.Inside.{joins_of}
 use Rattle.pf_run.proofs.Counting.{none_found, count_by-cons}
 use Rattle.pf_run.proofs.Points.{has_left_push, inside_count}
-use Rattle.pf_engine.specs.Points.{IsNew, IsPoint, CanFollow}
+use Rattle.pf_engine.specs.Points.{IsNewTask, IsPoint, CanFollow}
 use Rattle.pf_engine.proofs.Steps.{denial_same, limit_step, leave_step, join_step, delay_step}
 
 pub joins_push : (xs : List Numbered) (x : Numbered) (task : ℕ) →
@@ -47,7 +47,7 @@ with_event_step s r xs id (Limit slot count) at once point = limit_step s r xs i
 
 kept_unless : (s : System) (r : List Slot) (xs : List Numbered) (x : Numbered) (o : Option Denial) →
     slot_of x.event ≡ length r → JoinsOnce xs x.event → IsPoint r xs →
-    kept_unless_denied o (kept_after s r xs) (kept_with_event (kept_after s r xs) x.event) ≡ kept_after s r (with_event xs x o)
+    kept_after_verdict o (kept_after s r xs) (kept_with_event (kept_after s r xs) x.event) ≡ kept_after s r (with_event xs x o)
 kept_unless s r xs x None at once point = with_event_step s r xs x.id x.event at once point
 kept_unless s r xs x (Some denial) at once point = refl
 
@@ -55,7 +55,7 @@ kept_step : (s : System) (r : List Slot) (xs : List Numbered) (x : Numbered) →
     slot_of x.event ≡ length r → JoinsOnce xs x.event → IsPoint r xs →
     kept_after_event (kept_after s r xs) x.event ≡ kept_after s r (with_event xs x (denial_of s r xs x.event))
 kept_step s r xs x at once point =
-    ap (λ o. kept_unless_denied o (kept_after s r xs) (kept_with_event (kept_after s r xs) x.event)) (denial_same s r xs x.event)
+    ap (λ o. kept_after_verdict o (kept_after s r xs) (kept_with_event (kept_after s r xs) x.event)) (denial_same s r xs x.event)
     ∙ kept_unless s r xs x (denial_of s r xs x.event) at once point
 
 -- a task that joined nowhere isn't inside
@@ -64,11 +64,11 @@ no_member base r xs task none =
     ap (option_map (member_of r xs)) (none_found (λ j. j.task == task) (inside base xs) (omega (arith, inside_count base task xs)))
 
 -- a task that is new stays so where an event speaks of another
-new_push : (r : List Slot) (xs : List Numbered) (x : Numbered) (task : ℕ) → IsNew r xs task →
-    is_leave_of task x.event ≡ false → ((q : List Slot) (i : ℕ) → held_back q task i x.event ≡ 0) → IsNew r (xs ++ x ∷ []) task
+new_push : (r : List Slot) (xs : List Numbered) (x : Numbered) (task : ℕ) → IsNewTask r xs task →
+    is_leave_of task x.event ≡ false → ((q : List Slot) (i : ℕ) → hold_back_of q task i x.event ≡ 0) → IsNewTask r (xs ++ x ∷ []) task
 new_push r xs x task new stays undelayed = record {
   stays = has_left_push xs x task ∙ or_from _ _ new.stays stays;
-  undelayed = λ q i. omega (arith, sum_by_push (λ y. held_back q task i y.event) xs x, new.undelayed q i, undelayed q i);
+  undelayed = λ q i. omega (arith, sum_by_push (λ y. hold_back_of q task i y.event) xs x, new.undelayed q i, undelayed q i);
   idle = new.idle;
 }
 
@@ -82,7 +82,7 @@ not_held true c by e = cc
 not_held false c by e = refl
 
 fresh_push : (s : System) (r : List Slot) (xs : List Numbered) (id : ℕ) (event : Event) → denial_of s r xs event ≡ None →
-    (task : ℕ) → joins_of task xs ≡ 0 → IsNew r xs task → IsNew r (xs ++ record { id = id; event = event } ∷ []) task
+    (task : ℕ) → joins_of task xs ≡ 0 → IsNewTask r xs task → IsNewTask r (xs ++ record { id = id; event = event } ∷ []) task
 fresh_push s r xs id (Join slot task' cost period early) admitted task none new =
     new_push r xs _ task new refl (λ q i. refl)
 fresh_push s r xs id (Leave slot task') admitted task none new =
@@ -144,7 +144,7 @@ kept_more s r xs y ys can =
 -- what the events of a slot leave, on what is kept and in the record
 pub record AreTaken (s : System) (r : List Slot) (xs ys : List Numbered) : Type 0 where
   pub kept : kept_after_events (kept_after s r xs) ys ≡ kept_after s r (after_events s r xs ys)
-  pub denied : denials_in (kept_after s r xs) ys ≡ denials_among s r xs ys
+  pub denied : denials_of_slot (kept_after s r xs) ys ≡ denials_among s r xs ys
   pub after : CanFollow s r (after_events s r xs ys) []
 
 pub kept_taken : (s : System) (r : List Slot) (xs ys : List Numbered) → CanFollow s r xs ys → AreTaken s r xs ys
@@ -156,7 +156,7 @@ kept_taken s r xs (y ∷ ys) can =
     let rest = kept_taken s r (with_event xs y o) ys (follow_more s r xs y ys can) in
     record {
       kept = ap (λ e. kept_after_events e ys) step ∙ rest.kept;
-      denied = ap₂ (λ q e. denied_for y (length r) q ++ denials_in e ys) (denial_same s r xs y.event) step
+      denied = ap₂ (λ q e. denied_for y (length r) q ++ denials_of_slot e ys) (denial_same s r xs y.event) step
           ∙ ap (λ ds. denied_for y (length r) o ++ ds) rest.denied;
       after = rest.after;
     }

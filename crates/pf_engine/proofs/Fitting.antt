@@ -10,7 +10,7 @@ use Rattle.pf_scenario.specs.Edit.{IsScenario}
 use Rattle.pf_scenario.specs.declared.event.Numbered.{Numbered}
 use Rattle.pf_run.specs.Record.{Slot, denials_of, in_force}
 use Rattle.pf_run.specs.Inside.{ready, count_of}
-use Rattle.pf_run.specs.Run.{standing, ArePicks, IsNextSlot, IsRun}
+use Rattle.pf_run.specs.Run.{events_in_force, ArePicks, IsNextSlot, IsRun}
 use Rattle.pf_run.specs.Computed.{after_events}
 use Rattle.pf_engine.specs.Fits.{Kept, kept_after, Fits, Taken, TakesSlot}
 use Rattle.pf_engine.specs.Kept.{ready_keys, kept_after_picks}
@@ -24,7 +24,7 @@ use Rattle.pf_run.proofs.Plans.{slots_of_events, limits_of_events, past_few, in_
 use Rattle.pf_run.proofs.Within.{in_force_limits}
 
 -- the point that a run leads to
-point_none : (s : Plan) → IsPoint [] (standing s [] 0)
+point_none : (s : Plan) → IsPoint [] (events_in_force s [] 0)
 unfolding in_force
 point_none s = record {
   past = All-nil (λ x. slot_of x.event ≤ 0);
@@ -32,8 +32,8 @@ point_none s = record {
 }
 
 -- the events of the slot that comes next can follow
-pub can_follow : (s : Plan) (r : List Slot) → IsScenario s → IsPoint r (standing s r (length r)) →
-    CanFollow s.settings r (standing s r (length r)) (events_of s (length r))
+pub can_follow : (s : Plan) (r : List Slot) → IsScenario s → IsPoint r (events_in_force s r (length r)) →
+    CanFollow s.settings r (events_in_force s r (length r)) (events_of s (length r))
 can_follow s r scenario point =
     let t = length r in
     record {
@@ -51,22 +51,22 @@ can_follow s r scenario point =
       );
     }
 
-events_taken : (s : Plan) (r : List Slot) → IsScenario s → IsPoint r (standing s r (length r)) →
-    AreTaken s.settings r (standing s r (length r)) (events_of s (length r))
-events_taken s r scenario point = kept_taken s.settings r (standing s r (length r)) (events_of s (length r)) (can_follow s r scenario point)
+events_taken : (s : Plan) (r : List Slot) → IsScenario s → IsPoint r (events_in_force s r (length r)) →
+    AreTaken s.settings r (events_in_force s r (length r)) (events_of s (length r))
+events_taken s r scenario point = kept_taken s.settings r (events_in_force s r (length r)) (events_of s (length r)) (can_follow s r scenario point)
 
 point_more : (s : Plan) → IsScenario s → (r : List Slot) (slot : Slot) → IsRun s (length r) r → IsNextSlot s r slot →
-    IsPoint r (standing s r (length r)) → IsPoint (r ++ slot ∷ []) (standing s (r ++ slot ∷ []) (length (r ++ slot ∷ [])))
+    IsPoint r (events_in_force s r (length r)) → IsPoint (r ++ slot ∷ []) (events_in_force s (r ++ slot ∷ []) (length (r ++ slot ∷ [])))
 point_more s scenario r slot run next point =
     let stands = (next_from_equation s r slot scenario run next.denials).stands in
     let picks = subst (λ xs. ArePicks s r xs slot.picks) stands next.picks in
     let taken = events_taken s r scenario point in
     let after = point_picked s.settings.base _ r slot _ picks.chosen picks.are_first picks.subtasks taken.after.point in
     subst (IsPoint (r ++ slot ∷ []))
-    (sym stands ∙ ap (λ t. standing s (r ++ slot ∷ []) t) (sym (length_snoc r slot))) after
+    (sym stands ∙ ap (λ t. events_in_force s (r ++ slot ∷ []) t) (sym (length_snoc r slot))) after
 
-pub point_of_run : (s : Plan) → IsScenario s → (n : ℕ) (r : List Slot) → IsRun s n r → IsPoint r (standing s r (length r))
-point_of_run s scenario = along_run s (λ r. IsPoint r (standing s r (length r))) (point_none s) (point_more s scenario)
+pub point_of_run : (s : Plan) → IsScenario s → (n : ℕ) (r : List Slot) → IsRun s n r → IsPoint r (events_in_force s r (length r))
+point_of_run s scenario = along_run s (λ r. IsPoint r (events_in_force s r (length r))) (point_none s) (point_more s scenario)
 
 -- a run and its next slot
 pub run_push : (s : Plan) (r : List Slot) (slot : Slot) → IsRun s (length r) r → IsNextSlot s r slot →
@@ -84,10 +84,10 @@ run_push s r slot run next = record {
 
 -- the slot that an engine gives
 takes_kept : (s : Plan) (r : List Slot) (o : Taken) (e' : Kept) → IsScenario s → IsRun s (length r) r →
-    Advances (kept_after s.settings r (standing s r (length r))) (events_of s (length r)) o e' → TakesSlot s r o e'
+    Advances (kept_after s.settings r (events_in_force s r (length r))) (events_of s (length r)) o e' → TakesSlot s r o e'
 unfolding kept_after
 takes_kept s r o e' scenario run advances =
-    let xs = standing s r (length r) in
+    let xs = events_in_force s r (length r) in
     let ys = events_of s (length r) in
     let taken = events_taken s r scenario (point_of_run s scenario (length r) r run) in
     let after = after_events s.settings r xs ys in
@@ -102,13 +102,13 @@ takes_kept s r o e' scenario run advances =
           (record { chosen = chosen; are_first = first; subtasks = advances.picks });
     } in
     let now : length r + 1 ≡ length (r ++ o.slot ∷ []) = omega (arith, length_snoc r o.slot) in
-    let stands : after ≡ standing s (r ++ o.slot ∷ []) (length (r ++ o.slot ∷ [])) =
-    sym denials.stands ∙ ap (λ t. standing s (r ++ o.slot ∷ []) t) (sym (length_snoc r o.slot)) in
+    let stands : after ≡ events_in_force s (r ++ o.slot ∷ []) (length (r ++ o.slot ∷ [])) =
+    sym denials.stands ∙ ap (λ t. events_in_force s (r ++ o.slot ∷ []) t) (sym (length_snoc r o.slot)) in
     let of_next = subst (AreNext r) (sym advances.picks) (next_chosen s.settings.base (count_of s.settings.processors after) r after chosen first) in
     record {
       next = next;
       count = advances.count ∙ ap (λ (e : Kept). e.count) taken.kept
-          ∙ ap (count_of s.settings.processors) (stands ∙ ap (λ t. standing s (r ++ o.slot ∷ []) t) (sym now));
+          ∙ ap (count_of s.settings.processors) (stands ∙ ap (λ t. events_in_force s (r ++ o.slot ∷ []) t) (sym now));
       fits = record {
         is_run = run_push s r o.slot run next;
         keeps = advances.after

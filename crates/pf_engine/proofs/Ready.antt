@@ -12,7 +12,7 @@ use Rattle.pf_scenario.specs.Event.{slot_of}
 use Rattle.pf_scenario.specs.declared.event.Numbered.{Numbered}
 use Rattle.pf_run.specs.Record.{Slot, runs, next_sub}
 use Rattle.pf_run.specs.Inside.{inside, ready_key, ready}
-use Rattle.pf_run.specs.Run.{pick_of}
+use Rattle.pf_run.specs.Run.{pick_of_key}
 use Rattle.pf_engine.specs.Fits.{kept_task, kept_after}
 use Rattle.pf_engine.specs.Kept.{ready_keys}
 use Rattle.pf_run.specs.Inside.{joins_of}
@@ -28,25 +28,25 @@ unfolding kept_after ready
 ready_same s r xs = filter_map_map (λ k. ready_key (length r) k.task k.member) (kept_task r xs) (inside s.base xs)
 
 pub next_chosen : (base n : ℕ) (r : List Slot) (xs : List Numbered) (chosen : List Priority) → AreFirst n (ready base r xs) chosen →
-    AreNext r (map pick_of chosen)
+    AreNext r (map pick_of_key chosen)
 next_chosen base n r xs chosen first =
-    All-map (λ p. p.sub ≡ next_sub r p.task) pick_of chosen
+    All-map (λ p. p.sub ≡ next_sub r p.task) pick_of_key chosen
     (All-weaker (IsNextKey r xs) (λ k. k.sub ≡ next_sub r k.task) (λ k h. h.next) chosen
     (all_chosen (IsNextKey r xs) n (ready base r xs) chosen first (ready_next base r xs)))
 
 -- a task that didn't join isn't picked
 none_picked : (base n : ℕ) (r : List Slot) (xs : List Numbered) (chosen : List Priority) → AreFirst n (ready base r xs) chosen →
-    (task : ℕ) → joins_of task xs ≡ 0 → is_picked task (map pick_of chosen) ≡ false
+    (task : ℕ) → joins_of task xs ≡ 0 → is_picked task (map pick_of_key chosen) ≡ false
 none_picked base n r xs chosen first task none =
-    list_any_none (λ (p : Pick). p.task == task) (map pick_of chosen)
-    (All-map (λ p. (p.task == task) ≡ false) pick_of chosen
+    list_any_none (λ (p : Pick). p.task == task) (map pick_of_key chosen)
+    (All-map (λ p. (p.task == task) ≡ false) pick_of_key chosen
     (All-weaker (IsNextKey r xs) (λ k. (k.task == task) ≡ false)
     (λ k h. ne_eqb k.task task (λ e. absurd (omega (arith, h.joined, ap (λ t. joins_of t xs) e)))) chosen
     (all_chosen (IsNextKey r xs) n (ready base r xs) chosen first (ready_next base r xs))))
 
 -- the point after the picks
 pub point_picked : (base n : ℕ) (r : List Slot) (d : Slot) (xs : List Numbered) (chosen : List Priority) →
-    AreFirst n (ready base r xs) chosen → d.picks ≡ map pick_of chosen → IsPoint r xs → IsPoint (r ++ d ∷ []) xs
+    AreFirst n (ready base r xs) chosen → d.picks ≡ map pick_of_key chosen → IsPoint r xs → IsPoint (r ++ d ∷ []) xs
 point_picked base n r d xs chosen first picks point = record {
   past = All-weaker (λ x. slot_of x.event ≤ length r) (λ x. slot_of x.event ≤ length (r ++ d ∷ []))
       (λ x h. omega (arith, length_push r d)) xs point.past;

@@ -13,10 +13,10 @@ use Rattle.pf_scenario.specs.declared.event.Numbered.{Numbered}
 use Rattle.pf_admit.specs.Admission.{leave_denial, delay_denial}
 use Rattle.pf_admit.specs.declared.member.Member.{Member}
 use Rattle.pf_run.specs.Record.{Slot, runs, done, next_sub}
-use Rattle.pf_run.specs.Inside.{Joined, inside, load_of, held_back, shift_of, member_of, member_at}
+use Rattle.pf_run.specs.Inside.{Joined, inside, load_of, hold_back_of, shift_of, member_of, member_at}
 use Rattle.pf_run.specs.Denials.{denial_of}
 use Rattle.pf_engine.specs.Fits.{KeptTask, Kept, kept_task, kept_after}
-use Rattle.pf_engine.specs.Points.{IsNew}
+use Rattle.pf_engine.specs.Points.{IsNewTask}
 use Rattle.pf_engine.specs.Kept.{member_in, changed_task, units_of, new_task, member_after_delay, denial_at, kept_with_event}
 use Rattle.pf_run.specs.Inside.{joins_of}
 use Rattle.pf_run.proofs.Counting.{map_map, map_same, filter-map, find-map, found, sum_without}
@@ -101,12 +101,12 @@ unfolding done
 never_ran r task idle = ap (count_by (runs task)) (take_all (length r) r (omega arith)) ∙ idle
 
 unshifted : (r : List Slot) (xs : List Numbered) (j : Joined) (i : ℕ) →
-    sum_by (λ x. held_back r j.task i x.event) xs ≡ 0 → shift_of r xs j i ≡ j.slot
+    sum_by (λ x. hold_back_of r j.task i x.event) xs ≡ 0 → shift_of r xs j i ≡ j.slot
 unfolding shift_of
 unshifted r xs j i none = omega arith
 
 join_new : (r : List Slot) (xs : List Numbered) (x : Numbered) (base slot task cost period early : ℕ) → ShiftsNone x.event →
-    IsNew r xs task →
+    IsNewTask r xs task →
     new_task base slot task cost period early
     ≡ kept_task r (xs ++ x ∷ []) (record { task = task; slot = slot; weight = share_of base cost period; early = early })
 unfolding member_of
@@ -131,7 +131,7 @@ join_new r xs x base slot task cost period early none new =
     zero_done shift
     ∙ ap (λ l. record { task = task; member = record { weight = share_of base cost period; joined = slot; early = early; done = 0; shift = slot; last = l } }) last)
 
-pub join_step : (s : System) (r : List Slot) (xs : List Numbered) (id slot task cost period early : ℕ) → IsNew r xs task →
+pub join_step : (s : System) (r : List Slot) (xs : List Numbered) (id slot task cost period early : ℕ) → IsNewTask r xs task →
     kept_with_event (kept_after s r xs) (Join slot task cost period early)
     ≡ kept_after s r (xs ++ record { id = id; event = Join slot task cost period early } ∷ [])
 unfolding kept_after load_of
@@ -182,7 +182,7 @@ task_after_delay r xs id task by j =
     (delay_cond (j.task == task) (task == j.task) by _ _ 0 swap
     (shift_push r xs x j (next_sub r j.task)
     ∙ ap (λ b. shift_of r xs j (next_sub r j.task) + cond ((task == j.task) && b) by 0) (le_itself (n + 1))))
-    (let none : held_back r j.task n x.event ≡ 0 =
+    (let none : hold_back_of r j.task n x.event ≡ 0 =
     ap (λ b. cond ((task == j.task) && b) by 0) (above_less n) ∙ none_cond (task == j.task) by in
     omega (arith, shift_push r xs x j n))
 

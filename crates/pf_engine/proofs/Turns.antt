@@ -21,7 +21,7 @@ use Rattle.pf_run.specs.Inside.{eligible_from, next_key, ready_key}
 use Rattle.pf_run.specs.Denials.{denial_of, denied_for}
 use Rattle.pf_run.specs.Computed.{with_event}
 use Rattle.pf_engine.specs.Fits.{KeptTask, Kept, kept_after}
-use Rattle.pf_engine.specs.Kept.{denial_at, kept_after_event, kept_after_events, denials_in}
+use Rattle.pf_engine.specs.Kept.{denial_at, kept_after_event, kept_after_events, denials_of_slot}
 use Rattle.pf_engine.specs.Engines.{IsEngine}
 use Rattle.pf_engine.specs.Points.{CanFollow, IsAt}
 use Rattle.pf_engine.specs.Taking.{CanTakeEvent}
@@ -96,11 +96,11 @@ can_take e events i d within at = first_of e (get_or events i d) (drop (i + 1) e
 pub given_more : (e e' : Kept) (events : List Numbered) (i : ℕ) (d : Numbered) (given given' : List Denied) → i < length events →
     e' ≡ kept_after_event e (get_or events i d).event →
     given' ≡ given ++ denied_for (get_or events i d) e.now (denial_at e (get_or events i d).event) →
-    given' ++ denials_in e' (drop (i + 1) events) ≡ given ++ denials_in e (drop i events)
+    given' ++ denials_of_slot e' (drop (i + 1) events) ≡ given ++ denials_of_slot e (drop i events)
 given_more e e' events i d given given' within after more =
-    ap₂ (λ g k. g ++ denials_in k (drop (i + 1) events)) more after
+    ap₂ (λ g k. g ++ denials_of_slot k (drop (i + 1) events)) more after
     ∙ append_assoc given (denied_for (get_or events i d) e.now (denial_at e (get_or events i d).event)) _
-    ∙ ap (λ xs. given ++ denials_in e xs) (sym (drop_more events i d within))
+    ∙ ap (λ xs. given ++ denials_of_slot e xs) (sym (drop_more events i d within))
 
 pub given_denied : (x : Numbered) (now slot : ℕ) (o : Option Denial) (denial : Denial) (result : Result (Unit {0}) Denial) (given : List Denied) →
     result_err result ≡ o → result ≡ Err denial → slot ≡ now →

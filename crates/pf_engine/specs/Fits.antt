@@ -7,7 +7,7 @@ use Rattle.pf_scenario.specs.declared.event.Numbered.{Numbered}
 use Rattle.pf_admit.specs.declared.member.Member.{Member}
 use Rattle.pf_run.specs.Record.{Slot}
 use Rattle.pf_run.specs.Inside.{Joined, inside, load_of, count_of, member_of}
-use Rattle.pf_run.specs.Run.{standing, IsNextSlot, IsRun}
+use Rattle.pf_run.specs.Run.{events_in_force, IsNextSlot, IsRun}
 
 -- a task inside, as an engine keeps it
 pub record KeptTask : Type 0 where
@@ -40,7 +40,7 @@ kept_after s r xs = record {
 -- the engine keeps what the scenario and its run r give
 pub record Fits (s : Plan) (r : List Slot) (e : Kept) : Type 0 where
   pub is_run : IsRun s (length r) r
-  pub keeps : e ≡ kept_after s.settings r (standing s r (length r))
+  pub keeps : e ≡ kept_after s.settings r (events_in_force s r (length r))
 
 -- what a slot of an engine gives: the slot, and how many processors are in use in it
 pub record Taken : Type 0 where
@@ -60,5 +60,5 @@ pub record CanTake (e : Kept) (events : List Numbered) : Type 0 where
 -- the slot is the next of the run, with its count, and the engine then fits the longer run
 pub record TakesSlot (s : Plan) (r : List Slot) (taken : Taken) (e : Kept) : Type 0 where
   pub next : IsNextSlot s r taken.slot
-  pub count : taken.count ≡ count_of s.settings.processors (standing s (r ++ taken.slot ∷ []) (length r + 1))
+  pub count : taken.count ≡ count_of s.settings.processors (events_in_force s (r ++ taken.slot ∷ []) (length r + 1))
   pub fits : Fits s (r ++ taken.slot ∷ []) e

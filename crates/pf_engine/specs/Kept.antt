@@ -78,12 +78,12 @@ kept_with_event e (Delay slot task by) = record e { tasks = changed_tasks task (
 kept_with_event e (Limit slot count) = record e { count = count }
 
 -- what is kept after an event with this denial
-abbrev pub kept_unless_denied : Option Denial → Kept → Kept → Kept
-kept_unless_denied None e after = after
-kept_unless_denied (Some denial) e after = e
+abbrev pub kept_after_verdict : Option Denial → Kept → Kept → Kept
+kept_after_verdict None e after = after
+kept_after_verdict (Some denial) e after = e
 
 abbrev pub kept_after_event : Kept → Event → Kept
-kept_after_event e event = kept_unless_denied (denial_at e event) e (kept_with_event e event)
+kept_after_event e event = kept_after_verdict (denial_at e event) e (kept_with_event e event)
 
 -- what is kept after the events of a slot
 abbrev pub kept_after_events : Kept → List Numbered → Kept
@@ -91,9 +91,9 @@ kept_after_events e [] = e
 kept_after_events e (x ∷ xs) = kept_after_events (kept_after_event e x.event) xs
 
 -- those of the events of a slot that are denied
-abbrev pub denials_in : Kept → List Numbered → List Denied
-denials_in e [] = []
-denials_in e (x ∷ xs) = denied_for x e.now (denial_at e x.event) ++ denials_in (kept_after_event e x.event) xs
+abbrev pub denials_of_slot : Kept → List Numbered → List Denied
+denials_of_slot e [] = []
+denials_of_slot e (x ∷ xs) = denied_for x e.now (denial_at e x.event) ++ denials_of_slot (kept_after_event e x.event) xs
 
 -- the keys of the subtasks that may run
 abbrev pub ready_keys : Kept → List Priority

@@ -3,7 +3,7 @@ use Rattle.std.specs.Prelude.{◌≡◌, ℕ, ◌≤◌, [], vec_capacity}
 use Rattle.pf_engine.specs.declared.room.Room.{Room}
 
 -- empty lists with room for this many denials, keys and picks
-pub record HasRoom (denials keys picks : ℕ) (room : Room) : Type 0 where
+pub record HasSlotRoom (denials keys picks : ℕ) (room : Room) : Type 0 where
   pub no_denials : room.denials.items ≡ []
   pub no_keys : room.keys.items ≡ []
   pub no_picks : room.picks.items ≡ []

@@ -7,9 +7,9 @@ use Rattle.pf_scenario.specs.Edit.{IsEvent}
 use Rattle.pf_scenario.specs.declared.scenario.TheConstants.{MOST_EVENTS}
 use Rattle.pf_scenario.specs.declared.event.Event.{Event}
 use Rattle.pf_scenario.specs.declared.event.Numbered.{Numbered}
-use Rattle.pf_run.specs.Run.{pick_of}
+use Rattle.pf_run.specs.Run.{pick_of_key}
 use Rattle.pf_engine.specs.Fits.{Kept, Taken}
-use Rattle.pf_engine.specs.Kept.{member_in, kept_after_events, denials_in, ready_keys, kept_after_picks}
+use Rattle.pf_engine.specs.Kept.{member_in, kept_after_events, denials_of_slot, ready_keys, kept_after_picks}
 use Rattle.pf_engine.specs.Engines.{IsEngine}
 
 -- this event can be taken: it is within its limits, a task that it joins isn't inside, and one more task finds a place
@@ -23,7 +23,7 @@ pub record CanTakeEvent (e : Kept) (event : Event) : Type 0 where
 pub record Advances (e : Kept) (events : List Numbered) (taken : Taken) (e' : Kept) : Type 0 where
   pub chosen : List Priority
   pub are_first : AreFirst (kept_after_events e events).count (ready_keys (kept_after_events e events)) chosen
-  pub picks : taken.slot.picks ≡ map pick_of chosen
-  pub denials : taken.slot.denials ≡ denials_in e events
+  pub picks : taken.slot.picks ≡ map pick_of_key chosen
+  pub denials : taken.slot.denials ≡ denials_of_slot e events
   pub count : taken.count ≡ (kept_after_events e events).count
-  pub after : e' ≡ kept_after_picks (kept_after_events e events) (map pick_of chosen)
+  pub after : e' ≡ kept_after_picks (kept_after_events e events) (map pick_of_key chosen)

@@ -17,7 +17,7 @@ pub(crate) struct Room {
 }
 
 impl Room {
-    ghost use Rattle.pf_engine.specs.Rooms.{HasRoom};
+    ghost use Rattle.pf_engine.specs.Rooms.{HasSlotRoom};
 
     /// Room for this many denials, keys and picks.
     ///
@@ -30,7 +30,7 @@ impl Room {
         keys: usize,
         picks: usize,
     ) -> Result<Self, AllocError>
-        ensures { IfOk result (HasRoom denials keys picks) }
+        ensures { IfOk result (HasSlotRoom denials keys picks) }
     {
         Ok(Room {
             denials: Vec::with_capacity(alloc, denials)?,

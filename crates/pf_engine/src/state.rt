@@ -2,9 +2,9 @@ ghost use Rattle.std.specs.Prelude.{◌≡◌, ◌+◌, ◌^◌, ◌<◌, ◌≤
 ghost use Rattle.std.specs.Result.{result_err};
 ghost use Rattle.pf_admit.specs.Member.{IsMember};
 ghost use Rattle.pf_run.specs.Inside.{eligible_from};
-ghost use Rattle.pf_run.specs.Run.{pick_of};
+ghost use Rattle.pf_run.specs.Run.{pick_of_key};
 ghost use Rattle.pf_engine.specs.Fits.{kept_after};
-ghost use Rattle.pf_engine.specs.Kept.{denial_at, kept_after_event, kept_after_events, denials_in, ready_keys, kept_after_picks};
+ghost use Rattle.pf_engine.specs.Kept.{denial_at, kept_after_event, kept_after_events, denials_of_slot, ready_keys, kept_after_picks};
 ghost use Rattle.pf_engine.specs.Engines.{IsEngine};
 ghost use Rattle.pf_engine.specs.Points.{IsAt};
 ghost use Rattle.pf_engine.specs.Taking.{CanTakeEvent, Advances};
@@ -44,7 +44,7 @@ pub(crate) struct State {
 
 impl State {
     ghost use Rattle.pf_engine.specs.Keeping.{kept_of};
-    ghost use Rattle.pf_engine.specs.Rooms.{HasRoom};
+    ghost use Rattle.pf_engine.specs.Rooms.{HasSlotRoom};
 
     /// Before any slot.
     ///
@@ -91,7 +91,7 @@ impl State {
         requires few { length self.old.tasks.tasks + events < 2 ^ 64 }
         ensures same { kept_of self.new ≡ kept_of self.old }
         ensures spare { OnOk result (events ≤ self.new.tasks.spare) }
-        ensures room { IfOk result (HasRoom events (length self.old.tasks.tasks + events) self.old.settings.processors) }
+        ensures room { IfOk result (HasSlotRoom events (length self.old.tasks.tasks + events) self.old.settings.processors) }
     {
         let keys = self.tasks.len() + events;
         let picks = self.settings.processors() as usize;
@@ -104,7 +104,7 @@ impl State {
     pub(crate) fn advance(&mut self, meter: &mut Meter, events: &[Numbered], room: Room) -> Outcome
         requires at { IsAt (kept_of self.old) events.now }
         requires spare { length events.now ≤ self.old.tasks.spare }
-        requires room { HasRoom (length events.now) (length self.old.tasks.tasks + length events.now) self.old.settings.processors room }
+        requires room { HasSlotRoom (length events.now) (length self.old.tasks.tasks + length events.now) self.old.settings.processors room }
         ensures advances { Advances (kept_of self.old) events.now result (kept_of self.new) }
         ensures slots { meter.new.slots ≡ meter.old.slots }
         ensures compared { meter.old.compared ≤ meter.new.compared }
@@ -218,7 +218,7 @@ impl State {
         requires spare { length events.now ≤ self.old.tasks.spare }
         requires room { vec_len denials.old + length events.now ≤ vec_capacity denials.old }
         ensures state { kept_of self.new ≡ kept_after_events (kept_of self.old) events.now }
-        ensures denials { denials.new.items ≡ denials.old.items ++ denials_in (kept_of self.old) events.now }
+        ensures denials { denials.new.items ≡ denials.old.items ++ denials_of_slot (kept_of self.old) events.now }
     {
         for x in events {
             if let Err(denial) = self.take_event(x.event) {
@@ -250,8 +250,8 @@ impl State {
     fn run(&mut self, keys: &[Key], picks: &mut Vec<Pick>)
         requires below { self.old.slots ≤ 2 ^ 22 }
         requires room { vec_len picks.old + length keys.now ≤ vec_capacity picks.old }
-        ensures state { kept_of self.new ≡ kept_after_picks (kept_of self.old) (map pick_of keys.now) }
-        ensures picks { picks.new.items ≡ picks.old.items ++ map pick_of keys.now }
+        ensures state { kept_of self.new ≡ kept_after_picks (kept_of self.old) (map pick_of_key keys.now) }
+        ensures picks { picks.new.items ≡ picks.old.items ++ map pick_of_key keys.now }
     {
         for key in keys {
             let pick = Pick {

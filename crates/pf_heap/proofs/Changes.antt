@@ -7,10 +7,10 @@ use Rattle.std.specs.FinSet as fin
 use Rattle.pf_order.specs.Priority.{Priority}
 use Rattle.pf_order.specs.Counts.{Counts}
 use Rattle.pf_heap.specs.declared.node.Node.{Node}
-use Rattle.pf_heap.specs.Forest.{Forest, none, tree, nowhere, head, weigh, same, one_each, at_place, of_task, size}
+use Rattle.pf_heap.specs.Forest.{Forest, none, tree, nowhere, head, forest_weight, same, one_each, at_place, of_task, size}
 use Rattle.pf_heap.specs.Memory.{no_node, node_at, Stands, Part, root, weigh_all, Parts}
 use Rattle.pf_heap.specs.Steps.{HasTwoHeaps, IsMerged}
-use Rattle.pf_heap.specs.Pops.{IsChain}
+use Rattle.pf_heap.specs.Pops.{AreChildless}
 use Rattle.pf_heap.specs.Keys.{Heaps, list_of, with_list, IsHeld}
 use Rattle.pf_heap.specs.View.{keys, lists_at}
 use Rattle.pf_heap.specs.Digits.{digits}
@@ -64,7 +64,7 @@ settled_push nodes free key can out low =
 
 module _ (old new : List Node) (free next : ℕ) (key : Priority) (others : List Part) (some : free ≢ nowhere) (written : new ≡ set old free (fresh key))
     (next_is : next ≡ (node_at old free).sibling) (small : length old < 2 ^ 32) where
-  settled_by : (spares : Forest) → free ≡ head spares → IsChain spares → Parts old (root spares ∷ others) → IsSettled old new spares others key free next
+  settled_by : (spares : Forest) → free ≡ head spares → AreChildless spares → Parts old (root spares ∷ others) → IsSettled old new spares others key free next
   settled_by none is chain parts = absurd (some is)
   settled_by (tree at k r kids rest) is chain parts =
       let s = parts.stand.0 in
@@ -141,7 +141,7 @@ module _ {nodes : List Node} {heads places : List ℕ} {free room capacity : ℕ
             arith,
             p.once k,
             weigh_all-set (at_place k) (set a.heaps from none) into none in_rest,
-            ap (λ f. weigh (at_place k) f) other_kept,
+            ap (λ f. forest_weight (at_place k) f) other_kept,
           );
         };
       }
@@ -158,7 +158,7 @@ module _ {nodes : List Node} {heads places : List ℕ} {free room capacity : ℕ
               meld_merge.kept w,
               weigh_all-set w a.heaps from none (heap_in a seen j_is from_in second_read),
               weigh_all-set w (set a.heaps from none) into meld_merge.heap in_rest,
-              ap (λ f. weigh w f) other_kept,
+              ap (λ f. forest_weight w f) other_kept,
             )
 
         melded_arena : IsArena new (set (set heads from nowhere) into link) places free room capacity

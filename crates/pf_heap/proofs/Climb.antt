@@ -6,17 +6,17 @@ use Rattle.std.proofs.lemmas.Bool.{cases_lt}
 use Rattle.std.proofs.lemmas.List.{get_or_past}
 use Rattle.pf_order.specs.Priority.{Priority}
 use Rattle.pf_heap.specs.declared.node.Node.{Node}
-use Rattle.pf_heap.specs.Forest.{Forest, none, tree, nowhere, head, weigh, same, at_place, of_task, size, Rises}
+use Rattle.pf_heap.specs.Forest.{Forest, none, tree, nowhere, head, forest_weight, same, at_place, of_task, size, Rises}
 use Rattle.pf_heap.specs.Memory.{no_node, node_at, Stands, Part, root, Parts}
 use Rattle.pf_heap.specs.Invariant.{misplaced}
-use Rattle.pf_heap.specs.Hoist.{pushed, lowered, with_upper_key, IsClimbing, CanHoist, IsHoisting}
+use Rattle.pf_heap.specs.Hoist.{forest_with_parent, forest_lowered, with_upper_key, IsClimbing, CanHoist, IsHoisting}
 use Rattle.pf_heap.proofs.Forests.{same-self, same-other, equal_from_same}
 use Rattle.pf_heap.proofs.Standing.{head_within, stand_all-set}
 use Rattle.pf_heap.proofs.Weights.{sizes-le-length}
 use Rattle.pf_order.specs.Counts.{Counts}
 use Rattle.pf_heap.specs.Pops.{HasHeap, CanPop, IsPopped}
 use Rattle.pf_heap.specs.Hoist.{IsLooking, CanCut, IsCutOut}
-use Rattle.pf_heap.proofs.Forests.{size_from_rises, weigh-le}
+use Rattle.pf_heap.proofs.Forests.{size_from_rises, forest_weight-le}
 use Rattle.pf_heap.proofs.Sums.{none_from_link, rises_less}
 use Rattle.pf_heap.proofs.Lower.{parent_in, parent_stands_in, node_within, node_weighs, rank_of_rises, inner_parent, IsRootIn, root_with_no_parent, lowered_rises, head-lowered, head-pushed, lowered_places, lowered_weighs, is_node, hit, miss}
 
@@ -25,7 +25,7 @@ use Rattle.pf_heap.proofs.Lower.{parent_in, parent_stands_in, node_within, node_
 pub climb_begun : (nodes : List Node) (at : ℕ) → IsClimbing nodes at at 0
 climb_begun nodes at = record { above = λ f s h. h; high = omega arith }
 
-pub climb_step : (nodes : List Node) (at now steps : ℕ) (heap : Forest) → Rises 0 heap → Stands nodes nowhere heap → 1 ≤ weigh (at_place at) heap →
+pub climb_step : (nodes : List Node) (at now steps : ℕ) (heap : Forest) → Rises 0 heap → Stands nodes nowhere heap → 1 ≤ forest_weight (at_place at) heap →
     (node_at nodes now).parent ≢ nowhere → IsClimbing nodes at now steps → IsClimbing nodes at (node_at nodes now).parent (steps + 1)
 climb_step nodes at now steps heap rises s has some t = record {
   above = λ f sf h. parent_stands_in nodes now f sf (t.above f sf h) some;
@@ -33,7 +33,7 @@ climb_step nodes at now steps heap rises s has some t = record {
 }
 
 pub not_so_high : (nodes : List Node) (now : ℕ) (heap : Forest) (others : List Part) → length nodes < 2 ^ 32 → Parts nodes (root heap ∷ others) → Rises 0 heap →
-    1 ≤ weigh (at_place now) heap → 32 ≤ (node_at nodes now).rank → ⊥
+    1 ≤ forest_weight (at_place now) heap → 32 ≤ (node_at nodes now).rank → ⊥
 not_so_high nodes now heap others small parts rises has high =
     absurd (omega (arith, pow_mono high, rank_of_rises nodes 0 now heap rises parts.stand.0 has, sizes-le-length nodes (root heap ∷ others) parts))
 
@@ -53,7 +53,7 @@ look_begun nodes link at can = record {
 module _ (nodes : List Node) (heap : Forest) (at link next steps : ℕ) (small : length nodes < 2 ^ 32) (top : (node_at nodes at).parent ≡ nowhere)
     (somewhere : link ≢ nowhere) where
   look_by : link ≢ at → next ≡ (node_at nodes link).sibling → (rest : Forest) → link ≡ head rest → Stands nodes nowhere rest → Rises steps rest → size rest ≤ size heap →
-      (1 ≤ weigh (at_place at) heap → 1 ≤ weigh (at_place at) rest) → (1 ≤ weigh (at_place at) rest → 1 ≤ weigh (at_place at) heap) →
+      (1 ≤ forest_weight (at_place at) heap → 1 ≤ forest_weight (at_place at) rest) → (1 ≤ forest_weight (at_place at) rest → 1 ≤ forest_weight (at_place at) heap) →
       IsLooking nodes heap at next (steps + 1)
   look_by differ next_is none is s rises smaller out into = absurd (somewhere is)
   look_by differ next_is (tree i k r f rest) is s rises smaller out into = record {
@@ -68,39 +68,39 @@ module _ (nodes : List Node) (heap : Forest) (at link next steps : ℕ) (small :
         ⊎_elim
         (λ inside. absurd (omega (arith, top, inner_parent nodes i at f small (omega (arith, s.0)) s.2 (omega (arith, inside)))))
         (λ outside. omega (arith, whole, not_here, outside))
-        (cases_lt 0 (weigh (at_place at) f));
+        (cases_lt 0 (forest_weight (at_place at) f));
     into = λ h. into (omega (arith, h));
   }
 
   pub look_step : link ≢ at → next ≡ (node_at nodes link).sibling → IsLooking nodes heap at link steps → IsLooking nodes heap at next (steps + 1)
   look_step differ next_is t = look_by differ next_is t.rest t.rest_is t.stands t.rises t.smaller t.out t.into
 
-  found_by : link ≡ at → (rest : Forest) → link ≡ head rest → (1 ≤ weigh (at_place at) rest → 1 ≤ weigh (at_place at) heap) → 1 ≤ weigh (at_place at) heap
+  found_by : link ≡ at → (rest : Forest) → link ≡ head rest → (1 ≤ forest_weight (at_place at) rest → 1 ≤ forest_weight (at_place at) heap) → 1 ≤ forest_weight (at_place at) heap
   found_by here none is into = absurd (somewhere is)
   found_by here (tree i k r f rest) is into = into (omega (arith, same-self i, ap (λ x. same x i) (sym is ∙ here)))
 
-  pub look_found : link ≡ at → IsLooking nodes heap at link steps → 1 ≤ weigh (at_place at) heap
+  pub look_found : link ≡ at → IsLooking nodes heap at link steps → 1 ≤ forest_weight (at_place at) heap
   look_found here t = found_by here t.rest t.rest_is t.into
 
 module _ {nodes : List Node} {heap : Forest} {at rest_link steps : ℕ} (t : IsLooking nodes heap at rest_link steps) where
   pub looking_within : rest_link ≢ nowhere → rest_link < length nodes
   looking_within some = head_within nodes nowhere t.rest rest_link t.stands t.rest_is some
 
-  missed_by : t.rest ≡ none → 1 ≤ weigh (at_place at) heap → ⊥
-  missed_by done h = absurd (omega (arith, t.out h, ap (λ f. weigh (at_place at) f) done))
+  missed_by : t.rest ≡ none → 1 ≤ forest_weight (at_place at) heap → ⊥
+  missed_by done h = absurd (omega (arith, t.out h, ap (λ f. forest_weight (at_place at) f) done))
 
   -- at the end of the roots, and after as many steps as there are ranks
-  pub missed_out : length nodes < 2 ^ 32 → rest_link ≡ nowhere → 1 ≤ weigh (at_place at) heap → ⊥
+  pub missed_out : length nodes < 2 ^ 32 → rest_link ≡ nowhere → 1 ≤ forest_weight (at_place at) heap → ⊥
   missed_out small out = missed_by (none_from_link nodes nowhere rest_link t.rest small t.stands t.rest_is out)
 
-  pub missed_all : {others : List Part} → 32 ≤ steps → length nodes < 2 ^ 32 → Parts nodes (root heap ∷ others) → 1 ≤ weigh (at_place at) heap → ⊥
+  pub missed_all : {others : List Part} → 32 ≤ steps → length nodes < 2 ^ 32 → Parts nodes (root heap ∷ others) → 1 ≤ forest_weight (at_place at) heap → ⊥
   missed_all {others} all small parts =
       missed_by
       (⊎_elim (λ h. h) (λ h. absurd (omega (arith, h, pow_mono all, t.smaller, sizes-le-length nodes (root heap ∷ others) parts))) (size_from_rises steps t.rest t.rises))
 
 -- ---- one node down
 
-pushed_stands : (nodes : List Node) (up h : ℕ) (p : Priority) (f : Forest) → Stands nodes up f → (node_at nodes up).key ≡ p → Stands (with_upper_key nodes h) up (pushed h p f)
+pushed_stands : (nodes : List Node) (up h : ℕ) (p : Priority) (f : Forest) → Stands nodes up f → (node_at nodes up).key ≡ p → Stands (with_upper_key nodes h) up (forest_with_parent h p f)
 pushed_stands nodes up h p none s up_key = tt
 pushed_stands nodes up h p (tree at key rank kids rest) s up_key =
     let v : Node = record (node_at nodes h) { key = (node_at nodes (node_at nodes h).parent).key } in
@@ -116,7 +116,7 @@ pushed_stands nodes up h p (tree at key rank kids rest) s up_key =
     let within : h < length nodes = omega (arith, e, s.0) in
     let k : (node_at nodes (node_at nodes h).parent).key ≡ cond (eqb h at) p key =
     (λ i. (node_at nodes (n i).parent).key) ∙ up_key ∙ ap (λ b. cond b p key) (sym (hit h at (omega (arith, here)))) in
-    let is : node_at (set nodes h v) at ≡ record { key = cond (eqb h at) p key; parent = up; child = head (pushed h key kids); sibling = head (pushed h p rest); rank = rank } =
+    let is : node_at (set nodes h v) at ≡ record { key = cond (eqb h at) p key; parent = up; child = head (forest_with_parent h key kids); sibling = head (forest_with_parent h p rest); rank = rank } =
     ap (λ x. node_at (set nodes h v) x) (sym e) ∙ get_or-set_same nodes h v no_node within
     ∙ (λ i. record (n i) { key = k i })
     ∙ (λ i. record { key = cond (eqb h at) p key; parent = up; child = sym hk i; sibling = sym hr i; rank = rank }) in
@@ -124,13 +124,13 @@ pushed_stands nodes up h p (tree at key rank kids rest) s up_key =
     (λ other.
     let no = miss h at (omega (arith, other)) in
     let differ : at ≢ h = λ e. absurd (omega (arith, other, same-self h, ap (λ x. same h x) e)) in
-    let is : node_at (set nodes h v) at ≡ record { key = cond (eqb h at) p key; parent = up; child = head (pushed h key kids); sibling = head (pushed h p rest); rank = rank } =
+    let is : node_at (set nodes h v) at ≡ record { key = cond (eqb h at) p key; parent = up; child = head (forest_with_parent h key kids); sibling = head (forest_with_parent h p rest); rank = rank } =
     get_or-set_other nodes h at v no_node differ ∙ s.1
     ∙ (λ i. record { key = cond (sym no i) p key; parent = up; child = sym hk i; sibling = sym hr i; rank = rank }) in
     (omega (arith, s.0, long), is, below, beside))
     (cases_lt 0 (same h at))
 
-lowered_stands : (nodes : List Node) (h : ℕ) (f : Forest) → (node_at nodes h).parent ≢ nowhere → Stands nodes nowhere f → Stands (with_upper_key nodes h) nowhere (lowered h f)
+lowered_stands : (nodes : List Node) (h : ℕ) (f : Forest) → (node_at nodes h).parent ≢ nowhere → Stands nodes nowhere f → Stands (with_upper_key nodes h) nowhere (forest_lowered h f)
 lowered_stands nodes h none some s = tt
 lowered_stands nodes h (tree at key rank kids rest) some s =
     let v : Node = record (node_at nodes h) { key = (node_at nodes (node_at nodes h).parent).key } in
@@ -141,8 +141,8 @@ lowered_stands nodes h (tree at key rank kids rest) some s =
       lowered_stands nodes h rest some s.3,
     )
 
-pub lowered_parts : (nodes : List Node) (h : ℕ) (f : Forest) (ps : List Part) → (node_at nodes h).parent ≢ nowhere → 1 ≤ weigh (at_place h) f →
-    Parts nodes (root f ∷ ps) → Parts (with_upper_key nodes h) (root (lowered h f) ∷ ps)
+pub lowered_parts : (nodes : List Node) (h : ℕ) (f : Forest) (ps : List Part) → (node_at nodes h).parent ≢ nowhere → 1 ≤ forest_weight (at_place h) f →
+    Parts nodes (root f ∷ ps) → Parts (with_upper_key nodes h) (root (forest_lowered h f) ∷ ps)
 lowered_parts nodes h f ps some has parts = record {
   stand = (lowered_stands nodes h f some parts.stand.0, stand_all-set nodes h _ ps (omega (arith, parts.once h, has)) parts.stand.1);
   once = λ i. omega (arith, parts.once i, lowered_places (λ at. same i at) h f);
@@ -162,13 +162,13 @@ module _ (u m : ℕ → Priority → ℕ) (nodes : List Node) (h : ℕ) (here : 
       ap (λ b. u at (cond b p key)) (miss h at (omega (arith, other))) ∙ elsewhere at key differ nothing)
       (cases_lt 0 (same h at))
 
-  pushed_zero : (up : ℕ) (p : Priority) (f : Forest) → Stands nodes up f → (node_at nodes up).key ≡ p → weigh m f ≡ 0 → weigh u (pushed h p f) ≡ 0
+  pushed_zero : (up : ℕ) (p : Priority) (f : Forest) → Stands nodes up f → (node_at nodes up).key ≡ p → forest_weight m f ≡ 0 → forest_weight u (forest_with_parent h p f) ≡ 0
   pushed_zero up p none s up_key nothing = refl
   pushed_zero up p (tree at key rank kids rest) s up_key nothing =
       let own = chosen_zero at p key (λ e. (λ i. (node_at nodes (is_node nodes h at _ e s.1 i).parent).key) ∙ up_key) (omega (arith, nothing)) in
       omega (arith, own, pushed_zero at key kids s.2 (ap (λ (x : Node). x.key) s.1) (omega (arith, nothing)), pushed_zero up p rest s.3 up_key (omega (arith, nothing)))
 
-  pub lowered_zero : (f : Forest) → Stands nodes nowhere f → (node_at nodes h).parent ≢ nowhere → weigh m f ≡ 0 → weigh u (lowered h f) ≡ 0
+  pub lowered_zero : (f : Forest) → Stands nodes nowhere f → (node_at nodes h).parent ≢ nowhere → forest_weight m f ≡ 0 → forest_weight u (forest_lowered h f) ≡ 0
   lowered_zero none s some nothing = refl
   lowered_zero (tree at key rank kids rest) s some nothing =
       let differ : at ≢ h = λ e. some (ap (λ x. (node_at nodes x).parent) (sym e) ∙ ap (λ (x : Node). x.parent) s.1) in
@@ -194,7 +194,7 @@ hoist_begun nodes places at can = record {
   kept_size = refl;
   tasks = λ t h. h;
   places_long = refl;
-  placed = omega (arith, can.placed, weigh-le (λ i k. misplaced places i k - same at i) (misplaced places) can.heap (λ i k. omega arith));
+  placed = omega (arith, can.placed, forest_weight-le (λ i k. misplaced places i k - same at i) (misplaced places) can.heap (λ i k. omega arith));
   other_places = λ t h. refl;
   as_present = λ t. refl;
 }
@@ -222,7 +222,7 @@ module _ (old nodes new : List Node) (places spots marks : List ℕ) (heap : For
   up : ℕ
   up = (node_at nodes hole).parent
 
-  up_in : (1 ≤ weigh (at_place (node_at nodes hole).parent) t.now) × ((node_at nodes hole).rank < (node_at nodes (node_at nodes hole).parent).rank)
+  up_in : (1 ≤ forest_weight (at_place (node_at nodes hole).parent) t.now) × ((node_at nodes hole).rank < (node_at nodes (node_at nodes hole).parent).rank)
   up_in = parent_in nodes 0 hole t.now t.rises t.parts.stand.0 t.has some
 
   differ : (node_at nodes hole).parent ≢ hole
@@ -241,7 +241,7 @@ module _ (old nodes new : List Node) (places spots marks : List ℕ) (heap : For
   low_up : (node_at nodes (node_at nodes hole).parent).key.task < length spots
   low_up = upper_low t some
 
-  one_hole : weigh (at_place hole) t.now ≡ 1
+  one_hole : forest_weight (at_place hole) t.now ≡ 1
   one_hole = omega (arith, t.has, t.parts.once hole)
 
   mark_here : get_or marks (node_at nodes (node_at nodes hole).parent).key.task nowhere ≡ hole
@@ -277,12 +277,12 @@ module _ (old nodes new : List Node) (places spots marks : List ℕ) (heap : For
       let new_up : node_at new (node_at nodes hole).parent ≡ node_at nodes (node_at nodes hole).parent =
       ap (λ ns. node_at ns (node_at nodes hole).parent) written ∙ up_same in
       record {
-        now = lowered hole t.now;
+        now = forest_lowered hole t.now;
         head_is = head-lowered hole t.now ∙ t.head_is;
         rises = lowered_rises hole 0 t.now t.rises;
         has = omega (arith, up_in.0, lowered_places (λ i. same (node_at nodes hole).parent i) hole t.now);
         high = omega (arith, t.high, up_in.1, ap (λ (n : Node). n.rank) new_up);
-        parts = subst (λ ns. Parts ns (root (lowered hole t.now) ∷ others)) (sym written) (lowered_parts nodes hole t.now others some t.has t.parts);
+        parts = subst (λ ns. Parts ns (root (forest_lowered hole t.now) ∷ others)) (sym written) (lowered_parts nodes hole t.now others some t.has t.parts);
         kept = λ v. omega (arith, t.kept v, lowered_weighs (λ _ k. v k) nodes hole t.now t.parts.stand.0 some one_hole, ap (λ (n : Node). v n.key) new_up);
         kept_size = lowered_places (λ _. 1) hole t.now ∙ t.kept_size;
         tasks = λ k h. omega (
@@ -348,7 +348,7 @@ can_hoist can = record {
   parts = can.parts;
 }
 
-unseen : (h : ℕ) (v w : ℕ → Priority → ℕ) (f : Forest) → ((i : ℕ) (k : Priority) → i ≢ h → v i k ≡ w i k) → weigh (at_place h) f ≡ 0 → weigh v f ≡ weigh w f
+unseen : (h : ℕ) (v w : ℕ → Priority → ℕ) (f : Forest) → ((i : ℕ) (k : Priority) → i ≢ h → v i k ≡ w i k) → forest_weight (at_place h) f ≡ 0 → forest_weight v f ≡ forest_weight w f
 unseen h v w none e unused = refl
 unseen h v w (tree at key rank kids rest) e unused =
     let d : at ≢ h = λ z. absurd (omega (arith, unused, same-self h, ap (λ x. same h x) z)) in
@@ -388,7 +388,7 @@ module _ {old nodes : List Node} {places spots : List ℕ} {link at free hole : 
     kept = λ v. omega (arith, p.kept (λ _ k. v k), t.kept v);
     places_long = t.places_long;
     placed =
-        let gone : weigh (at_place hole) p.heap ≡ 0 = omega (arith, p.parts.once hole, same-self hole) in
+        let gone : forest_weight (at_place hole) p.heap ≡ 0 = omega (arith, p.parts.once hole, same-self hole) in
         omega (
           arith,
           t.placed,

@@ -8,7 +8,7 @@ use Rattle.std.specs.declared.cmp.Ordering.TheVariants.{Less, Equal, Greater}
 use Rattle.std.specs.Ordering.{is_lt, is_gt, ordering_reverse}
 use Rattle.pf_order.specs.Priority.{Priority, precedes, priority_cmp}
 use Rattle.pf_order.proofs.Order.{priority_cmp_total}
-use Rattle.pf_heap.specs.Forest.{Forest, none, tree, weigh, same, size, IsBelow, AllBelow, Falls, Rises, IsTreeOrNone}
+use Rattle.pf_heap.specs.Forest.{Forest, none, tree, forest_weight, same, size, IsBelow, AllBelow, Falls, Rises, IsTreeOrNone}
 
 -- ---- numbers
 
@@ -89,20 +89,20 @@ size_from_tree r (tree at key rank kids (tree at' key' rank' kids' rest')) h = a
 
 -- ---- weights
 
-pub weigh-ext : (v w : ℕ → Priority → ℕ) (f : Forest) → ((at : ℕ) (key : Priority) → v at key ≡ w at key) → weigh v f ≡ weigh w f
-weigh-ext v w none e = refl
-weigh-ext v w (tree at key rank kids rest) e =
-    omega (arith, e at key, weigh-ext v w kids e, weigh-ext v w rest e)
+pub forest_weight-ext : (v w : ℕ → Priority → ℕ) (f : Forest) → ((at : ℕ) (key : Priority) → v at key ≡ w at key) → forest_weight v f ≡ forest_weight w f
+forest_weight-ext v w none e = refl
+forest_weight-ext v w (tree at key rank kids rest) e =
+    omega (arith, e at key, forest_weight-ext v w kids e, forest_weight-ext v w rest e)
 
-pub weigh-add : (u v w : ℕ → Priority → ℕ) (f : Forest) → ((at : ℕ) (key : Priority) → w at key ≡ u at key + v at key) → weigh w f ≡ weigh u f + weigh v f
-weigh-add u v w none e = refl
-weigh-add u v w (tree at key rank kids rest) e =
-    omega (arith, e at key, weigh-add u v w kids e, weigh-add u v w rest e)
+pub forest_weight-add : (u v w : ℕ → Priority → ℕ) (f : Forest) → ((at : ℕ) (key : Priority) → w at key ≡ u at key + v at key) → forest_weight w f ≡ forest_weight u f + forest_weight v f
+forest_weight-add u v w none e = refl
+forest_weight-add u v w (tree at key rank kids rest) e =
+    omega (arith, e at key, forest_weight-add u v w kids e, forest_weight-add u v w rest e)
 
-pub weigh-zero : (w : ℕ → Priority → ℕ) (f : Forest) → ((at : ℕ) (key : Priority) → w at key ≡ 0) → weigh w f ≡ 0
-weigh-zero w none e = refl
-weigh-zero w (tree at key rank kids rest) e = omega (arith, e at key, weigh-zero w kids e, weigh-zero w rest e)
+pub forest_weight-zero : (w : ℕ → Priority → ℕ) (f : Forest) → ((at : ℕ) (key : Priority) → w at key ≡ 0) → forest_weight w f ≡ 0
+forest_weight-zero w none e = refl
+forest_weight-zero w (tree at key rank kids rest) e = omega (arith, e at key, forest_weight-zero w kids e, forest_weight-zero w rest e)
 
-pub weigh-le : (v w : ℕ → Priority → ℕ) (f : Forest) → ((at : ℕ) (key : Priority) → v at key ≤ w at key) → weigh v f ≤ weigh w f
-weigh-le v w none e = omega arith
-weigh-le v w (tree at key rank kids rest) e = omega (arith, e at key, weigh-le v w kids e, weigh-le v w rest e)
+pub forest_weight-le : (v w : ℕ → Priority → ℕ) (f : Forest) → ((at : ℕ) (key : Priority) → v at key ≤ w at key) → forest_weight v f ≤ forest_weight w f
+forest_weight-le v w none e = omega arith
+forest_weight-le v w (tree at key rank kids rest) e = omega (arith, e at key, forest_weight-le v w kids e, forest_weight-le v w rest e)

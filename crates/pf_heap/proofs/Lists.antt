@@ -8,7 +8,7 @@ use Rattle.std.proofs.Math.ListN.{replicate}
 use Rattle.std.proofs.Math.Seq.{take-append_seam}
 use Rattle.pf_order.specs.Priority.{Priority}
 use Rattle.pf_heap.specs.declared.node.Node.{Node}
-use Rattle.pf_heap.specs.Forest.{Forest, none, tree, nowhere, weigh, same, one_each, at_place, of_task, size, Rises}
+use Rattle.pf_heap.specs.Forest.{Forest, none, tree, nowhere, forest_weight, same, one_each, at_place, of_task, size, Rises}
 use Rattle.pf_heap.specs.Memory.{no_node, node_at, Stands, Part, root, weigh_all, StandAll, Parts}
 use Rattle.pf_heap.specs.Invariant.{AllRise, all_roots, misplaced}
 use Rattle.pf_heap.proofs.Forests.{same-self, same-other, equal_from_same}
@@ -29,15 +29,15 @@ length-map_at f [] = refl
 length-map_at f (x ∷ xs) = ap suc (length-map_at f xs)
 
 pub weigh_all-set : (w : ℕ → Priority → ℕ) (fs : List Forest) (k : ℕ) (g : Forest) → k < length fs →
-    weigh_all w (all_roots (set fs k g)) + weigh w (get_or fs k none) ≡ weigh_all w (all_roots fs) + weigh w g
+    weigh_all w (all_roots (set fs k g)) + forest_weight w (get_or fs k none) ≡ weigh_all w (all_roots fs) + forest_weight w g
 weigh_all-set w [] k g h = absurd (omega (arith, h))
 weigh_all-set w (f ∷ fs) zero g h = omega arith
 weigh_all-set w (f ∷ fs) (suc k) g h = omega (arith, weigh_all-set w fs k g (omega (arith, h)))
 
-pub weigh-le-all : (w : ℕ → Priority → ℕ) (fs : List Forest) (k : ℕ) → weigh w (get_or fs k none) ≤ weigh_all w (all_roots fs)
-weigh-le-all w [] k = omega arith
-weigh-le-all w (f ∷ fs) zero = omega arith
-weigh-le-all w (f ∷ fs) (suc k) = omega (arith, weigh-le-all w fs k)
+pub forest_weight-le-all : (w : ℕ → Priority → ℕ) (fs : List Forest) (k : ℕ) → forest_weight w (get_or fs k none) ≤ weigh_all w (all_roots fs)
+forest_weight-le-all w [] k = omega arith
+forest_weight-le-all w (f ∷ fs) zero = omega arith
+forest_weight-le-all w (f ∷ fs) (suc k) = omega (arith, forest_weight-le-all w fs k)
 
 pub stands_in : (nodes : List Node) (fs : List Forest) (k : ℕ) → StandAll nodes (all_roots fs) → Stands nodes nowhere (get_or fs k none)
 stands_in nodes [] k s = tt
@@ -78,16 +78,16 @@ module _ {nodes : List Node} (spares : Forest) (fs : List Forest) (k : ℕ) (wit
 
 -- ---- weights that differ at one task alone
 
-weigh-ext_but : (t : ℕ) (v w : ℕ → Priority → ℕ) (f : Forest) → ((at : ℕ) (key : Priority) → key.task ≢ t → v at key ≡ w at key) → weigh (of_task t) f ≡ 0 → weigh v f ≡ weigh w f
-weigh-ext_but t v w none e h = refl
-weigh-ext_but t v w (tree at key rank kids rest) e h =
+forest_weight-ext_but : (t : ℕ) (v w : ℕ → Priority → ℕ) (f : Forest) → ((at : ℕ) (key : Priority) → key.task ≢ t → v at key ≡ w at key) → forest_weight (of_task t) f ≡ 0 → forest_weight v f ≡ forest_weight w f
+forest_weight-ext_but t v w none e h = refl
+forest_weight-ext_but t v w (tree at key rank kids rest) e h =
     let differ : key.task ≢ t = λ i. absurd (omega (arith, h, same-self t, ap (λ x. same t x) i)) in
-    omega (arith, e at key differ, weigh-ext_but t v w kids e (omega (arith, h)), weigh-ext_but t v w rest e (omega (arith, h)))
+    omega (arith, e at key differ, forest_weight-ext_but t v w kids e (omega (arith, h)), forest_weight-ext_but t v w rest e (omega (arith, h)))
 
 pub weigh_all-ext_but : (t : ℕ) (v w : ℕ → Priority → ℕ) (ps : List Part) → ((at : ℕ) (key : Priority) → key.task ≢ t → v at key ≡ w at key) → weigh_all (of_task t) ps ≡ 0 → weigh_all v ps ≡ weigh_all w ps
 weigh_all-ext_but t v w [] e h = refl
 weigh_all-ext_but t v w (p ∷ ps) e h =
-    omega (arith, weigh-ext_but t v w p.1 e (omega (arith, h)), weigh_all-ext_but t v w ps e (omega (arith, h)))
+    omega (arith, forest_weight-ext_but t v w p.1 e (omega (arith, h)), weigh_all-ext_but t v w ps e (omega (arith, h)))
 
 -- ---- one task's place is written
 
@@ -105,7 +105,7 @@ replaced places t at ps absent =
 
 -- ---- as many keys as tasks at most
 
-low_tasks : (n : ℕ) (f : Forest) → ((t : ℕ) → n ≤ t → weigh (of_task t) f ≡ 0) → weigh (λ at key. upto n key.task) f ≡ size f
+low_tasks : (n : ℕ) (f : Forest) → ((t : ℕ) → n ≤ t → forest_weight (of_task t) f ≡ 0) → forest_weight (λ at key. upto n key.task) f ≡ size f
 low_tasks n none h = refl
 low_tasks n (tree at key rank kids rest) h =
     let low : key.task < n = ⊎_elim (λ lt. lt) (λ ge. absurd (omega (arith, h key.task ge, same-self key.task))) (cases_lt key.task n) in
@@ -134,7 +134,7 @@ pub stand_all-push : (nodes : List Node) (v : Node) (ps : List Part) → StandAl
 stand_all-push nodes v [] s = tt
 stand_all-push nodes v (p ∷ ps) s = (stands-push nodes v p.0 p.1 s.0, stand_all-push nodes v ps s.1)
 
-past : (nodes : List Node) (up : ℕ) (f : Forest) → Stands nodes up f → weigh (at_place (length nodes)) f ≡ 0
+past : (nodes : List Node) (up : ℕ) (f : Forest) → Stands nodes up f → forest_weight (at_place (length nodes)) f ≡ 0
 past nodes up none s = refl
 past nodes up (tree at key rank kids rest) s =
     omega (arith, same-other (length nodes) at (λ e. absurd (omega (arith, s.0, e))), past nodes at kids s.2, past nodes up rest s.3)
@@ -144,13 +144,13 @@ all_past nodes [] s = refl
 all_past nodes (p ∷ ps) s = omega (arith, past nodes p.0 p.1 s.0, all_past nodes ps s.1)
 
 -- some heap weighs something where all together do
-pub some_heap : (w : ℕ → Priority → ℕ) (fs : List Forest) → 1 ≤ weigh_all w (all_roots fs) → (k : ℕ) × (k < length fs) × (1 ≤ weigh w (get_or fs k none))
+pub some_heap : (w : ℕ → Priority → ℕ) (fs : List Forest) → 1 ≤ weigh_all w (all_roots fs) → (k : ℕ) × (k < length fs) × (1 ≤ forest_weight w (get_or fs k none))
 some_heap w [] h = absurd (omega (arith, h))
 some_heap w (f ∷ fs) h =
     ⊎_elim
     (λ lt. (0, omega arith, lt))
     (λ le. let m = some_heap w fs (omega (arith, h, le)) in (suc m.0, omega (arith, m.1), m.2))
-    (cases_lt 0 (weigh w f))
+    (cases_lt 0 (forest_weight w f))
 
 -- ---- tests
 
@@ -172,7 +172,7 @@ all_nowhere (suc n) (suc t) = all_nowhere n t
 
 pub weigh_all-none : (w : ℕ → Priority → ℕ) (fs : List Forest) → weigh_all w (all_roots (fs ++ none ∷ [])) ≡ weigh_all w (all_roots fs)
 weigh_all-none w [] = refl
-weigh_all-none w (f ∷ fs) = ap (λ n. weigh w f + n) (weigh_all-none w fs)
+weigh_all-none w (f ∷ fs) = ap (λ n. forest_weight w f + n) (weigh_all-none w fs)
 
 pub all_rise-none : (fs : List Forest) → AllRise fs → AllRise (fs ++ none ∷ [])
 all_rise-none [] r = (tt, tt)
@@ -184,29 +184,29 @@ stand_all-none nodes (f ∷ fs) s = (s.0, stand_all-none nodes fs s.1)
 
 -- ---- two heaps of the list
 
-pub two-le-all : (w : ℕ → Priority → ℕ) (fs : List Forest) (j k : ℕ) → j ≢ k → k < length fs → weigh w (get_or fs j none) + weigh w (get_or fs k none) ≤ weigh_all w (all_roots fs)
+pub two-le-all : (w : ℕ → Priority → ℕ) (fs : List Forest) (j k : ℕ) → j ≢ k → k < length fs → forest_weight w (get_or fs j none) + forest_weight w (get_or fs k none) ≤ weigh_all w (all_roots fs)
 two-le-all w fs j k differ within =
-    omega (arith, weigh_all-set w fs k none within, weigh-le-all w (set fs k none) j, ap (λ f. weigh w f) (get_or-set_other fs k j none none differ))
+    omega (arith, weigh_all-set w fs k none within, forest_weight-le-all w (set fs k none) j, ap (λ f. forest_weight w f) (get_or-set_other fs k j none none differ))
 
 -- weights that are the same for the tasks that are there
-weigh-ext_tasks : (v w : ℕ → Priority → ℕ) (f : Forest) → ((at : ℕ) (key : Priority) → 1 ≤ weigh (of_task key.task) f → v at key ≡ w at key) → weigh v f ≡ weigh w f
-weigh-ext_tasks v w none e = refl
-weigh-ext_tasks v w (tree at key rank kids rest) e =
+forest_weight-ext_tasks : (v w : ℕ → Priority → ℕ) (f : Forest) → ((at : ℕ) (key : Priority) → 1 ≤ forest_weight (of_task key.task) f → v at key ≡ w at key) → forest_weight v f ≡ forest_weight w f
+forest_weight-ext_tasks v w none e = refl
+forest_weight-ext_tasks v w (tree at key rank kids rest) e =
     omega (
       arith,
       e at key (omega (arith, same-self key.task)),
-      weigh-ext_tasks v w kids (λ i k h. e i k (omega (arith, h))),
-      weigh-ext_tasks v w rest (λ i k h. e i k (omega (arith, h))),
+      forest_weight-ext_tasks v w kids (λ i k h. e i k (omega (arith, h))),
+      forest_weight-ext_tasks v w rest (λ i k h. e i k (omega (arith, h))),
     )
 
 pub weigh_all-ext_tasks : (v w : ℕ → Priority → ℕ) (ps : List Part) → ((at : ℕ) (key : Priority) → 1 ≤ weigh_all (of_task key.task) ps → v at key ≡ w at key) → weigh_all v ps ≡ weigh_all w ps
 weigh_all-ext_tasks v w [] e = refl
 weigh_all-ext_tasks v w (p ∷ ps) e =
-    omega (arith, weigh-ext_tasks v w p.1 (λ i k h. e i k (omega (arith, h))), weigh_all-ext_tasks v w ps (λ i k h. e i k (omega (arith, h))))
+    omega (arith, forest_weight-ext_tasks v w p.1 (λ i k h. e i k (omega (arith, h))), weigh_all-ext_tasks v w ps (λ i k h. e i k (omega (arith, h))))
 
 -- a task that is there is at its place
-pub placed_node : (nodes : List Node) (places : List ℕ) (up t : ℕ) (f : Forest) → Stands nodes up f → weigh (misplaced places) f ≡ 0 → 1 ≤ weigh (of_task t) f →
-    (1 ≤ weigh (at_place (get_or places t nowhere)) f) × ((node_at nodes (get_or places t nowhere)).key.task ≡ t)
+pub placed_node : (nodes : List Node) (places : List ℕ) (up t : ℕ) (f : Forest) → Stands nodes up f → forest_weight (misplaced places) f ≡ 0 → 1 ≤ forest_weight (of_task t) f →
+    (1 ≤ forest_weight (at_place (get_or places t nowhere)) f) × ((node_at nodes (get_or places t nowhere)).key.task ≡ t)
 placed_node nodes places up t none s placed has = absurd (omega (arith, has))
 placed_node nodes places up t (tree at key rank kids rest) s placed has =
     ⊎_elim
@@ -217,5 +217,5 @@ placed_node nodes places up t (tree at key rank kids rest) s placed has =
     (λ other. ⊎_elim
     (λ inside. let m = placed_node nodes places at t kids s.2 (omega (arith, placed)) (omega (arith, inside)) in (omega (arith, m.0), m.1))
     (λ outside. let m = placed_node nodes places up t rest s.3 (omega (arith, placed)) (omega (arith, has, other, outside)) in (omega (arith, m.0), m.1))
-    (cases_lt 0 (weigh (of_task t) kids)))
+    (cases_lt 0 (forest_weight (of_task t) kids)))
     (cases_lt 0 (same t key.task))

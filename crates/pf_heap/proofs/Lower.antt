@@ -4,9 +4,9 @@ use Rattle.std.proofs.lemmas.Bool.{cases_lt}
 use Rattle.std.proofs.lemmas.Bool.Decides.{nat_tests}
 use Rattle.pf_order.specs.Priority.{Priority}
 use Rattle.pf_heap.specs.declared.node.Node.{Node}
-use Rattle.pf_heap.specs.Forest.{Forest, none, tree, nowhere, head, weigh, same, at_place, size, IsBelow, Falls, Rises, HasRoot}
+use Rattle.pf_heap.specs.Forest.{Forest, none, tree, nowhere, head, forest_weight, same, at_place, size, IsBelow, Falls, Rises, HasRoot}
 use Rattle.pf_heap.specs.Memory.{node_at, Stands}
-use Rattle.pf_heap.specs.Hoist.{pushed, lowered}
+use Rattle.pf_heap.specs.Hoist.{forest_with_parent, forest_lowered}
 use Rattle.pf_heap.proofs.Forests.{same-self, equal_from_same, below-trans, below-itself, size_from_falls}
 
 -- ---- the parent of a node
@@ -15,12 +15,12 @@ use Rattle.pf_heap.proofs.Forests.{same-self, equal_from_same, below-trans, belo
 abbrev IsRootOrHasParent : List Node → ℕ → ℕ → ℕ → Forest → Type 0
 IsRootOrHasParent nodes up r h f =
     (((node_at nodes h).parent ≡ up) × ((node_at nodes h).rank < r))
-    ⊎ ((1 ≤ weigh (at_place (node_at nodes h).parent) f) × ((node_at nodes h).rank < (node_at nodes (node_at nodes h).parent).rank))
+    ⊎ ((1 ≤ forest_weight (at_place (node_at nodes h).parent) f) × ((node_at nodes h).rank < (node_at nodes (node_at nodes h).parent).rank))
 
 pub is_node : (nodes : List Node) (h at : ℕ) (n : Node) → h ≡ at → node_at nodes at ≡ n → node_at nodes h ≡ n
 is_node nodes h at n e f = ap (λ x. node_at nodes x) e ∙ f
 
-parent_of : (nodes : List Node) (up : ℕ) (p : Priority) (r h : ℕ) (f : Forest) → Falls p r f → Stands nodes up f → 1 ≤ weigh (at_place h) f → IsRootOrHasParent nodes up r h f
+parent_of : (nodes : List Node) (up : ℕ) (p : Priority) (r h : ℕ) (f : Forest) → Falls p r f → Stands nodes up f → 1 ≤ forest_weight (at_place h) f → IsRootOrHasParent nodes up r h f
 parent_of nodes up p r h none falls s has = absurd (omega (arith, has))
 parent_of nodes up p r h (tree at key rank kids rest) falls s has =
     ⊎_elim
@@ -39,12 +39,12 @@ parent_of nodes up p r h (tree at key rank kids rest) falls s has =
     (λ m. inl (m.0, omega (arith, falls.0, m.1)))
     (λ m. inr (omega (arith, m.0), m.1))
     (parent_of nodes up p rank h rest falls.3 s.3 (omega (arith, has, other, outside))))
-    (cases_lt 0 (weigh (at_place h) kids)))
+    (cases_lt 0 (forest_weight (at_place h) kids)))
     (cases_lt 0 (same h at))
 
 -- in a heap
-pub parent_in : (nodes : List Node) (r h : ℕ) (f : Forest) → Rises r f → Stands nodes nowhere f → 1 ≤ weigh (at_place h) f → (node_at nodes h).parent ≢ nowhere →
-    (1 ≤ weigh (at_place (node_at nodes h).parent) f) × ((node_at nodes h).rank < (node_at nodes (node_at nodes h).parent).rank)
+pub parent_in : (nodes : List Node) (r h : ℕ) (f : Forest) → Rises r f → Stands nodes nowhere f → 1 ≤ forest_weight (at_place h) f → (node_at nodes h).parent ≢ nowhere →
+    (1 ≤ forest_weight (at_place (node_at nodes h).parent) f) × ((node_at nodes h).rank < (node_at nodes (node_at nodes h).parent).rank)
 parent_in nodes r h none rises s has some = absurd (omega (arith, has))
 parent_in nodes r h (tree at key rank kids rest) rises s has some =
     ⊎_elim
@@ -60,12 +60,12 @@ parent_in nodes r h (tree at key rank kids rest) rises s has some =
     (λ outside.
     let m = parent_in nodes (rank + 1) h rest rises.2 s.3 (omega (arith, has, other, outside)) some in
     (omega (arith, m.0), m.1))
-    (cases_lt 0 (weigh (at_place h) kids)))
+    (cases_lt 0 (forest_weight (at_place h) kids)))
     (cases_lt 0 (same h at))
 
 -- in any forest of roots, whatever the order
-parent_stands : (nodes : List Node) (up h : ℕ) (f : Forest) → Stands nodes up f → 1 ≤ weigh (at_place h) f →
-    ((node_at nodes h).parent ≡ up) ⊎ (1 ≤ weigh (at_place (node_at nodes h).parent) f)
+parent_stands : (nodes : List Node) (up h : ℕ) (f : Forest) → Stands nodes up f → 1 ≤ forest_weight (at_place h) f →
+    ((node_at nodes h).parent ≡ up) ⊎ (1 ≤ forest_weight (at_place (node_at nodes h).parent) f)
 parent_stands nodes up h none s has = absurd (omega (arith, has))
 parent_stands nodes up h (tree at key rank kids rest) s has =
     ⊎_elim
@@ -79,14 +79,14 @@ parent_stands nodes up h (tree at key rank kids rest) s has =
     (λ m. inl m)
     (λ m. inr (omega (arith, m)))
     (parent_stands nodes up h rest s.3 (omega (arith, has, other, outside))))
-    (cases_lt 0 (weigh (at_place h) kids)))
+    (cases_lt 0 (forest_weight (at_place h) kids)))
     (cases_lt 0 (same h at))
 
-pub parent_stands_in : (nodes : List Node) (h : ℕ) (f : Forest) → Stands nodes nowhere f → 1 ≤ weigh (at_place h) f → (node_at nodes h).parent ≢ nowhere →
-    1 ≤ weigh (at_place (node_at nodes h).parent) f
+pub parent_stands_in : (nodes : List Node) (h : ℕ) (f : Forest) → Stands nodes nowhere f → 1 ≤ forest_weight (at_place h) f → (node_at nodes h).parent ≢ nowhere →
+    1 ≤ forest_weight (at_place (node_at nodes h).parent) f
 parent_stands_in nodes h f s has some = ⊎_elim (λ e. absurd (some e)) (λ m. m) (parent_stands nodes nowhere h f s has)
 
-pub node_within : (nodes : List Node) (up h : ℕ) (f : Forest) → Stands nodes up f → 1 ≤ weigh (at_place h) f → h < length nodes
+pub node_within : (nodes : List Node) (up h : ℕ) (f : Forest) → Stands nodes up f → 1 ≤ forest_weight (at_place h) f → h < length nodes
 node_within nodes up h none s has = absurd (omega (arith, has))
 node_within nodes up h (tree at key rank kids rest) s has =
     ⊎_elim
@@ -94,11 +94,11 @@ node_within nodes up h (tree at key rank kids rest) s has =
     (λ other. ⊎_elim
     (λ inside. node_within nodes at h kids s.2 (omega (arith, inside)))
     (λ outside. node_within nodes up h rest s.3 (omega (arith, has, other, outside)))
-    (cases_lt 0 (weigh (at_place h) kids)))
+    (cases_lt 0 (forest_weight (at_place h) kids)))
     (cases_lt 0 (same h at))
 
 -- what a node weighs
-pub node_weighs : (w : ℕ → Priority → ℕ) (nodes : List Node) (up h : ℕ) (f : Forest) → Stands nodes up f → 1 ≤ weigh (at_place h) f → w h (node_at nodes h).key ≤ weigh w f
+pub node_weighs : (w : ℕ → Priority → ℕ) (nodes : List Node) (up h : ℕ) (f : Forest) → Stands nodes up f → 1 ≤ forest_weight (at_place h) f → w h (node_at nodes h).key ≤ forest_weight w f
 node_weighs w nodes up h none s has = absurd (omega (arith, has))
 node_weighs w nodes up h (tree at key rank kids rest) s has =
     ⊎_elim
@@ -110,11 +110,11 @@ node_weighs w nodes up h (tree at key rank kids rest) s has =
     (λ other. ⊎_elim
     (λ inside. omega (arith, node_weighs w nodes at h kids s.2 (omega (arith, inside))))
     (λ outside. omega (arith, node_weighs w nodes up h rest s.3 (omega (arith, has, other, outside))))
-    (cases_lt 0 (weigh (at_place h) kids)))
+    (cases_lt 0 (forest_weight (at_place h) kids)))
     (cases_lt 0 (same h at))
 
 -- a node of rank r has 2^r nodes under it, itself counted
-rank_of_falls : (nodes : List Node) (up : ℕ) (p : Priority) (r h : ℕ) (f : Forest) → Falls p r f → Stands nodes up f → 1 ≤ weigh (at_place h) f → 2 ^ (node_at nodes h).rank ≤ size f
+rank_of_falls : (nodes : List Node) (up : ℕ) (p : Priority) (r h : ℕ) (f : Forest) → Falls p r f → Stands nodes up f → 1 ≤ forest_weight (at_place h) f → 2 ^ (node_at nodes h).rank ≤ size f
 rank_of_falls nodes up p r h none falls s has = absurd (omega (arith, has))
 rank_of_falls nodes up p r h (tree at key rank kids rest) falls s has =
     ⊎_elim
@@ -124,10 +124,10 @@ rank_of_falls nodes up p r h (tree at key rank kids rest) falls s has =
     (λ other. ⊎_elim
     (λ inside. omega (arith, rank_of_falls nodes at key rank h kids falls.2 s.2 (omega (arith, inside))))
     (λ outside. omega (arith, rank_of_falls nodes up p rank h rest falls.3 s.3 (omega (arith, has, other, outside))))
-    (cases_lt 0 (weigh (at_place h) kids)))
+    (cases_lt 0 (forest_weight (at_place h) kids)))
     (cases_lt 0 (same h at))
 
-pub rank_of_rises : (nodes : List Node) (r h : ℕ) (f : Forest) → Rises r f → Stands nodes nowhere f → 1 ≤ weigh (at_place h) f → 2 ^ (node_at nodes h).rank ≤ size f
+pub rank_of_rises : (nodes : List Node) (r h : ℕ) (f : Forest) → Rises r f → Stands nodes nowhere f → 1 ≤ forest_weight (at_place h) f → 2 ^ (node_at nodes h).rank ≤ size f
 rank_of_rises nodes r h none rises s has = absurd (omega (arith, has))
 rank_of_rises nodes r h (tree at key rank kids rest) rises s has =
     ⊎_elim
@@ -137,11 +137,11 @@ rank_of_rises nodes r h (tree at key rank kids rest) rises s has =
     (λ other. ⊎_elim
     (λ inside. omega (arith, rank_of_falls nodes at key rank h kids rises.1 s.2 (omega (arith, inside))))
     (λ outside. omega (arith, rank_of_rises nodes (rank + 1) h rest rises.2 s.3 (omega (arith, has, other, outside))))
-    (cases_lt 0 (weigh (at_place h) kids)))
+    (cases_lt 0 (forest_weight (at_place h) kids)))
     (cases_lt 0 (same h at))
 
 -- a node with no parent is a root
-pub inner_parent : (nodes : List Node) (up h : ℕ) (f : Forest) → length nodes < 2 ^ 32 → up < nowhere → Stands nodes up f → 1 ≤ weigh (at_place h) f → (node_at nodes h).parent < nowhere
+pub inner_parent : (nodes : List Node) (up h : ℕ) (f : Forest) → length nodes < 2 ^ 32 → up < nowhere → Stands nodes up f → 1 ≤ forest_weight (at_place h) f → (node_at nodes h).parent < nowhere
 inner_parent nodes up h none small low s has = absurd (omega (arith, has))
 inner_parent nodes up h (tree at key rank kids rest) small low s has =
     ⊎_elim
@@ -149,7 +149,7 @@ inner_parent nodes up h (tree at key rank kids rest) small low s has =
     (λ other. ⊎_elim
     (λ inside. inner_parent nodes at h kids small (omega (arith, s.0)) s.2 (omega (arith, inside)))
     (λ outside. inner_parent nodes up h rest small low s.3 (omega (arith, has, other, outside)))
-    (cases_lt 0 (weigh (at_place h) kids)))
+    (cases_lt 0 (forest_weight (at_place h) kids)))
     (cases_lt 0 (same h at))
 
 -- a root with its key and children
@@ -158,7 +158,7 @@ pub record IsRootIn (h : ℕ) (k : Priority) (f : Forest) : Type 0 where
   pub kids : Forest
   pub has : HasRoot h k rank kids f
 
-pub root_with_no_parent : (nodes : List Node) (h : ℕ) (f : Forest) → length nodes < 2 ^ 32 → Stands nodes nowhere f → 1 ≤ weigh (at_place h) f → (node_at nodes h).parent ≡ nowhere →
+pub root_with_no_parent : (nodes : List Node) (h : ℕ) (f : Forest) → length nodes < 2 ^ 32 → Stands nodes nowhere f → 1 ≤ forest_weight (at_place h) f → (node_at nodes h).parent ≡ nowhere →
     IsRootIn h (node_at nodes h).key f
 root_with_no_parent nodes h none small s has top = absurd (omega (arith, has))
 root_with_no_parent nodes h (tree at key rank kids rest) small s has top =
@@ -170,10 +170,10 @@ root_with_no_parent nodes h (tree at key rank kids rest) small s has top =
     (λ other. ⊎_elim
     (λ inside. absurd (omega (arith, top, inner_parent nodes at h kids small (omega (arith, s.0)) s.2 (omega (arith, inside)))))
     (λ outside. let m = root_with_no_parent nodes h rest small s.3 (omega (arith, has, other, outside)) top in record { rank = m.rank; kids = m.kids; has = inr m.has })
-    (cases_lt 0 (weigh (at_place h) kids)))
+    (cases_lt 0 (forest_weight (at_place h) kids)))
     (cases_lt 0 (same h at))
 
--- ---- the lowered key
+-- ---- the forest_lowered key
 
 pub hit : (h at : ℕ) → 1 ≤ same h at → eqb h at ≡ true
 hit h at e = let f = equal_from_same h at e in grind (arith, nat_tests)
@@ -192,46 +192,46 @@ chosen_below h at p key below = elim (eqb h at) as (λ b. IsBelow p (cond b p ke
 chosen_falls : (h at : ℕ) (p key : Priority) (r : ℕ) (f : Forest) → IsBelow p key → Falls key r f → Falls (cond (eqb h at) p key) r f
 chosen_falls h at p key r f below falls = elim (eqb h at) as (λ b. Falls (cond b p key) r f) [ true ↦ falls-less p key r f below falls | false ↦ falls ]
 
-pushed_falls : (h : ℕ) (p : Priority) (r : ℕ) (f : Forest) → Falls p r f → Falls p r (pushed h p f)
+pushed_falls : (h : ℕ) (p : Priority) (r : ℕ) (f : Forest) → Falls p r f → Falls p r (forest_with_parent h p f)
 pushed_falls h p r none falls = falls
 pushed_falls h p r (tree at key rank kids rest) falls =
-    (falls.0, chosen_below h at p key falls.1, chosen_falls h at p key rank (pushed h key kids) falls.1 (pushed_falls h key rank kids falls.2), pushed_falls h p rank rest falls.3)
+    (falls.0, chosen_below h at p key falls.1, chosen_falls h at p key rank (forest_with_parent h key kids) falls.1 (pushed_falls h key rank kids falls.2), pushed_falls h p rank rest falls.3)
 
-pub lowered_rises : (h r : ℕ) (f : Forest) → Rises r f → Rises r (lowered h f)
+pub lowered_rises : (h r : ℕ) (f : Forest) → Rises r f → Rises r (forest_lowered h f)
 lowered_rises h r none rises = tt
 lowered_rises h r (tree at key rank kids rest) rises = (rises.0, pushed_falls h key rank kids rises.1, lowered_rises h (rank + 1) rest rises.2)
 
-pub head-pushed : (h : ℕ) (p : Priority) (f : Forest) → head (pushed h p f) ≡ head f
+pub head-pushed : (h : ℕ) (p : Priority) (f : Forest) → head (forest_with_parent h p f) ≡ head f
 head-pushed h p none = refl
 head-pushed h p (tree at key rank kids rest) = refl
 
-pub head-lowered : (h : ℕ) (f : Forest) → head (lowered h f) ≡ head f
+pub head-lowered : (h : ℕ) (f : Forest) → head (forest_lowered h f) ≡ head f
 head-lowered h none = refl
 head-lowered h (tree at key rank kids rest) = refl
 
 -- weights that don't see the key
-pushed_places : (w : ℕ → ℕ) (h : ℕ) (p : Priority) (f : Forest) → weigh (λ at _. w at) (pushed h p f) ≡ weigh (λ at _. w at) f
+pushed_places : (w : ℕ → ℕ) (h : ℕ) (p : Priority) (f : Forest) → forest_weight (λ at _. w at) (forest_with_parent h p f) ≡ forest_weight (λ at _. w at) f
 pushed_places w h p none = refl
 pushed_places w h p (tree at key rank kids rest) = omega (arith, pushed_places w h key kids, pushed_places w h p rest)
 
-pub lowered_places : (w : ℕ → ℕ) (h : ℕ) (f : Forest) → weigh (λ at _. w at) (lowered h f) ≡ weigh (λ at _. w at) f
+pub lowered_places : (w : ℕ → ℕ) (h : ℕ) (f : Forest) → forest_weight (λ at _. w at) (forest_lowered h f) ≡ forest_weight (λ at _. w at) f
 lowered_places w h none = refl
 lowered_places w h (tree at key rank kids rest) = omega (arith, pushed_places w h key kids, lowered_places w h rest)
 
-unpushed : (w : ℕ → Priority → ℕ) (h : ℕ) (p : Priority) (f : Forest) → weigh (at_place h) f ≡ 0 → weigh w (pushed h p f) ≡ weigh w f
+unpushed : (w : ℕ → Priority → ℕ) (h : ℕ) (p : Priority) (f : Forest) → forest_weight (at_place h) f ≡ 0 → forest_weight w (forest_with_parent h p f) ≡ forest_weight w f
 unpushed w h p none unused = refl
 unpushed w h p (tree at key rank kids rest) unused =
     let e : w at (cond (eqb h at) p key) ≡ w at key = ap (λ b. w at (cond b p key)) (miss h at (omega (arith, unused))) in
     omega (arith, e, unpushed w h key kids (omega (arith, unused)), unpushed w h p rest (omega (arith, unused)))
 
-unlowered : (w : ℕ → Priority → ℕ) (h : ℕ) (f : Forest) → weigh (at_place h) f ≡ 0 → weigh w (lowered h f) ≡ weigh w f
+unlowered : (w : ℕ → Priority → ℕ) (h : ℕ) (f : Forest) → forest_weight (at_place h) f ≡ 0 → forest_weight w (forest_lowered h f) ≡ forest_weight w f
 unlowered w h none unused = refl
 unlowered w h (tree at key rank kids rest) unused =
     omega (arith, unpushed w h key kids (omega (arith, unused)), unlowered w h rest (omega (arith, unused)))
 
 pushed_weighs : (w : ℕ → Priority → ℕ) (nodes : List Node) (up h : ℕ) (p : Priority) (f : Forest) → Stands nodes up f → (node_at nodes up).key ≡ p →
-    weigh (at_place h) f ≡ 1 →
-    weigh w (pushed h p f) + w h (node_at nodes h).key ≡ weigh w f + w h (node_at nodes (node_at nodes h).parent).key
+    forest_weight (at_place h) f ≡ 1 →
+    forest_weight w (forest_with_parent h p f) + w h (node_at nodes h).key ≡ forest_weight w f + w h (node_at nodes (node_at nodes h).parent).key
 pushed_weighs w nodes up h p none s up_key has = absurd (omega (arith, has))
 pushed_weighs w nodes up h p (tree at key rank kids rest) s up_key has =
     ⊎_elim
@@ -247,12 +247,12 @@ pushed_weighs w nodes up h p (tree at key rank kids rest) s up_key has =
     ⊎_elim
     (λ inside. omega (arith, a, pushed_weighs w nodes at h key kids s.2 (ap (λ (x : Node). x.key) s.1) (omega (arith, has, inside)), unpushed w h p rest (omega (arith, has, inside))))
     (λ outside. omega (arith, a, unpushed w h key kids (omega (arith, outside)), pushed_weighs w nodes up h p rest s.3 up_key (omega (arith, has, other, outside))))
-    (cases_lt 0 (weigh (at_place h) kids)))
+    (cases_lt 0 (forest_weight (at_place h) kids)))
     (cases_lt 0 (same h at))
 
 pub lowered_weighs : (w : ℕ → Priority → ℕ) (nodes : List Node) (h : ℕ) (f : Forest) → Stands nodes nowhere f → (node_at nodes h).parent ≢ nowhere →
-    weigh (at_place h) f ≡ 1 →
-    weigh w (lowered h f) + w h (node_at nodes h).key ≡ weigh w f + w h (node_at nodes (node_at nodes h).parent).key
+    forest_weight (at_place h) f ≡ 1 →
+    forest_weight w (forest_lowered h f) + w h (node_at nodes h).key ≡ forest_weight w f + w h (node_at nodes (node_at nodes h).parent).key
 lowered_weighs w nodes h none s some has = absurd (omega (arith, has))
 lowered_weighs w nodes h (tree at key rank kids rest) s some has =
     ⊎_elim
@@ -260,5 +260,5 @@ lowered_weighs w nodes h (tree at key rank kids rest) s some has =
     (λ other. ⊎_elim
     (λ inside. omega (arith, pushed_weighs w nodes at h key kids s.2 (ap (λ (x : Node). x.key) s.1) (omega (arith, has, inside)), unlowered w h rest (omega (arith, has, inside))))
     (λ outside. omega (arith, unpushed w h key kids (omega (arith, outside)), lowered_weighs w nodes h rest s.3 some (omega (arith, has, other, outside))))
-    (cases_lt 0 (weigh (at_place h) kids)))
+    (cases_lt 0 (forest_weight (at_place h) kids)))
     (cases_lt 0 (same h at))

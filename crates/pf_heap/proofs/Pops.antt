@@ -8,10 +8,10 @@ use Rattle.std.proofs.lemmas.List.{get_or_default}
 use Rattle.pf_order.specs.Priority.{Priority, precedes}
 use Rattle.pf_order.specs.Counts.{Counts, Compares}
 use Rattle.pf_heap.specs.declared.node.Node.{Node}
-use Rattle.pf_heap.specs.Forest.{Forest, none, tree, nowhere, head, weigh, same, one_each, at_place, size, IsBelow, AllBelow, Falls, Rises, Sinks, HasRoot}
-use Rattle.pf_heap.specs.Memory.{no_node, node_at, Stands, Part, root, Parts, relinked}
+use Rattle.pf_heap.specs.Forest.{Forest, none, tree, nowhere, head, forest_weight, same, one_each, at_place, size, IsBelow, AllBelow, Falls, Rises, Sinks, HasRoot}
+use Rattle.pf_heap.specs.Memory.{no_node, node_at, Stands, Part, root, Parts, nodes_with_sibling}
 use Rattle.pf_heap.specs.Steps.{CanTurn, IsTurned, HasTwoHeaps, IsMerged}
-use Rattle.pf_heap.specs.Pops.{roots, IsEarlier, IsSeeking, IsLeastRoot, HasHeapAndRoot, IsParting, IsParted, released, CanPop, IsPopped}
+use Rattle.pf_heap.specs.Pops.{roots, IsEarlier, IsSeeking, IsLeastRoot, HasHeapAndRoot, IsParting, IsParted, nodes_with_free, CanPop, IsPopped}
 use Rattle.pf_order.proofs.Comparing.{compares_none, compares_both}
 use Rattle.pf_heap.proofs.Forests.{same-self, double, size_from_falls, size_from_rises, below-trans, below-itself, below_from_precedes, all_below-trans, all_below_from_falls}
 use Rattle.pf_heap.proofs.Standing.{head_within, stands-set, stand_all-set, turn_parts, cut_parts}
@@ -54,7 +54,7 @@ roots_paid f h n e =
     let p : 2 ^ (roots f + 0) ≡ 2 ^ (n + 1) = ap (λ x. 2 ^ x) (let s : roots f + 0 ≡ n + 1 = omega arith in s) in
     omega (arith, roots_of_rises 0 f h, double n (n + 1) refl, p, pow_pos n)
 
-pub root_used : (i : ℕ) (k : Priority) (r : ℕ) (g f : Forest) → HasRoot i k r g f → 1 ≤ weigh (at_place i) f
+pub root_used : (i : ℕ) (k : Priority) (r : ℕ) (g f : Forest) → HasRoot i k r g f → 1 ≤ forest_weight (at_place i) f
 root_used i k r g none h = absurd h
 root_used i k r g (tree at key rank kids rest) h =
     ⊎_elim
@@ -80,7 +80,7 @@ root_stands nodes up i k r g (tree at key rank kids rest) s h =
     (λ m. root_stands nodes up i k r g rest s.3 m)
     h
 
-pub root_weighs : (w : ℕ → Priority → ℕ) (i : ℕ) (k : Priority) (r : ℕ) (g f : Forest) → HasRoot i k r g f → w i k ≤ weigh w f
+pub root_weighs : (w : ℕ → Priority → ℕ) (i : ℕ) (k : Priority) (r : ℕ) (g f : Forest) → HasRoot i k r g f → w i k ≤ forest_weight w f
 root_weighs w i k r g none h = absurd h
 root_weighs w i k r g (tree at key rank kids rest) h =
     ⊎_elim
@@ -189,13 +189,13 @@ module _ {nodes : List Node} {heap : Forest} {best rest_link steps : ℕ} {befor
 -- the first tree of a list goes in front of another list
 push_on_second : (nodes : List Node) (at : ℕ) (key : Priority) (rank : ℕ) (kids rest front : Forest) (ps : List Part) →
     Parts nodes (root (tree at key rank kids rest) ∷ root front ∷ ps) →
-    Parts (relinked nodes at (head front)) (root rest ∷ root (tree at key rank kids front) ∷ ps)
+    Parts (nodes_with_sibling nodes at (head front)) (root rest ∷ root (tree at key rank kids front) ∷ ps)
 push_on_second nodes at key rank kids rest front ps parts = turn_parts nodes nowhere at key rank kids rest front ps parts
 
 -- the first tree of a list stands alone
 cut_to_third : (nodes : List Node) (at : ℕ) (key : Priority) (rank : ℕ) (kids rest stay : Forest) (ps : List Part) →
     Parts nodes (root (tree at key rank kids rest) ∷ root stay ∷ root none ∷ ps) →
-    Parts (relinked nodes at nowhere) (root rest ∷ root stay ∷ root (tree at key rank kids none) ∷ ps)
+    Parts (nodes_with_sibling nodes at nowhere) (root rest ∷ root stay ∷ root (tree at key rank kids none) ∷ ps)
 cut_to_third nodes at key rank kids rest stay ps parts =
     let p = cut_parts nodes nowhere at key rank kids rest (root stay ∷ root none ∷ ps) parts in
     let s = p.stand in
@@ -219,13 +219,13 @@ part_begun nodes link at can = record {
 
 module _ (old new : List Node) (heap : Forest) (others : List Part) (at : ℕ) (key : Priority) (rank : ℕ) (kids : Forest) (link next stay_link result steps : ℕ)
     (somewhere : link ≢ nowhere) (next_is : next ≡ (node_at old link).sibling)
-    (is_alone : link ≡ at → (new ≡ relinked old link nowhere) × (result ≡ stay_link))
-    (is_staying : link ≢ at → (new ≡ relinked old link stay_link) × (result ≡ link)) where
+    (is_alone : link ≡ at → (new ≡ nodes_with_sibling old link nowhere) × (result ≡ stay_link))
+    (is_staying : link ≢ at → (new ≡ nodes_with_sibling old link stay_link) × (result ≡ link)) where
   part_by : (rest stay alone : Forest) (bound : ℕ) → link ≡ head rest → stay_link ≡ head stay →
       ((alone ≡ none) × HasRoot at key rank kids rest) ⊎ (alone ≡ tree at key rank kids none) →
       steps ≤ bound → Rises bound rest → Sinks bound stay →
       Parts old (root rest ∷ root stay ∷ root alone ∷ others) →
-      ((w : ℕ → Priority → ℕ) → weigh w rest + (weigh w stay + weigh w alone) ≡ weigh w heap) →
+      ((w : ℕ → Priority → ℕ) → forest_weight w rest + (forest_weight w stay + forest_weight w alone) ≡ forest_weight w heap) →
       IsParting new heap others at key rank kids next result (steps + 1)
   part_by none stay alone bound rest_is stay_is alone_is low rises sinks parts kept = absurd (somewhere rest_is)
   part_by (tree i k r f rest) stay alone bound rest_is stay_is alone_is low rises sinks parts kept =
@@ -246,7 +246,7 @@ module _ (old new : List Node) (heap : Forest) (others : List Part) (at : ℕ) (
         low = omega (arith, rises.0);
         rises = rises.2;
         sinks = (omega arith, rises.1, sinks_more bound r stay rises.0 sinks);
-        parts = subst (λ ns. Parts ns (root rest ∷ root (tree i k r f stay) ∷ root alone ∷ others)) (sym (w.0 ∙ (λ j. relinked old (rest_is j) (stay_is j))))
+        parts = subst (λ ns. Parts ns (root rest ∷ root (tree i k r f stay) ∷ root alone ∷ others)) (sym (w.0 ∙ (λ j. nodes_with_sibling old (rest_is j) (stay_is j))))
             (push_on_second old i k r f rest stay (root alone ∷ others) parts);
         kept = λ w. omega (arith, kept w);
       } in
@@ -254,7 +254,7 @@ module _ (old new : List Node) (heap : Forest) (others : List Part) (at : ℕ) (
       λ here nothing k_is r_is f_is.
       let w = is_alone here in
       let i_at : i ≡ at = sym rest_is ∙ here in
-      let p : Parts (relinked old i nowhere) (root rest ∷ root stay ∷ root (tree i k r f none) ∷ others) =
+      let p : Parts (nodes_with_sibling old i nowhere) (root rest ∷ root stay ∷ root (tree i k r f none) ∷ others) =
       cut_to_third old i k r f rest stay others (subst (λ g. Parts old (root (tree i k r f rest) ∷ root stay ∷ root g ∷ others)) nothing parts) in
       record {
         rest = rest;
@@ -267,15 +267,15 @@ module _ (old new : List Node) (heap : Forest) (others : List Part) (at : ℕ) (
         low = omega (arith, rises.0);
         rises = rises.2;
         sinks = sinks_more bound (r + 1) stay (omega (arith, rises.0)) sinks;
-        parts = subst (λ ns. Parts ns (root rest ∷ root stay ∷ root (tree i k r f none) ∷ others)) (sym (w.0 ∙ ap (λ z. relinked old z nowhere) rest_is)) p;
-        kept = λ w. omega (arith, kept w, ap (λ g. weigh w g) nothing);
+        parts = subst (λ ns. Parts ns (root rest ∷ root stay ∷ root (tree i k r f none) ∷ others)) (sym (w.0 ∙ ap (λ z. nodes_with_sibling old z nowhere) rest_is)) p;
+        kept = λ w. omega (arith, kept w, ap (λ g. forest_weight w g) nothing);
       } in
       ⊎_elim
       (λ h. ⊎_elim
       (λ e. stands_alone (rest_is ∙ e.0) h.0 e.1 e.2 e.3)
-      (λ m. stays (λ e. absurd (omega (arith, parts.once i, same-self i, root_used at key rank kids rest m, ap (λ x. weigh (at_place x) rest) (sym rest_is ∙ e)))) (inl (h.0, m)))
+      (λ m. stays (λ e. absurd (omega (arith, parts.once i, same-self i, root_used at key rank kids rest m, ap (λ x. forest_weight (at_place x) rest) (sym rest_is ∙ e)))) (inl (h.0, m)))
       h.1)
-      (λ h. stays (λ e. absurd (omega (arith, parts.once i, same-self i, ap (λ g. weigh (at_place i) g) h, ap (λ x. same i x) (sym rest_is ∙ e)))) (inr h))
+      (λ h. stays (λ e. absurd (omega (arith, parts.once i, same-self i, ap (λ g. forest_weight (at_place i) g) h, ap (λ x. same i x) (sym rest_is ∙ e)))) (inr h))
       alone_is
 
   pub part_step : IsParting old heap others at key rank kids link stay_link steps → IsParting new heap others at key rank kids next result (steps + 1)
@@ -297,7 +297,7 @@ module _ {nodes : List Node} {heap : Forest} {others : List Part} {at : ℕ} {ke
       let all = sizes-le-length nodes (root t.rest ∷ root t.stay ∷ root t.alone ∷ others) t.parts in
       let p : Parts nodes (root none ∷ root t.stay ∷ root t.alone ∷ others) = subst (λ f. Parts nodes (root f ∷ root t.stay ∷ root t.alone ∷ others)) done t.parts in
       let no_root : (f : Forest) → f ≡ none → HasRoot at key rank kids f → t.alone ≡ tree at key rank kids none =
-      λ f e h. absurd (omega (arith, root_used at key rank kids f h, ap (λ g. weigh (at_place at) g) e)) in
+      λ f e h. absurd (omega (arith, root_used at key rank kids f h, ap (λ g. forest_weight (at_place at) g) e)) in
       let alone : t.alone ≡ tree at key rank kids none = ⊎_elim (λ h. no_root t.rest done h.1) (λ h. h) t.alone_is in
       let q : Parts nodes (root none ∷ root t.stay ∷ root (tree at key rank kids none) ∷ others) = subst (λ f. Parts nodes (root none ∷ root t.stay ∷ root f ∷ others)) alone p in
       record {
@@ -305,7 +305,7 @@ module _ {nodes : List Node} {heap : Forest} {others : List Part} {at : ℕ} {ke
         stay_is = t.stay_is;
         sinks = sinks_bounded t.bound t.stay t.sinks (omega (arith, all));
         parts = record { stand = q.stand.1; once = λ i. omega (arith, q.once i) };
-        kept = λ w. omega (arith, t.kept w, ap (λ f. weigh w f) done, ap (λ f. weigh w f) alone);
+        kept = λ w. omega (arith, t.kept w, ap (λ f. forest_weight w f) done, ap (λ f. forest_weight w f) alone);
       }
 
   -- at the end of the roots, and after as many steps as there are ranks
@@ -336,7 +336,7 @@ sinks_from_falls p r (tree at key rank kids rest) h = (omega (arith, h.0), h.2, 
 
 release_parts : (nodes : List Node) (at : ℕ) (key : Priority) (rank : ℕ) (kids stay spares : Forest) (ps : List Part) →
     Parts nodes (root stay ∷ root (tree at key rank kids none) ∷ root spares ∷ ps) →
-    Parts (released nodes at (head spares)) (root stay ∷ (at, kids) ∷ root (tree at key 0 none spares) ∷ ps)
+    Parts (nodes_with_free nodes at (head spares)) (root stay ∷ (at, kids) ∷ root (tree at key 0 none spares) ∷ ps)
 release_parts nodes at key rank kids stay spares ps parts =
     let s = parts.stand.1.0 in
     let v : Node = record (node_at nodes at) { parent = nowhere; child = nowhere; sibling = head spares; rank = 0 } in
@@ -393,11 +393,11 @@ module _ {old mid : List Node} {link at free stay : ℕ} (can : CanPop old link 
       sinks_bounded can.rank can.kids (sinks_from_falls can.key can.rank can.kids kids_fall)
       (omega (arith, sizes-le-length mid _ parted.parts))
 
-  module _ {freed : List Node} (written : freed ≡ released mid at free) (mid_small : length mid < 2 ^ 32) (freed_small : length freed < 2 ^ 32) where
+  module _ {freed : List Node} (written : freed ≡ nodes_with_free mid at free) (mid_small : length mid < 2 ^ 32) (freed_small : length freed < 2 ^ 32) where
     pub freed_parts : Parts freed (root parted.stay ∷ (at, can.kids) ∷ root (tree at can.key 0 none can.spares) ∷ can.others)
     freed_parts =
         subst (λ ns. Parts ns (root parted.stay ∷ (at, can.kids) ∷ root (tree at can.key 0 none can.spares) ∷ can.others))
-        (sym (written ∙ ap (λ z. released mid at z) can.free_is))
+        (sym (written ∙ ap (λ z. nodes_with_free mid at z) can.free_is))
         (release_parts mid at can.key can.rank can.kids parted.stay can.spares can.others parted.parts)
 
     abbrev pub stay_turns : CanTurn freed stay

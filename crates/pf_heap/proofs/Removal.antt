@@ -7,11 +7,11 @@ use Rattle.std.specs.FinSet as fin
 use Rattle.pf_order.specs.Priority.{Priority}
 use Rattle.pf_order.specs.Counts.{Counts, Compares}
 use Rattle.pf_heap.specs.declared.node.Node.{Node}
-use Rattle.pf_heap.specs.Forest.{Forest, none, tree, nowhere, head, weigh, same, at_place, of_task, of_key, size}
+use Rattle.pf_heap.specs.Forest.{Forest, none, tree, nowhere, head, forest_weight, same, at_place, of_task, of_key, size}
 use Rattle.pf_heap.specs.Memory.{no_node, node_at, root, weigh_all}
 use Rattle.pf_heap.specs.Pops.{HasHeap, IsLeastRoot, CanPop, IsPopped}
 use Rattle.pf_heap.specs.Hoist.{HasNode, IsTop, CanCut, IsCutOut}
-use Rattle.pf_heap.specs.Keys.{Keys, Heaps, list_of, with_list, HasNone, without}
+use Rattle.pf_heap.specs.Keys.{Keys, Heaps, list_of, with_list, HasNone, other_keys}
 use Rattle.pf_heap.specs.View.{keys, lists_at}
 use Rattle.pf_heap.specs.Digits.{digits}
 use Rattle.pf_heap.specs.Invariant.{IsArena, all_roots, misplaced}
@@ -19,7 +19,7 @@ use Rattle.pf_order.proofs.Comparing.{compares_none, compares_within, compares_b
 use Rattle.pf_heap.proofs.Forests.{same-self, same-other, equal_from_same}
 use Rattle.pf_heap.proofs.Sets.{weigh_from_contains, contains_from_weigh, of_key-self, key-le-task, keys_remove, keys_without}
 use Rattle.pf_heap.proofs.Digits.{paid-le-digits}
-use Rattle.pf_heap.proofs.Lists.{weigh_all-set, weigh-le-all, stands_in, rises_in, all_rise-set, parts_put, some_heap, two-le-all, weigh_all-ext_tasks, placed_node, same_place, replaced}
+use Rattle.pf_heap.proofs.Lists.{weigh_all-set, forest_weight-le-all, stands_in, rises_in, all_rise-set, parts_put, some_heap, two-le-all, weigh_all-ext_tasks, placed_node, same_place, replaced}
 use Rattle.pf_heap.proofs.Lower.{node_weighs, node_within}
 use Rattle.pf_heap.proofs.Whole.{held_once, heap_once, lists_are, now_lists, now_spare, now_tasks, list_is, as_many, len_is, past_places, place_from_held, small_lent, parts_lent, heap_in, link_is, least_of, least_node, least_key, least_counted, IsArenaAfter}
 
@@ -27,7 +27,7 @@ use Rattle.pf_heap.proofs.Whole.{held_once, heap_once, lists_are, now_lists, now
 pub record IsNodeOf (places : List ℕ) (heap : Forest) (t at : ℕ) : Type 0 where
   pub place_is : at ≡ get_or places t nowhere
   pub some : at ≢ nowhere
-  pub has : 1 ≤ weigh (at_place at) heap
+  pub has : 1 ≤ forest_weight (at_place at) heap
 
 module _ {nodes : List Node} {heads places : List ℕ} {free room capacity : ℕ} (a : IsArena nodes heads places free room capacity) where
   -- ---- the node of a task
@@ -36,14 +36,14 @@ module _ {nodes : List Node} {heads places : List ℕ} {free room capacity : ℕ
     held_somewhere : 1 ≤ weigh_all (of_task t) (all_roots a.heaps)
     held_somewhere = omega (arith, a.held t, same-other (get_or places t nowhere) nowhere (λ e. some (is ∙ e)))
 
-    its_heap : (k : ℕ) × (k < length a.heaps) × (1 ≤ weigh (of_task t) (get_or a.heaps k none))
+    its_heap : (k : ℕ) × (k < length a.heaps) × (1 ≤ forest_weight (of_task t) (get_or a.heaps k none))
     its_heap = some_heap (of_task t) a.heaps held_somewhere
 
-    at_in : (k : ℕ) → 1 ≤ weigh (of_task t) (get_or a.heaps k none) → (1 ≤ weigh (at_place at) (get_or a.heaps k none)) × ((node_at nodes at).key.task ≡ t)
+    at_in : (k : ℕ) → 1 ≤ forest_weight (of_task t) (get_or a.heaps k none) → (1 ≤ forest_weight (at_place at) (get_or a.heaps k none)) × ((node_at nodes at).key.task ≡ t)
     at_in k has =
         let p = placed_node nodes places nowhere t (get_or a.heaps k none) (stands_in nodes a.heaps k a.parts.stand.1)
-        (omega (arith, a.placed, weigh-le-all (misplaced places) a.heaps k)) has in
-        (omega (arith, p.0, ap (λ x. weigh (at_place x) (get_or a.heaps k none)) is), ap (λ x. (node_at nodes x).key.task) is ∙ p.1)
+        (omega (arith, a.placed, forest_weight-le-all (misplaced places) a.heaps k)) has in
+        (omega (arith, p.0, ap (λ x. forest_weight (at_place x) (get_or a.heaps k none)) is), ap (λ x. (node_at nodes x).key.task) is ∙ p.1)
 
     task_at : (node_at nodes at).key.task ≡ t
     task_at = (at_in its_heap.0 its_heap.2).1
@@ -70,16 +70,16 @@ module _ {nodes : List Node} {heads places : List ℕ} {free room capacity : ℕ
     -- the root is in the heap where the node is
     module _ {h : ℕ} (within : h < length now.lists) (t : ℕ) {at top : ℕ} (is : at ≡ get_or places t nowhere) (some : at ≢ nowhere)
         {lent : List Node} (e : lent ≡ nodes) (is_top : IsTop lent at top) where
-      above : (k : ℕ) → 1 ≤ weigh (at_place at) (get_or a.heaps k none) → 1 ≤ weigh (at_place top) (get_or a.heaps k none)
+      above : (k : ℕ) → 1 ≤ forest_weight (at_place at) (get_or a.heaps k none) → 1 ≤ forest_weight (at_place top) (get_or a.heaps k none)
       above k = let t : IsTop nodes at top = subst (λ ns. IsTop ns at top) e is_top in t.above (get_or a.heaps k none) (stands_in nodes a.heaps k a.parts.stand.1)
 
-      at_in_heap : 1 ≤ weigh (at_place top) (get_or a.heaps h none) → 1 ≤ weigh (at_place at) (get_or a.heaps h none)
+      at_in_heap : 1 ≤ forest_weight (at_place top) (get_or a.heaps h none) → 1 ≤ forest_weight (at_place at) (get_or a.heaps h none)
       at_in_heap root_in =
           ⊎_elim (λ lt. lt)
           (λ out.
           let k = its_heap t is some in
           let there = (at_in t is some k.0 k.2).0 in
-          let differ : k.0 ≢ h = λ i. absurd (omega (arith, out, there, ap (λ x. weigh (at_place at) (get_or a.heaps x none)) i)) in
+          let differ : k.0 ≢ h = λ i. absurd (omega (arith, out, there, ap (λ x. forest_weight (at_place at) (get_or a.heaps x none)) i)) in
           absurd (omega (
             arith,
             root_in,
@@ -87,16 +87,16 @@ module _ {nodes : List Node} {heads places : List ℕ} {free room capacity : ℕ
             two-le-all (at_place top) a.heaps k.0 h differ (omega (arith, within, as_many a seen)),
             a.parts.once top,
           )))
-          (cases_lt 0 (weigh (at_place at) (get_or a.heaps h none)))
+          (cases_lt 0 (forest_weight (at_place at) (get_or a.heaps h none)))
 
-      pub is_node : 1 ≤ weigh (at_place top) (get_or a.heaps h none) → IsNodeOf places (get_or a.heaps h none) t at
+      pub is_node : 1 ≤ forest_weight (at_place top) (get_or a.heaps h none) → IsNodeOf places (get_or a.heaps h none) t at
       is_node root_in = record { place_is = is; some = some; has = at_in_heap root_in }
 
-      pub none_in_heap : (1 ≤ weigh (at_place top) (get_or a.heaps h none) → ⊥) → HasNone (list_of now h) t
+      pub none_in_heap : (1 ≤ forest_weight (at_place top) (get_or a.heaps h none) → ⊥) → HasNone (list_of now h) t
       none_in_heap out q has task =
           let c : fin.contains (keys (get_or a.heaps h none)) q ≡ true = ap (λ s. fin.contains s q) (sym (list_is a seen h)) ∙ has in
-          let w : 1 ≤ weigh (of_task t) (get_or a.heaps h none) =
-          omega (arith, weigh_from_contains (get_or a.heaps h none) q c, key-le-task q (get_or a.heaps h none), ap (λ x. weigh (of_task x) (get_or a.heaps h none)) task) in
+          let w : 1 ≤ forest_weight (of_task t) (get_or a.heaps h none) =
+          omega (arith, weigh_from_contains (get_or a.heaps h none) q c, key-le-task q (get_or a.heaps h none), ap (λ x. forest_weight (of_task x) (get_or a.heaps h none)) task) in
           out (above h (at_in t is some h w).0)
 
   -- ---- a key is out of heap h, and its task has no place
@@ -236,7 +236,7 @@ module _ {nodes : List Node} {heads places : List ℕ} {free room capacity : ℕ
           parts = root_popped.parts;
           kept = λ v. omega (arith, root_popped.kept (λ _ k. v k), ap v (least_node a seen is within read e least).key_is);
           places_long = refl;
-          placed = omega (arith, a.placed, weigh-le-all (misplaced places) a.heaps h, root_popped.kept (misplaced places));
+          placed = omega (arith, a.placed, forest_weight-le-all (misplaced places) a.heaps h, root_popped.kept (misplaced places));
           other_places = λ _ _. refl;
           as_present = λ _. refl;
           made = root_popped.made;
@@ -269,7 +269,7 @@ module _ {nodes : List Node} {heads places : List ℕ} {free room capacity : ℕ
         has = n.has;
         rises = rises_in a.heaps h a.rise;
         small = small_lent a e;
-        placed = ap (λ l. weigh (misplaced l) (get_or a.heaps h none)) f ∙ omega (arith, a.placed, weigh-le-all (misplaced places) a.heaps h);
+        placed = ap (λ l. forest_weight (misplaced l) (get_or a.heaps h none)) f ∙ omega (arith, a.placed, forest_weight-le-all (misplaced places) a.heaps h);
         parts = parts_lent a e h (heap_in a seen is within read);
       }
 
@@ -294,12 +294,12 @@ module _ {nodes : List Node} {heads places : List ℕ} {free room capacity : ℕ
           ((can : CanCut lent lent_places link at free) → IsCutOut lent lent_places can.heap can.spares can.others at new spots result hole before after) →
           length new ≡ length nodes →
           IsArenaAfter new (set heads h result) (set spots t nowhere) hole (room + 1) capacity
-          (record (with_list now h (without (list_of now h) t)) { spare = now.spare + 1 }) (2 * digits (fin.len (list_of now h))) before after
+          (record (with_list now h (other_keys (list_of now h) t)) { spare = now.spare + 1 }) (2 * digits (fin.len (list_of now h))) before after
       removed {new = new} {spots = spots} {result = result} {hole = hole} {before = before} {after = after} e f cuts long =
           let p : IsCutOut nodes places (get_or a.heaps h none) a.spares (all_roots (set a.heaps h none)) at new spots result hole before after =
           subst (λ (l : List Node × List ℕ). IsCutOut l.0 l.1 (get_or a.heaps h none) a.spares (all_roots (set a.heaps h none)) at new spots result hole before after)
           (λ i. (e i, f i)) (cuts (can_cut e f)) in
-          removed_by h t at (heap_in a seen is within read) (task_at t n.place_is n.some) p long seen (without (list_of now h) t)
+          removed_by h t at (heap_in a seen is within read) (task_at t n.place_is n.some) p long seen (other_keys (list_of now h) t)
           (keys_without p.left (get_or a.heaps h none) (node_at nodes at).key t (task_at t n.place_is n.some) (heap_once a h) p.kept
-          ∙ ap (λ k. without k t) (sym (list_is a seen h)))
+          ∙ ap (λ k. other_keys k t) (sym (list_is a seen h)))
           (compares_within (omega arith) (compares_none _))

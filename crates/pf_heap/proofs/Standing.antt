@@ -4,8 +4,8 @@ use Rattle.std.proofs.Math.ListN.{length-set}
 use Rattle.std.proofs.lemmas.List.{get_or_default}
 use Rattle.pf_order.specs.Priority.{Priority}
 use Rattle.pf_heap.specs.declared.node.Node.{Node}
-use Rattle.pf_heap.specs.Forest.{Forest, none, tree, nowhere, head, weigh, same, at_place}
-use Rattle.pf_heap.specs.Memory.{no_node, node_at, Stands, Part, root, weigh_all, StandAll, Parts, relinked}
+use Rattle.pf_heap.specs.Forest.{Forest, none, tree, nowhere, head, forest_weight, same, at_place}
+use Rattle.pf_heap.specs.Memory.{no_node, node_at, Stands, Part, root, weigh_all, StandAll, Parts, nodes_with_sibling}
 use Rattle.pf_heap.proofs.Forests.{same-self}
 
 -- ---- a write to a node that the forest doesn't have
@@ -13,11 +13,11 @@ use Rattle.pf_heap.proofs.Forests.{same-self}
 pub elsewhere : (at i : ℕ) (n : ℕ) → same i at + n ≡ 0 → at ≢ i
 elsewhere at i n h e = absurd (omega (arith, same-self i, ap (λ x. same i x) e))
 
-pub stands-set : (nodes : List Node) (i : ℕ) (v : Node) (up : ℕ) (f : Forest) → weigh (at_place i) f ≡ 0 → Stands nodes up f → Stands (set nodes i v) up f
+pub stands-set : (nodes : List Node) (i : ℕ) (v : Node) (up : ℕ) (f : Forest) → forest_weight (at_place i) f ≡ 0 → Stands nodes up f → Stands (set nodes i v) up f
 stands-set nodes i v up none unused s = tt
 stands-set nodes i v up (tree at key rank kids rest) unused s = (
   omega (arith, s.0, length-set nodes i v),
-  get_or-set_other nodes i at v no_node (elsewhere at i (weigh (at_place i) kids + weigh (at_place i) rest) (omega (arith, unused))) ∙ s.1,
+  get_or-set_other nodes i at v no_node (elsewhere at i (forest_weight (at_place i) kids + forest_weight (at_place i) rest) (omega (arith, unused))) ∙ s.1,
   stands-set nodes i v at kids (omega (arith, unused)) s.2,
   stands-set nodes i v up rest (omega (arith, unused)) s.3,
 )
@@ -46,7 +46,7 @@ sibling_at nodes i d within = ap (λ (n : Node). n.sibling) (get_or_default node
 -- the places of a front part's first node are in no other part
 pub unused_elsewhere : (nodes : List Node) (up at : ℕ) (key : Priority) (rank : ℕ) (kids rest : Forest) (ps : List Part) →
     Parts nodes ((up, tree at key rank kids rest) ∷ ps) →
-    (weigh (at_place at) kids ≡ 0) × (weigh (at_place at) rest ≡ 0) × (weigh_all (at_place at) ps ≡ 0)
+    (forest_weight (at_place at) kids ≡ 0) × (forest_weight (at_place at) rest ≡ 0) × (weigh_all (at_place at) ps ≡ 0)
 unused_elsewhere nodes up at key rank kids rest ps parts =
     (omega (arith, parts.once at, same-self at), omega (arith, parts.once at, same-self at), omega (arith, parts.once at, same-self at))
 
@@ -55,7 +55,7 @@ unused_elsewhere nodes up at key rank kids rest ps parts =
 -- the first tree of a list goes to the front of another one
 pub turn_parts : (nodes : List Node) (up at : ℕ) (key : Priority) (rank : ℕ) (kids rest turned : Forest) (ps : List Part) →
     Parts nodes ((up, tree at key rank kids rest) ∷ root turned ∷ ps) →
-    Parts (relinked nodes at (head turned)) ((up, rest) ∷ root (tree at key rank kids turned) ∷ ps)
+    Parts (nodes_with_sibling nodes at (head turned)) ((up, rest) ∷ root (tree at key rank kids turned) ∷ ps)
 turn_parts nodes up at key rank kids rest turned ps parts =
     let s = parts.stand.0 in
     let v : Node = record (node_at nodes at) { parent = nowhere; sibling = head turned } in
@@ -79,7 +79,7 @@ turn_parts nodes up at key rank kids rest turned ps parts =
 -- the first tree is cut off
 pub cut_parts : (nodes : List Node) (up at : ℕ) (key : Priority) (rank : ℕ) (kids rest : Forest) (ps : List Part) →
     Parts nodes ((up, tree at key rank kids rest) ∷ ps) →
-    Parts (relinked nodes at nowhere) (root (tree at key rank kids none) ∷ (up, rest) ∷ ps)
+    Parts (nodes_with_sibling nodes at nowhere) (root (tree at key rank kids none) ∷ (up, rest) ∷ ps)
 cut_parts nodes up at key rank kids rest ps parts =
     let p = turn_parts nodes up at key rank kids rest none ps (record { stand = (parts.stand.0, (tt, parts.stand.1)); once = λ i. omega (arith, parts.once i) }) in
     record { stand = (p.stand.1.0, (p.stand.0, p.stand.1.1)); once = λ i. omega (arith, p.once i) }
@@ -87,7 +87,7 @@ cut_parts nodes up at key rank kids rest ps parts =
 -- a tree is put in front of a list
 pub push_parts : (nodes : List Node) (up at : ℕ) (key : Priority) (rank : ℕ) (kids front : Forest) (ps : List Part) →
     Parts nodes ((up, tree at key rank kids none) ∷ root front ∷ ps) →
-    Parts (relinked nodes at (head front)) (root (tree at key rank kids front) ∷ ps)
+    Parts (nodes_with_sibling nodes at (head front)) (root (tree at key rank kids front) ∷ ps)
 push_parts nodes up at key rank kids front ps parts =
     let p = turn_parts nodes up at key rank kids none front ps parts in
     record { stand = p.stand.1; once = λ i. omega (arith, p.once i) }

@@ -4,8 +4,8 @@ use Rattle.std.proofs.Math.ListN.{length-set}
 use Rattle.pf_order.specs.Priority.{Priority, precedes}
 use Rattle.pf_order.specs.Counts.{Counts, Compares}
 use Rattle.pf_heap.specs.declared.node.Node.{Node}
-use Rattle.pf_heap.specs.Forest.{Forest, none, tree, nowhere, head, weigh, at_place, some, IsBelow, Falls, Rises, Sinks, IsTreeOrNone}
-use Rattle.pf_heap.specs.Memory.{no_node, node_at, Stands, Part, root, Parts, relinked, linked, Joined}
+use Rattle.pf_heap.specs.Forest.{Forest, none, tree, nowhere, head, forest_weight, at_place, some, IsBelow, Falls, Rises, Sinks, IsTreeOrNone}
+use Rattle.pf_heap.specs.Memory.{no_node, node_at, Stands, Part, root, Parts, nodes_with_sibling, nodes_with_child, AreJoined}
 use Rattle.pf_heap.specs.Steps.{IsCut, IsAdded, IsPushed}
 use Rattle.pf_order.proofs.Comparing.{compares_none, compares_within}
 use Rattle.pf_heap.proofs.Forests.{same-self, below_from_precedes}
@@ -15,7 +15,7 @@ use Rattle.pf_heap.proofs.Standing.{elsewhere, stands-set, stand_all-set, cut_pa
 
 link_parts : (nodes : List Node) (a b : ℕ) (ka kb : Priority) (ra rb : ℕ) (fa fb : Forest) (ps : List Part) →
     Parts nodes (root (tree a ka ra fa none) ∷ root (tree b kb rb fb none) ∷ ps) →
-    Parts (linked nodes a b) (root (tree a ka (ra + 1) (tree b kb rb fb fa) none) ∷ ps)
+    Parts (nodes_with_child nodes a b) (root (tree a ka (ra + 1) (tree b kb rb fb fa) none) ∷ ps)
 link_parts nodes a b ka kb ra rb fa fb ps parts =
     let sa = parts.stand.0 in
     let sb = parts.stand.1.0 in
@@ -28,7 +28,7 @@ link_parts nodes a b ka kb ra rb fa fb ps parts =
     let vb : Node = record { key = kb; parent = a; child = head fb; sibling = head fa; rank = rb } in
     let is_w : w ≡ va = ap (λ (n : Node). record n { child = b; rank = n.rank + 1 }) sa.1 in
     let is_v : v ≡ vb = λ i. record (sb.1 i) { parent = a; sibling = (sa.1 i).child } in
-    let both : (up : ℕ) (f : Forest) → weigh (at_place a) f ≡ 0 → weigh (at_place b) f ≡ 0 → Stands nodes up f → Stands (set (set nodes b v) a w) up f =
+    let both : (up : ℕ) (f : Forest) → forest_weight (at_place a) f ≡ 0 → forest_weight (at_place b) f ≡ 0 → Stands nodes up f → Stands (set (set nodes b v) a w) up f =
     λ up f not_a not_b s. stands-set (set nodes b v) a w up f not_a (stands-set nodes b v up f not_b s) in
     let oa = parts.once a in
     let ob = parts.once b in
@@ -63,7 +63,7 @@ swap_parts nodes p q ps parts = record {
 joined_is_added : (old new : List Node) (before after : Counts) (rank a b result : ℕ) (ka kb : Priority) (ra rb : ℕ) (fa fb : Forest) (others : List Part) →
     ra ≡ rank → Falls ka ra fa → rb ≡ rank → Falls kb rb fb →
     Parts old (root (tree a ka ra fa none) ∷ root (tree b kb rb fb none) ∷ others) →
-    result ≡ a → IsBelow ka kb → new ≡ linked old a b →
+    result ≡ a → IsBelow ka kb → new ≡ nodes_with_child old a b →
     Compares 1 before after →
     IsAdded new rank (root (tree a ka ra fa none) ∷ root (tree b kb rb fb none) ∷ []) others nowhere result before after
 joined_is_added old new before after rank a b result ka kb ra rb fa fb others rank_a falls_a rank_b falls_b parts is below written counted = record {
@@ -98,7 +98,7 @@ swap_added new rank p q others s c before after d = record {
 pub two_joined : (old new : List Node) (before after : Counts) (rank x y result : ℕ) (first second : Forest) (others : List Part) →
     x ≡ head first → y ≡ head second → IsTreeOrNone rank first → IsTreeOrNone rank second →
     Parts old (root first ∷ root second ∷ others) → x ≢ nowhere → y ≢ nowhere →
-    Joined old new x y result → Compares 1 before after →
+    AreJoined old new x y result → Compares 1 before after →
     IsAdded new rank (root first ∷ root second ∷ []) others nowhere result before after
 two_joined old new before after rank x y result none second others x_is y_is tx ty parts some_x some_y joined counted = absurd (some_x x_is)
 two_joined old new before after rank x y result (tree a ka ra fa (tree a' ka' ra' fa' na')) second others x_is y_is tx ty parts some_x some_y joined counted = absurd tx
@@ -107,8 +107,8 @@ two_joined old new before after rank x y result (tree a ka ra fa none) (tree b k
 two_joined old new before after rank x y result (tree a ka ra fa none) (tree b kb rb fb none) others x_is y_is tx ty parts some_x some_y joined counted =
     let sa = parts.stand.0 in
     let sb = parts.stand.1.0 in
-    let at_a : Joined old new a y result = subst (λ z. Joined old new z y result) x_is joined in
-    let at_both : Joined old new a b result = subst (λ z. Joined old new a z result) y_is at_a in
+    let at_a : AreJoined old new a y result = subst (λ z. AreJoined old new z y result) x_is joined in
+    let at_both : AreJoined old new a b result = subst (λ z. AreJoined old new a z result) y_is at_a in
     let test : precedes (node_at old b).key (node_at old a).key ≡ precedes kb ka = λ i. precedes (sb.1 i).key (sa.1 i).key in
     ⊎_elim
     (λ h. joined_is_added old new before after rank a b result ka kb ra rb fa fb others tx.0 tx.1 ty.0 ty.1 parts
@@ -179,7 +179,7 @@ is_uncut nodes rank link (tree at key r kids rest) others small is parts rises o
 
 pub is_cut : (old new : List Node) (rank link next : ℕ) (list : Forest) (others : List Part) →
     link ≡ head list → link ≢ nowhere → (node_at old link).rank ≡ rank → Rises rank list →
-    Parts old (root list ∷ others) → new ≡ relinked old link nowhere → next ≡ (node_at old link).sibling →
+    Parts old (root list ∷ others) → new ≡ nodes_with_sibling old link nowhere → next ≡ (node_at old link).sibling →
     IsCut new rank list others link next
 is_cut old new rank link next none others is some at_rank rises parts written next_is = absurd (some is)
 is_cut old new rank link next (tree at key r kids rest) others is some at_rank rises parts written next_is =
@@ -194,7 +194,7 @@ is_cut old new rank link next (tree at key r kids rest) others is some at_rank r
       rest_is = next_at;
       first_tree = (r_rank, rises.1);
       rises = subst (λ z. Rises (z + 1) rest) r_rank rises.2;
-      parts = subst (λ ns. Parts ns (root (tree at key r kids none) ∷ root rest ∷ others)) (sym (written ∙ ap (λ z. relinked old z nowhere) is))
+      parts = subst (λ ns. Parts ns (root (tree at key r kids none) ∷ root rest ∷ others)) (sym (written ∙ ap (λ z. nodes_with_sibling old z nowhere) is))
           (cut_parts old nowhere at key r kids rest others parts);
       kept = λ w. omega arith;
     }
@@ -218,7 +218,7 @@ is_unpushed nodes rank x y (tree a ka ra fa na) second others small x_is y_is si
 
 pub is_pushed : (old new : List Node) (rank x y : ℕ) (first second : Forest) (others : List Part) →
     x ≡ head first → y ≡ head second → IsTreeOrNone rank first → Sinks rank second →
-    Parts old (root first ∷ root second ∷ others) → x ≢ nowhere → new ≡ relinked old x y →
+    Parts old (root first ∷ root second ∷ others) → x ≢ nowhere → new ≡ nodes_with_sibling old x y →
     IsPushed new rank first second others x
 is_pushed old new rank x y none second others x_is y_is t sinks parts some written = absurd (some x_is)
 is_pushed old new rank x y (tree a ka ra fa (tree a' ka' ra' fa' na')) second others x_is y_is t sinks parts some written = absurd t
@@ -226,7 +226,7 @@ is_pushed old new rank x y (tree a ka ra fa none) second others x_is y_is t sink
   list = tree a ka ra fa second;
   list_is = x_is;
   sinks = (omega (arith, t.0), t.1, subst (λ r. Sinks r second) (sym t.0) sinks);
-  parts = subst (λ ns. Parts ns (root (tree a ka ra fa second) ∷ others)) (sym (written ∙ (λ i. relinked old (x_is i) (y_is i))))
+  parts = subst (λ ns. Parts ns (root (tree a ka ra fa second) ∷ others)) (sym (written ∙ (λ i. nodes_with_sibling old (x_is i) (y_is i))))
       (push_parts old nowhere a ka ra fa second others parts);
   kept = λ w. omega arith;
 }

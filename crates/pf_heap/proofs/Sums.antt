@@ -6,8 +6,8 @@ use Rattle.pf_order.specs.Priority.{Priority}
 use Rattle.pf_order.specs.Counts.{Counts, Compares}
 use Rattle.pf_heap.specs.declared.node.Node.{Node}
 use Rattle.pf_heap.specs.declared.adding.Sum.{Sum}
-use Rattle.pf_heap.specs.Forest.{Forest, none, tree, nowhere, head, weigh, one_each, size, some, Rises, Sinks, IsTreeOrNone}
-use Rattle.pf_heap.specs.Memory.{node_at, Stands, Part, root, Parts, relinked}
+use Rattle.pf_heap.specs.Forest.{Forest, none, tree, nowhere, head, forest_weight, one_each, size, some, Rises, Sinks, IsTreeOrNone}
+use Rattle.pf_heap.specs.Memory.{node_at, Stands, Part, root, Parts, nodes_with_sibling}
 use Rattle.pf_heap.specs.Steps.{HasRoots, HasTwo, HasTwoTrees, HasThreeTrees, IsCut, IsAdded, IsPushed, IsMerging, CanAddRank, HasTwoHeaps, IsMerged, CanTurn, IsTurning, IsTurned}
 use Rattle.pf_order.proofs.Comparing.{compares_none, compares_within, compares_both}
 use Rattle.pf_heap.proofs.Forests.{double, size_from_tree, size_from_rises}
@@ -62,7 +62,7 @@ module _ {mid new : List Node} {rank part first_carry sum second_carry : ℕ} {b
         sum_tree = e.sum_tree;
         carry_tree = e.carry_tree;
         parts = record { stand = (p.stand.0, (p.stand.1.0, p.stand.1.1.1)); once = λ i. omega (arith, p.once i) };
-        kept = λ w. omega (arith, d.kept w, e.kept w, ap (λ f. weigh w f) missing);
+        kept = λ w. omega (arith, d.kept w, e.kept w, ap (λ f. forest_weight w f) missing);
         counted = compares_within (omega (arith, ap some missing)) (compares_both d.counted e.counted);
       }
 
@@ -77,7 +77,7 @@ module _ {mid new : List Node} {rank part first_carry sum second_carry : ℕ} {b
         sum_tree = e.sum_tree;
         carry_tree = d.carry_tree;
         parts = record { stand = (p.stand.0, p.stand.1.1); once = λ i. omega (arith, p.once i) };
-        kept = λ w. omega (arith, d.kept w, e.kept w, ap (λ f. weigh w f) missing);
+        kept = λ w. omega (arith, d.kept w, e.kept w, ap (λ f. forest_weight w f) missing);
         counted = compares_within (omega (arith, ap some missing)) (compares_both d.counted e.counted);
       }
 
@@ -239,9 +239,9 @@ turn_begun nodes link can = record {
 }
 
 module _ (old new : List Node) (up : ℕ) (list : Forest) (others : List Part) (link next turned_link steps : ℕ)
-    (written : new ≡ relinked old link turned_link) (next_is : next ≡ (node_at old link).sibling) (somewhere : link ≢ nowhere) where
+    (written : new ≡ nodes_with_sibling old link turned_link) (next_is : next ≡ (node_at old link).sibling) (somewhere : link ≢ nowhere) where
   turn_by : (rest turned : Forest) (bound : ℕ) → link ≡ head rest → turned_link ≡ head turned → bound + steps ≤ 32 → Sinks bound rest → Rises bound turned →
-      Parts old ((up, rest) ∷ root turned ∷ others) → ((w : ℕ → Priority → ℕ) → weigh w rest + weigh w turned ≡ weigh w list) →
+      Parts old ((up, rest) ∷ root turned ∷ others) → ((w : ℕ → Priority → ℕ) → forest_weight w rest + forest_weight w turned ≡ forest_weight w list) →
       IsTurning new up list others next link (steps + 1)
   turn_by none turned bound rest_is turned_is low sinks rises parts kept = absurd (somewhere rest_is)
   turn_by (tree at key rank kids rest) turned bound rest_is turned_is low sinks rises parts kept = record {
@@ -253,7 +253,7 @@ module _ (old new : List Node) (up : ℕ) (list : Forest) (others : List Part) (
     low = omega (arith, sinks.0);
     sinks = sinks.2;
     rises = (omega arith, sinks.1, rises_less bound (rank + 1) turned (omega (arith, sinks.0)) rises);
-    parts = subst (λ ns. Parts ns ((up, rest) ∷ root (tree at key rank kids turned) ∷ others)) (sym (written ∙ (λ i. relinked old (rest_is i) (turned_is i))))
+    parts = subst (λ ns. Parts ns ((up, rest) ∷ root (tree at key rank kids turned) ∷ others)) (sym (written ∙ (λ i. nodes_with_sibling old (rest_is i) (turned_is i))))
         (turn_parts old up at key rank kids rest turned others parts);
     kept = λ w. omega (arith, kept w);
   }
@@ -275,7 +275,7 @@ module _ {nodes : List Node} {up : ℕ} {list : Forest} {others : List Part} {re
     heap_is = t.turned_is;
     rises = rises_less t.bound 0 t.turned (omega arith) t.rises;
     parts = record { stand = t.parts.stand.1; once = λ i. omega (arith, t.parts.once i) };
-    kept = λ w. omega (arith, t.kept w, ap (λ f. weigh w f) done);
+    kept = λ w. omega (arith, t.kept w, ap (λ f. forest_weight w f) done);
   }
 
   -- at the end of the list, and after as many steps as there are ranks
@@ -344,8 +344,8 @@ module _ {nodes : List Node} {x y : Forest} {others : List Part} {links : Sum} {
   pub merged : {new : List Node} {link : ℕ} → ((c : CanTurn nodes links.done) → IsTurned new c.list c.others link) → IsMerged new x y others link before after
   merged turns =
       let t = turns can_turn in
-      let only_done : (w : ℕ → Priority → ℕ) → weigh w m.done ≡ weigh w x + weigh w y =
-      λ w. omega (arith, m.kept w, ap (λ f. weigh w f) left_empty, ap (λ f. weigh w f) right_empty, ap (λ f. weigh w f) carry_empty) in
+      let only_done : (w : ℕ → Priority → ℕ) → forest_weight w m.done ≡ forest_weight w x + forest_weight w y =
+      λ w. omega (arith, m.kept w, ap (λ f. forest_weight w f) left_empty, ap (λ f. forest_weight w f) right_empty, ap (λ f. forest_weight w f) carry_empty) in
       record {
         heap = t.heap;
         heap_is = t.heap_is;

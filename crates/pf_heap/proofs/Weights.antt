@@ -2,9 +2,9 @@
 use Rattle.std.proofs.Common.{◌≡◌, ℕ, zero, suc, ◌+◌, ◌-◌, ◌<◌, ◌≤◌, List, [], ◌∷◌, length, refl, ap, ◌∙◌, arith}
 use Rattle.pf_order.specs.Priority.{Priority}
 use Rattle.pf_heap.specs.declared.node.Node.{Node}
-use Rattle.pf_heap.specs.Forest.{Forest, none, tree, weigh, same, one_each, size}
+use Rattle.pf_heap.specs.Forest.{Forest, none, tree, forest_weight, same, one_each, size}
 use Rattle.pf_heap.specs.Memory.{Stands, Part, weigh_all, StandAll, Parts}
-use Rattle.pf_heap.proofs.Forests.{weigh-add, weigh-zero, weigh-ext}
+use Rattle.pf_heap.proofs.Forests.{forest_weight-add, forest_weight-zero, forest_weight-ext}
 
 -- 1 below n, else 0
 unfoldable pub upto : ℕ → ℕ → ℕ
@@ -24,15 +24,15 @@ upto-below n i h = omega arith
 
 pub weigh_all-zero : (w : ℕ → Priority → ℕ) (ps : List Part) → ((at : ℕ) (key : Priority) → w at key ≡ 0) → weigh_all w ps ≡ 0
 weigh_all-zero w [] e = refl
-weigh_all-zero w (p ∷ ps) e = omega (arith, weigh-zero w p.1 e, weigh_all-zero w ps e)
+weigh_all-zero w (p ∷ ps) e = omega (arith, forest_weight-zero w p.1 e, weigh_all-zero w ps e)
 
 pub weigh_all-add : (u v w : ℕ → Priority → ℕ) (ps : List Part) → ((at : ℕ) (key : Priority) → w at key ≡ u at key + v at key) → weigh_all w ps ≡ weigh_all u ps + weigh_all v ps
 weigh_all-add u v w [] e = refl
-weigh_all-add u v w (p ∷ ps) e = omega (arith, weigh-add u v w p.1 e, weigh_all-add u v w ps e)
+weigh_all-add u v w (p ∷ ps) e = omega (arith, forest_weight-add u v w p.1 e, weigh_all-add u v w ps e)
 
 pub weigh_all-ext : (v w : ℕ → Priority → ℕ) (ps : List Part) → ((at : ℕ) (key : Priority) → v at key ≡ w at key) → weigh_all v ps ≡ weigh_all w ps
 weigh_all-ext v w [] e = refl
-weigh_all-ext v w (p ∷ ps) e = omega (arith, weigh-ext v w p.1 e, weigh_all-ext v w ps e)
+weigh_all-ext v w (p ∷ ps) e = omega (arith, forest_weight-ext v w p.1 e, weigh_all-ext v w ps e)
 
 -- pigeons in holes: where no number is had twice, no more than n numbers are below n
 pub pigeonhole : (g : ℕ → Priority → ℕ) (ps : List Part) (n : ℕ) → ((i : ℕ) → weigh_all (λ at key. same i (g at key)) ps ≤ 1) →
@@ -48,7 +48,7 @@ pigeonhole g ps (suc n) once =
       weigh_all-add (λ at key. upto n (g at key)) (λ at key. same n (g at key)) (λ at key. upto (suc n) (g at key)) ps more,
     )
 
-within : (nodes : List Node) (up : ℕ) (f : Forest) → Stands nodes up f → weigh (λ at key. upto (length nodes) at) f ≡ size f
+within : (nodes : List Node) (up : ℕ) (f : Forest) → Stands nodes up f → forest_weight (λ at key. upto (length nodes) at) f ≡ size f
 within nodes up none s = refl
 within nodes up (tree at key rank kids rest) s =
     omega (arith, upto-below (length nodes) at s.0, within nodes at kids s.2, within nodes up rest s.3)

@@ -7,7 +7,7 @@ use Rattle.std.specs.Ordering.{eq_by_cmp}
 use Rattle.pf_order.specs.Priority.{Priority, key_cmp}
 use Rattle.pf_order.specs.Counts.{Counts, Compares}
 use Rattle.pf_heap.specs.declared.node.Node.{Node}
-use Rattle.pf_heap.specs.Forest.{Forest, none, nowhere, head, weigh, same, one_each, at_place, of_task, of_key, size}
+use Rattle.pf_heap.specs.Forest.{Forest, none, nowhere, head, forest_weight, same, one_each, at_place, of_task, of_key, size}
 use Rattle.pf_heap.specs.Memory.{no_node, root, weigh_all, Parts}
 use Rattle.pf_heap.specs.Pops.{roots, HasHeap, IsLeastRoot}
 use Rattle.pf_heap.specs.Keys.{Heaps, list_of, IsHeld, IsFirst, EachTaskOnce}
@@ -22,7 +22,7 @@ use Rattle.pf_heap.proofs.Sums.{none_from_link}
 use Rattle.pf_heap.proofs.Views.{lists_at-heads}
 use Rattle.pf_heap.proofs.Sets.{len-keys, weigh_from_contains, contains_from_weigh, below_in, tied_keys, key_of_task, of_key-self, key-le-task, two-le-task}
 use Rattle.pf_heap.proofs.Digits.{below-digits}
-use Rattle.pf_heap.proofs.Lists.{get_or-map_at, length-map_at, weigh-le-all, stands_in, rises_in, parts_apart, few_keys, some_heap, weigh_all-none, all_rise-none, stand_all-none, two-le-all}
+use Rattle.pf_heap.proofs.Lists.{get_or-map_at, length-map_at, forest_weight-le-all, stands_in, rises_in, parts_apart, few_keys, some_heap, weigh_all-none, all_rise-none, stand_all-none, two-le-all}
 
 some_head : (nodes : List Node) (heads : List ℕ) (heaps : List Forest) (h x : ℕ) → heads ≡ map head heaps → h < length heaps → x ≡ get_or heads h x → x ≡ head (get_or heaps h none)
 some_head nodes heads heaps h x heads_are within read =
@@ -45,8 +45,8 @@ module _ {nodes : List Node} {heads places : List ℕ} {free room capacity : ℕ
   pub held_once : (t : ℕ) → weigh_all (of_task t) (all_roots a.heaps) ≤ 1
   held_once t = omega (arith, a.held t)
 
-  pub heap_once : (h t : ℕ) → weigh (of_task t) (get_or a.heaps h none) ≤ 1
-  heap_once h t = omega (arith, held_once t, weigh-le-all (of_task t) a.heaps h)
+  pub heap_once : (h t : ℕ) → forest_weight (of_task t) (get_or a.heaps h none) ≤ 1
+  heap_once h t = omega (arith, held_once t, forest_weight-le-all (of_task t) a.heaps h)
 
   pub past_places : (t : ℕ) → length places ≤ t → get_or places t nowhere ≡ nowhere
   past_places t h = get_or_past places t nowhere h
@@ -100,8 +100,8 @@ module _ {nodes : List Node} {heads places : List ℕ} {free room capacity : ℕ
           arith,
           weigh_from_contains (get_or a.heaps h.list none) h.key c,
           key-le-task h.key (get_or a.heaps h.list none),
-          weigh-le-all (of_task t) a.heaps h.list,
-          ap (λ x. weigh (of_task x) (get_or a.heaps h.list none)) h.of_task,
+          forest_weight-le-all (of_task t) a.heaps h.list,
+          ap (λ x. forest_weight (of_task x) (get_or a.heaps h.list none)) h.of_task,
         )
 
     pub held_from_weigh : (t : ℕ) → 1 ≤ weigh_all (of_task t) (all_roots a.heaps) → IsHeld now.lists t
@@ -126,7 +126,7 @@ module _ {nodes : List Node} {heads places : List ℕ} {free room capacity : ℕ
 
     -- ---- no task has two keys
 
-    of_key_in : (i : ℕ) (p : Priority) → fin.contains (list_of now i) p ≡ true → 1 ≤ weigh (of_key p) (get_or a.heaps i none)
+    of_key_in : (i : ℕ) (p : Priority) → fin.contains (list_of now i) p ≡ true → 1 ≤ forest_weight (of_key p) (get_or a.heaps i none)
     of_key_in i p has = weigh_from_contains (get_or a.heaps i none) p (ap (λ s. fin.contains s p) (sym (list_is i)) ∙ has)
 
     one_key : (i : ℕ) (p q : Priority) → fin.contains (list_of now i) p ≡ true → fin.contains (list_of now i) q ≡ true → p.task ≡ q.task → p ≡ q
@@ -144,16 +144,16 @@ module _ {nodes : List Node} {heads places : List ℕ} {free room capacity : ℕ
 
     one_list : (i j : ℕ) (p q : Priority) → fin.contains (list_of now i) p ≡ true → fin.contains (list_of now j) q ≡ true → p.task ≡ q.task → i ≢ j → ⊥
     one_list i j p q hp hq task differ =
-        let second : 1 ≤ weigh (of_key q) (get_or a.heaps j none) = of_key_in j q hq in
+        let second : 1 ≤ forest_weight (of_key q) (get_or a.heaps j none) = of_key_in j q hq in
         let listed : j < length a.heaps =
-        ⊎_elim (λ lt. lt) (λ ge. absurd (omega (arith, second, ap (weigh (of_key q)) (get_or_past a.heaps j none ge)))) (cases_lt j (length a.heaps)) in
+        ⊎_elim (λ lt. lt) (λ ge. absurd (omega (arith, second, ap (forest_weight (of_key q)) (get_or_past a.heaps j none ge)))) (cases_lt j (length a.heaps)) in
         absurd (omega (
           arith,
           of_key_in i p hp,
           second,
           key-le-task p (get_or a.heaps i none),
           key-le-task q (get_or a.heaps j none),
-          ap (λ t. weigh (of_task t) (get_or a.heaps j none)) task,
+          ap (λ t. forest_weight (of_task t) (get_or a.heaps j none)) task,
           two-le-all (of_task p.task) a.heaps i j differ listed,
           held_once p.task,
         ))

@@ -17,10 +17,10 @@ abbrev pub head : Forest → ℕ
 head none = nowhere
 head (tree at key rank kids rest) = at
 
--- what all nodes weigh together
-abbrev pub weigh : (ℕ → Priority → ℕ) → Forest → ℕ
-weigh w none = 0
-weigh w (tree at key rank kids rest) = w at key + (weigh w kids + weigh w rest)
+-- what all nodes forest_weight together
+abbrev pub forest_weight : (ℕ → Priority → ℕ) → Forest → ℕ
+forest_weight w none = 0
+forest_weight w (tree at key rank kids rest) = w at key + (forest_weight w kids + forest_weight w rest)
 
 -- 1 where the numbers are equal, else 0
 unfoldable pub same : ℕ → ℕ → ℕ
@@ -40,7 +40,7 @@ abbrev pub of_key : Priority → ℕ → Priority → ℕ
 of_key q at key = cond (eq_by_cmp key_cmp q key) 1 0
 
 abbrev pub size : Forest → ℕ
-size f = weigh one_each f
+size f = forest_weight one_each f
 
 -- k does not precede p
 abbrev pub IsBelow : Priority → Priority → Type 0

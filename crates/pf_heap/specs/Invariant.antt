@@ -4,7 +4,7 @@ use Rattle.pf_order.specs.Priority.{Priority}
 use Rattle.pf_heap.specs.declared.node.Node.{Node}
 use Rattle.pf_heap.specs.Forest.{Forest, none, tree, nowhere, head, same, size, one_each, of_task, Rises}
 use Rattle.pf_heap.specs.Memory.{Part, root, weigh_all, Parts}
-use Rattle.pf_heap.specs.Pops.{IsChain}
+use Rattle.pf_heap.specs.Pops.{AreChildless}
 
 abbrev pub AllRise : List Forest → Type 0
 AllRise [] = Unit {0}
@@ -24,7 +24,7 @@ pub record IsArena (nodes : List Node) (heads places : List ℕ) (free room capa
   pub spares : Forest
   pub heads_are : heads ≡ map head heaps
   pub free_is : free ≡ head spares
-  pub chain : IsChain spares
+  pub chain : AreChildless spares
   pub rise : AllRise heaps
   pub small : length nodes < 2 ^ 32
   pub parts : Parts nodes (root spares ∷ all_roots heaps)
@@ -39,7 +39,7 @@ pub record HasSpares (nodes : List Node) (free : ℕ) : Type 0 where
   pub spares : Forest
   pub others : List Part
   pub free_is : free ≡ head spares
-  pub chain : IsChain spares
+  pub chain : AreChildless spares
   pub small : length nodes < 2 ^ 32
   pub parts : Parts nodes (root spares ∷ others)
 
@@ -47,7 +47,7 @@ pub record HasSpares (nodes : List Node) (free : ℕ) : Type 0 where
 pub record IsSettled (old nodes : List Node) (spares : Forest) (others : List Part) (key : Priority) (at free : ℕ) : Type 0 where
   pub left : Forest
   pub left_is : free ≡ head left
-  pub chain : IsChain left
+  pub chain : AreChildless left
   pub somewhere : at < nowhere
   pub small : length nodes < 2 ^ 32
   pub parts : Parts nodes (root (tree at key 0 none none) ∷ root left ∷ others)

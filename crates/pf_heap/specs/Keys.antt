@@ -13,8 +13,8 @@ abbrev pub IsFirst : Keys → Priority → Type 0
 IsFirst keys k = (set.contains keys k ≡ true) × ((q : Priority) → set.contains keys q ≡ true → precedes q k ≡ false)
 
 -- the keys of all tasks but this one
-abbrev pub without : Keys → ℕ → Keys
-without keys task = set.retain keys (λ k. not (k.task == task))
+abbrev pub other_keys : Keys → ℕ → Keys
+other_keys keys task = set.retain keys (λ k. not (k.task == task))
 
 -- none of the keys is of this task
 abbrev pub HasNone : Keys → ℕ → Type 0

@@ -2,7 +2,7 @@
 use Rattle.std.specs.Prelude.{◌≡◌, ℕ, ◌+◌, ◌<◌, ◌≤◌, ◌⊎◌, true, false, List, [], ◌∷◌, length, slice_index_or, slice_set}
 use Rattle.pf_order.specs.Priority.{Priority, precedes}
 use Rattle.pf_heap.specs.declared.node.Node.{Node}
-use Rattle.pf_heap.specs.Forest.{Forest, none, tree, nowhere, head, weigh, at_place}
+use Rattle.pf_heap.specs.Forest.{Forest, none, tree, nowhere, head, forest_weight, at_place}
 
 -- a node that no list has
 abbrev pub no_node : Node
@@ -30,7 +30,7 @@ root f = (nowhere, f)
 
 abbrev pub weigh_all : (ℕ → Priority → ℕ) → List Part → ℕ
 weigh_all w [] = 0
-weigh_all w (p ∷ ps) = weigh w p.1 + weigh_all w ps
+weigh_all w (p ∷ ps) = forest_weight w p.1 + weigh_all w ps
 
 abbrev pub StandAll : List Node → List Part → Type 0
 StandAll nodes [] = Unit {0}
@@ -42,19 +42,19 @@ pub record Parts (nodes : List Node) (ps : List Part) : Type 0 where
   pub once : (i : ℕ) → weigh_all (at_place i) ps ≤ 1
 
 -- the node is a root with this sibling
-abbrev pub relinked : List Node → ℕ → ℕ → List Node
-relinked nodes at to = slice_set nodes at (record (node_at nodes at) { parent = nowhere; sibling = to })
+abbrev pub nodes_with_sibling : List Node → ℕ → ℕ → List Node
+nodes_with_sibling nodes at to = slice_set nodes at (record (node_at nodes at) { parent = nowhere; sibling = to })
 
 -- the root `below` is the first child of the root `above`, whose rank is one greater
-abbrev pub linked : List Node → ℕ → ℕ → List Node
-linked nodes above below =
+abbrev pub nodes_with_child : List Node → ℕ → ℕ → List Node
+nodes_with_child nodes above below =
     slice_set
     (slice_set nodes below (record (node_at nodes below) { parent = above; sibling = (node_at nodes above).child }))
     above
     (record (node_at nodes above) { child = below; rank = (node_at nodes above).rank + 1 })
 
 -- the root with the first of the two keys has the other as its first child; in a tie x stays above
-abbrev pub Joined : List Node → List Node → ℕ → ℕ → ℕ → Type 0
-Joined old new x y result =
-    ((result ≡ x) × (precedes (node_at old y).key (node_at old x).key ≡ false) × (new ≡ linked old x y))
-    ⊎ ((result ≡ y) × (precedes (node_at old y).key (node_at old x).key ≡ true) × (new ≡ linked old y x))
+abbrev pub AreJoined : List Node → List Node → ℕ → ℕ → ℕ → Type 0
+AreJoined old new x y result =
+    ((result ≡ x) × (precedes (node_at old y).key (node_at old x).key ≡ false) × (new ≡ nodes_with_child old x y))
+    ⊎ ((result ≡ y) × (precedes (node_at old y).key (node_at old x).key ≡ true) × (new ≡ nodes_with_child old y x))

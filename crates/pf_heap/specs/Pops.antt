@@ -3,7 +3,7 @@ use Rattle.std.specs.Prelude.{◌≡◌, ℕ, ◌+◌, ◌<◌, ◌≤◌, ◌^�
 use Rattle.pf_order.specs.Priority.{Priority, precedes}
 use Rattle.pf_order.specs.Counts.{Counts, Compares}
 use Rattle.pf_heap.specs.declared.node.Node.{Node}
-use Rattle.pf_heap.specs.Forest.{Forest, none, tree, nowhere, head, weigh, size, AllBelow, IsBelow, Rises, Sinks, HasRoot}
+use Rattle.pf_heap.specs.Forest.{Forest, none, tree, nowhere, head, forest_weight, size, AllBelow, IsBelow, Rises, Sinks, HasRoot}
 use Rattle.pf_heap.specs.Memory.{node_at, Stands, Part, root, Parts}
 
 -- the number of roots
@@ -80,7 +80,7 @@ pub record IsParting (nodes : List Node) (heap : Forest) (others : List Part) (a
   pub rises : Rises bound rest
   pub sinks : Sinks bound stay
   pub parts : Parts nodes (root rest ∷ root stay ∷ root alone ∷ others)
-  pub kept : (w : ℕ → Priority → ℕ) → weigh w rest + (weigh w stay + weigh w alone) ≡ weigh w heap
+  pub kept : (w : ℕ → Priority → ℕ) → forest_weight w rest + (forest_weight w stay + forest_weight w alone) ≡ forest_weight w heap
 
 -- the roots that stay, of falling ranks, beside the one that stands alone
 pub record IsParted (nodes : List Node) (heap : Forest) (others : List Part) (at : ℕ) (key : Priority) (rank : ℕ) (kids : Forest) (link : ℕ) : Type 0 where
@@ -88,17 +88,17 @@ pub record IsParted (nodes : List Node) (heap : Forest) (others : List Part) (at
   pub stay_is : link ≡ head stay
   pub sinks : Sinks 32 stay
   pub parts : Parts nodes (root stay ∷ root (tree at key rank kids none) ∷ others)
-  pub kept : (w : ℕ → Priority → ℕ) → weigh w stay + weigh w (tree at key rank kids none) ≡ weigh w heap
+  pub kept : (w : ℕ → Priority → ℕ) → forest_weight w stay + forest_weight w (tree at key rank kids none) ≡ forest_weight w heap
 
 -- the node is free and stands in front of the free ones
-abbrev pub released : List Node → ℕ → ℕ → List Node
-released nodes at free =
+abbrev pub nodes_with_free : List Node → ℕ → ℕ → List Node
+nodes_with_free nodes at free =
     slice_set nodes at (record (node_at nodes at) { parent = nowhere; child = nowhere; sibling = free; rank = 0 })
 
 -- a list of nodes with no children
-abbrev pub IsChain : Forest → Type 0
-IsChain none = Unit {0}
-IsChain (tree at key rank kids rest) = (kids ≡ none) × (rank ≡ 0) × IsChain rest
+abbrev pub AreChildless : Forest → Type 0
+AreChildless none = Unit {0}
+AreChildless (tree at key rank kids rest) = (kids ≡ none) × (rank ≡ 0) × AreChildless rest
 
 -- the links are a heap's with this root and the free nodes'
 pub record CanPop (nodes : List Node) (link at free : ℕ) : Type 0 where
@@ -121,7 +121,7 @@ pub record IsPopped (nodes : List Node) (old spares : Forest) (others : List Par
   pub heap_is : link ≡ head heap
   pub rises : Rises 0 heap
   pub parts : Parts nodes (root heap ∷ root (tree at key 0 none spares) ∷ others)
-  pub kept : (w : ℕ → Priority → ℕ) → w at key + weigh w heap ≡ weigh w old
+  pub kept : (w : ℕ → Priority → ℕ) → w at key + forest_weight w heap ≡ forest_weight w old
   pub made : ℕ
   pub made_paid : (made ≡ 0) ⊎ (2 ^ made ≤ size old)
   pub counted : Compares made before after

@@ -4,7 +4,7 @@ use Rattle.pf_order.specs.Priority.{Priority}
 use Rattle.pf_order.specs.Counts.{Counts, Compares}
 use Rattle.pf_heap.specs.declared.node.Node.{Node}
 use Rattle.pf_heap.specs.declared.adding.Sum.{Sum}
-use Rattle.pf_heap.specs.Forest.{Forest, head, weigh, size, some, Rises, Sinks, IsTreeOrNone}
+use Rattle.pf_heap.specs.Forest.{Forest, head, forest_weight, size, some, Rises, Sinks, IsTreeOrNone}
 use Rattle.pf_heap.specs.Memory.{Part, root, weigh_all, Parts}
 
 -- the link is a list's, under the parent `up`
@@ -69,7 +69,7 @@ pub record IsCut (nodes : List Node) (rank : ℕ) (list : Forest) (others : List
   pub first_tree : IsTreeOrNone rank first
   pub rises : Rises (rank + 1) rest
   pub parts : Parts nodes (root first ∷ root rest ∷ others)
-  pub kept : (w : ℕ → Priority → ℕ) → weigh w first + weigh w rest ≡ weigh w list
+  pub kept : (w : ℕ → Priority → ℕ) → forest_weight w first + forest_weight w rest ≡ forest_weight w list
 
 -- trees of one rank are added: what stays at the rank, and what goes to the next
 pub record IsAdded (nodes : List Node) (rank : ℕ) (added others : List Part) (sum_link carry_link : ℕ) (before after : Counts) : Type 0 where
@@ -80,7 +80,7 @@ pub record IsAdded (nodes : List Node) (rank : ℕ) (added others : List Part) (
   pub sum_tree : IsTreeOrNone rank sum
   pub carry_tree : IsTreeOrNone (rank + 1) carry
   pub parts : Parts nodes (root sum ∷ root carry ∷ others)
-  pub kept : (w : ℕ → Priority → ℕ) → weigh w sum + weigh w carry ≡ weigh_all w added
+  pub kept : (w : ℕ → Priority → ℕ) → forest_weight w sum + forest_weight w carry ≡ weigh_all w added
   pub counted : Compares (some carry) before after
 
 -- a tree of this rank, if there is one, stands in front of a list of lower ranks
@@ -89,7 +89,7 @@ pub record IsPushed (nodes : List Node) (rank : ℕ) (first second : Forest) (ot
   pub list_is : link ≡ head list
   pub sinks : Sinks (rank + 1) list
   pub parts : Parts nodes (root list ∷ others)
-  pub kept : (w : ℕ → Priority → ℕ) → weigh w list ≡ weigh w first + weigh w second
+  pub kept : (w : ℕ → Priority → ℕ) → forest_weight w list ≡ forest_weight w first + forest_weight w second
 
 -- Two lists x and y are merged by adding them rank by rank, as numbers in base two: both lists still have the ranks
 -- from this one on, one tree is carried, and the sum has the lower ranks. `made` comparisons were made.
@@ -108,7 +108,7 @@ pub record IsMerging (nodes : List Node) (rank : ℕ) (x y : Forest) (others : L
   pub done_sinks : Sinks rank done
   pub small : length nodes < 2 ^ 32
   pub parts : Parts nodes (root left ∷ root right ∷ root carry ∷ root done ∷ others)
-  pub kept : (w : ℕ → Priority → ℕ) → weigh w left + (weigh w right + (weigh w carry + weigh w done)) ≡ weigh w x + weigh w y
+  pub kept : (w : ℕ → Priority → ℕ) → forest_weight w left + (forest_weight w right + (forest_weight w carry + forest_weight w done)) ≡ forest_weight w x + forest_weight w y
   pub made : ℕ
   pub made_low : made ≤ rank
   pub made_paid : (made ≡ 0) ⊎ (2 ^ made ≤ size carry + size done)
@@ -140,7 +140,7 @@ pub record IsMerged (nodes : List Node) (first second : Forest) (others : List P
   pub heap_is : link ≡ head heap
   pub rises : Rises 0 heap
   pub parts : Parts nodes (root heap ∷ others)
-  pub kept : (w : ℕ → Priority → ℕ) → weigh w heap ≡ weigh w first + weigh w second
+  pub kept : (w : ℕ → Priority → ℕ) → forest_weight w heap ≡ forest_weight w first + forest_weight w second
   pub made : ℕ
   pub made_paid : (made ≡ 0) ⊎ (2 ^ made ≤ size first + size second)
   pub counted : Compares made before after
@@ -166,7 +166,7 @@ pub record IsTurning (nodes : List Node) (up : ℕ) (list : Forest) (others : Li
   pub sinks : Sinks bound rest
   pub rises : Rises bound turned
   pub parts : Parts nodes ((up, rest) ∷ root turned ∷ others)
-  pub kept : (w : ℕ → Priority → ℕ) → weigh w rest + weigh w turned ≡ weigh w list
+  pub kept : (w : ℕ → Priority → ℕ) → forest_weight w rest + forest_weight w turned ≡ forest_weight w list
 
 -- a list is turned round: a heap
 pub record IsTurned (nodes : List Node) (list : Forest) (others : List Part) (link : ℕ) : Type 0 where
@@ -174,4 +174,4 @@ pub record IsTurned (nodes : List Node) (list : Forest) (others : List Part) (li
   pub heap_is : link ≡ head heap
   pub rises : Rises 0 heap
   pub parts : Parts nodes (root heap ∷ others)
-  pub kept : (w : ℕ → Priority → ℕ) → weigh w heap ≡ weigh w list
+  pub kept : (w : ℕ → Priority → ℕ) → forest_weight w heap ≡ forest_weight w list

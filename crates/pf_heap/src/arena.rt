@@ -3,7 +3,7 @@ ghost use Rattle.std.specs.Vec.{vec_capacity};
 ghost use Rattle.std.specs.FinSet as set;
 ghost use Rattle.pf_order.specs.Priority.{IsPriority};
 ghost use Rattle.pf_order.specs.Counts.{Compares};
-ghost use Rattle.pf_heap.specs.Keys.{list_of, with_list, IsHeld, IsFirst, HasNone, EachTaskOnce, without};
+ghost use Rattle.pf_heap.specs.Keys.{list_of, with_list, IsHeld, IsFirst, HasNone, EachTaskOnce, other_keys};
 ghost use Rattle.pf_heap.specs.Digits.{digits};
 ghost use Rattle.pf_heap.specs.Invariant.{HasSpares, IsSettled};
 
@@ -263,7 +263,7 @@ impl Arena {
         requires { h < length self.old.lists }
         ensures removed { MatchOption result (HasNone (list_of self.old h) task × (self.new ≡ self.old))
             (λ k. (set.contains (list_of self.old h) k ≡ true) × (k.task ≡ task)
-            × (self.new ≡ record (with_list self.old h (without (list_of self.old h) task)) { spare = self.old.spare + 1 })) }
+            × (self.new ≡ record (with_list self.old h (other_keys (list_of self.old h) task)) { spare = self.old.spare + 1 })) }
         ensures once { EachTaskOnce self.old.lists }
         ensures unfound { IfNone result (meter.new ≡ meter.old) }
         ensures comparisons { Compares (2 * digits (set.len (list_of self.old h))) meter.old meter.new }

@@ -1,6 +1,6 @@
 ghost use Rattle.std.specs.Prelude.{◌≡◌, ◌≢◌, ◌↔◌, ◌≤◌, IsTrue, ℕ, ◌+◌, ◌<◌, length};
 ghost use Rattle.pf_table.specs.Grown.{size_of, with_value};
-ghost use Rattle.pf_heap.specs.Forest.{Forest, nowhere, weigh, at_place};
+ghost use Rattle.pf_heap.specs.Forest.{Forest, nowhere, forest_weight, at_place};
 ghost use Rattle.pf_heap.specs.Memory.{node_at, Stands};
 ghost use Rattle.pf_heap.specs.Pops.{HasHeap};
 ghost use Rattle.pf_heap.specs.Hoist.{with_upper_key, HasNode, IsTop, CanHoist, IsHoisting, CanCut, IsCutOut};
@@ -31,7 +31,7 @@ pub(crate) fn top(nodes: &[Node], at: u32) -> u32
 pub(crate) fn has_root(nodes: &[Node], link: u32, at: u32) -> bool
     requires can { HasHeap nodes.now link }
     requires root { (node_at nodes.now at).parent ≡ nowhere }
-    ensures { (can : HasHeap nodes.now link) → IsTrue result ↔ (1 ≤ weigh (at_place at) can.heap) }
+    ensures { (can : HasHeap nodes.now link) → IsTrue result ↔ (1 ≤ forest_weight (at_place at) can.heap) }
 {
     let mut rest = link;
     for step in 0..RANKS {

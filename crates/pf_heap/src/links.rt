@@ -1,7 +1,7 @@
 ghost use Rattle.std.specs.Prelude.{◌≡◌, ◌-◌, ◌<◌, ◌^◌, length};
 ghost use Rattle.pf_order.specs.Counts.{Compares};
-ghost use Rattle.pf_heap.specs.Memory.{node_at, relinked, linked, Joined};
-ghost use Rattle.pf_heap.specs.Pops.{IsEarlier, released};
+ghost use Rattle.pf_heap.specs.Memory.{node_at, nodes_with_sibling, nodes_with_child, AreJoined};
+ghost use Rattle.pf_heap.specs.Pops.{IsEarlier, nodes_with_free};
 
 use crate::node::{NOWHERE, Node};
 use pf_order::meter::Meter;
@@ -9,7 +9,7 @@ use pf_order::meter::Meter;
 /// Makes the node a root with this sibling.
 pub(crate) fn relink(nodes: &mut [Node], at: u32, sibling: u32)
     requires { at < length nodes.old }
-    ensures { nodes.new ≡ relinked nodes.old at sibling }
+    ensures { nodes.new ≡ nodes_with_sibling nodes.old at sibling }
 {
     let node = nodes[at as usize];
     nodes[at as usize] = Node {
@@ -24,7 +24,7 @@ fn link(nodes: &mut [Node], above: u32, below: u32)
     requires upper { above < length nodes.old }
     requires lower { below < length nodes.old }
     requires rank { (node_at nodes.old above).rank < 2 ^ 32 - 1 }
-    ensures { nodes.new ≡ linked nodes.old above below }
+    ensures { nodes.new ≡ nodes_with_child nodes.old above below }
 {
     let upper = nodes[above as usize];
     let lower = nodes[below as usize];
@@ -46,7 +46,7 @@ pub(crate) fn join(nodes: &mut [Node], meter: &mut Meter, x: u32, y: u32) -> u32
     requires second { y < length nodes.old }
     requires first_rank { (node_at nodes.old x).rank < 2 ^ 32 - 1 }
     requires second_rank { (node_at nodes.old y).rank < 2 ^ 32 - 1 }
-    ensures joined { Joined nodes.old nodes.new x y result }
+    ensures joined { AreJoined nodes.old nodes.new x y result }
     ensures counted { Compares 1 meter.old meter.new }
 {
     let first = nodes[x as usize].key;
@@ -75,7 +75,7 @@ pub(crate) fn earlier(nodes: &[Node], meter: &mut Meter, x: u32, y: u32) -> u32
 /// Puts a node that stands alone in front of the free ones.
 pub(crate) fn release(nodes: &mut [Node], at: u32, free: u32)
     requires { at < length nodes.old }
-    ensures { nodes.new ≡ released nodes.old at free }
+    ensures { nodes.new ≡ nodes_with_free nodes.old at free }
 {
     let node = nodes[at as usize];
     nodes[at as usize] = Node {

@@ -1,5 +1,5 @@
 ghost use Rattle.std.specs.Prelude.{◌≡◌, ◌≢◌, ℕ, ◌+◌, ◌<◌, length};
-ghost use Rattle.pf_heap.specs.Memory.{relinked};
+ghost use Rattle.pf_heap.specs.Memory.{nodes_with_sibling};
 ghost use Rattle.pf_heap.specs.Pops.{HasHeap, IsLeastRoot, HasHeapAndRoot, IsParted, CanPop, IsPopped};
 
 use crate::adding::merge;
@@ -29,8 +29,8 @@ pub(crate) fn least_root(nodes: &[Node], meter: &mut Meter, link: u32) -> u32
 /// Puts a root in front of those that stay, but one that stands alone.
 fn keep(nodes: &mut [Node], at: u32, alone: u32, stay: u32) -> u32
     requires { at < length nodes.old }
-    ensures alone { at ≡ alone → (nodes.new ≡ relinked nodes.old at NOWHERE) × (result ≡ stay) }
-    ensures stays { at ≢ alone → (nodes.new ≡ relinked nodes.old at stay) × (result ≡ at) }
+    ensures alone { at ≡ alone → (nodes.new ≡ nodes_with_sibling nodes.old at NOWHERE) × (result ≡ stay) }
+    ensures stays { at ≢ alone → (nodes.new ≡ nodes_with_sibling nodes.old at stay) × (result ≡ at) }
 {
     if at == alone {
         relink(nodes, at, NOWHERE);

@@ -10,7 +10,7 @@ use Rattle.std.proofs.lemmas.List.{append-nil, length-map, get_or-map, map-appen
 use Rattle.std.proofs.lemmas.List.Elements.{All-head, All-tail, All-nil, All-cons, All-append}
 use Rattle.std.proofs.lemmas.Option.{slice_get-get_or}
 use Rattle.pf_order.specs.declared.pick.Pick.{Pick}
-use Rattle.pf_place.specs.Blocks.{joined, Held, KeepsRoom, HasRoomFor}
+use Rattle.pf_place.specs.Blocks.{all_rows_of, Held, KeepsRoom, HasRoomFor}
 use Rattle.pf_place.specs.Filed.{AreFiled, rows_of_each}
 use Rattle.pf_place.specs.Occupancy.{row_of, idle_row}
 use Rattle.pf_place.specs.RunRows.{last_row, but_last, row_before}
@@ -30,43 +30,43 @@ module _ {X : Type 0} where
       slice_get-append_right xs ys k (omega arith) ∙ ap (slice_get ys) (omega arith)
 
   -- full blocks of 256 each, one behind another
-  pub length-full : (full : List (List X)) → All (λ rows. length rows ≡ 256) full → length (joined full) ≡ length full * 256
+  pub length-full : (full : List (List X)) → All (λ rows. length rows ≡ 256) full → length (all_rows_of full) ≡ length full * 256
   length-full [] whole = refl
   length-full (rows ∷ full) whole =
       omega (
         arith,
-        length-append rows (joined full),
+        length-append rows (all_rows_of full),
         All-head (λ rows. length rows ≡ 256) rows full whole,
         length-full full (All-tail (λ rows. length rows ≡ 256) rows full whole),
       )
 
   -- the t-th stands in block t / 256
   pub got_in_full : (full : List (List X)) (back : List X) (q r : ℕ) → All (λ rows. length rows ≡ 256) full → q < length full → r < 256
-      → slice_get (joined full ++ back) (q * 256 + r) ≡ slice_get (get_or full q []) r
+      → slice_get (all_rows_of full ++ back) (q * 256 + r) ≡ slice_get (get_or full q []) r
   got_in_full [] back q r whole l small = absurd (omega arith)
   got_in_full (rows ∷ full) back zero r whole l small =
       let long = All-head (λ rows. length rows ≡ 256) rows full whole in
-      ap₂ slice_get (append_assoc rows (joined full) back) (omega arith)
-      ∙ slice_get-append_left rows (joined full ++ back) r (omega arith)
+      ap₂ slice_get (append_assoc rows (all_rows_of full) back) (omega arith)
+      ∙ slice_get-append_left rows (all_rows_of full ++ back) r (omega arith)
   got_in_full (rows ∷ full) back (suc q) r whole l small =
       let long = All-head (λ rows. length rows ≡ 256) rows full whole in
-      ap₂ slice_get (append_assoc rows (joined full) back) refl
-      ∙ slice_get-append_right rows (joined full ++ back) (suc q * 256 + r) (omega arith)
-      ∙ ap (slice_get (joined full ++ back)) (omega arith)
+      ap₂ slice_get (append_assoc rows (all_rows_of full) back) refl
+      ∙ slice_get-append_right rows (all_rows_of full ++ back) (suc q * 256 + r) (omega arith)
+      ∙ ap (slice_get (all_rows_of full ++ back)) (omega arith)
       ∙ got_in_full full back q r (All-tail (λ rows. length rows ≡ 256) rows full whole) (omega arith) small
 
   -- or behind the full ones
   pub got_in_open : (full : List (List X)) (back : List X) (t : ℕ) → All (λ rows. length rows ≡ 256) full → length full * 256 ≤ t
-      → slice_get (joined full ++ back) t ≡ slice_get back (t - length full * 256)
+      → slice_get (all_rows_of full ++ back) t ≡ slice_get back (t - length full * 256)
   got_in_open full back t whole past =
-      slice_get-append_right (joined full) back t (omega (arith, length-full full whole))
+      slice_get-append_right (all_rows_of full) back t (omega (arith, length-full full whole))
       ∙ ap (slice_get back) (omega (arith, length-full full whole))
 
   -- a block more among the full ones
-  pub joined-more : (full : List (List X)) (rows back : List X) → joined (full ++ rows ∷ []) ++ back ≡ joined full ++ (rows ++ back)
+  pub joined-more : (full : List (List X)) (rows back : List X) → all_rows_of (full ++ rows ∷ []) ++ back ≡ all_rows_of full ++ (rows ++ back)
   joined-more full rows back =
-      ap (λ xs. xs ++ back) (flat_map-append (λ rows. rows) full (rows ∷ []) ∙ ap (λ end. joined full ++ end) (append-nil rows))
-      ∙ append_assoc (joined full) rows back
+      ap (λ xs. xs ++ back) (flat_map-append (λ rows. rows) full (rows ∷ []) ∙ ap (λ end. all_rows_of full ++ end) (append-nil rows))
+      ∙ append_assoc (all_rows_of full) rows back
 
 -- the last of some rows behind others
 last-append : (before : List (Option Pick)) (xs ys : List (List (Option Pick))) → last_row before (xs ++ ys) ≡ last_row (last_row before xs) ys
@@ -85,10 +85,10 @@ but_last_in_open front rows some =
 
 module _ (full : List (List (List (Option Pick)))) (old : Held) (filed : AreFiled full old) where
   -- where there is a row, the open block has one
-  pub some_in_open : 0 < length (joined full ++ old.rows) → 0 < length old.rows
+  pub some_in_open : 0 < length (all_rows_of full ++ old.rows) → 0 < length old.rows
   some_in_open some = elim (cases_lt 0 (length full)) [
     | inl l ↦ filed.some l
-    | inr none ↦ omega (arith, length-append (joined full) old.rows, length-full full filed.whole)
+    | inr none ↦ omega (arith, length-append (all_rows_of full) old.rows, length-full full filed.whole)
   ]
 
   -- other rows in the open block
@@ -178,14 +178,14 @@ filed_open full new none part = record {
 
 -- the last row of the full blocks
 pub last_of_full : (full : List (List (List (Option Pick)))) → All (λ rows. length rows ≡ 256) full → 0 < length full
-    → slice_get (get_or full (length full - 1) []) 255 ≡ Some (last_row [] (joined full))
+    → slice_get (get_or full (length full - 1) []) 255 ≡ Some (last_row [] (all_rows_of full))
 last_of_full full whole some =
     let long = length-full full whole in
-    let at : (length full - 1) * 256 + 255 ≡ length (joined full) - 1 = omega arith in
+    let at : (length full - 1) * 256 + 255 ≡ length (all_rows_of full) - 1 = omega arith in
     sym (got_in_full full [] (length full - 1) 255 whole (omega arith) (omega arith))
-    ∙ ap₂ slice_get (append-nil (joined full)) at
-    ∙ slice_get-get_or (joined full) (length (joined full) - 1) [] (omega arith)
-    ∙ ap Some (sym (last_is_read [] [] (joined full) (omega arith)))
+    ∙ ap₂ slice_get (append-nil (all_rows_of full)) at
+    ∙ slice_get-get_or (all_rows_of full) (length (all_rows_of full) - 1) [] (omega arith)
+    ∙ ap Some (sym (last_is_read [] [] (all_rows_of full) (omega arith)))
 
 -- a row in place of the idle one that was appended
 pub idle_is_last : (front rows old : List (List (Option Pick))) (idle : List (Option Pick)) → 0 < length rows → front ++ rows ≡ old ++ idle ∷ []

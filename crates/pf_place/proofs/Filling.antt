@@ -6,13 +6,13 @@ use Rattle.std.specs.Option.{is_none, option_or}
 use Rattle.std.proofs.lemmas.Bool.{cases_lt, lt-ltb, le-ltb}
 use Rattle.std.proofs.lemmas.List.Sums.{sum_by-cons}
 use Rattle.std.proofs.lemmas.List.Sorted.{IsPermutation-refl, IsPermutation-cons, IsPermutation-middle, IsPermutation-trans}
-use Rattle.pf_place.specs.Seating.{filled}
+use Rattle.pf_place.specs.Seating.{seats_filled_with}
 
 module _ {X : Type 0} where
   count_free : (places : List (Option X)) → count_by is_none (None ∷ places) ≡ suc (count_by is_none places)
   count_free places = omega (arith, sum_by-cons (λ o. cond (is_none o) 1 0) None places)
 
-  pub length-filled : (places : List (Option X)) (rest : List X) → length (filled places rest) ≡ length places
+  pub length-filled : (places : List (Option X)) (rest : List X) → length (seats_filled_with places rest) ≡ length places
   length-filled [] rest = refl
   length-filled (Some x ∷ places) rest = ap suc (length-filled places rest)
   length-filled (None ∷ places) [] = ap suc (length-filled places [])
@@ -20,7 +20,7 @@ module _ {X : Type 0} where
 
   -- a free place goes to the one whose turn it is: as many stand before it as places before this one are free
   pub get_or-filled : (places : List (Option X)) (rest : List X) (q : ℕ) → q < length places
-      → get_or (filled places rest) q None ≡ option_or (get_or places q None) (slice_get rest (count_by is_none (take q places)))
+      → get_or (seats_filled_with places rest) q None ≡ option_or (get_or places q None) (slice_get rest (count_by is_none (take q places)))
   get_or-filled [] rest q l = absurd (omega arith)
   get_or-filled (Some x ∷ places) rest zero l = refl
   get_or-filled (Some x ∷ places) rest (suc q) l = get_or-filled places rest q (omega arith)
@@ -33,7 +33,7 @@ module _ {X : Type 0} where
 
   -- where no more are to be seated than places are free, all are
   pub filled_seats : (places : List (Option X)) (rest : List X) → length rest ≤ count_by is_none places
-      → IsPermutation (filter_map (λ o. o) places ++ rest) (filter_map (λ o. o) (filled places rest))
+      → IsPermutation (filter_map (λ o. o) places ++ rest) (filter_map (λ o. o) (seats_filled_with places rest))
   filled_seats [] [] few = IsPermutation-refl []
   filled_seats [] (y ∷ rest) few = absurd (omega arith)
   filled_seats (Some x ∷ places) rest few =
@@ -44,32 +44,32 @@ module _ {X : Type 0} where
       (IsPermutation-cons y _ _ (filled_seats places rest (omega (arith, count_free places))))
 
   -- where nobody is to be seated, the places stay
-  pub filled_none : (places : List (Option X)) → filled places [] ≡ places
+  pub filled_none : (places : List (Option X)) → seats_filled_with places [] ≡ places
   filled_none [] = refl
   filled_none (Some x ∷ places) = ap (λ rest. Some x ∷ rest) (filled_none places)
   filled_none (None ∷ places) = ap (λ rest. None ∷ rest) (filled_none places)
 
   -- the first is seated, and then the others
-  pub filled_more : (places : List (Option X)) (y : X) (rest : List X) → filled places (y ∷ rest) ≡ filled (filled places (y ∷ [])) rest
+  pub filled_more : (places : List (Option X)) (y : X) (rest : List X) → seats_filled_with places (y ∷ rest) ≡ seats_filled_with (seats_filled_with places (y ∷ [])) rest
   filled_more [] y rest = refl
   filled_more (Some x ∷ places) y rest = ap (λ ps. Some x ∷ ps) (filled_more places y rest)
-  filled_more (None ∷ places) y rest = ap (λ ps. Some y ∷ filled ps rest) (sym (filled_none places))
+  filled_more (None ∷ places) y rest = ap (λ ps. Some y ∷ seats_filled_with ps rest) (sym (filled_none places))
 
   -- one takes the lowest free place
   lowest_filled : (places : List (Option X)) (y : X) → position_or_len is_none places < length places
-      → set places (position_or_len is_none places) (Some y) ≡ filled places (y ∷ [])
+      → set places (position_or_len is_none places) (Some y) ≡ seats_filled_with places (y ∷ [])
   lowest_filled [] y l = absurd (omega arith)
   lowest_filled (None ∷ places) y l = ap (λ ps. Some y ∷ ps) (sym (filled_none places))
   lowest_filled (Some x ∷ places) y l =
       rw (add_comm, add-one) (ap (λ ps. Some x ∷ ps) (lowest_filled places y (omega arith)))
 
   -- or none, where none is free
-  none_filled : (places : List (Option X)) (y : X) → length places ≤ position_or_len is_none places → places ≡ filled places (y ∷ [])
+  none_filled : (places : List (Option X)) (y : X) → length places ≤ position_or_len is_none places → places ≡ seats_filled_with places (y ∷ [])
   none_filled [] y l = refl
   none_filled (None ∷ places) y l = absurd (omega arith)
   none_filled (Some x ∷ places) y l = ap (λ ps. Some x ∷ ps) (none_filled places y (omega arith))
 
-  pub filled_lowest : (places : List (Option X)) (y : X) (k : ℕ) → Some k ≡ position is_none places → set places k (Some y) ≡ filled places (y ∷ [])
+  pub filled_lowest : (places : List (Option X)) (y : X) (k : ℕ) → Some k ≡ position is_none places → set places k (Some y) ≡ seats_filled_with places (y ∷ [])
   filled_lowest places y k at =
       elim (cases_lt (position_or_len is_none places) (length places)) [
         | inl below ↦
@@ -83,7 +83,7 @@ module _ {X : Type 0} where
             cc
       ]
 
-  pub filled_full : (places : List (Option X)) (y : X) → None ≡ position is_none places → places ≡ filled places (y ∷ [])
+  pub filled_full : (places : List (Option X)) (y : X) → None ≡ position is_none places → places ≡ seats_filled_with places (y ∷ [])
   filled_full places y at =
       elim (cases_lt (position_or_len is_none places) (length places)) [
         | inl below ↦

@@ -13,7 +13,7 @@ use Rattle.std.proofs.lemmas.List.Sums.{sum_by-cons, length-filter, get_or-le-su
 use Rattle.std.proofs.lemmas.List.Sorted.{IsPermutation-refl, IsPermutation-cons, IsPermutation-middle, IsPermutation-trans, IsPermutation-sym, IsPermutation-append_left, IsPermutation-append_right, IsPermutation-filter_both, length_permutation, sum_by-IsPermutation}
 use Rattle.pf_order.specs.declared.pick.Pick.{Pick}
 use Rattle.pf_place.specs.Occupancy.{sitters, is_seated, NoTaskTwice, pick_of, next_pick, others, row_of, idle_row}
-use Rattle.pf_place.specs.Seating.{filled}
+use Rattle.pf_place.specs.Seating.{seats_filled_with}
 use Rattle.pf_place.specs.Turns.{IsTurn, IsRow}
 use Rattle.pf_place.proofs.Filling.{filled_seats}
 use Rattle.pf_place.proofs.Seats.{keepers, length-keepers, keepers_by_sitter, row_from_filled, length-row_of}
@@ -135,11 +135,11 @@ row_seats_picks m count before picks in_use long few once apart =
       length_permutation _ _ keepers_are,
       length-filter_both keep (λ p. not (keep p)) (λ _. refl) picks,
     ) in
-    let row : sitters (row_of m count before picks) ≡ sitters (filled kept rest) =
+    let row : sitters (row_of m count before picks) ≡ sitters (seats_filled_with kept rest) =
     ap sitters (sym (row_from_filled count before picks m in_use))
-    ∙ filter_map-append (λ o. o) (filled kept rest) (replicate (m - count) None)
-    ∙ ap (λ xs. sitters (filled kept rest) ++ xs) (idle_seat_nobody (m - count))
-    ∙ append-nil (sitters (filled kept rest)) in
+    ∙ filter_map-append (λ o. o) (seats_filled_with kept rest) (replicate (m - count) None)
+    ∙ ap (λ xs. sitters (seats_filled_with kept rest) ++ xs) (idle_seat_nobody (m - count))
+    ∙ append-nil (sitters (seats_filled_with kept rest)) in
     rw row (IsPermutation-trans _ _ _ all_picks
     (IsPermutation-trans _ _ _ (IsPermutation-append_left rest _ _ keepers_are) (filled_seats kept rest room)))
 

@@ -10,7 +10,7 @@ use Rattle.std.proofs.lemmas.List.FromFn.{fill_by_all, length-map-range_with_len
 use Rattle.std.proofs.lemmas.List.Folds.{fold-map}
 use Rattle.pf_order.specs.declared.pick.Pick.{Pick}
 use Rattle.pf_place.specs.Occupancy.{sitter, next_pick, kept_at, is_seated, others, free_below, seat, row_of, idle_row}
-use Rattle.pf_place.specs.Seating.{filled}
+use Rattle.pf_place.specs.Seating.{seats_filled_with}
 use Rattle.pf_place.proofs.Filling.{length-filled, get_or-filled, filled_more, filled_none}
 
 module _ (count : ℕ) (before : List (Option Pick)) (picks : List Pick) where
@@ -35,7 +35,7 @@ module _ (count : ℕ) (before : List (Option Pick)) (picks : List Pick) where
       ∙ ap (λ b. cond b (next_pick picks (sitter before q)) None) (sym in_use))
 
   filled_in_use : (q : ℕ) → q < count
-      → get_or (filled keepers (others (take count before) picks)) q None ≡ seat count before picks q
+      → get_or (seats_filled_with keepers (others (take count before) picks)) q None ≡ seat count before picks q
   filled_in_use q l =
       let kept : get_or keepers q None ≡ kept_at count before picks q =
       get_or-map-range_with_len (kept_at count before picks) 0 count q q None l (omega arith) in
@@ -51,12 +51,12 @@ module _ (count : ℕ) (before : List (Option Pick)) (picks : List Pick) where
       let unused : ltb q count ≡ false = le-ltb q count l in
       ap (λ b. option_or (cond b (next_pick picks (sitter before q)) None) (cond b (slice_get (others (take count before) picks) (free_below count before picks q)) None)) unused
 
-  -- the places in use are kept or filled, and the rest is idle
+  -- the places in use are kept or seats_filled_with, and the rest is idle
   pub row_from_filled : (m : ℕ) → count ≤ m
-      → filled keepers (others (take count before) picks) ++ replicate (m - count) None ≡ row_of m count before picks
+      → seats_filled_with keepers (others (take count before) picks) ++ replicate (m - count) None ≡ row_of m count before picks
   unfolding row_of
   row_from_filled m in_use =
-      let places = filled keepers (others (take count before) picks) in
+      let places = seats_filled_with keepers (others (take count before) picks) in
       let same : length places ≡ count = length-filled keepers (others (take count before) picks) ∙ length-keepers in
       fill_by_all (seat count before picks) (places ++ replicate (m - count) None) m None
       (omega (arith, length-append places (replicate (m - count) None), length-replicate (m - count) (let n : Option Pick = None in n)))
@@ -87,12 +87,12 @@ module _ (count : ℕ) (before : List (Option Pick)) (picks : List Pick) where
 
   -- the same row, where every place was given to its keeper first and then the free ones in use to the others
   pub row_from_kept : (m : ℕ) (kept : List (Option Pick)) → count ≤ m → kept ≡ map (kept_at count before picks) (range_with_len 0 m)
-      → filled (take count kept) (others (take count before) picks) ++ drop count kept ≡ row_of m count before picks
+      → seats_filled_with (take count kept) (others (take count before) picks) ++ drop count kept ≡ row_of m count before picks
   row_from_kept m kept in_use is =
       let split : kept ≡ keepers ++ replicate (m - count) None = is ∙ sym (kept_row m in_use) in
       let front : take count kept ≡ keepers = ap (take count) split ∙ subst (λ n. take n (keepers ++ replicate (m - count) None) ≡ keepers) length-keepers (take-append_seam keepers (replicate (m - count) None)) in
       let back : drop count kept ≡ replicate (m - count) None = ap (drop count) split ∙ subst (λ n. drop n (keepers ++ replicate (m - count) None) ≡ replicate (m - count) None) length-keepers (drop-append_seam keepers (replicate (m - count) None)) in
-      ap₂ (λ xs ys. filled xs (others (take count before) picks) ++ ys) front back ∙ row_from_filled m in_use
+      ap₂ (λ xs ys. seats_filled_with xs (others (take count before) picks) ++ ys) front back ∙ row_from_filled m in_use
 
 drop_step : (picks : List Pick) (k : ℕ) (d : Pick) → k < length picks → drop k picks ≡ get_or picks k d ∷ drop (k + 1) picks
 drop_step picks k d l = rw add-one (drop-cons picks k d l)
@@ -114,25 +114,25 @@ others_less earlier picks k d l sat =
 -- one pick more was seated, where it is an other one
 pub seated_more : (old places : List (Option Pick)) (earlier : List (Option Pick)) (picks : List Pick) (k : ℕ) (d : Pick) → k < length picks
     → is_seated earlier (get_or picks k d).task ≡ false
-    → filled old (others earlier picks) ≡ filled places (others earlier (drop k picks))
-    → filled old (others earlier picks) ≡ filled (filled places (get_or picks k d ∷ [])) (others earlier (drop (k + 1) picks))
+    → seats_filled_with old (others earlier picks) ≡ seats_filled_with places (others earlier (drop k picks))
+    → seats_filled_with old (others earlier picks) ≡ seats_filled_with (seats_filled_with places (get_or picks k d ∷ [])) (others earlier (drop (k + 1) picks))
 seated_more old places earlier picks k d l apart so_far =
-    so_far ∙ ap (filled places) (others_more earlier picks k d l apart) ∙ filled_more places (get_or picks k d) (others earlier (drop (k + 1) picks))
+    so_far ∙ ap (seats_filled_with places) (others_more earlier picks k d l apart) ∙ filled_more places (get_or picks k d) (others earlier (drop (k + 1) picks))
 
 -- and where it is none
 pub seated_less : (old places : List (Option Pick)) (earlier : List (Option Pick)) (picks : List Pick) (k : ℕ) (d : Pick) → k < length picks
     → is_seated earlier (get_or picks k d).task ≡ true
-    → filled old (others earlier picks) ≡ filled places (others earlier (drop k picks))
-    → filled old (others earlier picks) ≡ filled places (others earlier (drop (k + 1) picks))
+    → seats_filled_with old (others earlier picks) ≡ seats_filled_with places (others earlier (drop k picks))
+    → seats_filled_with old (others earlier picks) ≡ seats_filled_with places (others earlier (drop (k + 1) picks))
 seated_less old places earlier picks k d l sat so_far =
-    so_far ∙ ap (filled places) (others_less earlier picks k d l sat)
+    so_far ∙ ap (seats_filled_with places) (others_less earlier picks k d l sat)
 
 -- all were seated
 pub seated_all : (old places : List (Option Pick)) (earlier : List (Option Pick)) (picks : List Pick) (k : ℕ) → length picks ≤ k
-    → filled old (others earlier picks) ≡ filled places (others earlier (drop k picks))
-    → places ≡ filled old (others earlier picks)
+    → seats_filled_with old (others earlier picks) ≡ seats_filled_with places (others earlier (drop k picks))
+    → places ≡ seats_filled_with old (others earlier picks)
 seated_all old places earlier picks k l so_far =
-    sym (so_far ∙ ap (λ rest. filled places (others earlier rest)) (drop_of_length-le picks l) ∙ filled_none places)
+    sym (so_far ∙ ap (λ rest. seats_filled_with places (others earlier rest)) (drop_of_length-le picks l) ∙ filled_none places)
 
 -- a row always has m places
 pub length-row_of : (m count : ℕ) (before : List (Option Pick)) (picks : List Pick) → length (row_of m count before picks) ≡ m
@@ -163,5 +163,5 @@ row_behind_none m count picks in_use =
     let rest : others (take count []) picks ≡ others (take count (idle_row m)) picks =
     others_of_none (take count []) (unseated_idle count 0) picks ∙ sym (others_of_none (take count (idle_row m)) (unseated_idle count m) picks) in
     sym (row_from_filled count [] picks m in_use)
-    ∙ ap₂ (λ places rest. filled places rest ++ replicate (m - count) None) kept rest
+    ∙ ap₂ (λ places rest. seats_filled_with places rest ++ replicate (m - count) None) kept rest
     ∙ row_from_filled count (idle_row m) picks m in_use

@@ -4,8 +4,8 @@ use Rattle.std.specs.List.{flat_map}
 use Rattle.pf_order.specs.declared.pick.Pick.{Pick}
 
 -- these rows, one behind another
-abbrev pub joined : {X : Type 0} → List (List X) → List X
-joined rows = flat_map (λ row. row) rows
+abbrev pub all_rows_of : {X : Type 0} → List (List X) → List X
+all_rows_of rows = flat_map (λ row. row) rows
 
 -- where each of these rows ends, where the first begins at `from`
 abbrev pub ends_of : {X : Type 0} → ℕ → List (List X) → List ℕ
@@ -18,9 +18,9 @@ rows_between from [] places = []
 rows_between from (end ∷ ends) places = slice_range places from end ∷ rows_between end ends places
 
 -- these places, cut at these ends, are the rows
-pub record IsCut {X : Type 0} (rows : List (List X)) (ends : List ℕ) (places : List X) : Type 0 where
+pub record AreCutAt {X : Type 0} (rows : List (List X)) (ends : List ℕ) (places : List X) : Type 0 where
   pub ends_are : ends ≡ ends_of 0 rows
-  pub places_are : places ≡ joined rows
+  pub places_are : places ≡ all_rows_of rows
 
 -- the rows of a block, and for how many places and rows it has room
 pub record Held : Type 0 where
@@ -35,5 +35,5 @@ pub record KeepsRoom (old new : Held) : Type 0 where
 
 -- the block has room for these rows
 pub record HasRoomFor (block : Held) (rows : List (List (Option Pick))) : Type 0 where
-  pub for_places : length (joined rows) ≤ block.places_room
+  pub for_places : length (all_rows_of rows) ≤ block.places_room
   pub for_rows : length rows ≤ block.rows_room

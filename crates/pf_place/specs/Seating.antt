@@ -2,8 +2,8 @@
 use Rattle.std.specs.Prelude.{Option, Some, None, List, [], ◌∷◌}
 
 -- these places once the free ones were taken by the rest, in order
-abbrev pub filled : {X : Type 0} → List (Option X) → List X → List (Option X)
-filled [] rest = []
-filled (Some x ∷ places) rest = Some x ∷ filled places rest
-filled (None ∷ places) [] = None ∷ filled places []
-filled (None ∷ places) (y ∷ rest) = Some y ∷ filled places rest
+abbrev pub seats_filled_with : {X : Type 0} → List (Option X) → List X → List (Option X)
+seats_filled_with [] rest = []
+seats_filled_with (Some x ∷ places) rest = Some x ∷ seats_filled_with places rest
+seats_filled_with (None ∷ places) [] = None ∷ seats_filled_with places []
+seats_filled_with (None ∷ places) (y ∷ rest) = Some y ∷ seats_filled_with places rest

@@ -1,6 +1,6 @@
 ghost use Rattle.std.specs.Prelude.{◌≡◌, ◌<◌, ◌≤◌, ◌+◌, ◌-◌, ◌++◌, [], ◌∷◌, length, take, slice_range, slice_index, IfOk, OnOk, OnErr};
 ghost use Rattle.std.specs.List.{slice_get};
-ghost use Rattle.pf_place.specs.Lent.{lent, lent_row};
+ghost use Rattle.pf_place.specs.Lent.{places_lent, lent_row};
 ghost use Rattle.pf_place.specs.Occupancy.{row_of, idle_row};
 ghost use Rattle.pf_place.specs.RunRows.{last_row, but_last};
 
@@ -19,7 +19,7 @@ pub(crate) struct Block {
 
 impl Model for Block {
     ghost use Rattle.std.specs.Vec.{vec_capacity};
-    ghost use Rattle.pf_place.specs.Blocks.{Held, IsCut, rows_between};
+    ghost use Rattle.pf_place.specs.Blocks.{Held, AreCutAt, rows_between};
 
     ghost Value = { Held };
 
@@ -29,7 +29,7 @@ impl Model for Block {
       rows_room = vec_capacity b.ends;
     } };
 
-    ghost invariant = { λ b. IsCut (rows_between 0 b.ends.items b.places.items) b.ends.items b.places.items };
+    ghost invariant = { λ b. AreCutAt (rows_between 0 b.ends.items b.places.items) b.ends.items b.places.items };
 }
 
 impl Block {
@@ -103,7 +103,7 @@ impl Block {
 
     /// The k-th row, where there is one.
     pub(crate) fn row(&self, k: usize) -> Option<RowView<'_>>
-        ensures { lent result ≡ slice_get self.now.rows k }
+        ensures { places_lent result ≡ slice_get self.now.rows k }
     {
         if self.ends.len() <= k {
             return None;

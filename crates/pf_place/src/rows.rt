@@ -1,9 +1,9 @@
 ghost use Rattle.std.specs.Prelude.{◌≡◌, ◌==◌, ◌<◌, ◌-◌, [], ◌∷◌, ◌++◌, length, IfOk, OnOk, OnErr};
 ghost use Rattle.std.specs.List.{All, slice_get};
 ghost use Rattle.std.specs.List.Sorted.{IsPermutation};
-ghost use Rattle.pf_place.specs.Blocks.{joined};
+ghost use Rattle.pf_place.specs.Blocks.{all_rows_of};
 ghost use Rattle.pf_place.specs.Filed.{rows_of_each};
-ghost use Rattle.pf_place.specs.Lent.{lent};
+ghost use Rattle.pf_place.specs.Lent.{places_lent};
 ghost use Rattle.pf_place.specs.Occupancy.{sitters, row_of, idle_row};
 ghost use Rattle.pf_place.specs.RunRows.{last_row, but_last, row_before};
 ghost use Rattle.pf_place.specs.Turns.{IsTurn, IsRow};
@@ -32,12 +32,12 @@ pub struct Rows {
 impl Model for Rows {
     ghost use Rattle.std.specs.Prelude.{◌++◌, List, Option};
     ghost use Rattle.pf_order.specs.declared.pick.Pick.{Pick};
-    ghost use Rattle.pf_place.specs.Blocks.{joined};
+    ghost use Rattle.pf_place.specs.Blocks.{all_rows_of};
     ghost use Rattle.pf_place.specs.Filed.{rows_of_each, AreFiled};
 
     ghost Value = { List (List (Option Pick)) };
 
-    ghost view = { λ rows. joined (rows_of_each rows.full.items) ++ rows.open.rows };
+    ghost view = { λ rows. all_rows_of (rows_of_each rows.full.items) ++ rows.open.rows };
 
     ghost invariant = { λ rows. AreFiled (rows_of_each rows.full.items) rows.open };
 }
@@ -150,7 +150,7 @@ impl Rows {
 
     /// The row of slot t, where there is one.
     pub fn get(&self, t: u64) -> Option<RowView<'_>>
-        ensures { lent result ≡ slice_get self.now t }
+        ensures { places_lent result ≡ slice_get self.now t }
     {
         let t = t as usize;
         let block = t / BLOCK;
@@ -163,7 +163,7 @@ impl Rows {
 
     /// The row of the last slot, where there is one.
     pub fn last(&self) -> Option<RowView<'_>>
-        ensures { lent result ≡ slice_get self.now (length self.now - 1) }
+        ensures { places_lent result ≡ slice_get self.now (length self.now - 1) }
     {
         let last = self.len().checked_sub(1)?;
         self.get(last as u64)
@@ -219,7 +219,7 @@ fn close(full: &mut Vec<Arc<Block>>, last: &mut Block, next: Block) -> Result<()
 /// The last row of these blocks; no places where there are none.
 fn last_places(full: &[Arc<Block>]) -> &[Option<Pick>]
     requires { All (λ rows. length rows ≡ 256) (rows_of_each full.now) }
-    ensures { result.now ≡ last_row [] (joined (rows_of_each full.now)) }
+    ensures { result.now ≡ last_row [] (all_rows_of (rows_of_each full.now)) }
 {
     let count = full.len();
     if count == 0 {

@@ -2,7 +2,7 @@ ghost use Rattle.std.specs.Prelude.{◌≡◌, ◌≤◌, [], ◌∷◌, map, le
 ghost use Rattle.std.specs.List.{position, range_with_len};
 ghost use Rattle.std.specs.Option.{is_none};
 ghost use Rattle.pf_place.specs.Occupancy.{pick_of, next_pick, sitter, kept_at, is_seated, others, row_of};
-ghost use Rattle.pf_place.specs.Seating.{filled};
+ghost use Rattle.pf_place.specs.Seating.{seats_filled_with};
 
 use pf_order::pick::Pick;
 
@@ -52,7 +52,7 @@ fn lowest_free(places: &[Option<Pick>]) -> Option<usize>
 
 /// Seats the pick on the lowest free place, where one is free.
 fn seat_lowest(places: &mut [Option<Pick>], pick: Pick)
-    ensures { places.new ≡ filled places.old (pick ∷ []) }
+    ensures { places.new ≡ seats_filled_with places.old (pick ∷ []) }
 {
     if let Some(free) = lowest_free(places) {
         places[free] = Some(pick);
@@ -62,7 +62,7 @@ fn seat_lowest(places: &mut [Option<Pick>], pick: Pick)
 /// Seats the picks whose task sat on none of the earlier places, in order, on the free ones of these places, from the
 /// lowest.
 fn seat_others(places: &mut [Option<Pick>], earlier: &[Option<Pick>], picks: &[Pick])
-    ensures { places.new ≡ filled places.old (others earlier.now picks.now) }
+    ensures { places.new ≡ seats_filled_with places.old (others earlier.now picks.now) }
 {
     for pick in picks {
         if !sits(earlier, pick.task) {

@@ -16,7 +16,7 @@ use Rattle.pf_scenario.specs.Edit.{IsScenario}
 use Rattle.pf_scenario.specs.declared.event.Numbered.{Numbered}
 use Rattle.pf_run.specs.Record.{Slot, denials_of, runs, done, next_sub}
 use Rattle.pf_run.specs.Inside.{Joined, inside, ready, member_of, shift_of, count_of, eligible_from}
-use Rattle.pf_run.specs.Run.{standing, pick_of, IsNextSlot, IsRun}
+use Rattle.pf_run.specs.Run.{events_in_force, pick_of_key, IsNextSlot, IsRun}
 use Rattle.pf_run.proofs.Joins.{ready_differ, joins_once_in_force}
 use Rattle.pf_run.proofs.Firsts.{first_differ, one_at_most}
 use Rattle.pf_tally.proofs.Joined.{inside_joined}
@@ -33,19 +33,19 @@ use Rattle.pf_promise.proofs.Joining.{all_joined, task_at, demand_of, task_at-is
 
 -- subtask i, numbered from 0, is due at the slot `end`, before which its task didn't leave, and hasn't run before
 abbrev pub due_in : Plan → List Slot → ℕ → ℕ → ℕ
-due_in s r t i = deadline_of (task_at s r t).weight (suc i) + shift_of r (standing s r (length r)) (task_at s r t) (suc i)
+due_in s r t i = deadline_of (task_at s r t).weight (suc i) + shift_of r (events_in_force s r (length r)) (task_at s r t) (suc i)
 
 abbrev pub is_late : Plan → List Slot → ℕ → ℕ → ℕ → Bool
 is_late s r end t i =
     is_among (demand_of s r).tasks t && (due_in s r t i == end)
-    && leaves_after (standing s r (length r)) (task_at s r t) end && nat_le (done r t end) i
+    && leaves_after (events_in_force s r (length r)) (task_at s r t) end && nat_le (done r t end) i
 
 abbrev pub service_of : Plan → List Slot → ℕ → Service
 service_of s r end = record {
   runs = λ t v. runs t (get_or r v no_slot);
   done = λ t v. done r t v;
-  inside = λ t v. list_any (λ (j : Joined). j.task == t) (inside s.settings.base (standing s r (suc v)));
-  count = λ v. count_of s.settings.processors (standing s r (suc v));
+  inside = λ t v. list_any (λ (j : Joined). j.task == t) (inside s.settings.base (events_in_force s r (suc v)));
+  count = λ v. count_of s.settings.processors (events_in_force s r (suc v));
   end = end;
   missed = is_late s r end;
 }
@@ -89,7 +89,7 @@ module _ (s : Plan) (scenario : IsScenario s) (r : List Slot) (run : IsRun s (le
   -- the choice of slot v
   module _ (v : ℕ) (lt : v < length r) where
     abbrev now : List Numbered
-    now = standing s r (suc v)
+    now = events_in_force s r (suc v)
 
     abbrev count_now : ℕ
     count_now = count_of s.settings.processors now
@@ -103,10 +103,10 @@ module _ (s : Plan) (scenario : IsScenario s) (r : List Slot) (run : IsRun s (le
     next : IsNextSlot s front (get_or r v no_slot)
     next = run.each v no_slot lt
 
-    now_is : standing s (front ++ get_or r v no_slot ∷ []) (suc (length front)) ≡ now
+    now_is : events_in_force s (front ++ get_or r v no_slot ∷ []) (suc (length front)) ≡ now
     now_is =
-        ap₂ (λ q t. standing s q (suc t)) (sym (take_more r v no_slot lt)) front_length
-        ∙ ap (λ k. standing s (take k r) (suc v)) (one_more v)
+        ap₂ (λ q t. events_in_force s q (suc t)) (sym (take_more r v no_slot lt)) front_length
+        ∙ ap (λ k. events_in_force s (take k r) (suc v)) (one_more v)
         ∙ sym (standing-take s (length r) r scenario run (suc v) lt)
       where
         one_more : (k : ℕ) → k + 1 ≡ suc k
@@ -120,7 +120,7 @@ module _ (s : Plan) (scenario : IsScenario s) (r : List Slot) (run : IsRun s (le
     chosen_first =
         subst (λ zs. AreFirst (count_of s.settings.processors zs) (ready base front zs) chosen) now_is next.picks.are_first
 
-    pub chosen_picks : (get_or r v no_slot).picks ≡ map pick_of chosen
+    pub chosen_picks : (get_or r v no_slot).picks ≡ map pick_of_key chosen
     unfolding chosen
     chosen_picks = next.picks.subtasks
 
@@ -153,19 +153,19 @@ module _ (s : Plan) (scenario : IsScenario s) (r : List Slot) (run : IsRun s (le
         key_now front now j ≡ key_in (demand_of s r) t (done r t v)
     key_stays j t number at due =
         let it : task_at s r t ≡ j = task_at-is s scenario r t j (joined_at_end j at) number in
-        let stays : shift_of r (standing s r (length r)) j (sub_at r j v) ≡ shift_at s r j v =
+        let stays : shift_of r (events_in_force s r (length r)) j (sub_at r j v) ≡ shift_at s r j v =
         settled s scenario (length r) r run v lt j at due in
         let sub : next_sub front j.task ≡ suc (done r t v) =
         omega (arith, sub_front j, ap (λ u. done r u v) number) in
         let sub' : sub_at r j v ≡ suc (done r t v) = omega (arith, ap (λ u. done r u v) number) in
         let shift : shift_of front now j (next_sub front j.task)
-        ≡ shift_of r (standing s r (length r)) (task_at s r t) (suc (done r t v)) =
-        shift_front j ∙ sym stays ∙ ap (λ i. shift_of r (standing s r (length r)) j i) sub'
-        ∙ ap (λ k. shift_of r (standing s r (length r)) k (suc (done r t v))) (sym it) in
+        ≡ shift_of r (events_in_force s r (length r)) (task_at s r t) (suc (done r t v)) =
+        shift_front j ∙ sym stays ∙ ap (λ i. shift_of r (events_in_force s r (length r)) j i) sub'
+        ∙ ap (λ k. shift_of r (events_in_force s r (length r)) k (suc (done r t v))) (sym it) in
         key_is front now j
         ∙ ap (λ h. key_of j.weight h (next_sub front j.task) j.task) shift
-        ∙ ap₂ (λ i u. key_of j.weight (shift_of r (standing s r (length r)) (task_at s r t) (suc (done r t v))) i u) sub number
-        ∙ ap (λ (k : Joined). key_of k.weight (shift_of r (standing s r (length r)) (task_at s r t) (suc (done r t v))) (suc (done r t v)) t) (sym it)
+        ∙ ap₂ (λ i u. key_of j.weight (shift_of r (events_in_force s r (length r)) (task_at s r t) (suc (done r t v))) i u) sub number
+        ∙ ap (λ (k : Joined). key_of k.weight (shift_of r (events_in_force s r (length r)) (task_at s r t) (suc (done r t v))) (suc (done r t v)) t) (sym it)
 
     -- the task of a key that is ready
     ready_joined : (k : Priority) (it : IsReady base front now k) → Contains (joined_of base now) it.task_of
@@ -215,7 +215,7 @@ module _ (s : Plan) (scenario : IsScenario s) (r : List Slot) (run : IsRun s (le
         let by = runs_of t running in
         let sub : by.key.sub ≡ suc (done r t v) = ready_sub by.key by.ready ∙ ap (λ u. suc (done r u v)) by.number in
         ap (list_any (λ (p : Pick). p.task == t && p.sub == suc (done r t v))) chosen_picks
-        ∙ list_any-map (λ (p : Pick). p.task == t && p.sub == suc (done r t v)) pick_of chosen
+        ∙ list_any-map (λ (p : Pick). p.task == t && p.sub == suc (done r t v)) pick_of_key chosen
         ∙ contains-list_any (λ (k : Priority). k.task == t && k.sub == suc (done r t v)) chosen by.key by.chosen_is
         (and_from (by.key.task == t) (by.key.sub == suc (done r t v)) (eq-eqb by.key.task t by.number)
         (eq-eqb by.key.sub (suc (done r t v)) sub))
@@ -228,7 +228,7 @@ module _ (s : Plan) (scenario : IsScenario s) (r : List Slot) (run : IsRun s (le
         let test = λ (p : Pick). p.task == t && p.sub == suc i in
         let it =
         list_any-contains (λ (k : Priority). k.task == t && k.sub == suc i) chosen
-        (sym (ap (list_any test) chosen_picks ∙ list_any-map test pick_of chosen) ∙ picked) in
+        (sym (ap (list_any test) chosen_picks ∙ list_any-map test pick_of_key chosen) ∙ picked) in
         let both = and_parts (it.0.task == t) (it.0.sub == suc i) it.2 in
         let number : it.0.task ≡ t = eqb-true it.0.task t both.0 in
         let sub : it.0.sub ≡ suc (done r t v) =
@@ -248,7 +248,7 @@ module _ (s : Plan) (scenario : IsScenario s) (r : List Slot) (run : IsRun s (le
     -- a released next subtask that doesn't run waits for as many as there are processors in use
     module _ (t : ℕ) (there : list_any (λ (j : Joined). j.task == t) (inside base now) ≡ true)
         (from : release_of (task_at s r t).weight (suc (done r t v))
-        + shift_of r (standing s r (length r)) (task_at s r t) (suc (done r t v)) ≤ v)
+        + shift_of r (events_in_force s r (length r)) (task_at s r t) (suc (done r t v)) ≤ v)
         (idle : runs t (get_or r v no_slot) ≡ false) where
       abbrev j : Joined
       j = task_at s r t
@@ -265,7 +265,7 @@ module _ (s : Plan) (scenario : IsScenario s) (r : List Slot) (run : IsRun s (le
       released : release_of j.weight (sub_at r j v) + shift_at s r j v ≤ v
       released =
           let rest : Splits s r (suc v) (length r) = splits s r (suc v) (length r) lt in
-          let grows : shift_at s r j v ≤ shift_of r (standing s r (length r)) j (sub_at r j v) =
+          let grows : shift_at s r j v ≤ shift_of r (events_in_force s r (length r)) j (sub_at r j v) =
           subst (λ zs. shift_at s r j v ≤ shift_of r zs j (sub_at r j v)) (sym rest.is)
           (shift-grows r now rest.rest j (sub_at r j v)) in
           omega (
@@ -273,7 +273,7 @@ module _ (s : Plan) (scenario : IsScenario s) (r : List Slot) (run : IsRun s (le
             from,
             grows,
             ap (λ i. release_of j.weight i) sub,
-            ap (λ i. shift_of r (standing s r (length r)) j i) sub,
+            ap (λ i. shift_of r (events_in_force s r (length r)) j i) sub,
           )
 
       key_of_t : key_now front now j ≡ key_in (demand_of s r) t (done r t v)

@@ -13,7 +13,7 @@ use Rattle.pf_scenario.specs.declared.event.Numbered.{Numbered}
 use Rattle.pf_scenario.proofs.Sorting.{sorted_keeps}
 use Rattle.pf_run.specs.Record.{Slot, done}
 use Rattle.pf_run.specs.Inside.{Joined}
-use Rattle.pf_run.specs.Run.{standing, IsRun}
+use Rattle.pf_run.specs.Run.{events_in_force, IsRun}
 use Rattle.pf_run.proofs.Containing.{contains_none, contains_head, contains_tail, contains_cases, in_filter}
 use Rattle.pf_run.proofs.Counting.{sum_by-map}
 use Rattle.pf_run.proofs.Plans.{count_none}
@@ -103,7 +103,7 @@ last_passes p (suc n) i lt passes = by (p n) refl (λ less. last_passes p n i le
 
 module _ (s : Plan) (scenario : IsScenario s) (r : List Slot) (run : IsRun s (length r) r) where
   abbrev end_now : List Numbered
-  end_now = standing s r (length r)
+  end_now = events_in_force s r (length r)
 
   abbrev is_due_at : ℕ → Miss → Bool
   is_due_at due m = m.deadline == due

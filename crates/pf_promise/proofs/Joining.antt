@@ -11,8 +11,8 @@ use Rattle.pf_scenario.specs.declared.event.Event.{Event}
 use Rattle.pf_scenario.specs.declared.event.Event.TheVariants.{Join, Leave, Delay, Limit}
 use Rattle.pf_scenario.specs.declared.event.Numbered.{Numbered}
 use Rattle.pf_run.specs.Record.{Slot, denials_of, done}
-use Rattle.pf_run.specs.Inside.{Joined, joined_by, join_of, held_back, shift_of}
-use Rattle.pf_run.specs.Run.{standing}
+use Rattle.pf_run.specs.Inside.{Joined, joined_by, join_of, hold_back_of, shift_of}
+use Rattle.pf_run.specs.Run.{events_in_force}
 use Rattle.pf_run.specs.Inside.{joins_of}
 use Rattle.pf_run.proofs.Limits.{join_weight}
 use Rattle.pf_run.proofs.Joins.{joins_once_in_force, joined_differ}
@@ -35,7 +35,7 @@ or_absent base t (Some j) = j
 
 -- those that joined in the run r of the scenario, and the task of a number
 abbrev pub all_joined : Plan → List Slot → List Joined
-all_joined s r = joined_of s.settings.base (standing s r (length r))
+all_joined s r = joined_of s.settings.base (events_in_force s r (length r))
 
 abbrev pub task_at : Plan → List Slot → ℕ → Joined
 task_at s r t = or_absent s.settings.base t (find (λ j. j.task == t) (all_joined s r))
@@ -45,7 +45,7 @@ abbrev pub demand_of : Plan → List Slot → Demand
 demand_of s r = record {
   tasks = map (λ (j : Joined). j.task) (all_joined s r);
   weight = λ t. (task_at s r t).weight;
-  shift = λ t i. shift_of r (standing s r (length r)) (task_at s r t) i;
+  shift = λ t i. shift_of r (events_in_force s r (length r)) (task_at s r t) i;
   base = s.settings.base;
 }
 
@@ -70,25 +70,25 @@ joined_is system (Limit slot count) j base within is = cc
 
 module _ (s : Plan) (scenario : IsScenario s) (r : List Slot) where
   pub joins_once : AllPairs (λ a b. a.task ≢ b.task) (all_joined s r)
-  joins_once = joined_differ s.settings.base (standing s r (length r)) (joins_once_in_force s (length r) (denials_of r) scenario)
+  joins_once = joined_differ s.settings.base (events_in_force s r (length r)) (joins_once_in_force s (length r) (denials_of r) scenario)
 
-  pub joins_at_most : (task : ℕ) → joins_of task (standing s r (length r)) ≤ 1
+  pub joins_at_most : (task : ℕ) → joins_of task (events_in_force s r (length r)) ≤ 1
   joins_at_most task =
-      joins_few task (standing s r (length r)) (joins_once_in_force s (length r) (denials_of r) scenario)
+      joins_few task (events_in_force s r (length r)) (joins_once_in_force s (length r) (denials_of r) scenario)
 
   pub is_task : (j : Joined) → Contains (all_joined s r) j → IsTask s.settings.base j
   is_task j at =
-      let giver : Giver (join_of s.settings.base) (standing s r (length r)) j =
-      from_filter_map (join_of s.settings.base) (standing s r (length r)) j at in
+      let giver : Giver (join_of s.settings.base) (events_in_force s r (length r)) j =
+      from_filter_map (join_of s.settings.base) (events_in_force s r (length r)) j at in
       joined_is s.settings giver.giver.event j scenario.settings.limits.base
-      (All-contains (λ x. IsEvent s.settings x.event) (standing s r (length r)) giver.giver
+      (All-contains (λ x. IsEvent s.settings x.event) (events_in_force s r (length r)) giver.giver
       (in_force_all (λ x. IsEvent s.settings x.event) (denials_of r) (past s (length r)) (limits_of_past s (length r) scenario)) giver.stands)
       giver.gives
 
   pub task_at-joined : (j : Joined) → Contains (all_joined s r) j → task_at s r j.task ≡ j
   task_at-joined j at =
       ap (or_absent s.settings.base j.task)
-      (find_joined s.settings.base (standing s r (length r)) j (joins_at_most j.task) at)
+      (find_joined s.settings.base (events_in_force s r (length r)) j (joins_at_most j.task) at)
 
   pub task_at-is : (t : ℕ) (j : Joined) → Contains (all_joined s r) j → j.task ≡ t → task_at s r t ≡ j
   task_at-is t j at same = subst (λ u. task_at s r u ≡ j) same (task_at-joined j at)
@@ -123,7 +123,7 @@ module _ (s : Plan) (scenario : IsScenario s) (r : List Slot) where
   or_absent-is t None none = record { share = whole-share s.settings.base scenario.settings.limits.base; exact = omega arith }
   or_absent-is t (Some j) some = is_task j (found_is (λ k. k.task == t) (all_joined s r) j some).0
 
-  held_rises : (task i : ℕ) (event : Event) → held_back r task i event ≤ held_back r task (suc i) event
+  held_rises : (task i : ℕ) (event : Event) → hold_back_of r task i event ≤ hold_back_of r task (suc i) event
   held_rises task i (Delay slot task' by) = by_both (task' == task) (nat_le (done r task slot + 1) i) refl where
     by_both : (b c : Bool) → nat_le (done r task slot + 1) i ≡ c →
         cond (b && c) by 0 ≤ cond (b && nat_le (done r task slot + 1) (suc i)) by 0
@@ -148,7 +148,7 @@ module _ (s : Plan) (scenario : IsScenario s) (r : List Slot) where
   shift-rises xs j i =
       omega (
         arith,
-        sum_rises (λ x. held_back r j.task i x.event) (λ x. held_back r j.task (suc i) x.event) xs
+        sum_rises (λ x. hold_back_of r j.task i x.event) (λ x. hold_back_of r j.task (suc i) x.event) xs
             (λ x. held_rises j.task i x.event),
       )
 
@@ -157,5 +157,5 @@ module _ (s : Plan) (scenario : IsScenario s) (r : List Slot) where
     some = scenario.settings.limits.base.some;
     shares = λ t. (or_absent-is t (find (λ j. j.task == t) (all_joined s r)) refl).share;
     exact = λ t. (or_absent-is t (find (λ j. j.task == t) (all_joined s r)) refl).exact;
-    rise = λ t i. shift-rises (standing s r (length r)) (task_at s r t) i;
+    rise = λ t i. shift-rises (events_in_force s r (length r)) (task_at s r t) i;
   }

@@ -19,7 +19,7 @@ use Rattle.pf_admit.specs.Admission.{leave_denial}
 use Rattle.pf_run.specs.Record.{Slot, runs, done}
 use Rattle.pf_run.specs.Inside.{Joined, join_of, shift_of, member_of, member_at}
 use Rattle.pf_run.specs.Denials.{denial_of}
-use Rattle.pf_run.specs.Run.{standing, IsNextSlot, IsRun}
+use Rattle.pf_run.specs.Run.{events_in_force, IsNextSlot, IsRun}
 use Rattle.pf_run.specs.Inside.{joins_of}
 use Rattle.pf_run.proofs.Containing.{contains_none, contains_cases}
 use Rattle.pf_run.proofs.Counting.{count_by-cons}
@@ -127,7 +127,7 @@ module _ (s : Plan) (scenario : IsScenario s) where
             (Contains-append_cases xs (x ∷ []) z among)
 
   free_slot : (q : List Slot) (d : Slot) (xs : List Numbered) → IsRun s (length q) q → IsNextSlot s q d →
-      xs ≡ standing s (q ++ d ∷ []) (suc (length q)) → IsBetween s q xs [] → AreFree s q xs → AreFree s (q ++ d ∷ []) xs
+      xs ≡ events_in_force s (q ++ d ∷ []) (suc (length q)) → IsBetween s q xs [] → AreFree s q xs → AreFree s (q ++ d ∷ []) xs
   free_slot q d xs run next stands between free j at x among leaves some =
       let r = q ++ d ∷ [] in
       let none : runs j.task (get_or r (length q) no_slot) ≡ false =
@@ -152,16 +152,16 @@ module _ (s : Plan) (scenario : IsScenario s) where
       idle = ⊎_elim
           (λ (running : runs j.task d ≡ true).
           let picks = next.picks in
-          let by : RunsBy s.settings.base _ q (standing s (q ++ d ∷ []) (suc (length q))) d picks.chosen picks.are_first picks.subtasks j.task =
-          runs_by s.settings.base _ q (standing s (q ++ d ∷ []) (suc (length q))) d picks.chosen picks.are_first picks.subtasks j.task running in
+          let by : RunsBy s.settings.base _ q (events_in_force s (q ++ d ∷ []) (suc (length q))) d picks.chosen picks.are_first picks.subtasks j.task =
+          runs_by s.settings.base _ q (events_in_force s (q ++ d ∷ []) (suc (length q))) d picks.chosen picks.are_first picks.subtasks j.task running in
           let number : by.ready.task_of.task ≡ j.task = ap (λ k. k.task) by.ready.is ∙ by.number in
           absurd
-          (inside_stays s.settings.base (standing s (q ++ d ∷ []) (suc (length q))) by.ready.task_of x by.ready.inside
+          (inside_stays s.settings.base (events_in_force s (q ++ d ∷ []) (suc (length q))) by.ready.task_of x by.ready.inside
           (subst (λ zs. Contains zs x) stands among)
           (ap (λ t. is_leave_of t x.event) number ∙ leaves)))
           (λ h. h) (cases_Bool (runs j.task d))
 
   -- Use: of a run, the same at its end.
-  pub free : (n : ℕ) (r : List Slot) → IsRun s n r → AreFree s r (standing s r (length r))
+  pub free : (n : ℕ) (r : List Slot) → IsRun s n r → AreFree s r (events_in_force s r (length r))
   free n r run =
       along_points s scenario (AreFree s) (λ j at x among. absurd (contains_none x among)) free_event free_slot n r run

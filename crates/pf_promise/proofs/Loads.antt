@@ -14,7 +14,7 @@ use Rattle.pf_scenario.specs.declared.event.Numbered.{Numbered}
 use Rattle.pf_run.specs.Record.{Slot}
 use Rattle.pf_run.specs.Inside.{Joined, load_of, inside}
 use Rattle.pf_run.specs.Denials.{denial_of}
-use Rattle.pf_run.specs.Run.{standing, IsRun}
+use Rattle.pf_run.specs.Run.{events_in_force, IsRun}
 use Rattle.pf_run.specs.Inside.{joins_of}
 use Rattle.pf_run.proofs.Counting.{count_by-cons}
 use Rattle.pf_run.proofs.Points.{inside_push_other, inside_push_join, inside_push_leave}
@@ -95,12 +95,12 @@ module _ (s : Plan) (scenario : IsScenario s) where
       subst (λ zs. load_of base zs ≤ s.settings.cap) (sym (take-append-le k xs (x ∷ []) le)) (within k))
       (cases_lt (length xs) k)
 
-  within_run : (n : ℕ) (r : List Slot) → IsRun s n r → AreWithin r (standing s r (length r))
+  within_run : (n : ℕ) (r : List Slot) → IsRun s n r → AreWithin r (events_in_force s r (length r))
   within_run n r run =
       along_points s scenario AreWithin within_none within_event
       (λ q d xs is next stands between within. within) n r run
 
 pub load_is_within_cap : LoadIsWithinCap
 load_is_within_cap s n r k scenario run =
-    subst (λ t. load_of s.settings.base (take k (standing s r t)) ≤ s.settings.cap) run.slots
+    subst (λ t. load_of s.settings.base (take k (events_in_force s r t)) ≤ s.settings.cap) run.slots
     (within_run s scenario n r run k)

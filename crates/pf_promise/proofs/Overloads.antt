@@ -7,7 +7,7 @@ use Rattle.pf_scenario.specs.Scenario.{Plan}
 use Rattle.pf_scenario.specs.Edit.{IsScenario}
 use Rattle.pf_run.specs.Record.{Slot}
 use Rattle.pf_run.specs.Inside.{Joined, inside, load_of}
-use Rattle.pf_run.specs.Run.{standing, IsRun}
+use Rattle.pf_run.specs.Run.{events_in_force, IsRun}
 use Rattle.pf_run.proofs.Counting.{sum_by-map}
 use Rattle.pf_tally.proofs.Joined.{inside_joined}
 use Rattle.pf_ideal.specs.Schedule.{load, overload}
@@ -32,7 +32,7 @@ module _ (s : Plan) (scenario : IsScenario s) (r : List Slot) (run : IsRun s (le
       )
     where
       now : List Joined
-      now = inside s.settings.base (standing s r (suc v))
+      now = inside s.settings.base (events_in_force s r (suc v))
 
       units : ℕ → ℕ
       units t = (task_at s r t).weight.units
@@ -52,7 +52,7 @@ module _ (s : Plan) (scenario : IsScenario s) (r : List Slot) (run : IsRun s (le
           let at : Contains now j = Contains-get_or now k d below in
           ap (λ (i : Joined). i.weight.units)
           (task_at-joined s scenario r j
-          (joined_at_end s scenario r run v lt j (inside_joined s.settings.base (standing s r (suc v)) j at)))
+          (joined_at_end s scenario r run v lt j (inside_joined s.settings.base (events_in_force s r (suc v)) j at)))
 
   pub overload-of : (end v : ℕ) → v ≤ length r → overload (schedule_upto s r end) v ≤ overload_of s r v
   unfolding overload overload_of

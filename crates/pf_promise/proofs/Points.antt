@@ -20,7 +20,7 @@ use Rattle.pf_tally.proofs.Joined.{inside_joined}
 use Rattle.pf_promise.proofs.Members.{joined_of, joined_count, contains_counted, member_found}
 use Rattle.pf_promise.proofs.Slots.{runs_by}
 use Rattle.pf_run.specs.Denials.{denial_of}
-use Rattle.pf_run.specs.Run.{standing, IsNextSlot, IsRun}
+use Rattle.pf_run.specs.Run.{events_in_force, IsNextSlot, IsRun}
 use Rattle.pf_run.specs.Computed.{with_event, after_events}
 use Rattle.pf_run.specs.Inside.{joins_of}
 use Rattle.pf_run.proofs.Counting.{count_by-cons}
@@ -36,7 +36,7 @@ pub record IsPoint (q : List Slot) (xs : List Numbered) : Type 0 where
 -- a point between the events of a slot: behind the slots q the events xs are in force, and ys are to come
 pub record IsBetween (s : Plan) (q : List Slot) (xs ys : List Numbered) : Type 0 where
   pub more : List Numbered
-  pub grown : xs ≡ standing s q (length q) ++ more
+  pub grown : xs ≡ events_in_force s q (length q) ++ more
   pub point : IsPoint q xs
   pub now : All (λ y. slot_of y.event ≡ length q) ys
   pub once : (task : ℕ) → joins_of task xs + joins_of task ys ≤ 1
@@ -93,7 +93,7 @@ module _ (s : Plan) (scenario : IsScenario s) where
         )
 
   point_slot : (q : List Slot) (d : Slot) (xs : List Numbered) → IsNextSlot s q d →
-      xs ≡ standing s (q ++ d ∷ []) (suc (length q)) → IsPoint q xs → IsPoint (q ++ d ∷ []) xs
+      xs ≡ events_in_force s (q ++ d ∷ []) (suc (length q)) → IsPoint q xs → IsPoint (q ++ d ∷ []) xs
   point_slot q d xs next stands point = record {
     past = λ k e lt. omega (arith, point.past k e lt, length_snoc q d);
     fresh = λ task none.
@@ -107,7 +107,7 @@ module _ (s : Plan) (scenario : IsScenario s) where
     plus_none n none = omega (arith, none)
 
     xs' : List Numbered
-    xs' = standing s (q ++ d ∷ []) (suc (length q))
+    xs' = events_in_force s (q ++ d ∷ []) (suc (length q))
 
     idle : (task : ℕ) → joins_of task xs ≡ 0 → runs task d ≡ false
     idle task none = ⊎_elim
@@ -131,9 +131,9 @@ module _ (s : Plan) (scenario : IsScenario s) where
     now = All-tail (λ x. slot_of x.event ≡ length q) y ys between.now;
     once = λ task. once o task;
   } where
-    grown : (o : Option Denial) → with_event xs y o ≡ standing s q (length q) ++ with_event between.more y o
+    grown : (o : Option Denial) → with_event xs y o ≡ events_in_force s q (length q) ++ with_event between.more y o
     grown None =
-        ap (λ zs. zs ++ y ∷ []) between.grown ∙ append_assoc (standing s q (length q)) between.more (y ∷ [])
+        ap (λ zs. zs ++ y ∷ []) between.grown ∙ append_assoc (events_in_force s q (length q)) between.more (y ∷ [])
     grown (Some denial) = between.grown
 
     point : (o : Option Denial) → denial_of s.settings q xs y.event ≡ o → IsPoint q (with_event xs y o)
@@ -149,7 +149,7 @@ module _ (s : Plan) (scenario : IsScenario s) where
       (event : (q : List Slot) (xs : List Numbered) (x : Numbered) (ys : List Numbered) → IsRun s (length q) q →
       IsBetween s q xs (x ∷ ys) → denial_of s.settings q xs x.event ≡ None → P q xs → P q (xs ++ x ∷ []))
       (slot : (q : List Slot) (d : Slot) (xs : List Numbered) → IsRun s (length q) q → IsNextSlot s q d →
-      xs ≡ standing s (q ++ d ∷ []) (suc (length q)) → IsBetween s q xs [] → P q xs → P (q ++ d ∷ []) xs) where
+      xs ≡ events_in_force s (q ++ d ∷ []) (suc (length q)) → IsBetween s q xs [] → P q xs → P (q ++ d ∷ []) xs) where
     -- where the events of a slot are taken, and all have been
     record AreTaken (q : List Slot) (xs : List Numbered) : Type 0 where
       holds : P q xs
@@ -169,8 +169,8 @@ module _ (s : Plan) (scenario : IsScenario s) where
 
     -- what is carried along a run
     record Holds (q : List Slot) : Type 0 where
-      point : IsPoint q (standing s q (length q))
-      holds : P q (standing s q (length q))
+      point : IsPoint q (events_in_force s q (length q))
+      holds : P q (events_in_force s q (length q))
 
     begun : Holds []
     unfolding in_force
@@ -182,21 +182,21 @@ module _ (s : Plan) (scenario : IsScenario s) where
     one_more : (q : List Slot) (d : Slot) → IsRun s (length q) q → IsNextSlot s q d → Holds q → Holds (q ++ d ∷ [])
     one_more q d run next before =
         let stands = (next_from_equation s q d scenario run next.denials).stands in
-        let after = after_events s.settings q (standing s q (length q)) (events_of s (length q)) in
-        let start : IsBetween s q (standing s q (length q)) (events_of s (length q)) = record {
+        let after = after_events s.settings q (events_in_force s q (length q)) (events_of s (length q)) in
+        let start : IsBetween s q (events_in_force s q (length q)) (events_of s (length q)) = record {
           more = [];
-          grown = sym (append-nil (standing s q (length q)));
+          grown = sym (append-nil (events_in_force s q (length q)));
           point = before.point;
           now = slots_of_events s (length q);
           once = joins_at s (denials_of q) (length q) scenario;
         } in
-        let end = taken q (standing s q (length q)) (events_of s (length q)) run start before.holds in
-        let is : after ≡ standing s (q ++ d ∷ []) (length (q ++ d ∷ [])) =
-        sym stands ∙ ap (λ t. standing s (q ++ d ∷ []) t) (sym (length_snoc q d)) in
+        let end = taken q (events_in_force s q (length q)) (events_of s (length q)) run start before.holds in
+        let is : after ≡ events_in_force s (q ++ d ∷ []) (length (q ++ d ∷ [])) =
+        sym stands ∙ ap (λ t. events_in_force s (q ++ d ∷ []) t) (sym (length_snoc q d)) in
         record {
           point = subst (IsPoint (q ++ d ∷ [])) is (point_slot q d after next (sym stands) end.between.point);
           holds = subst (P (q ++ d ∷ [])) is (slot q d after run next (sym stands) end.between end.holds);
         }
 
-    pub along_points : (n : ℕ) (r : List Slot) → IsRun s n r → P r (standing s r (length r))
+    pub along_points : (n : ℕ) (r : List Slot) → IsRun s n r → P r (events_in_force s r (length r))
     along_points n r run = (along_run s Holds begun one_more n r run).holds

@@ -17,7 +17,7 @@ use Rattle.pf_scenario.specs.declared.event.Event.TheVariants.{Join, Leave, Dela
 use Rattle.pf_scenario.specs.declared.event.Numbered.{Numbered}
 use Rattle.pf_run.specs.Record.{Slot, runs, done}
 use Rattle.pf_run.specs.Inside.{Joined, joined_by, join_of, has_left, inside, shift_of}
-use Rattle.pf_run.specs.Run.{standing, IsRun}
+use Rattle.pf_run.specs.Run.{events_in_force, IsRun}
 use Rattle.pf_run.proofs.Containing.{contains_head, contains_tail}
 use Rattle.pf_tally.specs.Misses.{due_of, leaves_after}
 use Rattle.pf_tally.proofs.Windows.{deadlines_rise, deadline_late}
@@ -25,7 +25,7 @@ use Rattle.pf_tally.proofs.Subs.{Giver, from_filter_map}
 use Rattle.pf_ideal.specs.Schedule as ideal
 use Rattle.pf_ideal.specs.Schedule.{StaysInside, MissesAreFirst, IsByReach}
 use Rattle.pf_ideal.proofs.Rising.{rises}
-use Rattle.pf_reach.specs.Reach.{Reaches}
+use Rattle.pf_reach.specs.Reach.{WindowsReach}
 use Rattle.pf_reach.proofs.Reaching.{group_deadlines_end_reach, reach_bit}
 use Rattle.pf_reach.proofs.Demands.{reach-cost, pd2_is_by_reach}
 use Rattle.pf_promise.proofs.Sets.{is_among, list_any-contains, contains-list_any}
@@ -78,7 +78,7 @@ module _ (s : Plan) (scenario : IsScenario s) (r : List Slot) (run : IsRun s (le
   base = s.settings.base
 
   abbrev end_now : List Numbered
-  end_now = standing s r (length r)
+  end_now = events_in_force s r (length r)
 
   ran_known : (t i v : ℕ) → v ≤ length r → i < done r t v → is_among (demand_of s r).tasks t ≡ true
   unfolding done
@@ -116,7 +116,7 @@ module _ (s : Plan) (scenario : IsScenario s) (r : List Slot) (run : IsRun s (le
     due_late i = omega (arith, deadline_late w i share)
 
     -- it joined where its shift lies behind
-    joined_now : (v : ℕ) → v < length r → j.slot ≤ v → Contains (joined_of base (standing s r (suc v))) j
+    joined_now : (v : ℕ) → v < length r → j.slot ≤ v → Contains (joined_of base (events_in_force s r (suc v))) j
     joined_now v lt slot =
         let rest : Splits s r (suc v) (length r) = splits s r (suc v) (length r) lt in
         ⊎_elim (λ at. at)
@@ -125,17 +125,17 @@ module _ (s : Plan) (scenario : IsScenario s) (r : List Slot) (run : IsRun s (le
         let from : suc v ≤ slot_of giver.giver.event =
         All-contains (λ x. suc v ≤ slot_of x.event) rest.rest giver.giver rest.later giver.stands in
         absurd (omega (arith, from, slot, join_slot base giver.giver.event j giver.gives)))
-        (Contains-append_cases (joined_of base (standing s r (suc v))) (joined_of base rest.rest) j
-        (subst (λ js. Contains js j) (filter_map-append (join_of base) (standing s r (suc v)) rest.rest)
+        (Contains-append_cases (joined_of base (events_in_force s r (suc v))) (joined_of base rest.rest) j
+        (subst (λ js. Contains js j) (filter_map-append (join_of base) (events_in_force s r (suc v)) rest.rest)
         (subst (λ zs. Contains (joined_of base zs) j) rest.is is.joined)))
 
     -- it is inside, unless it left by then
     inside_unless : (v : ℕ) → v < length r → j.slot ≤ v →
-        ((x : Numbered) → Contains (standing s r (suc v)) x → is_leave_of j.task x.event ≡ true → ⊥) →
-        list_any (λ (k : Joined). k.task == t) (inside base (standing s r (suc v))) ≡ true
+        ((x : Numbered) → Contains (events_in_force s r (suc v)) x → is_leave_of j.task x.event ≡ true → ⊥) →
+        list_any (λ (k : Joined). k.task == t) (inside base (events_in_force s r (suc v))) ≡ true
     unfolding inside
     inside_unless v lt slot stays =
-        let now = standing s r (suc v) in
+        let now = events_in_force s r (suc v) in
         let left : has_left now j.task ≡ false =
         ⊎_elim
         (λ gone.
@@ -149,13 +149,13 @@ module _ (s : Plan) (scenario : IsScenario s) (r : List Slot) (run : IsRun s (le
 
     -- a leave by slot v is one of the run, and is not below what the last subtask allows
     left_free : (v i : ℕ) → v < length r → i < done r t (length r) → (x : Numbered) →
-        Contains (standing s r (suc v)) x → is_leave_of j.task x.event ≡ true → last_due r end_now j ≤ v
+        Contains (events_in_force s r (suc v)) x → is_leave_of j.task x.event ≡ true → last_due r end_now j ≤ v
     left_free v i lt ran x at leaves =
         let rest : Splits s r (suc v) (length r) = splits s r (suc v) (length r) lt in
         let at_end : Contains end_now x =
-        subst (λ zs. Contains zs x) (sym rest.is) (contains_grown (standing s r (suc v)) rest.rest x at) in
+        subst (λ zs. Contains zs x) (sym rest.is) (contains_grown (events_in_force s r (suc v)) rest.rest x at) in
         let below : slot_of x.event < suc v =
-        All-contains (λ y. slot_of y.event < suc v) (standing s r (suc v)) x (standing_below s r (suc v)) at in
+        All-contains (λ y. slot_of y.event < suc v) (events_in_force s r (suc v)) x (standing_below s r (suc v)) at in
         omega (
           arith,
           below,
@@ -182,7 +182,7 @@ module _ (s : Plan) (scenario : IsScenario s) (r : List Slot) (run : IsRun s (le
       by false light = omega (arith, deadlines_up w (suc i) n share le, shifts_up (suc i) n le)
 
     -- .. and reaches no further
-    reach_last : (i k : ℕ) → i < done r t (length r) → Reaches w (suc i) k → due_in s r t i + k < last_due r end_now j
+    reach_last : (i k : ℕ) → i < done r t (length r) → WindowsReach w (suc i) k → due_in s r t i + k < last_due r end_now j
     reach_last i k ran far = by (is_heavy w) refl where
       n : ℕ
       n = done r j.task (length r)
@@ -208,29 +208,29 @@ module _ (s : Plan) (scenario : IsScenario s) (r : List Slot) (run : IsRun s (le
 
     -- where a leave is at or behind a slot, one that is in force by v is so too
     leave_later : (due v : ℕ) → v < length r → leaves_after end_now j due ≡ true → (x : Numbered) →
-        Contains (standing s r (suc v)) x → is_leave_of j.task x.event ≡ true → due ≤ v
+        Contains (events_in_force s r (suc v)) x → is_leave_of j.task x.event ≡ true → due ≤ v
     leave_later due v lt after x at leaves = by (find (λ y. is_leave_of j.task y.event) end_now) refl after where
       rest : Splits s r (suc v) (length r)
       rest = splits s r (suc v) (length r) lt
 
-      some : list_any (λ y. is_leave_of j.task y.event) (standing s r (suc v)) ≡ true
-      some = contains-list_any (λ y. is_leave_of j.task y.event) (standing s r (suc v)) x at leaves
+      some : list_any (λ y. is_leave_of j.task y.event) (events_in_force s r (suc v)) ≡ true
+      some = contains-list_any (λ y. is_leave_of j.task y.event) (events_in_force s r (suc v)) x at leaves
 
       by : (o : Option Numbered) → find (λ y. is_leave_of j.task y.event) end_now ≡ o →
           option_map_or (λ y. nat_le due (slot_of y.event)) o true ≡ true → due ≤ v
       by None none h =
-          let at_end = subst (λ zs. Contains zs x) (sym rest.is) (contains_grown (standing s r (suc v)) rest.rest x at) in
+          let at_end = subst (λ zs. Contains zs x) (sym rest.is) (contains_grown (events_in_force s r (suc v)) rest.rest x at) in
           absurd (none_found (λ y. is_leave_of j.task y.event) end_now x none at_end leaves)
       by (Some y) found h =
-          let front : Contains (standing s r (suc v)) y =
-          find-front (λ y. is_leave_of j.task y.event) (standing s r (suc v)) rest.rest y some
+          let front : Contains (events_in_force s r (suc v)) y =
+          find-front (λ y. is_leave_of j.task y.event) (events_in_force s r (suc v)) rest.rest y some
           (ap (find (λ y. is_leave_of j.task y.event)) (sym rest.is) ∙ found) in
           let below : slot_of y.event < suc v =
-          All-contains (λ y. slot_of y.event < suc v) (standing s r (suc v)) y (standing_below s r (suc v)) front in
+          All-contains (λ y. slot_of y.event < suc v) (events_in_force s r (suc v)) y (standing_below s r (suc v)) front in
           omega (arith, below, leb-true due (slot_of y.event) h)
 
     -- a task that is inside leaves no sooner
-    inside_leaves_after : (due v : ℕ) → v < length r → due ≤ suc v → Contains (inside base (standing s r (suc v))) j →
+    inside_leaves_after : (due v : ℕ) → v < length r → due ≤ suc v → Contains (inside base (events_in_force s r (suc v))) j →
         leaves_after end_now j due ≡ true
     inside_leaves_after due v lt le at = by (find (λ y. is_leave_of j.task y.event) end_now) refl where
       rest : Splits s r (suc v) (length r)
@@ -243,9 +243,9 @@ module _ (s : Plan) (scenario : IsScenario s) (r : List Slot) (run : IsRun s (le
           let both = found_is (λ y. is_leave_of j.task y.event) end_now y found in
           le-leb due (slot_of y.event)
           (⊎_elim
-          (λ here. absurd (inside_stays base (standing s r (suc v)) j y at here both.1))
+          (λ here. absurd (inside_stays base (events_in_force s r (suc v)) j y at here both.1))
           (λ later. omega (arith, le, All-contains (λ x. suc v ≤ slot_of x.event) rest.rest y rest.later later))
-          (Contains-append_cases (standing s r (suc v)) rest.rest y (subst (λ zs. Contains zs y) rest.is both.0)))
+          (Contains-append_cases (events_in_force s r (suc v)) rest.rest y (subst (λ zs. Contains zs y) rest.is both.0)))
 
   -- what is known of a subtask that is late
   record IsLate (end t i : ℕ) : Type 0 where
@@ -283,7 +283,7 @@ module _ (s : Plan) (scenario : IsScenario s) (r : List Slot) (run : IsRun s (le
       through : (t i v : ℕ) → v < end →
           release_of (task_at s r t).weight (suc i) + shift_of r end_now (task_at s r t) (suc i) ≤ v → v < due_in s r t i →
           (i < done r t end) ⊎ (is_late s r end t i ≡ true) →
-          list_any (λ (k : Joined). k.task == t) (inside base (standing s r (suc v))) ≡ true
+          list_any (λ (k : Joined). k.task == t) (inside base (events_in_force s r (suc v))) ≡ true
       through t i v lt from upto which =
           let slot : (task_at s r t).slot ≤ v = omega (arith, from, joined_by_slot t i) in
           ⊎_elim
@@ -306,12 +306,12 @@ module _ (s : Plan) (scenario : IsScenario s) (r : List Slot) (run : IsRun s (le
 
       past : (t i v n : ℕ) → v < end → i < done r t v → v ≡ due_in s r t i + n →
           ideal.Reaches (schedule_upto s r end) t i n →
-          list_any (λ (k : Joined). k.task == t) (inside base (standing s r (suc v))) ≡ true
+          list_any (λ (k : Joined). k.task == t) (inside base (events_in_force s r (suc v))) ≡ true
       past t i v n lt ran here far =
           let below : v < length r = omega (arith, lt, within) in
           let at_end : i < done r t (length r) = omega (arith, ran, done-rises r t v (length r) (omega (arith, below))) in
           let task : IsKnown s scenario r t = known s scenario r t (ran_known t i v (omega (arith, below)) ran) in
-          let reach : Reaches (task_at s r t).weight (suc i) n =
+          let reach : WindowsReach (task_at s r t).weight (suc i) n =
           reach-cost (demand_of s r) (is_demand s scenario r) t (suc i) n (omega (arith, far)) in
           inside_unless t task v below (omega (arith, here, joined_by_slot t i))
           (λ x at leaves.
@@ -324,7 +324,7 @@ module _ (s : Plan) (scenario : IsScenario s) (r : List Slot) (run : IsRun s (le
       late = λ t i late. (late_is end t i late).late;
     } where
       none_before : (t i v : ℕ) → v < end → due_in s r t i < end →
-          list_any (λ (k : Joined). k.task == t) (inside base (standing s r (suc v))) ≡ true → due_in s r t i ≤ suc v →
+          list_any (λ (k : Joined). k.task == t) (inside base (events_in_force s r (suc v))) ≡ true → due_in s r t i ≤ suc v →
           i < done r t (due_in s r t i)
       none_before t i v lt below there le =
           let below_end : v < length r = omega (arith, lt, within) in

@@ -10,7 +10,7 @@ use Rattle.pf_scenario.specs.Edit.{IsScenario}
 use Rattle.pf_scenario.specs.declared.event.Numbered.{Numbered}
 use Rattle.pf_run.specs.Record.{Slot, runs, done}
 use Rattle.pf_run.specs.Inside.{Joined}
-use Rattle.pf_run.specs.Run.{standing, IsRun}
+use Rattle.pf_run.specs.Run.{events_in_force, IsRun}
 use Rattle.pf_tally.specs.Misses.{due_of, ran_in, leaves_after, is_missed}
 use Rattle.pf_promise.proofs.Shifts.{no_slot, done-runs, done-rises}
 use Rattle.pf_promise.proofs.Joining.{all_joined, task_at, task_at-joined}
@@ -30,7 +30,7 @@ position_early p (x ∷ xs) v d lt passes = by (p x) refl v lt passes (λ u belo
 
 module _ (s : Plan) (scenario : IsScenario s) (r : List Slot) (run : IsRun s (length r) r) where
   abbrev end_now : List Numbered
-  end_now = standing s r (length r)
+  end_now = events_in_force s r (length r)
 
   -- subtask i, numbered from 0, did not run before the slot, by its picks
   abbrev not_before : Joined → ℕ → ℕ → Bool

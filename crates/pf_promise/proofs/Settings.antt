@@ -8,8 +8,8 @@ use Rattle.pf_scenario.specs.declared.event.Event.{Event}
 use Rattle.pf_scenario.specs.declared.event.Event.TheVariants.{Join, Leave, Delay, Limit}
 use Rattle.pf_scenario.specs.declared.event.Numbered.{Numbered}
 use Rattle.pf_run.specs.Record.{denials_of}
-use Rattle.pf_run.specs.Inside.{load_of, count_of, limited}
-use Rattle.pf_run.specs.Run.{standing}
+use Rattle.pf_run.specs.Inside.{load_of, count_of, count_after}
+use Rattle.pf_run.specs.Run.{events_in_force}
 use Rattle.pf_run.proofs.Joins.{contains_past}
 use Rattle.pf_promise.specs.Load.{IsWithinRoom}
 use Rattle.pf_promise.specs.Laws.{LeavesRoom, SettingsSuffice}
@@ -18,24 +18,24 @@ use Rattle.pf_promise.proofs.Loads.{load_is_within_cap}
 use Rattle.pf_promise.proofs.Promises.{no_window_is_missed}
 
 limited_room : (settings : System) (count : ℕ) (event : Event) → settings.cap ≤ settings.base * count →
-    LeavesRoom settings event → settings.cap ≤ settings.base * limited count event
+    LeavesRoom settings event → settings.cap ≤ settings.base * count_after count event
 limited_room settings count (Limit slot count') room leaves = leaves
 limited_room settings count (Join slot task cost period early) room leaves = room
 limited_room settings count (Leave slot task) room leaves = room
 limited_room settings count (Delay slot task by) room leaves = room
 
 count_room : (settings : System) (count : ℕ) (xs : List Numbered) → settings.cap ≤ settings.base * count →
-    All (λ x. LeavesRoom settings x.event) xs → settings.cap ≤ settings.base * fold (λ n x. limited n x.event) count xs
+    All (λ x. LeavesRoom settings x.event) xs → settings.cap ≤ settings.base * fold (λ n x. count_after n x.event) count xs
 count_room settings count [] room leaves = room
 count_room settings count (x ∷ xs) room leaves =
-    count_room settings (limited count x.event) xs
+    count_room settings (count_after count x.event) xs
     (limited_room settings count x.event room (All-head (λ y. LeavesRoom settings y.event) x xs leaves))
     (All-tail (λ y. LeavesRoom settings y.event) x xs leaves)
 
 pub settings_suffice : SettingsSuffice
 unfolding count_of
 settings_suffice s n r scenario run carries leaves = no_window_is_missed s n r scenario run within where
-  in_force_leave : (t : ℕ) → All (λ x. LeavesRoom s.settings x.event) (standing s r t)
+  in_force_leave : (t : ℕ) → All (λ x. LeavesRoom s.settings x.event) (events_in_force s r t)
   in_force_leave t =
       in_force_all (λ x. LeavesRoom s.settings x.event) (denials_of r) (past s t)
       (λ k d lt.
@@ -45,8 +45,8 @@ settings_suffice s n r scenario run carries leaves = no_window_is_missed s n r s
   within : IsWithinRoom s r
   within t lt =
       let rest : Splits s r (suc t) n = splits s r (suc t) n (omega (arith, lt, run.slots)) in
-      let now = standing s r (suc t) in
-      let front : take (length now) (standing s r n) ≡ now =
+      let now = events_in_force s r (suc t) in
+      let front : take (length now) (events_in_force s r n) ≡ now =
       ap (take (length now)) rest.is ∙ take-append-le (length now) now rest.rest (omega arith)
       ∙ take_all (length now) now (omega arith) in
       let load = load_is_within_cap s n r (length now) scenario run in

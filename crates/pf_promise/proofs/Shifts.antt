@@ -17,9 +17,9 @@ use Rattle.pf_admit.specs.declared.member.Member.{Member}
 use Rattle.pf_admit.specs.Member.{next_release}
 use Rattle.pf_admit.specs.Admission.{delay_denial}
 use Rattle.pf_run.specs.Record.{Slot, denials_of, runs, done, next_sub}
-use Rattle.pf_run.specs.Inside.{Joined, join_of, held_back, shift_of, member_of, member_at}
+use Rattle.pf_run.specs.Inside.{Joined, join_of, hold_back_of, shift_of, member_of, member_at}
 use Rattle.pf_run.specs.Denials.{denial_of}
-use Rattle.pf_run.specs.Run.{standing, IsNextSlot, IsRun}
+use Rattle.pf_run.specs.Run.{events_in_force, IsNextSlot, IsRun}
 use Rattle.pf_run.proofs.Points.{shift_push}
 use Rattle.pf_run.proofs.Joins.{past_below}
 use Rattle.pf_run.proofs.Judged.{length_snoc}
@@ -77,7 +77,7 @@ sum_by-agree f g (x ∷ xs) same =
 
 -- a delay counts by the slots before it alone
 held-slots : (q r : List Slot) (task i : ℕ) (event : Event) →
-    done q task (slot_of event) ≡ done r task (slot_of event) → held_back q task i event ≡ held_back r task i event
+    done q task (slot_of event) ≡ done r task (slot_of event) → hold_back_of q task i event ≡ hold_back_of r task i event
 held-slots q r task i (Delay slot task' by) same = ap (λ n. cond ((task' == task) && nat_le (n + 1) i) by 0) same
 held-slots q r task i (Join slot task' cost period early) same = refl
 held-slots q r task i (Leave slot task') same = refl
@@ -88,15 +88,15 @@ pub shift-slots : (q r : List Slot) (xs : List Numbered) (j : Joined) (i n : ℕ
 unfolding shift_of
 shift-slots q r xs j i n past same =
     ap (λ m. j.slot + m)
-    (sum_by-agree (λ x. held_back q j.task i x.event) (λ x. held_back r j.task i x.event) xs
-    (All-weaker (λ x. slot_of x.event ≤ n) (λ x. held_back q j.task i x.event ≡ held_back r j.task i x.event)
+    (sum_by-agree (λ x. hold_back_of q j.task i x.event) (λ x. hold_back_of r j.task i x.event) xs
+    (All-weaker (λ x. slot_of x.event ≤ n) (λ x. hold_back_of q j.task i x.event ≡ hold_back_of r j.task i x.event)
     (λ x within. held-slots q r j.task i x.event (same (slot_of x.event) within)) xs past))
 
 -- more events shift no less
 pub shift-grows : (r : List Slot) (xs more : List Numbered) (j : Joined) (i : ℕ) →
     shift_of r xs j i ≤ shift_of r (xs ++ more) j i
 unfolding shift_of
-shift-grows r xs more j i = omega (arith, sum_by-append (λ x. held_back r j.task i x.event) xs more)
+shift-grows r xs more j i = omega (arith, sum_by-append (λ x. hold_back_of r j.task i x.event) xs more)
 
 -- an event that holds a subtask back is a delay of its task, whose turn was not over
 pub record HoldsBack (q : List Slot) (task i : ℕ) (event : Event) : Type 0 where
@@ -106,7 +106,7 @@ pub record HoldsBack (q : List Slot) (task i : ℕ) (event : Event) : Type 0 whe
   pub early : done q task slot + 1 ≤ i
 
 pub held_or_not : (q : List Slot) (task i : ℕ) (event : Event) →
-    (held_back q task i event ≡ 0) ⊎ HoldsBack q task i event
+    (hold_back_of q task i event ≡ 0) ⊎ HoldsBack q task i event
 held_or_not q task i (Delay slot task' by) = ⊎_elim
     (λ (same : (task' == task) ≡ true). ⊎_elim
     (λ (counts : nat_le (done q task slot + 1) i ≡ true).
@@ -133,7 +133,7 @@ abbrev pub sub_at : List Slot → Joined → ℕ → ℕ
 sub_at q j v = done q j.task v + 1
 
 abbrev pub shift_at : Plan → List Slot → Joined → ℕ → ℕ
-shift_at s q j v = shift_of q (standing s q (suc v)) j (sub_at q j v)
+shift_at s q j v = shift_of q (events_in_force s q (suc v)) j (sub_at q j v)
 
 -- it is released there, or runs
 abbrev pub IsDue : Plan → List Slot → Joined → ℕ → Type 0
@@ -142,7 +142,7 @@ IsDue s q j v =
 
 -- then its shift stays
 abbrev pub AreSettled : Plan → List Slot → List Numbered → Type 0
-AreSettled s q xs = (v : ℕ) → v < length q → (j : Joined) → Contains (joined_of s.settings.base (standing s q (suc v))) j →
+AreSettled s q xs = (v : ℕ) → v < length q → (j : Joined) → Contains (joined_of s.settings.base (events_in_force s q (suc v))) j →
     IsDue s q j v → shift_of q xs j (sub_at q j v) ≡ shift_at s q j v
 
 pub contains_grown : {A : Type 0} (xs more : List A) (x : A) → Contains xs x → Contains (xs ++ more) x
@@ -155,7 +155,7 @@ joined_grown base xs more j at =
     subst (λ js. Contains js j) (sym (filter_map-append (join_of base) xs more))
     (contains_grown (joined_of base xs) (joined_of base more) j at)
 
-pub standing_below : (s : Plan) (q : List Slot) (t : ℕ) → All (λ x. slot_of x.event < t) (standing s q t)
+pub standing_below : (s : Plan) (q : List Slot) (t : ℕ) → All (λ x. slot_of x.event < t) (events_in_force s q t)
 standing_below s q t =
     in_force_all (λ x. slot_of x.event < t) (denials_of q) (past s t)
     (λ k d lt. past_below s t (get_or (past s t) k d) (Contains-get_or (past s t) k d lt))
@@ -172,14 +172,14 @@ next_release_of q xs j = refl
 module _ (s : Plan) (scenario : IsScenario s) where
   -- those that joined by slot v have joined at each later point
   joined_later : (q : List Slot) (xs ys : List Numbered) (v : ℕ) (j : Joined) → IsBetween s q xs ys → v < length q →
-      Contains (joined_of s.settings.base (standing s q (suc v))) j → Contains (joined_of s.settings.base xs) j
+      Contains (joined_of s.settings.base (events_in_force s q (suc v))) j → Contains (joined_of s.settings.base xs) j
   joined_later q xs ys v j between lt at =
       let before : Splits s q (suc v) (length q) = splits s q (suc v) (length q) lt in
-      let at_slot : Contains (joined_of s.settings.base (standing s q (length q))) j =
+      let at_slot : Contains (joined_of s.settings.base (events_in_force s q (length q))) j =
       subst (λ zs. Contains (joined_of s.settings.base zs) j) (sym before.is)
-      (joined_grown s.settings.base (standing s q (suc v)) before.rest j at) in
+      (joined_grown s.settings.base (events_in_force s q (suc v)) before.rest j at) in
       subst (λ zs. Contains (joined_of s.settings.base zs) j) (sym between.grown)
-      (joined_grown s.settings.base (standing s q (length q)) between.more j at_slot)
+      (joined_grown s.settings.base (events_in_force s q (length q)) between.more j at_slot)
 
   settled_event : (q : List Slot) (xs : List Numbered) (x : Numbered) (ys : List Numbered) → IsRun s (length q) q →
       IsBetween s q xs (x ∷ ys) → denial_of s.settings q xs x.event ≡ None → AreSettled s q xs →
@@ -237,7 +237,7 @@ module _ (s : Plan) (scenario : IsScenario s) where
                 omega (arith, done-runs q j.task v no_slot lt h, still, done-rises q j.task (suc v) (length q) lt)
 
   settled_slot : (q : List Slot) (d : Slot) (xs : List Numbered) → IsRun s (length q) q → IsNextSlot s q d →
-      xs ≡ standing s (q ++ d ∷ []) (suc (length q)) → IsBetween s q xs [] → AreSettled s q xs →
+      xs ≡ events_in_force s (q ++ d ∷ []) (suc (length q)) → IsBetween s q xs [] → AreSettled s q xs →
       AreSettled s (q ++ d ∷ []) xs
   settled_slot q d xs run next stands between settled v lt j at due = ⊎_elim earlier now (cases_lt v (length q)) where
     r : List Slot
@@ -249,23 +249,23 @@ module _ (s : Plan) (scenario : IsScenario s) where
     now : length q ≤ v → shift_of r xs j (sub_at r j v) ≡ shift_at s r j v
     now from =
         let last : v ≡ length q = omega (arith, from, lt, length_snoc q d) in
-        ap (λ zs. shift_of r zs j (sub_at r j v)) (stands ∙ ap (λ u. standing s r (suc u)) (sym last))
+        ap (λ zs. shift_of r zs j (sub_at r j v)) (stands ∙ ap (λ u. events_in_force s r (suc u)) (sym last))
 
     earlier : v < length q → shift_of r xs j (sub_at r j v) ≡ shift_at s r j v
     earlier below =
-        let same : standing s r (suc v) ≡ standing s q (suc v) = standing-more s q d (suc v) scenario run next below in
+        let same : events_in_force s r (suc v) ≡ events_in_force s q (suc v) = standing-more s q d (suc v) scenario run next below in
         let sub : sub_at r j v ≡ sub_at q j v = ap (λ n. n + 1) (same_done v (omega (arith, below))) in
-        let early : All (λ x. slot_of x.event ≤ length q) (standing s q (suc v)) =
+        let early : All (λ x. slot_of x.event ≤ length q) (events_in_force s q (suc v)) =
         λ k e within. omega (arith, standing_below s q (suc v) k e within, below) in
         let shift : shift_at s r j v ≡ shift_at s q j v =
         ap (λ zs. shift_of r zs j (sub_at r j v)) same
-        ∙ ap (λ i. shift_of r (standing s q (suc v)) j i) sub
-        ∙ shift-slots r q (standing s q (suc v)) j (sub_at q j v) (length q) early same_done in
+        ∙ ap (λ i. shift_of r (events_in_force s q (suc v)) j i) sub
+        ∙ shift-slots r q (events_in_force s q (suc v)) j (sub_at q j v) (length q) early same_done in
         let due' : IsDue s q j v = ⊎_elim
         (λ released. inl (omega (arith, released, ap (release_of j.weight) sub, shift)))
         (λ running. inr (ap (runs j.task) (sym (get_or_append_left q (d ∷ []) no_slot v below)) ∙ running))
         due in
-        let at' : Contains (joined_of s.settings.base (standing s q (suc v))) j =
+        let at' : Contains (joined_of s.settings.base (events_in_force s q (suc v))) j =
         subst (λ zs. Contains (joined_of s.settings.base zs) j) same at in
         ap (λ i. shift_of r xs j i) sub
         ∙ shift-slots r q xs j (sub_at q j v) (length q) between.point.past same_done
@@ -273,6 +273,6 @@ module _ (s : Plan) (scenario : IsScenario s) where
         ∙ sym shift
 
   -- Use: the shift that a subtask has where it is released, or runs, is the one that stays.
-  pub settled : (n : ℕ) (r : List Slot) → IsRun s n r → AreSettled s r (standing s r (length r))
+  pub settled : (n : ℕ) (r : List Slot) → IsRun s n r → AreSettled s r (events_in_force s r (length r))
   settled n r run =
       along_points s scenario (AreSettled s) (λ v lt. absurd (omega (arith, lt))) settled_event settled_slot n r run

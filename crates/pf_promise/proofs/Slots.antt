@@ -10,7 +10,7 @@ use Rattle.pf_scenario.specs.Event.{is_leave_of}
 use Rattle.pf_scenario.specs.declared.event.Numbered.{Numbered}
 use Rattle.pf_run.specs.Record.{Slot, runs}
 use Rattle.pf_run.specs.Inside.{Joined, inside, has_left, ready, ready_key, next_key, member_of, eligible_from}
-use Rattle.pf_run.specs.Run.{pick_of}
+use Rattle.pf_run.specs.Run.{pick_of_key}
 use Rattle.pf_run.proofs.Containing.{contains_none, contains_head, contains_tail, contains_cases, from_filter}
 use Rattle.pf_tally.proofs.Subs.{from_filter_map}
 use Rattle.pf_promise.proofs.Sets.{list_any-contains, contains-list_any, list_any-map}
@@ -65,9 +65,9 @@ inside_stays base xs j x at among leaves =
     both_ways (has_left xs j.task) stays (contains-list_any (λ y. is_leave_of j.task y.event) xs x among leaves)
 
 module _ (base n : ℕ) (q : List Slot) (xs : List Numbered) (d : Slot) (chosen : List Priority)
-    (are : AreFirst n (ready base q xs) chosen) (picks : d.picks ≡ map pick_of chosen) where
+    (are : AreFirst n (ready base q xs) chosen) (picks : d.picks ≡ map pick_of_key chosen) where
   runs_is : (task : ℕ) → runs task d ≡ list_any (λ (k : Priority). k.task == task) chosen
-  runs_is task = ap (list_any (λ (p : Pick). p.task == task)) picks ∙ list_any-map (λ (p : Pick). p.task == task) pick_of chosen
+  runs_is task = ap (list_any (λ (p : Pick). p.task == task)) picks ∙ list_any-map (λ (p : Pick). p.task == task) pick_of_key chosen
 
   -- the key of a task that runs, and a task that has a chosen key
 

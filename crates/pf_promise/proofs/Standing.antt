@@ -13,7 +13,7 @@ use Rattle.pf_scenario.specs.Edit.{IsScenario}
 use Rattle.pf_scenario.specs.declared.event.Numbered.{Numbered}
 use Rattle.pf_run.specs.declared.denied.Denied.{Denied}
 use Rattle.pf_run.specs.Record.{Slot, denials_of, is_denied, in_force}
-use Rattle.pf_run.specs.Run.{standing, IsNextSlot, IsRun}
+use Rattle.pf_run.specs.Run.{events_in_force, IsNextSlot, IsRun}
 use Rattle.pf_run.proofs.Plans.{slots_of_events}
 use Rattle.pf_run.proofs.Judged.{along_run, length_snoc, denials_of_snoc, failing_within, slot_comes_after}
 use Rattle.pf_tally.proofs.InForce.{in_force-append}
@@ -21,7 +21,7 @@ use Rattle.pf_tally.proofs.InForce.{in_force-append}
 -- those in force at n begin with those at t
 pub record Splits (s : Plan) (r : List Slot) (t n : ℕ) : Type 0 where
   pub rest : List Numbered
-  pub is : standing s r n ≡ standing s r t ++ rest
+  pub is : events_in_force s r n ≡ events_in_force s r t ++ rest
   pub later : All (λ x. t ≤ slot_of x.event) rest
 
 pub in_force_all : (P : Numbered → Type 0) (denials : List Denied) (xs : List Numbered) → All P xs → All P (in_force denials xs)
@@ -29,14 +29,14 @@ unfolding in_force
 in_force_all P denials xs all = All-filter (λ x. not (is_denied denials x)) P xs all
 
 pub splits : (s : Plan) (r : List Slot) (t n : ℕ) → t ≤ n → Splits s r t n
-splits s r zero zero le = record { rest = []; is = sym (append-nil (standing s r 0)); later = All-nil (λ x. 0 ≤ slot_of x.event) }
+splits s r zero zero le = record { rest = []; is = sym (append-nil (events_in_force s r 0)); later = All-nil (λ x. 0 ≤ slot_of x.event) }
 splits s r (suc t) zero le = absurd (omega (arith, le))
 splits s r t (suc n) le = ⊎_elim
     (λ (below : n < t).
     let same : t ≡ suc n = omega (arith, below, le) in
     record {
       rest = [];
-      is = ap (λ m. standing s r m) (sym same) ∙ sym (append-nil (standing s r t));
+      is = ap (λ m. events_in_force s r m) (sym same) ∙ sym (append-nil (events_in_force s r t));
       later = All-nil (λ x. t ≤ slot_of x.event);
     })
     (λ (within : t ≤ n).
@@ -49,7 +49,7 @@ splits s r t (suc n) le = ⊎_elim
       rest = before.rest ++ more;
       is = in_force-append (denials_of r) (past s n) (events_of s n)
           ∙ ap (λ xs. xs ++ more) before.is
-          ∙ append_assoc (standing s r t) before.rest more;
+          ∙ append_assoc (events_in_force s r t) before.rest more;
       later = All-append (λ x. t ≤ slot_of x.event) before.rest more before.later of_slot;
     })
     (cases_lt n t)
@@ -80,7 +80,7 @@ held_past s t (suc n) id le held = ⊎_elim
 
 -- the denials of later slots are of other events
 pub standing-more : (s : Plan) (q : List Slot) (d : Slot) (t : ℕ) → IsScenario s → IsRun s (length q) q →
-    IsNextSlot s q d → t ≤ length q → standing s (q ++ d ∷ []) t ≡ standing s q t
+    IsNextSlot s q d → t ≤ length q → events_in_force s (q ++ d ∷ []) t ≡ events_in_force s q t
 standing-more s q d t scenario run next le =
     ap (λ ds. in_force ds (past s t)) (denials_of_snoc q d)
     ∙ in_force-more (denials_of q) d.denials (past s t)
@@ -91,21 +91,21 @@ standing-more s q d t scenario run next le =
 
 -- so the record of the slots below t tells what is in force after them
 pub standing-take : (s : Plan) (n : ℕ) (r : List Slot) → IsScenario s → IsRun s n r → (t : ℕ) → t ≤ length r →
-    standing s r t ≡ standing s (take t r) t
+    events_in_force s r t ≡ events_in_force s (take t r) t
 standing-take s n r scenario run =
-    along_run s (λ q. (t : ℕ) → t ≤ length q → standing s q t ≡ standing s (take t q) t) none more n r run where
-      none : (t : ℕ) → t ≤ 0 → standing s [] t ≡ standing s (take t []) t
+    along_run s (λ q. (t : ℕ) → t ≤ length q → events_in_force s q t ≡ events_in_force s (take t q) t) none more n r run where
+      none : (t : ℕ) → t ≤ 0 → events_in_force s [] t ≡ events_in_force s (take t []) t
       none zero le = refl
       none (suc t) le = refl
 
       more : (q : List Slot) (d : Slot) → IsRun s (length q) q → IsNextSlot s q d →
-          ((t : ℕ) → t ≤ length q → standing s q t ≡ standing s (take t q) t) →
-          (t : ℕ) → t ≤ length (q ++ d ∷ []) → standing s (q ++ d ∷ []) t ≡ standing s (take t (q ++ d ∷ [])) t
+          ((t : ℕ) → t ≤ length q → events_in_force s q t ≡ events_in_force s (take t q) t) →
+          (t : ℕ) → t ≤ length (q ++ d ∷ []) → events_in_force s (q ++ d ∷ []) t ≡ events_in_force s (take t (q ++ d ∷ [])) t
       more q d run next before t le = ⊎_elim
           (λ (past : length q < t).
-          ap (λ z. standing s z t) (sym (take_all t (q ++ d ∷ []) (omega (arith, past, length_snoc q d)))))
+          ap (λ z. events_in_force s z t) (sym (take_all t (q ++ d ∷ []) (omega (arith, past, length_snoc q d)))))
           (λ (within : t ≤ length q).
           standing-more s q d t scenario run next within
           ∙ before t within
-          ∙ ap (λ z. standing s z t) (sym (take-append-le t q (d ∷ []) within)))
+          ∙ ap (λ z. events_in_force s z t) (sym (take-append-le t q (d ∷ []) within)))
           (cases_lt (length q) t)

@@ -7,7 +7,7 @@ use Rattle.pf_scenario.specs.declared.event.Event.{Event}
 use Rattle.pf_scenario.specs.declared.event.Event.TheVariants.{Limit}
 use Rattle.pf_run.specs.Record.{Slot}
 use Rattle.pf_run.specs.Inside.{load_of}
-use Rattle.pf_run.specs.Run.{standing, IsRun}
+use Rattle.pf_run.specs.Run.{events_in_force, IsRun}
 use Rattle.pf_tally.specs.Misses.{misses_of}
 use Rattle.pf_promise.specs.Load.{overload_of, IsWithinRoom}
 
@@ -15,7 +15,7 @@ use Rattle.pf_promise.specs.Load.{overload_of, IsWithinRoom}
 -- those that are in force at the end.
 abbrev pub LoadIsWithinCap : Type 0
 LoadIsWithinCap = (s : Plan) (n : ℕ) (r : List Slot) (k : ℕ) → IsScenario s → IsRun s n r →
-    load_of s.settings.base (take k (standing s r n)) ≤ s.settings.cap
+    load_of s.settings.base (take k (events_in_force s r n)) ≤ s.settings.cap
 
 -- A miss costs a quantum: a run that is overloaded by less than a quantum, in all its slots together, misses no window.
 abbrev pub MissCostsQuantum : Type 0

@@ -7,7 +7,7 @@ use Rattle.pf_window.proofs.Quotients.{IsFloor, IsCeil, floor_is, ceil_is}
 use Rattle.pf_order.specs.Priority.{precedes}
 use Rattle.pf_ideal.specs.Schedule as ideal
 use Rattle.pf_ideal.specs.Schedule.{HasWindows, RanksByReach}
-use Rattle.pf_reach.specs.Reach.{Reaches}
+use Rattle.pf_reach.specs.Reach.{WindowsReach}
 use Rattle.pf_reach.specs.Demand.{Demand, IsDemand, Service, key_in, schedule_of}
 use Rattle.pf_reach.specs.Laws.{PD2IsByReach}
 use Rattle.pf_reach.proofs.Scaling.{units-le, units-lt, base-le, base-lt}
@@ -60,11 +60,11 @@ module _ (d : Demand) (is : IsDemand d) where
           omega (arith, units-lt w.units w.period w.cost d.base (is.exact t) is.some real due i (omega (arith, least)))
 
     -- reach in units
-    reach-units : (i n : ℕ) → Reaches w i n → (i + n) * d.base < (deadline_of w i + n) * w.units
+    reach-units : (i n : ℕ) → WindowsReach w i n → (i + n) * d.base < (deadline_of w i + n) * w.units
     reach-units i n far =
         base-lt w.units w.period w.cost d.base (is.exact t) is.some real (deadline_of w i + n) (i + n) far
 
-    pub reach-cost : (i n : ℕ) → (i + n) * d.base < (deadline_of w i + n) * w.units → Reaches w i n
+    pub reach-cost : (i n : ℕ) → (i + n) * d.base < (deadline_of w i + n) * w.units → WindowsReach w i n
     reach-cost i n far = ⊎_elim (λ lt. lt)
         (λ (ge : (deadline_of w i + n) * w.cost ≤ (i + n) * w.period).
         let le =
@@ -110,7 +110,7 @@ module _ (d : Demand) (is : IsDemand d) where
           deadline_of (d.weight t) (suc i) + d.shift t (suc i) ≡ deadline_of (d.weight u) (suc j) + d.shift u (suc j) →
           ideal.Reaches (schedule_of d g) u j n → ideal.Reaches (schedule_of d g) t i n
       reach t i u j n first due far =
-          let at_u : Reaches (d.weight u) (suc j) n = reach-cost u (suc j) n (omega (arith, far)) in
+          let at_u : WindowsReach (d.weight u) (suc j) n = reach-cost u (suc j) n (omega (arith, far)) in
           let at_t =
           order_ranks_by_reach (d.weight t) (d.weight u) (d.shift t (suc i)) (d.shift u (suc j)) (suc i) (suc j) t u n
           (is.shares t) (is.shares u) (omega arith) (omega arith) (back t i u j first) due at_u in

@@ -7,7 +7,7 @@ use Rattle.pf_window.specs.Window.{deadline_of, bit_of}
 use Rattle.pf_window.specs.Group.{group_of}
 use Rattle.pf_order.specs.Priority.{Priority, precedes, priority_cmp}
 use Rattle.pf_order.specs.KeyOf.{key_of}
-use Rattle.pf_reach.specs.Reach.{Reaches}
+use Rattle.pf_reach.specs.Reach.{WindowsReach}
 use Rattle.pf_reach.specs.Laws.{OrderRanksByReach}
 use Rattle.pf_reach.proofs.Reaching.{bit-at_most, reach_from_bit, reach_bit, reach_heavy, group_reached, reach_to_group}
 
@@ -44,7 +44,7 @@ module _ (x y : Share) (q r i j t u : ℕ) (share_x : IsShare x) (share_y : IsSh
       absurd (by_group (key_of y r j u) (key_of x q i t) not (sym due) (omega (arith, one, bit_too one)) lt))
       (λ ge. ge) (cases_lt (key_of x q i t).group (key_of y r j u).group)
 
-  past_due : (n : ℕ) → Reaches y j (suc n) → Reaches x i (suc n)
+  past_due : (n : ℕ) → WindowsReach y j (suc n) → WindowsReach x i (suc n)
   past_due n far =
       let one : bit_of y j ≡ 1 = reach_bit y share_y j (suc n) far in
       let heavy = reach_heavy y share_y j n far in

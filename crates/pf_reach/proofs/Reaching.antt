@@ -8,7 +8,7 @@ use Rattle.pf_window.specs.Window.{deadline_of, bit_of}
 use Rattle.pf_window.specs.Group.{group_from, group_of}
 use Rattle.pf_window.proofs.Quotients.{IsCeil, floor_is, ceil_is, ceil_only}
 use Rattle.pf_window.proofs.Groups.{group_of_part}
-use Rattle.pf_reach.specs.Reach.{Reaches}
+use Rattle.pf_reach.specs.Reach.{WindowsReach}
 use Rattle.pf_reach.specs.Laws.{GroupDeadlinesEndReach}
 use Rattle.pf_reach.proofs.Lacks.{lack_is, group_from_reach, reach_from_group}
 
@@ -27,7 +27,7 @@ module _ (w : Share) (share : IsShare w) (i : ℕ) where
 
   -- the bit is 1 where the quantum ends inside the last slot of its window
 
-  bit_from_reach : Reaches w i 0 → bit_of w i ≡ 1
+  bit_from_reach : WindowsReach w i 0 → bit_of w i ≡ 1
   unfolding deadline_of bit_of
   bit_from_reach inner =
       let down = floor_is (i * w.period) w.cost share.some in
@@ -35,7 +35,7 @@ module _ (w : Share) (share : IsShare w) (i : ℕ) where
       lt_of_mul-lt-mul_right w.cost (omega (arith, down.within, inner)) in
       omega (arith, above, bit-at_most)
 
-  pub reach_from_bit : bit_of w i ≡ 1 → Reaches w i 0
+  pub reach_from_bit : bit_of w i ≡ 1 → WindowsReach w i 0
   unfolding deadline_of bit_of
   reach_from_bit one =
       let down = floor_is (i * w.period) w.cost share.some in
@@ -48,7 +48,7 @@ module _ (w : Share) (share : IsShare w) (i : ℕ) where
   slow (suc n) = omega (arith, slow n, share.within)
 
   -- who reaches any slot reaches the deadline
-  pub reach_bit : (n : ℕ) → Reaches w i n → bit_of w i ≡ 1
+  pub reach_bit : (n : ℕ) → WindowsReach w i n → bit_of w i ≡ 1
   reach_bit n far = bit_from_reach (omega (arith, far, slow n))
 
   -- a weight of 1 has no bit 1
@@ -63,7 +63,7 @@ module _ (w : Share) (share : IsShare w) (i : ℕ) where
         absurd (omega (arith, above, below))
 
   -- only a heavy task reaches past the deadline
-  pub reach_heavy : (n : ℕ) → Reaches w i (suc n) → w.period ≤ 2 * w.cost
+  pub reach_heavy : (n : ℕ) → WindowsReach w i (suc n) → w.period ≤ 2 * w.cost
   reach_heavy n far = ⊎_elim
       (λ (light : 2 * w.cost < w.period). absurd (omega (arith, far, due_is.least, slow n, light))) (λ ge. ge)
       (cases_lt (2 * w.cost) w.period)
@@ -97,7 +97,7 @@ module _ (w : Share) (share : IsShare w) (i : ℕ) where
     group-part : group_of w i ≡ group_from w (deadline_of w i)
     group-part = group_of_part w i (le-leb w.period (2 * w.cost) heavy) (bit-part one)
 
-    pub group_reached : (n : ℕ) → Reaches w i n → deadline_of w i + n < group_of w i
+    pub group_reached : (n : ℕ) → WindowsReach w i n → deadline_of w i + n < group_of w i
     group_reached n far =
         omega (
           arith,
@@ -106,12 +106,12 @@ module _ (w : Share) (share : IsShare w) (i : ℕ) where
               (group_from w (deadline_of w i)) n group_is far,
         )
 
-    pub reach_to_group : (n : ℕ) → deadline_of w i + n < group_of w i → Reaches w i n
+    pub reach_to_group : (n : ℕ) → deadline_of w i + n < group_of w i → WindowsReach w i n
     reach_to_group n lt =
         reach_from_group w.cost w.period lack_of i (deadline_of w i) lacked lack-plus lacked-plus due_is
         (group_from w (deadline_of w i)) n group_is (omega (arith, lt, group-part))
 
-  light_reach : is_heavy w ≡ false → (n : ℕ) → Reaches w i n → n ≡ 0
+  light_reach : is_heavy w ≡ false → (n : ℕ) → WindowsReach w i n → n ≡ 0
   light_reach light zero far = omega arith
   light_reach light (suc n) far =
       absurd (both_ways (is_heavy w) light (le-leb w.period (2 * w.cost) (reach_heavy n far)))

@@ -1,4 +1,4 @@
--- The first of some keys: there is one answer, and how to show it.
+-- The first_keys of some keys: there is one answer, and how to show it.
 use Rattle.std.proofs.Common.{◌≡◌, ◌≢◌, ℕ, zero, suc, ◌+◌, ◌-◌, ◌<◌, ◌≤◌, Bool, true, false, not, ◌==◌, cond, min, List, [], ◌∷◌, ◌++◌, length, take, drop, get_or, filter, count_by, All, AllPairs, Contains, IsTrue, IsPermutation, ⊎_elim, refl, sym, ap, ap₂, ◌∙◌, subst, subst₂, zero-le, arith}
 use Rattle.std.proofs.lemmas.Bool.{true≢false, cases_Bool, cases_eq, cases_lt, eq-eqb, eqb-true, false_from_ne_true}
 use Rattle.std.proofs.lemmas.List.{take-append-drop, length-append, length-take, length-drop, get_or-take, get_or-drop, get_or_default}
@@ -7,7 +7,7 @@ use Rattle.std.proofs.lemmas.List.Kept.{AllPairs-filter}
 use Rattle.std.proofs.lemmas.List.Sums.{sum_by-cons, sum_by-append, sum_by-le-sum_by}
 use Rattle.std.proofs.lemmas.List.Sorted.{IsPermutation-sym, Contains-permutation, length_permutation, sum_by-IsPermutation}
 use Rattle.pf_order.specs.Priority.{Priority, precedes}
-use Rattle.pf_order.specs.First.{rank, AreFirst, first}
+use Rattle.pf_order.specs.First.{rank, AreFirst, first_keys}
 use Rattle.pf_order.proofs.Order as order
 use Rattle.pf_run.proofs.Containing.{contains_none, contains_head, contains_tail, contains_cases, from_filter, in_filter, pairs_head, pairs_tail, pairs_append, pairs_cases, one_in_order}
 
@@ -17,13 +17,13 @@ Before x y = IsTrue (precedes x y)
 
 -- no key comes before itself, not by way of another either
 not_both : (x y : Priority) → Before x y → Before y x → ⊥
-not_both x y first back = true≢false (sym (order.preceding_is_transitive x y x first back) ∙ order.none_precedes_itself x)
+not_both x y first_keys back = true≢false (sym (order.preceding_is_transitive x y x first_keys back) ∙ order.none_precedes_itself x)
 
 -- There is one answer.
 pub first_is_one : (n : ℕ) (keys a b : List Priority) → AreFirst n keys a → AreFirst n keys b → a ≡ b
-first_is_one n keys a b first second = one_in_order Before not_both a b first.in_order second.in_order
-    (λ k at. (second.exactly k).1 ((first.exactly k).0 at))
-    (λ k at. (first.exactly k).1 ((second.exactly k).0 at))
+first_is_one n keys a b first_keys second = one_in_order Before not_both a b first_keys.in_order second.in_order
+    (λ k at. (second.exactly k).1 ((first_keys.exactly k).0 at))
+    (λ k at. (first_keys.exactly k).1 ((second.exactly k).0 at))
 
 -- ranks
 rank-append : (xs ys : List Priority) (k : Priority) → rank (xs ++ ys) k ≡ rank xs k + rank ys k
@@ -45,7 +45,7 @@ rank_all (x ∷ xs) k all =
     omega arith
 
 not_back : (x y : Priority) → Before x y → precedes y x ≡ false
-not_back x y first = false_from_ne_true (precedes y x) (not_both x y first)
+not_back x y first_keys = false_from_ne_true (precedes y x) (not_both x y first_keys)
 
 -- in a list in order fewer than its length precede one of its keys
 rank_within : (xs : List Priority) (k : Priority) → AllPairs Before xs → Contains xs k → rank xs k < length xs
@@ -94,7 +94,7 @@ within_chosen : (n : ℕ) (keys chosen rest : List Priority) → IsChoice n keys
 within_chosen n keys chosen rest choice k at below = ⊎_elim
     (λ here. here)
     (λ later.
-    let all : rank chosen k ≡ length chosen = rank_all chosen k (λ x first. choice.ahead x k first later) in
+    let all : rank chosen k ≡ length chosen = rank_all chosen k (λ x first_keys. choice.ahead x k first_keys later) in
     let split : rank keys k ≡ rank chosen k + rank rest k = choice_rank n keys chosen rest choice k in
     let long : length keys ≡ length chosen + length rest = choice_length n keys chosen rest choice in
     let enough : length chosen ≡ min n (length keys) = choice.enough in
@@ -167,9 +167,9 @@ count_lt p q weaker (y ∷ ys) x at no_p yes_q =
     (contains_cases y ys x at)
 
 rank_lt : (keys : List Priority) (x y : Priority) → Contains keys x → Before x y → rank keys x < rank keys y
-rank_lt keys x y at first =
-    count_lt (λ z. precedes z x) (λ z. precedes z y) (λ z before. order.preceding_is_transitive z x y before first) keys x at
-    (order.none_precedes_itself x) first
+rank_lt keys x y at first_keys =
+    count_lt (λ z. precedes z x) (λ z. precedes z y) (λ z before. order.preceding_is_transitive z x y before first_keys) keys x at
+    (order.none_precedes_itself x) first_keys
 
 -- what rises and stays below n is not longer than n
 module _ {X : Type 0} (f : X → ℕ) where
@@ -183,7 +183,7 @@ module _ {X : Type 0} (f : X → ℕ) where
   few_rising n (x ∷ xs) rising below =
       omega (arith, at_least_place (x ∷ xs) x rising (length xs) (omega arith), below (length xs) x (omega arith))
 
--- Use: the first keys are no more than were asked for, and of different tasks where the keys are.
+-- Use: the first_keys keys are no more than were asked for, and of different tasks where the keys are.
 pub first_few : (n : ℕ) (keys chosen : List Priority) → AreFirst n keys chosen → length chosen ≤ n
 first_few n keys chosen are = few_rising (rank keys) n chosen
     (λ i j d before within. rank_lt keys (get_or chosen i d) (get_or chosen j d)
@@ -220,8 +220,8 @@ one_of_rank keys x y at_x at_y apart same = ⊎_elim
     (λ not_back. let higher : rank keys x < rank keys y = rank_lt keys x y at_x (order.one_of_two_precedes x y apart ∙ ap not not_back) in absurd (omega arith))
     (cases_Bool (precedes y x))
 
--- the keys of `first`
-from_first : (n : ℕ) (keys : List Priority) (k : Priority) → Contains (first n keys) k → Contains keys k × (rank keys k < n)
+-- the keys of `first_keys`
+from_first : (n : ℕ) (keys : List Priority) (k : Priority) → Contains (first_keys n keys) k → Contains keys k × (rank keys k < n)
 from_first zero keys k at = absurd (contains_none k at)
 from_first (suc c) keys k at = ⊎_elim
     (λ early. let both = from_first c keys k early in (both.0, omega (arith, both.1)))
@@ -229,13 +229,13 @@ from_first (suc c) keys k at = ⊎_elim
     let both = from_filter (λ k. rank keys k == c) keys k last in
     let is : rank keys k ≡ c = eqb-true (rank keys k) c both.1 in
     (both.0, omega arith))
-    (Contains-append_cases (first c keys) (filter (λ k. rank keys k == c) keys) k at)
+    (Contains-append_cases (first_keys c keys) (filter (λ k. rank keys k == c) keys) k at)
 
-in_first : (n : ℕ) (keys : List Priority) (k : Priority) → Contains keys k → rank keys k < n → Contains (first n keys) k
+in_first : (n : ℕ) (keys : List Priority) (k : Priority) → Contains keys k → rank keys k < n → Contains (first_keys n keys) k
 in_first zero keys k at below = absurd (omega arith)
 in_first (suc c) keys k at below = ⊎_elim
-    (λ early. Contains-append_left (first c keys) _ k (in_first c keys k at early))
-    (λ last. Contains-append_right (first c keys) _ k (in_filter (λ k. rank keys k == c) keys k at (eq-eqb (rank keys k) c (omega arith))))
+    (λ early. Contains-append_left (first_keys c keys) _ k (in_first c keys k at early))
+    (λ last. Contains-append_right (first_keys c keys) _ k (in_filter (λ k. rank keys k == c) keys k at (eq-eqb (rank keys k) c (omega arith))))
     (cases_lt (rank keys k) c)
 
 alone_of_rank : (keys : List Priority) (c : ℕ) → TasksDiffer keys → AllPairs Before (filter (λ k. rank keys k == c) keys)
@@ -247,10 +247,10 @@ alone_of_rank keys c differ i j d before within =
     (AllPairs-filter (λ x y. x.task ≢ y.task) (λ k. rank keys k == c) keys differ i j d before within)
     (eqb-true _ c x.1 ∙ sym (eqb-true _ c y.1)))
 
-first_in_order : (n : ℕ) (keys : List Priority) → TasksDiffer keys → AllPairs Before (first n keys)
+first_in_order : (n : ℕ) (keys : List Priority) → TasksDiffer keys → AllPairs Before (first_keys n keys)
 first_in_order zero keys differ = λ i j d before within. absurd (omega arith)
 first_in_order (suc c) keys differ =
-    pairs_append Before (first c keys) (filter (λ k. rank keys k == c) keys) (first_in_order c keys differ) (alone_of_rank keys c differ)
+    pairs_append Before (first_keys c keys) (filter (λ k. rank keys k == c) keys) (first_in_order c keys differ) (alone_of_rank keys c differ)
     (λ x y early last.
     let of_x = from_first c keys x early in
     let of_y = from_filter (λ k. rank keys k == c) keys y last in
@@ -258,8 +258,8 @@ first_in_order (suc c) keys differ =
     let is : rank keys y ≡ c = eqb-true (rank keys y) c of_y.1 in
     before_from_rank keys x y differ of_x.0 of_y.0 (omega arith))
 
--- `first` computes it, where no two keys are of one task.
-pub first_is_first : (n : ℕ) (keys : List Priority) → TasksDiffer keys → AreFirst n keys (first n keys)
+-- `first_keys` computes it, where no two keys are of one task.
+pub first_is_first : (n : ℕ) (keys : List Priority) → TasksDiffer keys → AreFirst n keys (first_keys n keys)
 first_is_first n keys differ = record {
   exactly = λ k. (from_first n keys k, λ both. in_first n keys k both.0 both.1);
   in_order = first_in_order n keys differ;

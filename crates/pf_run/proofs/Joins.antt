@@ -7,7 +7,7 @@ use Rattle.std.proofs.lemmas.List.Folds.{list_any_at}
 use Rattle.std.proofs.lemmas.List.Sorted.{IsPermutation-sym, Contains-permutation}
 use Rattle.std.proofs.lemmas.List.Kept.{AllPairs-filter, AllPairs-cons}
 use Rattle.pf_order.specs.Priority.{Priority}
-use Rattle.pf_scenario.specs.Event.{slot_of, is_of, run_cmp, in_run_order}
+use Rattle.pf_scenario.specs.Event.{slot_of, is_of_slot, run_cmp, in_run_order}
 use Rattle.pf_scenario.specs.Scenario.{Plan, is_held, events_of, past}
 use Rattle.pf_scenario.specs.Edit.{IsScenario, join_alike, leave_alike}
 use Rattle.pf_scenario.specs.declared.event.Event.{Event}
@@ -27,9 +27,9 @@ contains_in_run_order : (xs : List Numbered) (k : Numbered) → Contains (in_run
 contains_in_run_order xs k at =
     Contains-permutation (in_run_order xs) xs k (IsPermutation-sym xs (in_run_order xs) (sorted_keeps run_cmp xs)) at
 
-pub contains_events_of : (s : Plan) (t : ℕ) (k : Numbered) → Contains (events_of s t) k → Contains s.events k × (is_of t k ≡ true)
+pub contains_events_of : (s : Plan) (t : ℕ) (k : Numbered) → Contains (events_of s t) k → Contains s.events k × (is_of_slot t k ≡ true)
 unfolding events_of
-contains_events_of s t k at = from_filter (is_of t) s.events k (contains_in_run_order (filter (is_of t) s.events) k at)
+contains_events_of s t k at = from_filter (is_of_slot t) s.events k (contains_in_run_order (filter (is_of_slot t) s.events) k at)
 
 pub contains_past : (s : Plan) (t : ℕ) (k : Numbered) → Contains (past s t) k → Contains s.events k
 contains_past s zero k at = absurd (contains_none k at)

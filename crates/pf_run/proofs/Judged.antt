@@ -18,8 +18,8 @@ use Rattle.pf_scenario.specs.declared.event.Numbered.{Numbered}
 use Rattle.pf_admit.specs.declared.denial.Denial.{Denial}
 use Rattle.pf_run.specs.declared.denied.Denied.{Denied}
 use Rattle.pf_run.specs.Record.{Slot, denials_of, is_denied, in_force}
-use Rattle.pf_run.specs.Denials.{denial_of, denied_for, failing}
-use Rattle.pf_run.specs.Run.{standing, ArePicks, IsNextSlot, IsRun}
+use Rattle.pf_run.specs.Denials.{denial_of, denied_for, denials_behind}
+use Rattle.pf_run.specs.Run.{events_in_force, ArePicks, IsNextSlot, IsRun}
 use Rattle.pf_run.specs.Computed.{with_event, after_events, denials_among}
 use Rattle.pf_run.proofs.Numbers.{AreApart, is_held-append, apart_right, apart_across, apart_past}
 
@@ -44,21 +44,21 @@ own_first x t (Some denial) rest none = or_left _ _ (eq-eqb x.id x.id refl)
 
 -- what is denied of some events has their numbers
 pub failing_within : (s : System) (r : List Slot) (denials : List Denied) (before xs : List Numbered) (id : ℕ) →
-    is_held xs id ≡ false → has_denial (failing s r denials before xs) id ≡ false
+    is_held xs id ≡ false → has_denial (denials_behind s r denials before xs) id ≡ false
 failing_within s r denials before [] id none = refl
 failing_within s r denials before (x ∷ xs) id none =
     let parts = or_parts (x.id == id) (is_held xs id) none in
-    other_first x (length r) (denial_of s r (in_force denials before) x.event) (failing s r denials (before ++ x ∷ []) xs) id parts.0
+    other_first x (length r) (denial_of s r (in_force denials before) x.event) (denials_behind s r denials (before ++ x ∷ []) xs) id parts.0
     ∙ failing_within s r denials (before ++ x ∷ []) xs id parts.1
 
-pub among_within : (s : System) (r : List Slot) (standing xs : List Numbered) (id : ℕ) →
-    is_held xs id ≡ false → has_denial (denials_among s r standing xs) id ≡ false
-among_within s r standing [] id none = refl
-among_within s r standing (x ∷ xs) id none =
+pub among_within : (s : System) (r : List Slot) (events_in_force xs : List Numbered) (id : ℕ) →
+    is_held xs id ≡ false → has_denial (denials_among s r events_in_force xs) id ≡ false
+among_within s r events_in_force [] id none = refl
+among_within s r events_in_force (x ∷ xs) id none =
     let parts = or_parts (x.id == id) (is_held xs id) none in
-    let o = denial_of s r standing x.event in
-    other_first x (length r) o (denials_among s r (with_event standing x o) xs) id parts.0
-    ∙ among_within s r (with_event standing x o) xs id parts.1
+    let o = denial_of s r events_in_force x.event in
+    other_first x (length r) o (denials_among s r (with_event events_in_force x o) xs) id parts.0
+    ∙ among_within s r (with_event events_in_force x o) xs id parts.1
 
 -- the events in force after one more: all of those before, and it, unless its rule fails
 with_judged : (denials : List Denied) (before : List Numbered) (x : Numbered) (o : Option Denial) →
@@ -93,7 +93,7 @@ new_rest denials rest x xs t o apart new id held =
 
 -- the denials and what is in force after these events, in both manners
 pub record AreJudged (s : System) (r : List Slot) (denials : List Denied) (before xs : List Numbered) : Type 0 where
-  pub denied : failing s r denials before xs ≡ denials_among s r (in_force denials before) xs
+  pub denied : denials_behind s r denials before xs ≡ denials_among s r (in_force denials before) xs
   pub stands : in_force denials (before ++ xs) ≡ after_events s r (in_force denials before) xs
 
 judged_more : (s : System) (r : List Slot) (denials : List Denied) (before : List Numbered) (x : Numbered) (xs : List Numbered) →
@@ -112,11 +112,11 @@ judged_none s r denials before = record { denied = refl; stands = ap (in_force d
 
 -- where the equation over the record holds
 pub judged_from_failing : (s : System) (r : List Slot) (denials : List Denied) (before xs : List Numbered) → AreApart xs →
-    AreNew denials (failing s r denials before xs) xs → AreJudged s r denials before xs
+    AreNew denials (denials_behind s r denials before xs) xs → AreJudged s r denials before xs
 judged_from_failing s r denials before [] apart new = judged_none s r denials before
 judged_from_failing s r denials before (x ∷ xs) apart new =
     let o = denial_of s r (in_force denials before) x.event in
-    let rest = failing s r denials (before ++ x ∷ []) xs in
+    let rest = denials_behind s r denials (before ++ x ∷ []) xs in
     judged_more s r denials before x xs
     (new_first denials rest x xs (length r) o (failing_within s r denials (before ++ x ∷ []) xs x.id apart.0) new)
     (judged_from_failing s r denials (before ++ x ∷ []) xs apart.1 (new_rest denials rest x xs (length r) o apart.0 new))
@@ -159,17 +159,17 @@ are_new old new before events after id held =
 
 -- What is said of the denials that are new at some events, in both manners.
 pub record AreSlotDenials (s : System) (r : List Slot) (old new : List Denied) (before events : List Numbered) : Type 0 where
-  pub equation : new ≡ failing s r (old ++ new) before events
+  pub equation : new ≡ denials_behind s r (old ++ new) before events
   pub one_by_one : new ≡ denials_among s r (in_force old before) events
   pub stands : in_force (old ++ new) (before ++ events) ≡ after_events s r (in_force old before) events
 
 denials_in_both : (s : System) (r : List Slot) (old new : List Denied) (before events : List Numbered) →
     ComeAfter old before events → in_force (old ++ new) before ≡ in_force old before →
     AreJudged s r (old ++ new) before events →
-    (new ≡ failing s r (old ++ new) before events) ⊎ (new ≡ denials_among s r (in_force old before) events) →
+    (new ≡ denials_behind s r (old ++ new) before events) ⊎ (new ≡ denials_among s r (in_force old before) events) →
     AreSlotDenials s r old new before events
 denials_in_both s r old new before events after same judged either =
-    let meet : failing s r (old ++ new) before events ≡ denials_among s r (in_force old before) events =
+    let meet : denials_behind s r (old ++ new) before events ≡ denials_among s r (in_force old before) events =
     judged.denied ∙ ap (λ at. denials_among s r at events) same in
     record {
       equation = ⊎_elim (λ e. e) (λ e. e ∙ sym meet) either;
@@ -179,7 +179,7 @@ denials_in_both s r old new before events after same judged either =
 
 -- Use: where the denials solve the equation of the record, they are those that came about one event after another.
 pub denials_from_equation : (s : System) (r : List Slot) (old new : List Denied) (before events : List Numbered) →
-    ComeAfter old before events → new ≡ failing s r (old ++ new) before events → AreSlotDenials s r old new before events
+    ComeAfter old before events → new ≡ denials_behind s r (old ++ new) before events → AreSlotDenials s r old new before events
 denials_from_equation s r old new before events after e =
     let within : (id : ℕ) → is_held before id ≡ true → has_denial new id ≡ false =
     λ id held. ap (λ ds. has_denial ds id) e ∙ failing_within s r (old ++ new) before events id (after.across id held) in
@@ -284,34 +284,34 @@ slot_comes_after s r scenario run =
 -- What is said of the denials of a run's next slot, in both manners.
 pub record AreNextDenials (s : Plan) (r : List Slot) (slot : Slot) : Type 0 where
   pub equation : slot.denials ≡
-      failing s.settings r (denials_of (r ++ slot ∷ [])) (past s (length r)) (events_of s (length r))
-  pub one_by_one : slot.denials ≡ denials_among s.settings r (standing s r (length r)) (events_of s (length r))
-  pub stands : standing s (r ++ slot ∷ []) (suc (length r)) ≡
-      after_events s.settings r (standing s r (length r)) (events_of s (length r))
+      denials_behind s.settings r (denials_of (r ++ slot ∷ [])) (past s (length r)) (events_of s (length r))
+  pub one_by_one : slot.denials ≡ denials_among s.settings r (events_in_force s r (length r)) (events_of s (length r))
+  pub stands : events_in_force s (r ++ slot ∷ []) (suc (length r)) ≡
+      after_events s.settings r (events_in_force s r (length r)) (events_of s (length r))
 
 next_from_slot : (s : Plan) (r : List Slot) (slot : Slot) →
     AreSlotDenials s.settings r (denials_of r) slot.denials (past s (length r)) (events_of s (length r)) →
     AreNextDenials s r slot
 next_from_slot s r slot both = record {
   equation = both.equation
-      ∙ ap (λ ds. failing s.settings r ds (past s (length r)) (events_of s (length r))) (sym (denials_of_snoc r slot));
+      ∙ ap (λ ds. denials_behind s.settings r ds (past s (length r)) (events_of s (length r))) (sym (denials_of_snoc r slot));
   one_by_one = both.one_by_one;
   stands = ap (λ ds. in_force ds (past s (suc (length r)))) (denials_of_snoc r slot) ∙ both.stands;
 }
 
 -- Use: from a slot of a run, what judging its events one after another gives.
 pub next_from_equation : (s : Plan) (r : List Slot) (slot : Slot) → IsScenario s → IsRun s (length r) r →
-    slot.denials ≡ failing s.settings r (denials_of (r ++ slot ∷ [])) (past s (length r)) (events_of s (length r)) →
+    slot.denials ≡ denials_behind s.settings r (denials_of (r ++ slot ∷ [])) (past s (length r)) (events_of s (length r)) →
     AreNextDenials s r slot
 next_from_equation s r slot scenario run e =
     next_from_slot s r slot
     (denials_from_equation s.settings r (denials_of r) slot.denials (past s (length r)) (events_of s (length r))
     (slot_comes_after s r scenario run)
-    (e ∙ ap (λ ds. failing s.settings r ds (past s (length r)) (events_of s (length r))) (denials_of_snoc r slot)))
+    (e ∙ ap (λ ds. denials_behind s.settings r ds (past s (length r)) (events_of s (length r))) (denials_of_snoc r slot)))
 
 -- Use: from judging a slot's events one after another, the denials of IsNextSlot and the events that stand for its picks.
 pub next_from_one_by_one : (s : Plan) (r : List Slot) (slot : Slot) → IsScenario s → IsRun s (length r) r →
-    slot.denials ≡ denials_among s.settings r (standing s r (length r)) (events_of s (length r)) →
+    slot.denials ≡ denials_among s.settings r (events_in_force s r (length r)) (events_of s (length r)) →
     AreNextDenials s r slot
 next_from_one_by_one s r slot scenario run e =
     next_from_slot s r slot
@@ -320,8 +320,8 @@ next_from_one_by_one s r slot scenario run e =
 
 -- Use: what was judged one event after another, and picked from what stands after it, is the next slot.
 pub next_slot : (s : Plan) (r : List Slot) (slot : Slot) → IsScenario s → IsRun s (length r) r →
-    slot.denials ≡ denials_among s.settings r (standing s r (length r)) (events_of s (length r)) →
-    ArePicks s r (after_events s.settings r (standing s r (length r)) (events_of s (length r))) slot.picks →
+    slot.denials ≡ denials_among s.settings r (events_in_force s r (length r)) (events_of s (length r)) →
+    ArePicks s r (after_events s.settings r (events_in_force s r (length r)) (events_of s (length r))) slot.picks →
     IsNextSlot s r slot
 next_slot s r slot scenario run denials picks =
     let both = next_from_one_by_one s r slot scenario run denials in

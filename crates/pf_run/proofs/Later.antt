@@ -9,7 +9,7 @@ use Rattle.pf_scenario.specs.declared.event.Event.{Event}
 use Rattle.pf_scenario.specs.declared.event.Event.TheVariants.{Join, Leave, Delay, Limit}
 use Rattle.pf_scenario.specs.declared.event.Numbered.{Numbered}
 use Rattle.pf_run.specs.Record.{Slot, runs, done, next_sub}
-use Rattle.pf_run.specs.Inside.{Joined, held_back, shift_of}
+use Rattle.pf_run.specs.Inside.{Joined, hold_back_of, shift_of}
 
 -- how often a task ran, one slot further
 pub done_all : (r : List Slot) (task : ℕ) → done r task (length r) ≡ count_by (runs task) r
@@ -29,7 +29,7 @@ runs_push r d task = sum_by_push (λ e. cond (runs task e) 1 0) r d
 
 -- what a delay holds back, one slot further
 held_same : (r : List Slot) (d : Slot) (task i : ℕ) (event : Event) → slot_of event ≤ length r →
-    held_back (r ++ d ∷ []) task i event ≡ held_back r task i event
+    hold_back_of (r ++ d ∷ []) task i event ≡ hold_back_of r task i event
 held_same r d task i (Delay slot task' by) within =
     ap (λ n. cond ((task' == task) && nat_le (n + 1) i) by 0) (done_before r d task slot within)
 held_same r d task i (Join slot task' cost period early) within = refl
@@ -38,7 +38,7 @@ held_same r d task i (Limit slot count) within = refl
 
 -- each delay so far counts for the next subtask, and for those after it
 held_later : (r : List Slot) (task i : ℕ) (event : Event) → next_sub r task ≤ i →
-    held_back r task i event ≡ held_back r task (next_sub r task) event
+    hold_back_of r task i event ≡ hold_back_of r task (next_sub r task) event
 held_later r task i (Delay slot task' by) later =
     let before : done r task slot + 1 ≤ next_sub r task = omega (arith, done_most r task slot, done_all r task) in
     ap (λ b. cond ((task' == task) && b) by 0)
@@ -58,7 +58,7 @@ pub shift_same : (r : List Slot) (d : Slot) (xs : List Numbered) (j : Joined) (i
     shift_of (r ++ d ∷ []) xs j i ≡ shift_of r xs j i
 unfolding shift_of
 shift_same r d xs j i past = ap (λ n. j.slot + n) (sum_same _ _ xs
-    (All-weaker (λ x. slot_of x.event ≤ length r) (λ x. held_back (r ++ d ∷ []) j.task i x.event ≡ held_back r j.task i x.event)
+    (All-weaker (λ x. slot_of x.event ≤ length r) (λ x. hold_back_of (r ++ d ∷ []) j.task i x.event ≡ hold_back_of r j.task i x.event)
     (λ x within. held_same r d j.task i x.event within) xs past))
 
 pub shift_later : (r : List Slot) (xs : List Numbered) (j : Joined) (i : ℕ) → next_sub r j.task ≤ i →

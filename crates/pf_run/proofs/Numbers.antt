@@ -5,8 +5,8 @@ use Rattle.std.specs.Ordering.{is_lt}
 use Rattle.std.proofs.lemmas.Bool.{or_from, or_parts, or_left, or_right, or_cases, and_left, and_right, and_parts, ne_eqb, eqb-true, eqb-false, le-ltb, ltb-true, true≢false}
 use Rattle.std.proofs.lemmas.Bool.Decides.{nat_tests}
 use Rattle.std.proofs.lemmas.List.Folds.{list_any-append, list_any_none}
-use Rattle.pf_scenario.specs.Sorted.{put}
-use Rattle.pf_scenario.specs.Event.{slot_of, is_of, run_cmp, in_run_order}
+use Rattle.pf_scenario.specs.Sorted.{put_in_order}
+use Rattle.pf_scenario.specs.Event.{slot_of, is_of_slot, run_cmp, in_run_order}
 use Rattle.pf_scenario.specs.Scenario.{Plan, is_held, events_of, past}
 use Rattle.pf_scenario.specs.Edit.{IsScenario}
 use Rattle.pf_scenario.specs.declared.event.Numbered.{Numbered}
@@ -57,11 +57,11 @@ apart_either : (b : Bool) (x y : Numbered) (ys zs : List Numbered) → AreApart 
 apart_either true x y ys zs first later = first
 apart_either false x y ys zs first later = later
 
-apart_placed : (x : Numbered) (xs : List Numbered) → is_held xs x.id ≡ false → AreApart xs → AreApart (put run_cmp x xs)
+apart_placed : (x : Numbered) (xs : List Numbered) → is_held xs x.id ≡ false → AreApart xs → AreApart (put_in_order run_cmp x xs)
 apart_placed x [] none apart = (refl, tt)
 apart_placed x (y ∷ ys) none apart =
     let parts = or_parts (y.id == x.id) (is_held ys x.id) none in
-    apart_either (is_lt (run_cmp x y)) x y ys (put run_cmp x ys) (none, apart) (
+    apart_either (is_lt (run_cmp x y)) x y ys (put_in_order run_cmp x ys) (none, apart) (
       list_any-put (λ z. z.id == y.id) run_cmp x ys ∙ or_from _ _ (ne_eqb x.id y.id (λ e. eqb-false y.id x.id parts.0 (sym e))) apart.0,
       apart_placed x ys parts.1 apart.1,
     )
@@ -141,13 +141,13 @@ unfolding events_of
 held_past s zero id = sym (below_none s.events id)
 held_past s (suc t) id =
     is_held-append (past s t) (events_of s t) id
-    ∙ ap₂ (λ b c. b || c) (held_past s t id) (held_in_run_order (filter (is_of t) s.events) id)
-    ∙ sym (either_test (λ x. nat_lt (slot_of x.event) t) (is_of t) (λ x. nat_lt (slot_of x.event) (suc t)) (λ x. grind (arith, nat_tests)) s.events id)
+    ∙ ap₂ (λ b c. b || c) (held_past s t id) (held_in_run_order (filter (is_of_slot t) s.events) id)
+    ∙ sym (either_test (λ x. nat_lt (slot_of x.event) t) (is_of_slot t) (λ x. nat_lt (slot_of x.event) (suc t)) (λ x. grind (arith, nat_tests)) s.events id)
 
 pub apart_events_of : (s : Plan) (t : ℕ) → IsScenario s → AreApart (events_of s t)
 unfolding events_of
 apart_events_of s t scenario =
-    apart_in_run_order (filter (is_of t) s.events) (apart_filter (is_of t) s.events (apart_from_rising s.events scenario.rising))
+    apart_in_run_order (filter (is_of_slot t) s.events) (apart_filter (is_of_slot t) s.events (apart_from_rising s.events scenario.rising))
 
 -- The numbers of the past and of the slot's events differ: what `judged_..` below take, with apart_right and apart_across.
 pub apart_past : (s : Plan) (t : ℕ) → IsScenario s → AreApart (past s t)
@@ -155,6 +155,6 @@ unfolding events_of
 apart_past s zero scenario = tt
 apart_past s (suc t) scenario =
     apart_append (past s t) (events_of s t) (apart_past s t scenario) (apart_events_of s t scenario)
-    (λ id held. held_in_run_order (filter (is_of t) s.events) id
-    ∙ apart_tests (λ x. nat_lt (slot_of x.event) t) (is_of t) (λ x below. ne_eqb _ _ (λ e. absurd (omega (arith, ltb-true _ _ below)))) s.events id (apart_from_rising s.events scenario.rising)
+    (λ id held. held_in_run_order (filter (is_of_slot t) s.events) id
+    ∙ apart_tests (λ x. nat_lt (slot_of x.event) t) (is_of_slot t) (λ x below. ne_eqb _ _ (λ e. absurd (omega (arith, ltb-true _ _ below)))) s.events id (apart_from_rising s.events scenario.rising)
     (sym (held_past s t id) ∙ held))

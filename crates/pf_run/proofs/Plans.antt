@@ -5,7 +5,7 @@ use Rattle.std.proofs.lemmas.Bool.Decides.{nat_tests}
 use Rattle.std.proofs.lemmas.List.Sums.{sum_by-append}
 use Rattle.std.proofs.lemmas.List.Sorted.{sum_by-IsPermutation}
 use Rattle.std.proofs.lemmas.List.Elements.{All-head, All-tail, All-weaker, All-contains, All-contains_itself}
-use Rattle.pf_scenario.specs.Event.{slot_of, is_of, run_cmp, in_run_order, is_join_of}
+use Rattle.pf_scenario.specs.Event.{slot_of, is_of_slot, run_cmp, in_run_order, is_join_of}
 use Rattle.pf_scenario.specs.Scenario.{Plan, events_of, past}
 use Rattle.pf_scenario.specs.Edit.{IsScenario, IsEvent, join_alike}
 use Rattle.pf_scenario.specs.declared.event.Numbered.{Numbered}
@@ -57,10 +57,10 @@ below_more n t = grind (arith, nat_tests)
 
 count_to : (p : Numbered → Bool) (t : ℕ) (xs : List Numbered) →
     count_by p (filter (λ x. nat_lt (slot_of x.event) (suc t)) xs)
-    ≡ count_by p (filter (λ x. nat_lt (slot_of x.event) t) xs) + count_by p (filter (is_of t) xs)
+    ≡ count_by p (filter (λ x. nat_lt (slot_of x.event) t) xs) + count_by p (filter (is_of_slot t) xs)
 count_to p t [] = refl
 count_to p t (x ∷ xs) =
-    count_split p (nat_lt (slot_of x.event) t) (is_of t x) (nat_lt (slot_of x.event) (suc t)) x _ _ _
+    count_split p (nat_lt (slot_of x.event) t) (is_of_slot t x) (nat_lt (slot_of x.event) (suc t)) x _ _ _
     (below_more (slot_of x.event) t) (count_to p t xs)
 
 count_below : (p : Numbered → Bool) (s : Plan) (t : ℕ) →
@@ -72,7 +72,7 @@ count_below p s (suc t) =
       arith,
       sum_by-append (λ x. cond (p x) 1 0) (past s t) (events_of s t),
       count_below p s t,
-      count_in_run_order p (filter (is_of t) s.events),
+      count_in_run_order p (filter (is_of_slot t) s.events),
       count_to p t s.events,
     )
 

@@ -11,7 +11,7 @@ use Rattle.pf_scenario.specs.declared.event.Event.{Event}
 use Rattle.pf_scenario.specs.declared.event.Event.TheVariants.{Join, Leave, Delay, Limit}
 use Rattle.pf_scenario.specs.declared.event.Numbered.{Numbered}
 use Rattle.pf_run.specs.Record.{Slot, done, next_sub}
-use Rattle.pf_run.specs.Inside.{Joined, joined_by, join_of, has_left, inside, limited, count_of, held_back, shift_of, member_of}
+use Rattle.pf_run.specs.Inside.{Joined, joined_by, join_of, has_left, inside, count_after, count_of, hold_back_of, shift_of, member_of}
 use Rattle.pf_scenario.specs.Event.{is_join_of, is_leave_of}
 use Rattle.pf_run.specs.Inside.{joins_of}
 use Rattle.pf_run.proofs.Counting.{filter_both, count_by-cons, count_by-filter-le}
@@ -96,18 +96,18 @@ inside_count base task xs = omega (
 )
 
 -- the count and the shifts, one event further
-pub count_push : (m : ℕ) (xs : List Numbered) (x : Numbered) → count_of m (xs ++ x ∷ []) ≡ limited (count_of m xs) x.event
+pub count_push : (m : ℕ) (xs : List Numbered) (x : Numbered) → count_of m (xs ++ x ∷ []) ≡ count_after (count_of m xs) x.event
 unfolding count_of
-count_push m xs x = fold_push (λ count y. limited count y.event) m xs x
+count_push m xs x = fold_push (λ count y. count_after count y.event) m xs x
 
 pub shift_push : (r : List Slot) (xs : List Numbered) (x : Numbered) (j : Joined) (i : ℕ) →
-    shift_of r (xs ++ x ∷ []) j i ≡ shift_of r xs j i + held_back r j.task i x.event
+    shift_of r (xs ++ x ∷ []) j i ≡ shift_of r xs j i + hold_back_of r j.task i x.event
 unfolding shift_of
-shift_push r xs x j i = omega (arith, sum_by_push (λ y. held_back r j.task i y.event) xs x)
+shift_push r xs x j i = omega (arith, sum_by_push (λ y. hold_back_of r j.task i y.event) xs x)
 
 -- an event that is no delay shifts nothing
 abbrev pub ShiftsNone : Event → Type 0
-ShiftsNone event = (r : List Slot) (task i : ℕ) → held_back r task i event ≡ 0
+ShiftsNone event = (r : List Slot) (task i : ℕ) → hold_back_of r task i event ≡ 0
 
 pub member_push_other : (r : List Slot) (xs : List Numbered) (x : Numbered) → ShiftsNone x.event → (j : Joined) →
     member_of r (xs ++ x ∷ []) j ≡ member_of r xs j

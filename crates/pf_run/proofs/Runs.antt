@@ -3,10 +3,10 @@ use Rattle.std.proofs.Common.{◌≡◌, ℕ, zero, suc, ◌<◌, ◌≤◌, Boo
 use Rattle.std.proofs.lemmas.Bool.{true≢false, false_from_ne_true, cond-false, cases_lt, eqb-true, lt-ltb}
 use Rattle.std.proofs.lemmas.List.{take_at, get_or_at, take-append-le, get_or_append_left, length-take-le, nil_from_length}
 use Rattle.pf_order.specs.Priority.{Priority}
-use Rattle.pf_order.specs.First.{AreFirst, first}
+use Rattle.pf_order.specs.First.{AreFirst, first_keys}
 use Rattle.pf_order.specs.declared.pick.Pick.{Pick}
 use Rattle.pf_scenario.specs.System.{System}
-use Rattle.pf_scenario.specs.Event.{slot_of, is_of, in_run_order}
+use Rattle.pf_scenario.specs.Event.{slot_of, is_of_slot, in_run_order}
 use Rattle.pf_scenario.specs.Scenario.{Plan, events_of, past}
 use Rattle.pf_scenario.specs.Edit.{IsScenario, join_alike}
 use Rattle.pf_scenario.specs.declared.event.Event.{Event}
@@ -17,9 +17,9 @@ use Rattle.pf_run.specs.declared.denied.Denied.{Denied}
 use Rattle.pf_scenario.specs.declared.event.Numbered.{Numbered}
 use Rattle.pf_run.specs.Record.{Slot, denials_of, in_force}
 use Rattle.pf_run.specs.Inside.{ready, count_of, load_of, member_at}
-use Rattle.pf_run.specs.Denials.{denial_of, denied_for, failing}
-use Rattle.pf_run.specs.Run.{standing, pick_of, ArePicks, IsNextSlot, IsRun}
-use Rattle.pf_run.specs.Computed.{Course, course_of, next_course, run_of, picks_of, after_events, denials_among}
+use Rattle.pf_run.specs.Denials.{denial_of, denied_for, denials_behind}
+use Rattle.pf_run.specs.Run.{events_in_force, pick_of_key, ArePicks, IsNextSlot, IsRun}
+use Rattle.pf_run.specs.Computed.{RunCourse, course_of, next_course, run_of, picks_of, after_events, denials_among}
 pub use Rattle.pf_run.specs.Laws.{AreAlike}
 use Rattle.pf_run.specs.Laws.{FirstAreComputed, OneRun, RunsBegin, RunsRestOnPast, RunIsComputed, events_below}
 use Rattle.pf_run.proofs.Firsts.{first_is_one, first_is_first}
@@ -31,7 +31,7 @@ one_picks : (s : Plan) (r : List Slot) (xs ys : List Numbered) (a b : List Pick)
     ArePicks s r xs a → ArePicks s r ys b → a ≡ b
 one_picks s r xs ys a b same of_a of_b =
     of_a.subtasks
-    ∙ ap (map pick_of) (first_is_one (count_of s.settings.processors ys) (ready s.settings.base r ys) of_a.chosen of_b.chosen
+    ∙ ap (map pick_of_key) (first_is_one (count_of s.settings.processors ys) (ready s.settings.base r ys) of_a.chosen of_b.chosen
     (subst (λ at. AreFirst (count_of s.settings.processors at) (ready s.settings.base r at) of_a.chosen) same of_a.are_first)
     of_b.are_first)
     ∙ sym of_b.subtasks
@@ -65,10 +65,10 @@ narrowed true p x xs ys wider rest = ap (λ zs. cond (p x) (x ∷ zs) zs) rest
 narrowed false p x xs ys wider rest =
     rest ∙ sym (cond-false (p x) _ _ (false_from_ne_true (p x) (λ is. true≢false (sym (wider is)))))
 
-of_slot_below : (n t : ℕ) → t < n → (xs : List Numbered) → filter (is_of t) (events_below n xs) ≡ filter (is_of t) xs
+of_slot_below : (n t : ℕ) → t < n → (xs : List Numbered) → filter (is_of_slot t) (events_below n xs) ≡ filter (is_of_slot t) xs
 of_slot_below n t below [] = refl
 of_slot_below n t below (x ∷ xs) =
-    narrowed (nat_lt (slot_of x.event) n) (is_of t) x (events_below n xs) xs
+    narrowed (nat_lt (slot_of x.event) n) (is_of_slot t) x (events_below n xs) xs
     (λ is. lt-ltb (slot_of x.event) n (let e : slot_of x.event ≡ t = eqb-true (slot_of x.event) t is in omega arith))
     (of_slot_below n t below xs)
 
@@ -76,7 +76,7 @@ of_slot_below n t below (x ∷ xs) =
 pub same_events : (s q : Plan) (n t : ℕ) → events_below n s.events ≡ events_below n q.events → t < n → events_of s t ≡ events_of q t
 unfolding events_of
 same_events s q n t same below =
-    ap in_run_order (sym (of_slot_below n t below s.events) ∙ ap (filter (is_of t)) same ∙ of_slot_below n t below q.events)
+    ap in_run_order (sym (of_slot_below n t below s.events) ∙ ap (filter (is_of_slot t)) same ∙ of_slot_below n t below q.events)
 
 pub same_past : (s q : Plan) (n t : ℕ) → events_below n s.events ≡ events_below n q.events → t ≤ n → past s t ≡ past q t
 same_past s q n zero same within = refl
@@ -91,7 +91,7 @@ denial_alike s q alike r xs (Delay slot task by) = ap (λ base. delay_denial slo
 denial_alike s q alike r xs (Limit slot count) = refl
 
 failing_alike : (s q : System) → AreAlike s q → (r : List Slot) (denials : List Denied) (before xs : List Numbered) →
-    failing s r denials before xs ≡ failing q r denials before xs
+    denials_behind s r denials before xs ≡ denials_behind q r denials before xs
 failing_alike s q alike r denials before [] = refl
 failing_alike s q alike r denials before (x ∷ xs) =
     ap₂ (λ o rest. denied_for x (length r) o ++ rest) (denial_alike s q alike r (in_force denials before) x.event)
@@ -101,11 +101,11 @@ same_next : (s q : Plan) (r : List Slot) (slot : Slot) → AreAlike s.settings q
     past s (length r) ≡ past q (length r) → events_of s (length r) ≡ events_of q (length r) → IsNextSlot s r slot → IsNextSlot q r slot
 same_next s q r slot alike before events next =
     let denials = denials_of (r ++ slot ∷ []) in
-    let xs = standing s (r ++ slot ∷ []) (suc (length r)) in
-    let stands : xs ≡ standing q (r ++ slot ∷ []) (suc (length r)) = ap₂ (λ early late. in_force denials (early ++ late)) before events in
+    let xs = events_in_force s (r ++ slot ∷ []) (suc (length r)) in
+    let stands : xs ≡ events_in_force q (r ++ slot ∷ []) (suc (length r)) = ap₂ (λ early late. in_force denials (early ++ late)) before events in
     record {
       denials = next.denials ∙ failing_alike s.settings q.settings alike r denials (past s (length r)) (events_of s (length r))
-          ∙ ap₂ (failing q.settings r denials) before events;
+          ∙ ap₂ (denials_behind q.settings r denials) before events;
       picks = record {
         chosen = next.picks.chosen;
         are_first = subst₂ (λ n keys. AreFirst n keys next.picks.chosen) (ap₂ count_of alike.processors stands)
@@ -146,12 +146,12 @@ run_more s r slot run next = record {
 
 -- a slot as it is computed from the events in force before it
 pub next_computed : (s : Plan) (r : List Slot) (slot : Slot) → IsScenario s → IsRun s (length r) r →
-    slot.denials ≡ denials_among s.settings r (standing s r (length r)) (events_of s (length r)) →
-    slot.picks ≡ map pick_of (picks_of s.settings r (after_events s.settings r (standing s r (length r)) (events_of s (length r)))) →
+    slot.denials ≡ denials_among s.settings r (events_in_force s r (length r)) (events_of s (length r)) →
+    slot.picks ≡ map pick_of_key (picks_of s.settings r (after_events s.settings r (events_in_force s r (length r)) (events_of s (length r)))) →
     IsNextSlot s r slot
 next_computed s r slot scenario run denials picks =
     let both = next_from_one_by_one s r slot scenario run denials in
-    let xs = after_events s.settings r (standing s r (length r)) (events_of s (length r)) in
+    let xs = after_events s.settings r (events_in_force s r (length r)) (events_of s (length r)) in
     next_slot s r slot scenario run denials (record {
       chosen = picks_of s.settings r xs;
       are_first = first_is_first (count_of s.settings.processors xs) (ready s.settings.base r xs)
@@ -162,28 +162,28 @@ next_computed s r slot scenario run denials picks =
     })
 
 -- the slots of a course are a run, with what is in force after it
-pub record IsCourse (s : Plan) (n : ℕ) (c : Course) : Type 0 where
+pub record IsCourse (s : Plan) (n : ℕ) (c : RunCourse) : Type 0 where
   pub is_run : IsRun s n c.slots
-  pub stands : c.standing ≡ standing s c.slots n
+  pub stands : c.standing ≡ events_in_force s c.slots n
 
-none_stands : (s : Plan) → [] ≡ standing s [] 0
+none_stands : (s : Plan) → [] ≡ events_in_force s [] 0
 unfolding in_force
 none_stands s = refl
 
-course_more : (s : Plan) (c : Course) → IsScenario s → IsCourse s (length c.slots) c →
+course_more : (s : Plan) (c : RunCourse) → IsScenario s → IsCourse s (length c.slots) c →
     IsCourse s (suc (length c.slots)) (next_course s c (events_of s (length c.slots)))
 course_more s c scenario course =
     let r = c.slots in
     let events = events_of s (length r) in
     let slot : Slot = record {
-      picks = map pick_of (picks_of s.settings r (after_events s.settings r c.standing events));
+      picks = map pick_of_key (picks_of s.settings r (after_events s.settings r c.standing events));
       denials = denials_among s.settings r c.standing events;
     } in
     let denials = ap (λ at. denials_among s.settings r at events) course.stands in
     record {
       is_run = run_more s r slot course.is_run
           (next_computed s r slot scenario course.is_run denials
-          (ap (λ at. map pick_of (picks_of s.settings r (after_events s.settings r at events))) course.stands));
+          (ap (λ at. map pick_of_key (picks_of s.settings r (after_events s.settings r at events))) course.stands));
       stands = ap (λ at. after_events s.settings r at events) course.stands
           ∙ sym (next_from_one_by_one s r slot scenario course.is_run denials).stands;
     }
@@ -213,9 +213,9 @@ pub computed_alike : (s q : Plan) (n : ℕ) → IsScenario s → IsScenario q �
 computed_alike s q n of_s of_q alike same =
     one_run q n _ _ of_q (run_alike s q n _ alike same (run_is_computed s n of_s)) (run_is_computed q n of_q)
 
--- the first keys, computed
+-- the first_keys keys, computed
 pub first_are_computed : FirstAreComputed
 first_are_computed n keys chosen differ = (
-  (λ are. first_is_one n keys chosen (first n keys) are (first_is_first n keys differ)),
+  (λ are. first_is_one n keys chosen (first_keys n keys) are (first_is_first n keys differ)),
   (λ same. subst (λ (ks : List Priority). AreFirst n keys ks) (sym same) (first_is_first n keys differ)),
 )

@@ -8,20 +8,20 @@ use Rattle.pf_scenario.specs.Scenario.{Plan}
 use Rattle.pf_scenario.specs.Edit.{IsScenario}
 use Rattle.pf_run.specs.Record.{Slot, denials_of}
 use Rattle.pf_run.specs.Inside.{count_of}
-use Rattle.pf_run.specs.Run.{standing, pick_of, IsNextSlot}
+use Rattle.pf_run.specs.Run.{events_in_force, pick_of_key, IsNextSlot}
 use Rattle.pf_run.specs.RunRows.{count_in_last}
 use Rattle.pf_run.proofs.Firsts.{TasksDiffer, first_few, first_differ}
 use Rattle.pf_run.proofs.Joins.{ready_differ, joins_once_in_force}
 use Rattle.pf_run.proofs.Judged.{length_snoc}
 use Rattle.pf_run.proofs.Within.{in_force_limits, count_within}
 
-picks_differ : (chosen : List Priority) → TasksDiffer chosen → NoTaskTwice (map pick_of chosen)
+picks_differ : (chosen : List Priority) → TasksDiffer chosen → NoTaskTwice (map pick_of_key chosen)
 picks_differ chosen differ i j d before within =
-    let long : length (map pick_of chosen) ≡ length chosen = length-map chosen pick_of in
+    let long : length (map pick_of_key chosen) ≡ length chosen = length-map chosen pick_of_key in
     let none : Priority = record { deadline = 0; bit = 0; group = 0; task = 0; sub = 0 } in
     subst₂ (λ p q. p.task ≢ q.task)
-    (sym (get_or-map pick_of chosen i none d (omega arith)))
-    (sym (get_or-map pick_of chosen j none d (omega arith)))
+    (sym (get_or-map pick_of_key chosen i none d (omega arith)))
+    (sym (get_or-map pick_of_key chosen j none d (omega arith)))
     (differ i j none before (omega arith))
 
 -- Use: the next slot of a run can be seated.
@@ -30,13 +30,13 @@ pub next_is_turn : (s : Plan) (r : List Slot) (slot : Slot) → IsScenario s →
 next_is_turn s r slot scenario next =
     let m = s.settings.processors in
     let denials = denials_of (r ++ slot ∷ []) in
-    let xs = standing s (r ++ slot ∷ []) (suc (length r)) in
+    let xs = events_in_force s (r ++ slot ∷ []) (suc (length r)) in
     let chosen = next.picks.chosen in
     let differ = ready_differ s.settings.base r xs (joins_once_in_force s (suc (length r)) denials scenario) in
     let few : length chosen ≤ count_of m xs = first_few _ _ chosen next.picks.are_first in
-    subst (λ t. IsTurn m (count_of m (standing s (r ++ slot ∷ []) t)) slot.picks) (sym (length_snoc r slot)) (record {
+    subst (λ t. IsTurn m (count_of m (events_in_force s (r ++ slot ∷ []) t)) slot.picks) (sym (length_snoc r slot)) (record {
       in_use = count_within s.settings xs (in_force_limits s (suc (length r)) denials scenario);
-      few = omega (arith, ap length next.picks.subtasks, length-map chosen pick_of);
+      few = omega (arith, ap length next.picks.subtasks, length-map chosen pick_of_key);
       once = subst NoTaskTwice (sym next.picks.subtasks)
           (picks_differ chosen (first_differ _ _ chosen differ next.picks.are_first));
     })

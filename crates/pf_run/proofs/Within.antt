@@ -12,7 +12,7 @@ use Rattle.pf_scenario.specs.declared.event.Event.TheVariants.{Join, Leave, Dela
 use Rattle.pf_scenario.specs.declared.event.Numbered.{Numbered}
 use Rattle.pf_run.specs.declared.denied.Denied.{Denied}
 use Rattle.pf_run.specs.Record.{Slot, runs, done, is_denied, in_force}
-use Rattle.pf_run.specs.Inside.{Joined, joined_by, join_of, has_left, inside, load_of, limited, count_of, held_back, shift_of}
+use Rattle.pf_run.specs.Inside.{Joined, joined_by, join_of, has_left, inside, load_of, count_after, count_of, hold_back_of, shift_of}
 use Rattle.pf_run.proofs.Later.{done_most}
 use Rattle.pf_run.proofs.Keys.{all_filter_map}
 use Rattle.pf_run.proofs.Plans.{limits_of_past}
@@ -85,7 +85,7 @@ pub held_cond : (b : Bool) (by : ℕ) → by ≤ 2 ^ 20 → cond b by 0 ≤ 2 ^ 
 held_cond true by most = most
 held_cond false by most = omega arith
 
-held_within : (s : System) (r : List Slot) (task i : ℕ) (event : Event) → IsEvent s event → held_back r task i event ≤ 2 ^ 20
+held_within : (s : System) (r : List Slot) (task i : ℕ) (event : Event) → IsEvent s event → hold_back_of r task i event ≤ 2 ^ 20
 held_within s r task i (Delay slot task' by) limits = held_cond _ by (delay_by s slot task' by limits)
 held_within s r task i (Join slot task' cost period early) limits = omega arith
 held_within s r task i (Leave slot task') limits = omega arith
@@ -99,8 +99,8 @@ shift_within s r xs j i is limits joined =
       arith,
       joined.slot,
       horizon_within s is,
-      sum_by-le (λ (x : Numbered). held_back r j.task i x.event) (2 ^ 20) xs
-          (All-weaker (λ x. IsEvent s x.event) (λ x. held_back r j.task i x.event ≤ 2 ^ 20)
+      sum_by-le (λ (x : Numbered). hold_back_of r j.task i x.event) (2 ^ 20) xs
+          (All-weaker (λ x. IsEvent s x.event) (λ x. hold_back_of r j.task i x.event ≤ 2 ^ 20)
           (λ x h. held_within s r j.task i x.event h) xs limits),
     )
 
@@ -108,17 +108,17 @@ pub done_within : (r : List Slot) (task : ℕ) → done r task (length r) ≤ le
 done_within r task = omega (arith, done_most r task (length r), count_by-le-length (runs task) r)
 
 -- the count
-limited_within : (s : System) (event : Event) (count : ℕ) → IsEvent s event → count ≤ s.processors → limited count event ≤ s.processors
+limited_within : (s : System) (event : Event) (count : ℕ) → IsEvent s event → count ≤ s.processors → count_after count event ≤ s.processors
 limited_within s (Limit slot count') count limits most = limit_count s slot count' limits
 limited_within s (Join slot task cost period early) count limits most = most
 limited_within s (Leave slot task) count limits most = most
 limited_within s (Delay slot task by) count limits most = most
 
 fold_within : (s : System) (xs : List Numbered) (count : ℕ) → All (λ x. IsEvent s x.event) xs → count ≤ s.processors →
-    fold (λ c x. limited c x.event) count xs ≤ s.processors
+    fold (λ c x. count_after c x.event) count xs ≤ s.processors
 fold_within s [] count limits most = most
 fold_within s (x ∷ xs) count limits most =
-    fold_within s xs (limited count x.event) (All-tail (λ y. IsEvent s y.event) x xs limits)
+    fold_within s xs (count_after count x.event) (All-tail (λ y. IsEvent s y.event) x xs limits)
     (limited_within s x.event count (All-head (λ y. IsEvent s y.event) x xs limits) most)
 
 pub count_within : (s : System) (xs : List Numbered) → All (λ x. IsEvent s x.event) xs → count_of s.processors xs ≤ s.processors

@@ -26,8 +26,8 @@ denied_for x t (Some denial) = record { slot = t; id = x.id; denial = denial } �
 
 -- of the events of a slot those whose rule fails at their place, in run order. `before` stands before them; of that
 -- what is among the denials is not in force.
-abbrev pub failing : System → List Slot → List Denied → List Numbered → List Numbered → List Denied
-failing s r denials before [] = []
-failing s r denials before (x ∷ xs) =
+abbrev pub denials_behind : System → List Slot → List Denied → List Numbered → List Numbered → List Denied
+denials_behind s r denials before [] = []
+denials_behind s r denials before (x ∷ xs) =
     denied_for x (length r) (denial_of s r (in_force denials before) x.event)
-    ++ failing s r denials (before ++ x ∷ []) xs
+    ++ denials_behind s r denials (before ++ x ∷ []) xs

@@ -47,21 +47,21 @@ unfoldable pub load_of : ℕ → List Numbered → ℕ
 load_of base xs = sum_by (λ j. j.weight.units) (inside base xs)
 
 -- how many processors are in use: the count of the last limit, or m
-abbrev pub limited : ℕ → Event → ℕ
-limited count (Limit slot count') = count'
-limited count event = count
+abbrev pub count_after : ℕ → Event → ℕ
+count_after count (Limit slot count') = count'
+count_after count event = count
 
 unfoldable pub count_of : ℕ → List Numbered → ℕ
-count_of m xs = fold (λ count x. limited count x.event) m xs
+count_of m xs = fold (λ count x. count_after count x.event) m xs
 
 -- by how much an event holds back subtask i of the task: a delay does that which came before i's turn was over
-abbrev pub held_back : List Slot → ℕ → ℕ → Event → ℕ
-held_back r task i (Delay slot task' by) = if task' == task && nat_le (done r task slot + 1) i then by else 0
-held_back r task i event = 0
+abbrev pub hold_back_of : List Slot → ℕ → ℕ → Event → ℕ
+hold_back_of r task i (Delay slot task' by) = if task' == task && nat_le (done r task slot + 1) i then by else 0
+hold_back_of r task i event = 0
 
 -- the shift of subtask i: the join slot, and the delays that count for i
 unfoldable pub shift_of : List Slot → List Numbered → Joined → ℕ → ℕ
-shift_of r xs j i = j.slot + sum_by (λ x. held_back r j.task i x.event) xs
+shift_of r xs j i = j.slot + sum_by (λ x. hold_back_of r j.task i x.event) xs
 
 -- the task after the slots r, as admission looks at it
 unfoldable pub member_of : List Slot → List Numbered → Joined → Member

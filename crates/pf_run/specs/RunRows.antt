@@ -7,12 +7,12 @@ use Rattle.pf_scenario.specs.Edit.{IsScenario}
 use Rattle.pf_run.specs.declared.denied.Denied.{Denied}
 use Rattle.pf_run.specs.Record.{Slot, denials_of}
 use Rattle.pf_run.specs.Inside.{count_of}
-use Rattle.pf_run.specs.Run.{standing}
+use Rattle.pf_run.specs.Run.{events_in_force}
 use Rattle.pf_run.specs.Computed.{run_of}
 
 -- how many processors are in use in the last slot of a record
 abbrev pub count_in_last : Plan → List Slot → ℕ
-count_in_last s r = count_of s.settings.processors (standing s r (length r))
+count_in_last s r = count_of s.settings.processors (events_in_force s r (length r))
 
 -- the turns of the slots that follow the slots r: in each how many processors are in use, and the picks
 abbrev pub turns_behind : Plan → List Slot → List Slot → List (ℕ × List Pick)

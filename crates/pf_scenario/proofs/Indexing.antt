@@ -17,10 +17,10 @@ use Rattle.pf_scenario.proofs.Lists.{Pairs, Pairs-from_all, AllPairs-from_pairs,
 use Rattle.pf_scenario.proofs.Scenarios.{join_alike_back, leave_alike_back}
 use Rattle.pf_scenario.proofs.Sorting.{IsInOrder, IsInOrder-put}
 use Rattle.pf_scenario.specs.Event.{slot_of, kind_of, task_of, run_cmp, is_join_of, is_leave_of}
-use Rattle.pf_scenario.specs.Scenario.{without}
+use Rattle.pf_scenario.specs.Scenario.{events_without}
 use Rattle.pf_scenario.specs.Edit.{join_alike, leave_alike}
 use Rattle.pf_scenario.specs.TimeOrder.{time_cmp, put_in_time}
-use Rattle.pf_scenario.specs.Index.{number_of, AreApart, IsInTime, IsIndexed, IsNew, HasRoom, Notes}
+use Rattle.pf_scenario.specs.Index.{first_number_of, AreDistinctEvents, IsInTime, IsIndexed, IsNewEvent, HasTaskRoom, Notes}
 use Rattle.pf_scenario.specs.declared.event.Event.{Event}
 use Rattle.pf_scenario.specs.declared.event.Event.TheVariants.{Join, Leave, Delay, Limit}
 use Rattle.pf_scenario.specs.declared.event.Numbered.{Numbered}
@@ -41,7 +41,7 @@ unfolding time_cmp run_cmp
 time_differs x y differ tie = grind (arith, nat_tests)
 
 -- apart either way round
-pub apart_back : (x y : Numbered) → AreApart x y → AreApart y x
+pub apart_back : (x y : Numbered) → AreDistinctEvents x y → AreDistinctEvents y x
 apart_back x y h = record {
   numbers = nat_eq_equiv.symm y.id x.id ∙ h.numbers;
   joins = join_alike_back y.event x.event ∙ h.joins;
@@ -49,19 +49,19 @@ apart_back x y h = record {
 }
 
 -- the number of an event amid others
-pub number_of-none : (p : Event → Bool) (xs : List Numbered) → All (λ x. p x.event ≡ false) xs → number_of p xs ≡ 0
-number_of-none p [] h = refl
-number_of-none p (x ∷ xs) h =
-    cond-false (p x.event) _ _ (All-head (λ x. p x.event ≡ false) x xs h) ∙ number_of-none p xs (All-tail (λ x. p x.event ≡ false) x xs h)
+pub first_number_of-none : (p : Event → Bool) (xs : List Numbered) → All (λ x. p x.event ≡ false) xs → first_number_of p xs ≡ 0
+first_number_of-none p [] h = refl
+first_number_of-none p (x ∷ xs) h =
+    cond-false (p x.event) _ _ (All-head (λ x. p x.event ≡ false) x xs h) ∙ first_number_of-none p xs (All-tail (λ x. p x.event ≡ false) x xs h)
 
-pub number_of-other : (p : Event → Bool) (front : List Numbered) (x : Numbered) (back : List Numbered) → p x.event ≡ false → number_of p (front ++ x ∷ back) ≡ number_of p (front ++ back)
-number_of-other p [] x back h = cond-false (p x.event) _ _ h
-number_of-other p (y ∷ front) x back h = ap (λ n. cond (p y.event) y.id n) (number_of-other p front x back h)
+pub first_number_of-other : (p : Event → Bool) (front : List Numbered) (x : Numbered) (back : List Numbered) → p x.event ≡ false → first_number_of p (front ++ x ∷ back) ≡ first_number_of p (front ++ back)
+first_number_of-other p [] x back h = cond-false (p x.event) _ _ h
+first_number_of-other p (y ∷ front) x back h = ap (λ n. cond (p y.event) y.id n) (first_number_of-other p front x back h)
 
-pub number_of-here : (p : Event → Bool) (front : List Numbered) (x : Numbered) (back : List Numbered) → p x.event ≡ true → All (λ y. p y.event ≡ false) front → number_of p (front ++ x ∷ back) ≡ x.id
-number_of-here p [] x back h none = cond-true (p x.event) _ _ h
-number_of-here p (y ∷ front) x back h none =
-    cond-false (p y.event) _ _ (All-head (λ y. p y.event ≡ false) y front none) ∙ number_of-here p front x back h (All-tail (λ y. p y.event ≡ false) y front none)
+pub first_number_of-here : (p : Event → Bool) (front : List Numbered) (x : Numbered) (back : List Numbered) → p x.event ≡ true → All (λ y. p y.event ≡ false) front → first_number_of p (front ++ x ∷ back) ≡ x.id
+first_number_of-here p [] x back h none = cond-true (p x.event) _ _ h
+first_number_of-here p (y ∷ front) x back h none =
+    cond-false (p y.event) _ _ (All-head (λ y. p y.event ≡ false) y front none) ∙ first_number_of-here p front x back h (All-tail (λ y. p y.event ≡ false) y front none)
 
 -- a test that an event passes at most once among others
 abbrev pub Excludes : (Event → Bool) → Numbered → Numbered → Type 0
@@ -77,10 +77,10 @@ join_pair task (Leave slot t) y apart first = absurd (false≢true first)
 join_pair task (Delay slot t by) y apart first = absurd (false≢true first)
 join_pair task (Limit slot count) y apart first = absurd (false≢true first)
 
-pub join_excludes : (t : ℕ) (x y : Numbered) → AreApart x y → Excludes (is_join_of t) x y
+pub join_excludes : (t : ℕ) (x y : Numbered) → AreDistinctEvents x y → Excludes (is_join_of t) x y
 join_excludes t x y h = join_pair t x.event y.event h.joins
 
-pub leave_excludes : (t : ℕ) (x y : Numbered) → AreApart x y → Excludes (is_leave_of t) x y
+pub leave_excludes : (t : ℕ) (x y : Numbered) → AreDistinctEvents x y → Excludes (is_leave_of t) x y
 leave_excludes t x y h = leave_of t x.event y.event h.leaves
   where
     leave_of : (t : ℕ) (x y : Event) → leave_alike x y ≡ false → is_leave_of t x ≡ true → is_leave_of t y ≡ false
@@ -93,7 +93,7 @@ leave_excludes t x y h = leave_of t x.event y.event h.leaves
     leave_of t (Limit slot count) y h e = absurd (false≢true e)
 
 -- whether an event of another number passes the test
-pub beside : (p : Event → Bool) (id : ℕ) (xs : List Numbered) → All (λ x. 1 ≤ x.id) xs → Pairs (Excludes p) xs → list_any (λ x. p x.event) (without id xs) ≡ (not (number_of p xs == 0) && not (number_of p xs == id))
+pub beside : (p : Event → Bool) (id : ℕ) (xs : List Numbered) → All (λ x. 1 ≤ x.id) xs → Pairs (Excludes p) xs → list_any (λ x. p x.event) (events_without id xs) ≡ (not (first_number_of p xs == 0) && not (first_number_of p xs == id))
 beside p id [] given once = refl
 beside p id (x ∷ xs) given once =
     let some = All-head (λ x. 1 ≤ x.id) x xs given in
@@ -102,14 +102,14 @@ beside p id (x ∷ xs) given once =
       | inl passes ↦
           let none = All-weaker (Excludes p x) (λ y. p y.event ≡ false) (λ y h. h passes) xs once.0 in
           elim (cases_Bool (x.id == id)) [
-            | inl same ↦ rw (passes, same, not_zero) (list_any_none (λ y. p y.event) (without id xs) (All-filter (λ y. not (y.id == id)) (λ y. p y.event ≡ false) xs none))
-            | inr other ↦ rw (passes, other, not_zero) (ap (λ b. b || list_any (λ y. p y.event) (without id xs)) passes)
+            | inl same ↦ rw (passes, same, not_zero) (list_any_none (λ y. p y.event) (events_without id xs) (All-filter (λ y. not (y.id == id)) (λ y. p y.event ≡ false) xs none))
+            | inr other ↦ rw (passes, other, not_zero) (ap (λ b. b || list_any (λ y. p y.event) (events_without id xs)) passes)
           ]
       | inr fails ↦
           let rest = beside p id xs (All-tail (λ x. 1 ≤ x.id) x xs given) once.1 in
           elim (cases_Bool (x.id == id)) [
             | inl same ↦ rw (fails, same) rest
-            | inr other ↦ rw (fails, other) (ap (λ b. b || list_any (λ y. p y.event) (without id xs)) fails ∙ rest)
+            | inr other ↦ rw (fails, other) (ap (λ b. b || list_any (λ y. p y.event) (events_without id xs)) fails ∙ rest)
           ]
     ]
 
@@ -137,22 +137,22 @@ leaves_alike slot task (x ∷ xs) =
     one (Limit a b) = refl
 
 -- a table after a note of an event that is put amid others, and after it is taken out
-put_note : (p : ℕ → Event → Bool) (old new : List ℕ) (front : List Numbered) (x : Numbered) (back : List Numbered) → ((t : ℕ) (y : Numbered) → AreApart y x → Excludes (p t) x y) → All (λ y. AreApart y x) (front ++ back) → ((t : ℕ) → slice_index old t ≡ number_of (p t) (front ++ back)) → Notes p old new x.event x.id → (t : ℕ) → slice_index new t ≡ number_of (p t) (front ++ x ∷ back)
+put_note : (p : ℕ → Event → Bool) (old new : List ℕ) (front : List Numbered) (x : Numbered) (back : List Numbered) → ((t : ℕ) (y : Numbered) → AreDistinctEvents y x → Excludes (p t) x y) → All (λ y. AreDistinctEvents y x) (front ++ back) → ((t : ℕ) → slice_index old t ≡ first_number_of (p t) (front ++ back)) → Notes p old new x.event x.id → (t : ℕ) → slice_index new t ≡ first_number_of (p t) (front ++ x ∷ back)
 put_note p old new front x back excludes apart was notes t =
     notes t ∙ elim (cases_Bool (p t x.event)) [
       | inl here ↦
-          let none = All-weaker (λ y. AreApart y x) (λ y. p t y.event ≡ false) (λ y h. excludes t y h here) (front ++ back) apart in
-          cond-true (p t x.event) _ _ here ∙ sym (number_of-here (p t) front x back here (All_left (λ y. p t y.event ≡ false) front back none))
-      | inr not_here ↦ cond-false (p t x.event) _ _ not_here ∙ was t ∙ sym (number_of-other (p t) front x back not_here)
+          let none = All-weaker (λ y. AreDistinctEvents y x) (λ y. p t y.event ≡ false) (λ y h. excludes t y h here) (front ++ back) apart in
+          cond-true (p t x.event) _ _ here ∙ sym (first_number_of-here (p t) front x back here (All_left (λ y. p t y.event ≡ false) front back none))
+      | inr not_here ↦ cond-false (p t x.event) _ _ not_here ∙ was t ∙ sym (first_number_of-other (p t) front x back not_here)
     ]
 
-take_note : (p : ℕ → Event → Bool) (old new : List ℕ) (front : List Numbered) (x : Numbered) (back : List Numbered) → ((t : ℕ) (y : Numbered) → AreApart y x → Excludes (p t) x y) → All (λ y. AreApart y x) (front ++ back) → ((t : ℕ) → slice_index old t ≡ number_of (p t) (front ++ x ∷ back)) → Notes p old new x.event 0 → (t : ℕ) → slice_index new t ≡ number_of (p t) (front ++ back)
+take_note : (p : ℕ → Event → Bool) (old new : List ℕ) (front : List Numbered) (x : Numbered) (back : List Numbered) → ((t : ℕ) (y : Numbered) → AreDistinctEvents y x → Excludes (p t) x y) → All (λ y. AreDistinctEvents y x) (front ++ back) → ((t : ℕ) → slice_index old t ≡ first_number_of (p t) (front ++ x ∷ back)) → Notes p old new x.event 0 → (t : ℕ) → slice_index new t ≡ first_number_of (p t) (front ++ back)
 take_note p old new front x back excludes apart was notes t =
     notes t ∙ elim (cases_Bool (p t x.event)) [
       | inl here ↦
-          let none = All-weaker (λ y. AreApart y x) (λ y. p t y.event ≡ false) (λ y h. excludes t y h here) (front ++ back) apart in
-          cond-true (p t x.event) _ _ here ∙ sym (number_of-none (p t) (front ++ back) none)
-      | inr not_here ↦ cond-false (p t x.event) _ _ not_here ∙ was t ∙ number_of-other (p t) front x back not_here
+          let none = All-weaker (λ y. AreDistinctEvents y x) (λ y. p t y.event ≡ false) (λ y h. excludes t y h here) (front ++ back) apart in
+          cond-true (p t x.event) _ _ here ∙ sym (first_number_of-none (p t) (front ++ back) none)
+      | inr not_here ↦ cond-false (p t x.event) _ _ not_here ∙ was t ∙ first_number_of-other (p t) front x back not_here
     ]
 
 pub in_order : (xs : List Numbered) → IsInTime xs → IsInOrder time_cmp xs
@@ -162,34 +162,34 @@ pub in_time : (xs : List Numbered) → IsInOrder time_cmp xs → IsInTime xs
 in_time xs h = AllPairs-from_pairs (λ x y. is_lt (time_cmp y x) ≡ false) xs h
 
 -- all the events about one are apart from it
-pub around_apart : (front : List Numbered) (x : Numbered) (back : List Numbered) → Pairs AreApart (front ++ x ∷ back) → All (λ y. AreApart y x) (front ++ back)
+pub around_apart : (front : List Numbered) (x : Numbered) (back : List Numbered) → Pairs AreDistinctEvents (front ++ x ∷ back) → All (λ y. AreDistinctEvents y x) (front ++ back)
 around_apart front x back h =
-    All-append (λ y. AreApart y x) front back (Pairs_before AreApart front x back h) (All-weaker (AreApart x) (λ y. AreApart y x) (λ y a. apart_back x y a) back (Pairs_after AreApart front x back h))
+    All-append (λ y. AreDistinctEvents y x) front back (Pairs_before AreDistinctEvents front x back h) (All-weaker (AreDistinctEvents x) (λ y. AreDistinctEvents y x) (λ y a. apart_back x y a) back (Pairs_after AreDistinctEvents front x back h))
 
 -- the index with an event put at i
-pub indexed_put : (order : List Numbered) (joins leaves joins' leaves' : List ℕ) (x : Numbered) (i : ℕ) → IsIndexed order joins leaves → IsNew x order → insert order i x ≡ put_in_time x order → Notes is_join_of joins joins' x.event x.id → Notes is_leave_of leaves leaves' x.event x.id → IsIndexed (insert order i x) joins' leaves'
+pub indexed_put : (order : List Numbered) (joins leaves joins' leaves' : List ℕ) (x : Numbered) (i : ℕ) → IsIndexed order joins leaves → IsNewEvent x order → insert order i x ≡ put_in_time x order → Notes is_join_of joins joins' x.event x.id → Notes is_leave_of leaves leaves' x.event x.id → IsIndexed (insert order i x) joins' leaves'
 indexed_put order joins leaves joins' leaves' x i h new e note_join note_leave =
     let whole = take-append-drop i order in
-    let apart' = subst (All (λ y. AreApart y x)) (sym whole) new.apart in
+    let apart' = subst (All (λ y. AreDistinctEvents y x)) (sym whole) new.apart in
     record {
       in_time = rw e (in_time (put_in_time x order) (IsInOrder-put time_cmp_total x order (in_order order h.in_time)));
-      apart = AllPairs-from_pairs AreApart _ (Pairs_middle AreApart (take i order) x (drop i order) (subst (Pairs AreApart) (sym whole) (Pairs-from_all AreApart order h.apart)) (All_left (λ y. AreApart y x) (take i order) (drop i order) apart') (All-weaker (λ y. AreApart y x) (AreApart x) (λ y a. apart_back y x a) (drop i order) (All_right (λ y. AreApart y x) (take i order) (drop i order) apart')));
+      apart = AllPairs-from_pairs AreDistinctEvents _ (Pairs_middle AreDistinctEvents (take i order) x (drop i order) (subst (Pairs AreDistinctEvents) (sym whole) (Pairs-from_all AreDistinctEvents order h.apart)) (All_left (λ y. AreDistinctEvents y x) (take i order) (drop i order) apart') (All-weaker (λ y. AreDistinctEvents y x) (AreDistinctEvents x) (λ y a. apart_back y x a) (drop i order) (All_right (λ y. AreDistinctEvents y x) (take i order) (drop i order) apart')));
       given = All_middle (λ y. 1 ≤ y.id) (take i order) x (drop i order) (subst (All (λ y. 1 ≤ y.id)) (sym whole) h.given) new.given;
-      joined = put_note is_join_of joins joins' (take i order) x (drop i order) (λ t y a. join_excludes t x y (apart_back y x a)) apart' (λ t. h.joined t ∙ ap (number_of (is_join_of t)) (sym whole)) note_join;
-      left = put_note is_leave_of leaves leaves' (take i order) x (drop i order) (λ t y a. leave_excludes t x y (apart_back y x a)) apart' (λ t. h.left t ∙ ap (number_of (is_leave_of t)) (sym whole)) note_leave;
+      joined = put_note is_join_of joins joins' (take i order) x (drop i order) (λ t y a. join_excludes t x y (apart_back y x a)) apart' (λ t. h.joined t ∙ ap (first_number_of (is_join_of t)) (sym whole)) note_join;
+      left = put_note is_leave_of leaves leaves' (take i order) x (drop i order) (λ t y a. leave_excludes t x y (apart_back y x a)) apart' (λ t. h.left t ∙ ap (first_number_of (is_leave_of t)) (sym whole)) note_leave;
     }
 
--- the index without the event at i
+-- the index events_without the event at i
 pub indexed_taken : (order : List Numbered) (joins leaves joins' leaves' : List ℕ) (x : Numbered) (i : ℕ) → IsIndexed order joins leaves → order ≡ take i order ++ x ∷ drop (suc i) order → Notes is_join_of joins joins' x.event 0 → Notes is_leave_of leaves leaves' x.event 0 → IsIndexed (remove order i) joins' leaves'
 indexed_taken order joins leaves joins' leaves' x i h e note_join note_leave =
-    let all = subst (Pairs AreApart) e (Pairs-from_all AreApart order h.apart) in
+    let all = subst (Pairs AreDistinctEvents) e (Pairs-from_all AreDistinctEvents order h.apart) in
     let apart' = around_apart (take i order) x (drop (suc i) order) all in
     record {
       in_time = in_time _ (Pairs_without (λ x y. is_lt (time_cmp y x) ≡ false) (take i order) x (drop (suc i) order) (subst (IsInOrder time_cmp) e (in_order order h.in_time)));
-      apart = AllPairs-from_pairs AreApart _ (Pairs_without AreApart (take i order) x (drop (suc i) order) all);
+      apart = AllPairs-from_pairs AreDistinctEvents _ (Pairs_without AreDistinctEvents (take i order) x (drop (suc i) order) all);
       given = All_without (λ y. 1 ≤ y.id) (take i order) x (drop (suc i) order) (subst (All (λ y. 1 ≤ y.id)) e h.given);
-      joined = take_note is_join_of joins joins' (take i order) x (drop (suc i) order) (λ t y a. join_excludes t x y (apart_back y x a)) apart' (λ t. h.joined t ∙ ap (number_of (is_join_of t)) e) note_join;
-      left = take_note is_leave_of leaves leaves' (take i order) x (drop (suc i) order) (λ t y a. leave_excludes t x y (apart_back y x a)) apart' (λ t. h.left t ∙ ap (number_of (is_leave_of t)) e) note_leave;
+      joined = take_note is_join_of joins joins' (take i order) x (drop (suc i) order) (λ t y a. join_excludes t x y (apart_back y x a)) apart' (λ t. h.joined t ∙ ap (first_number_of (is_join_of t)) e) note_join;
+      left = take_note is_leave_of leaves leaves' (take i order) x (drop (suc i) order) (λ t y a. leave_excludes t x y (apart_back y x a)) apart' (λ t. h.left t ∙ ap (first_number_of (is_leave_of t)) e) note_leave;
     }
 
 -- tables with more places
@@ -203,15 +203,15 @@ indexed_grown order joins leaves joins' leaves' h same_joins same_leaves = recor
 }
 
 -- the tables have a place for the task of an event that is held
-pub room_held : (order : List Numbered) (joins leaves : List ℕ) (x : Numbered) (i : ℕ) → IsIndexed order joins leaves → order ≡ take i order ++ x ∷ drop (suc i) order → HasRoom joins leaves x.event
+pub room_held : (order : List Numbered) (joins leaves : List ℕ) (x : Numbered) (i : ℕ) → IsIndexed order joins leaves → order ≡ take i order ++ x ∷ drop (suc i) order → HasTaskRoom joins leaves x.event
 room_held order joins leaves x i h e =
-    let all = subst (Pairs AreApart) e (Pairs-from_all AreApart order h.apart) in
-    let before = Pairs_before AreApart (take i order) x (drop (suc i) order) all in
+    let all = subst (Pairs AreDistinctEvents) e (Pairs-from_all AreDistinctEvents order h.apart) in
+    let before = Pairs_before AreDistinctEvents (take i order) x (drop (suc i) order) all in
     let some = All_at (λ y. 1 ≤ y.id) (take i order) x (drop (suc i) order) (subst (All (λ y. 1 ≤ y.id)) e h.given) in
-    let number : (p : Event → Bool) → ((x y : Numbered) → AreApart x y → Excludes p x y) → p x.event ≡ true → number_of p order ≡ x.id
+    let number : (p : Event → Bool) → ((x y : Numbered) → AreDistinctEvents x y → Excludes p x y) → p x.event ≡ true → first_number_of p order ≡ x.id
     = λ p excludes here.
-    let none = All-weaker (λ y. AreApart y x) (λ y. p y.event ≡ false) (λ y a. excludes x y (apart_back y x a) here) (take i order) before in
-    ap (number_of p) e ∙ number_of-here p (take i order) x (drop (suc i) order) here none in
+    let none = All-weaker (λ y. AreDistinctEvents y x) (λ y. p y.event ≡ false) (λ y a. excludes x y (apart_back y x a) here) (take i order) before in
+    ap (first_number_of p) e ∙ first_number_of-here p (take i order) x (drop (suc i) order) here none in
     record {
       join_place = λ t here. within joins t x.id (h.joined t ∙ number (is_join_of t) (join_excludes t) here) some;
       leave_place = λ t here. within leaves t x.id (h.left t ∙ number (is_leave_of t) (leave_excludes t) here) some;
@@ -225,20 +225,20 @@ room_held order joins leaves x i h e =
         ]
 
 -- what the tables tell of the events of other numbers
-all_exclude : (p : Event → Bool) → ((x y : Numbered) → AreApart x y → Excludes p x y) → (order : List Numbered) → Pairs AreApart order → Pairs (Excludes p) order
+all_exclude : (p : Event → Bool) → ((x y : Numbered) → AreDistinctEvents x y → Excludes p x y) → (order : List Numbered) → Pairs AreDistinctEvents order → Pairs (Excludes p) order
 all_exclude p excludes [] h = tt
-all_exclude p excludes (x ∷ xs) h = (All-weaker (AreApart x) (Excludes p x) (excludes x) xs h.0, all_exclude p excludes xs h.1)
+all_exclude p excludes (x ∷ xs) h = (All-weaker (AreDistinctEvents x) (Excludes p x) (excludes x) xs h.0, all_exclude p excludes xs h.1)
 
-pub joins_beside : (order : List Numbered) (joins leaves : List ℕ) (id slot task cost period early n : ℕ) → IsIndexed order joins leaves → n ≡ slice_index joins task → list_any (λ x. join_alike x.event (Join slot task cost period early)) (without id order) ≡ (not (n == 0) && not (n == id))
+pub joins_beside : (order : List Numbered) (joins leaves : List ℕ) (id slot task cost period early n : ℕ) → IsIndexed order joins leaves → n ≡ slice_index joins task → list_any (λ x. join_alike x.event (Join slot task cost period early)) (events_without id order) ≡ (not (n == 0) && not (n == id))
 joins_beside order joins leaves id slot task cost period early n h e =
-    joins_alike slot task cost period early (without id order)
-    ∙ beside (is_join_of task) id order h.given (all_exclude (is_join_of task) (join_excludes task) order (Pairs-from_all AreApart order h.apart))
+    joins_alike slot task cost period early (events_without id order)
+    ∙ beside (is_join_of task) id order h.given (all_exclude (is_join_of task) (join_excludes task) order (Pairs-from_all AreDistinctEvents order h.apart))
     ∙ ap (λ n. not (n == 0) && not (n == id)) (sym (e ∙ h.joined task))
 
-pub leaves_beside : (order : List Numbered) (joins leaves : List ℕ) (id slot task n : ℕ) → IsIndexed order joins leaves → n ≡ slice_index leaves task → list_any (λ x. leave_alike x.event (Leave slot task)) (without id order) ≡ (not (n == 0) && not (n == id))
+pub leaves_beside : (order : List Numbered) (joins leaves : List ℕ) (id slot task n : ℕ) → IsIndexed order joins leaves → n ≡ slice_index leaves task → list_any (λ x. leave_alike x.event (Leave slot task)) (events_without id order) ≡ (not (n == 0) && not (n == id))
 leaves_beside order joins leaves id slot task n h e =
-    leaves_alike slot task (without id order)
-    ∙ beside (is_leave_of task) id order h.given (all_exclude (is_leave_of task) (leave_excludes task) order (Pairs-from_all AreApart order h.apart))
+    leaves_alike slot task (events_without id order)
+    ∙ beside (is_leave_of task) id order h.given (all_exclude (is_leave_of task) (leave_excludes task) order (Pairs-from_all AreDistinctEvents order h.apart))
     ∙ ap (λ n. not (n == 0) && not (n == id)) (sym (e ∙ h.left task))
 
 -- no event is alike to one of another kind

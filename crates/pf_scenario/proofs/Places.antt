@@ -18,8 +18,8 @@ use Rattle.std.proofs.lemmas.List.Sorted.{searchable_from_sorted}
 use Rattle.pf_scenario.proofs.Lists.{find_middle, find_none, filter_all, Pairs-from_all, All_left}
 use Rattle.pf_scenario.proofs.Scenarios.{others_of, without_held, replaced_held}
 use Rattle.pf_scenario.specs.Event.{slot_of}
-use Rattle.pf_scenario.specs.Scenario.{numbered, is_held, without, held_slot}
-use Rattle.pf_scenario.specs.Kept.{IsPlace}
+use Rattle.pf_scenario.specs.Scenario.{with_number, is_held, events_without, held_slot}
+use Rattle.pf_scenario.specs.Kept.{IsEventPlace}
 use Rattle.pf_scenario.specs.declared.event.Event.{Event}
 use Rattle.pf_scenario.specs.declared.event.Event.TheVariants.{Leave}
 use Rattle.pf_scenario.specs.declared.event.Numbered.{Numbered}
@@ -45,27 +45,27 @@ sorted_ids : (events : List Numbered) → AllPairs (λ x y. x.id < y.id) events 
 sorted_ids events rising k d low high = not_below _ _ (rising k (k + 1) d (omega arith) (omega arith))
 
 -- what the search finds
-pub place_from_search : (events : List Numbered) (id : ℕ) (r : Result ℕ ℕ) → AllPairs (λ x y. x.id < y.id) events → IsSearchInRange r (length events) → IsBinarySearchResult (λ y. nat_cmp y.id id) events r → MatchOption (result_ok r) (is_held events id ≡ false) (IsPlace events id)
+pub place_from_search : (events : List Numbered) (id : ℕ) (r : Result ℕ ℕ) → AllPairs (λ x y. x.id < y.id) events → IsSearchInRange r (length events) → IsBinarySearchResult (λ y. nat_cmp y.id id) events r → MatchOption (result_ok r) (is_held events id ≡ false) (IsEventPlace events id)
 place_from_search events id (Ok i) rising range h = record { within = range; number = λ d. equal_ids _ _ (h d) }
 place_from_search events id (Err i) rising range h =
     let cut = h (searchable_from_sorted nat_cmp_total (λ (x : Numbered). x.id) events id (sorted_ids events rising)) in
     list_any_none (λ x. x.id == id) events (λ k d low. elim (cases_lt k i) [ inl below ↦ less_ids _ _ (cut.0 k d (omega arith) below) | inr above ↦ greater_ids _ _ (cut.1 k d above low) ])
 
 -- an event that has a place is held
-pub held_at : (events : List Numbered) (id i : ℕ) → IsPlace events id i → is_held events id ≡ true
+pub held_at : (events : List Numbered) (id i : ℕ) → IsEventPlace events id i → is_held events id ≡ true
 held_at events id i h = list_any_at (λ x. x.id == id) events i nothing h.within (eq-eqb _ _ (h.number nothing))
 
 -- the three changes there
-pub without_at : (events : List Numbered) (id i : ℕ) → AllPairs (λ x y. x.id < y.id) events → IsPlace events id i → without id events ≡ remove events i
+pub without_at : (events : List Numbered) (id i : ℕ) → AllPairs (λ x y. x.id < y.id) events → IsEventPlace events id i → events_without id events ≡ remove events i
 without_at events id i rising h =
     without_held events (take i events) (get_or events i nothing) (drop (suc i) events) id rising (split_at events i nothing h.within) (h.number nothing)
 
-pub replaced_at : (events : List Numbered) (id i : ℕ) (event : Event) → AllPairs (λ x y. x.id < y.id) events → IsPlace events id i → map (λ x. if x.id == id then numbered id event else x) events ≡ set events i (numbered id event)
+pub replaced_at : (events : List Numbered) (id i : ℕ) (event : Event) → AllPairs (λ x y. x.id < y.id) events → IsEventPlace events id i → map (λ x. if x.id == id then with_number id event else x) events ≡ set events i (with_number id event)
 replaced_at events id i event rising h =
     replaced_held events (take i events) (get_or events i nothing) (drop (suc i) events) id event rising (split_at events i nothing h.within) (h.number nothing)
-    ∙ sym (set_split events i (numbered id event) h.within)
+    ∙ sym (set_split events i (with_number id event) h.within)
 
-pub held_slot_at : (events : List Numbered) (id i : ℕ) → AllPairs (λ x y. x.id < y.id) events → IsPlace events id i → (x : Numbered) → x ≡ get_or events i x → held_slot events id ≡ Some (slot_of x.event)
+pub held_slot_at : (events : List Numbered) (id i : ℕ) → AllPairs (λ x y. x.id < y.id) events → IsEventPlace events id i → (x : Numbered) → x ≡ get_or events i x → held_slot events id ≡ Some (slot_of x.event)
 held_slot_at events id i rising h x read =
     let e = split_at events i x h.within ∙ ap (λ z. take i events ++ z ∷ drop (suc i) events) (sym read) in
     let number : x.id ≡ id = ap (λ (z : Numbered). z.id) read ∙ h.number x in
@@ -77,7 +77,7 @@ held_slot_at events id i rising h x read =
 pub held_slot_none : (events : List Numbered) (id : ℕ) → is_held events id ≡ false → held_slot events id ≡ None
 held_slot_none events id h = ap (λ o. option_map (λ x. slot_of x.event) o) (find_none (λ x. x.id == id) events h)
 
--- without the number that no event has
-pub without_nothing : (events : List Numbered) (next : ℕ) → All (λ x. (1 ≤ x.id) × (x.id < next)) events → without 0 events ≡ events
+-- events_without the number that no event has
+pub without_nothing : (events : List Numbered) (next : ℕ) → All (λ x. (1 ≤ x.id) × (x.id < next)) events → events_without 0 events ≡ events
 without_nothing events next given =
     filter_all (λ x. not (x.id == 0)) events (All-weaker (λ x. (1 ≤ x.id) × (x.id < next)) (λ x. not (x.id == 0) ≡ true) (λ x g. not_from_false _ (ne_eqb _ _ (λ e. omega arith))) events given)

@@ -7,7 +7,7 @@ use Rattle.std.proofs.lemmas.List.{append-nil, length-append}
 use Rattle.std.proofs.lemmas.Bool.{ltb-true, leb-true, eqb-true, eq-eqb, ne_eqb, not-true, cond-true, cond-false, not_from_false}
 use Rattle.pf_scenario.proofs.Lists.{All_left, All_right, All_middle, All_without, All_at, Pairs, Pairs-from_all, AllPairs-from_pairs, Pairs_middle, Pairs_without, Pairs_before, Pairs_after, filter_middle, map_middle, none_passes, found}
 use Rattle.pf_scenario.specs.System.{System, IsSystem}
-use Rattle.pf_scenario.specs.Scenario.{Plan, numbered, is_held, without, changed}
+use Rattle.pf_scenario.specs.Scenario.{Plan, with_number, is_held, events_without, plan_after}
 use Rattle.pf_scenario.specs.Edit.{or_else, unless, join_alike, leave_alike, event_fault, edit_fault, IsEvent, IsScenario}
 use Rattle.pf_scenario.specs.declared.scenario.TheConstants.{MOST_EVENTS, LAST_NUMBER}
 use Rattle.pf_scenario.specs.Laws.{ChangesKeepScenarios, NumbersRise, OpeningIsScenario}
@@ -89,7 +89,7 @@ around_nothing s h =
       limits = rw e h.limits;
     }
 
--- without the event in the middle
+-- events_without the event in the middle
 pub around_one : (s : Plan) (front : List Numbered) (x : Numbered) (back : List Numbered) → s.events ≡ front ++ x ∷ back → IsScenario s → Around s.settings s.next front back
 around_one s front x back e h =
     record {
@@ -150,15 +150,15 @@ pub record Held (s : Plan) (id : ℕ) : Type 0 where
   pub number : at.id ≡ id
 
 -- what the definitions of a change compute there
-pub without_held : (events : List Numbered) (front : List Numbered) (x : Numbered) (back : List Numbered) (id : ℕ) → AllPairs (λ x y. x.id < y.id) events → events ≡ front ++ x ∷ back → x.id ≡ id → without id events ≡ front ++ back
+pub without_held : (events : List Numbered) (front : List Numbered) (x : Numbered) (back : List Numbered) (id : ℕ) → AllPairs (λ x y. x.id < y.id) events → events ≡ front ++ x ∷ back → x.id ≡ id → events_without id events ≡ front ++ back
 without_held events front x back id rising e number =
     let apart = others_of front x back (rw e at (Pairs-from_all (λ x y. x.id < y.id) events rising)) in
     let kept = All-weaker (λ y. eqb y.id x.id ≡ false) (λ y. not (eqb y.id x.id) ≡ true) (λ y h. not_from_false _ h) (front ++ back) apart in
     rw (e, ← number) (filter_middle (λ y. not (eqb y.id x.id)) front x back kept (ap not (eq-eqb x.id x.id refl)))
 
-pub replaced_held : (events : List Numbered) (front : List Numbered) (x : Numbered) (back : List Numbered) (id : ℕ) (event : Event) → AllPairs (λ x y. x.id < y.id) events → events ≡ front ++ x ∷ back → x.id ≡ id → map (λ y. if y.id == id then numbered id event else y) events ≡ front ++ numbered id event ∷ back
+pub replaced_held : (events : List Numbered) (front : List Numbered) (x : Numbered) (back : List Numbered) (id : ℕ) (event : Event) → AllPairs (λ x y. x.id < y.id) events → events ≡ front ++ x ∷ back → x.id ≡ id → map (λ y. if y.id == id then with_number id event else y) events ≡ front ++ with_number id event ∷ back
 replaced_held events front x back id event rising e number =
-    let f : Numbered → Numbered = λ y. if y.id == id then numbered id event else y in
+    let f : Numbered → Numbered = λ y. if y.id == id then with_number id event else y in
     let apart = others_of front x back (rw e at (Pairs-from_all (λ x y. x.id < y.id) events rising)) in
     let same = All-weaker (λ y. eqb y.id x.id ≡ false) (λ y. f y ≡ y) (λ y h. cond-false (eqb y.id id) _ _ (rw (← number) h)) (front ++ back) apart in
     rw e (map_middle f front x back same ∙ ap (λ z. front ++ z ∷ back) (cond-true (eqb x.id id) _ _ (eq-eqb x.id id number)))
@@ -175,7 +175,7 @@ length_without : (front : List Numbered) (x : Numbered) (back : List Numbered) �
 length_without front x back = simp length-append (omega arith)
 
 -- an event more, an event in the place of another, and an event less
-inserted_after : (s : Plan) (event : Event) → IsScenario s → IsFree s.settings s.events event → length s.events < MOST_EVENTS → s.next ≤ LAST_NUMBER → IsScenario (changed s (Insert event))
+inserted_after : (s : Plan) (event : Event) → IsScenario s → IsFree s.settings s.events event → length s.events < MOST_EVENTS → s.next ≤ LAST_NUMBER → IsScenario (plan_after s (Insert event))
 inserted_after s event h free few more =
     let some = h.next_some in
     let around = around_nothing s h in
@@ -187,14 +187,14 @@ inserted_after s event h free few more =
       limits = around.limits;
     } in
     let free' = rw (← append-nil s.events) at free in
-    IsScenario-middle s.settings (s.next + 1) s.events (numbered s.next event) [] h.settings (omega arith) (omega arith) (simp length-append (omega arith)) later free' (All-weaker (λ x. (1 ≤ x.id) × (x.id < s.next)) (λ x. x.id < s.next) (λ x g. g.1) s.events h.given) (All-nil (λ x. s.next < x.id)) (some, omega arith)
+    IsScenario-middle s.settings (s.next + 1) s.events (with_number s.next event) [] h.settings (omega arith) (omega arith) (simp length-append (omega arith)) later free' (All-weaker (λ x. (1 ≤ x.id) × (x.id < s.next)) (λ x. x.id < s.next) (λ x g. g.1) s.events h.given) (All-nil (λ x. s.next < x.id)) (some, omega arith)
 
-altered_at : (s : Plan) (front : List Numbered) (x : Numbered) (back : List Numbered) (event : Event) → s.events ≡ front ++ x ∷ back → IsScenario s → IsFree s.settings (front ++ back) event → IsScenario (record s { events = front ++ numbered x.id event ∷ back })
+altered_at : (s : Plan) (front : List Numbered) (x : Numbered) (back : List Numbered) (event : Event) → s.events ≡ front ++ x ∷ back → IsScenario s → IsFree s.settings (front ++ back) event → IsScenario (record s { events = front ++ with_number x.id event ∷ back })
 altered_at s front x back event is h free =
     let rising = rw is at (Pairs-from_all (λ x y. x.id < y.id) s.events h.rising) in
     let few = rw is at h.few in
     let given = All_at (λ x. (1 ≤ x.id) × (x.id < s.next)) front x back (rw is at h.given) in
-    IsScenario-middle s.settings s.next front (numbered x.id event) back h.settings h.next_some h.next_within (rw (length_middle front (numbered x.id event) x back) few) (around_one s front x back is h) free (Pairs_before (λ x y. x.id < y.id) front x back rising) (Pairs_after (λ x y. x.id < y.id) front x back rising) given
+    IsScenario-middle s.settings s.next front (with_number x.id event) back h.settings h.next_some h.next_within (rw (length_middle front (with_number x.id event) x back) few) (around_one s front x back is h) free (Pairs_before (λ x y. x.id < y.id) front x back rising) (Pairs_after (λ x y. x.id < y.id) front x back rising) given
 
 struck_at : (s : Plan) (front : List Numbered) (x : Numbered) (back : List Numbered) → s.events ≡ front ++ x ∷ back → IsScenario s → IsScenario (record s { events = front ++ back })
 struck_at s front x back is h =
@@ -203,19 +203,19 @@ struck_at s front x back is h =
     IsScenario-without s.settings s.next front back h.settings h.next_some h.next_within (omega arith) (around_one s front x back is h)
 
 -- the three changes
-inserted : (s : Plan) (event : Event) → IsScenario s → edit_fault s (Insert event) ≡ None → IsScenario (changed s (Insert event))
+inserted : (s : Plan) (event : Event) → IsScenario s → edit_fault s (Insert event) ≡ None → IsScenario (plan_after s (Insert event))
 inserted s event h none =
     let parts = or_else_none _ _ none in
     let room = or_else_none _ _ parts.1 in
     inserted_after s event h (IsFree-from_none s.settings s.events event parts.0) (ltb-true _ _ (unless_none _ _ room.0)) (leb-true _ _ (unless_none _ _ room.1))
 
-altered : (s : Plan) (front : List Numbered) (x : Numbered) (back : List Numbered) (event : Event) → s.events ≡ front ++ x ∷ back → IsScenario s → event_fault s.settings (without x.id s.events) event ≡ None → IsScenario (changed s (Alter x.id event))
+altered : (s : Plan) (front : List Numbered) (x : Numbered) (back : List Numbered) (event : Event) → s.events ≡ front ++ x ∷ back → IsScenario s → event_fault s.settings (events_without x.id s.events) event ≡ None → IsScenario (plan_after s (Alter x.id event))
 altered s front x back event is h none =
     let e1 = without_held s.events front x back x.id h.rising is refl in
     let e2 = replaced_held s.events front x back x.id event h.rising is refl in
     rw e2 (altered_at s front x back event is h (IsFree-from_none s.settings (front ++ back) event (rw e1 at none)))
 
-struck : (s : Plan) (front : List Numbered) (x : Numbered) (back : List Numbered) → s.events ≡ front ++ x ∷ back → IsScenario s → IsScenario (changed s (Strike x.id))
+struck : (s : Plan) (front : List Numbered) (x : Numbered) (back : List Numbered) → s.events ≡ front ++ x ∷ back → IsScenario s → IsScenario (plan_after s (Strike x.id))
 struck s front x back is h =
     let e1 = without_held s.events front x back x.id h.rising is refl in
     rw e1 (struck_at s front x back is h)
@@ -225,11 +225,11 @@ changes_keep_scenarios s (Insert event) h none = inserted s event h none
 changes_keep_scenarios s (Alter id event) h none =
     let parts = or_else_none _ _ none in
     let here = held s id (unless_none _ _ parts.0) in
-    let P : ℕ → Type 0 = λ n. event_fault s.settings (without n s.events) event ≡ None → IsScenario (changed s (Alter n event)) in
+    let P : ℕ → Type 0 = λ n. event_fault s.settings (events_without n s.events) event ≡ None → IsScenario (plan_after s (Alter n event)) in
     subst P here.number (altered s here.front here.at here.back event here.is h) parts.1
 changes_keep_scenarios s (Strike id) h none =
     let here = held s id (unless_none _ _ none) in
-    let P : ℕ → Type 0 = λ n. IsScenario (changed s (Strike n)) in
+    let P : ℕ → Type 0 = λ n. IsScenario (plan_after s (Strike n)) in
     subst P here.number (struck s here.front here.at here.back here.is h)
 
 pub numbers_rise : NumbersRise

@@ -16,10 +16,10 @@ use Rattle.pf_scenario.proofs.Lists.{Pairs, Pairs-from_all, filter_all, filter_m
 use Rattle.pf_scenario.proofs.Sorting.{is_less, put_between, below_then}
 use Rattle.pf_scenario.proofs.Places.{nothing}
 use Rattle.pf_scenario.proofs.Indexing.{time_cmp_total, time_differs, around_apart}
-use Rattle.pf_scenario.specs.Event.{slot_of, is_of, run_cmp}
-use Rattle.pf_scenario.specs.Scenario.{without}
+use Rattle.pf_scenario.specs.Event.{slot_of, is_of_slot, run_cmp}
+use Rattle.pf_scenario.specs.Scenario.{events_without}
 use Rattle.pf_scenario.specs.TimeOrder.{time_cmp, put_in_time}
-use Rattle.pf_scenario.specs.Index.{AreApart, IsInTime}
+use Rattle.pf_scenario.specs.Index.{AreDistinctEvents, IsInTime}
 use Rattle.pf_scenario.specs.declared.event.Numbered.{Numbered}
 
 -- what holds of the elements below i, from i on, or between
@@ -86,7 +86,7 @@ tied Less h g = absurd (false≢true (sym h))
 tied Equal h g = refl
 tied Greater h g = absurd (false≢true (sym g))
 
-pub found_at : (order : List Numbered) (x : Numbered) (j : ℕ) → IsInTime order → AllPairs AreApart order → Contains order x → IsPartitionPoint (λ y. is_lt (time_cmp y x) ≡ true) (λ y. is_lt (time_cmp y x) ≡ false) order j → (j < length order) × (get_or order j x ≡ x)
+pub found_at : (order : List Numbered) (x : Numbered) (j : ℕ) → IsInTime order → AllPairs AreDistinctEvents order → Contains order x → IsPartitionPoint (λ y. is_lt (time_cmp y x) ≡ true) (λ y. is_lt (time_cmp y x) ≡ false) order j → (j < length order) × (get_or order j x ≡ x)
 found_at order x j up apart (k, low, is) cut =
     let itself : is_lt (time_cmp x x) ≡ false = ap is_lt (tied_itself time_cmp_total x) in
     elim (cases_order k j) [
@@ -102,14 +102,14 @@ found_at order x j up apart (k, low, is) cut =
       ]
     ]
 
-pub taken_at : (order : List Numbered) (x : Numbered) (j : ℕ) → AllPairs AreApart order → j < length order → get_or order j x ≡ x → remove order j ≡ without x.id order
+pub taken_at : (order : List Numbered) (x : Numbered) (j : ℕ) → AllPairs AreDistinctEvents order → j < length order → get_or order j x ≡ x → remove order j ≡ events_without x.id order
 taken_at order x j apart low is =
     let e : order ≡ take j order ++ x ∷ drop (suc j) order = split_at order j x low ∙ ap (λ z. take j order ++ z ∷ drop (suc j) order) is in
-    let all = subst (Pairs AreApart) e (Pairs-from_all AreApart order apart) in
+    let all = subst (Pairs AreDistinctEvents) e (Pairs-from_all AreDistinctEvents order apart) in
     let front = take j order in
     let back = drop (suc j) order in
-    let others = All-weaker (λ y. AreApart y x) (λ y. not (y.id == x.id) ≡ true) (λ y a. not_from_false _ a.numbers) (front ++ back) (around_apart front x back all) in
-    sym (ap (without x.id) e ∙ filter_middle (λ y. not (y.id == x.id)) front x back others (ap not (eq-eqb x.id x.id refl)))
+    let others = All-weaker (λ y. AreDistinctEvents y x) (λ y. not (y.id == x.id) ≡ true) (λ y a. not_from_false _ a.numbers) (front ++ back) (around_apart front x back all) in
+    sym (ap (events_without x.id) e ∙ filter_middle (λ y. not (y.id == x.id)) front x back others (ap not (eq-eqb x.id x.id refl)))
 
 slot_rises : (x y : Numbered) → is_lt (time_cmp y x) ≡ false → slot_of x.event ≤ slot_of y.event
 unfolding time_cmp
@@ -131,21 +131,21 @@ slots_rise order up i j d le low =
     ]
 
 -- the events of one slot stand between those of lower slots and those of higher ones
-pub slot_between : (order : List Numbered) (t low high : ℕ) → low ≤ length order → high ≤ length order → IsPartitionPoint (λ x. nat_lt (slot_of x.event) t ≡ true) (λ x. nat_lt (slot_of x.event) t ≡ false) order low → IsPartitionPoint (λ x. nat_le (slot_of x.event) t ≡ true) (λ x. nat_le (slot_of x.event) t ≡ false) order high → (low ≤ high) × (slice_range order low high ≡ filter (is_of t) order)
+pub slot_between : (order : List Numbered) (t low high : ℕ) → low ≤ length order → high ≤ length order → IsPartitionPoint (λ x. nat_lt (slot_of x.event) t ≡ true) (λ x. nat_lt (slot_of x.event) t ≡ false) order low → IsPartitionPoint (λ x. nat_le (slot_of x.event) t ≡ true) (λ x. nat_le (slot_of x.event) t ≡ false) order high → (low ≤ high) × (slice_range order low high ≡ filter (is_of_slot t) order)
 slot_between order t low high low_within high_within first last =
-    let before = All-weaker (λ x. nat_lt (slot_of x.event) t ≡ true) (λ x. is_of t x ≡ false) (λ x h. ne_eqb _ _ (λ e. let below = ltb-true _ _ h in omega arith)) (take low order) (All-take (λ x. nat_lt (slot_of x.event) t ≡ true) order low low_within first.0) in
-    let after = All-weaker (λ x. nat_le (slot_of x.event) t ≡ false) (λ x. is_of t x ≡ false) (λ x h. ne_eqb _ _ (λ e. let above = leb-false _ _ h in omega arith)) (drop high order) (All-drop (λ x. nat_le (slot_of x.event) t ≡ false) order high last.1) in
-    let amid : All (λ x. is_of t x ≡ true) (slice_range order low high) = All-between (λ x. is_of t x ≡ true) order low high high_within (λ k d above below. let up = ltb-false _ _ (first.1 k d above (omega arith)) in let down = leb-true _ _ (last.0 k d (omega arith) below) in eq-eqb _ _ (omega arith)) in
+    let before = All-weaker (λ x. nat_lt (slot_of x.event) t ≡ true) (λ x. is_of_slot t x ≡ false) (λ x h. ne_eqb _ _ (λ e. let below = ltb-true _ _ h in omega arith)) (take low order) (All-take (λ x. nat_lt (slot_of x.event) t ≡ true) order low low_within first.0) in
+    let after = All-weaker (λ x. nat_le (slot_of x.event) t ≡ false) (λ x. is_of_slot t x ≡ false) (λ x h. ne_eqb _ _ (λ e. let above = leb-false _ _ h in omega arith)) (drop high order) (All-drop (λ x. nat_le (slot_of x.event) t ≡ false) order high last.1) in
+    let amid : All (λ x. is_of_slot t x ≡ true) (slice_range order low high) = All-between (λ x. is_of_slot t x ≡ true) order low high high_within (λ k d above below. let up = ltb-false _ _ (first.1 k d above (omega arith)) in let down = leb-true _ _ (last.0 k d (omega arith) below) in eq-eqb _ _ (omega arith)) in
     let ordered : low ≤ high = elim (cases_lt high low) [
       | inl wrong ↦ let below = ltb-true _ _ (first.0 high nothing (omega arith) wrong) in let above = leb-false _ _ (last.1 high nothing (omega arith) (omega arith)) in absurd (omega arith)
       | inr right ↦ right
     ] in (
       ordered,
-      sym (ap (filter (is_of t)) (split_between order low high ordered)
-          ∙ filter-append (is_of t) (take low order) (slice_range order low high ++ drop high order)
-          ∙ ap (λ zs. zs ++ filter (is_of t) (slice_range order low high ++ drop high order)) (filter_none (is_of t) (take low order) before)
-          ∙ filter-append (is_of t) (slice_range order low high) (drop high order)
-          ∙ ap (λ zs. zs ++ filter (is_of t) (drop high order)) (filter_all (is_of t) (slice_range order low high) amid)
-          ∙ ap (λ zs. slice_range order low high ++ zs) (filter_none (is_of t) (drop high order) after)
+      sym (ap (filter (is_of_slot t)) (split_between order low high ordered)
+          ∙ filter-append (is_of_slot t) (take low order) (slice_range order low high ++ drop high order)
+          ∙ ap (λ zs. zs ++ filter (is_of_slot t) (slice_range order low high ++ drop high order)) (filter_none (is_of_slot t) (take low order) before)
+          ∙ filter-append (is_of_slot t) (slice_range order low high) (drop high order)
+          ∙ ap (λ zs. zs ++ filter (is_of_slot t) (drop high order)) (filter_all (is_of_slot t) (slice_range order low high) amid)
+          ∙ ap (λ zs. slice_range order low high ++ zs) (filter_none (is_of_slot t) (drop high order) after)
           ∙ append-nil (slice_range order low high)),
     )

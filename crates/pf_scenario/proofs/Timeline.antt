@@ -10,25 +10,25 @@ use Rattle.std.proofs.lemmas.Bool.{eqb-true}
 use Rattle.std.proofs.lemmas.List.Elements.{All-head, All-tail, All-weaker, filter_passes}
 use Rattle.pf_scenario.proofs.Sorting.{All-sorted_by, list_any-sorted_by, sorted_middle, filter-sorted_by, put_agree}
 use Rattle.pf_scenario.proofs.Indexing.{time_cmp_total, time_differs, apart_back}
-use Rattle.pf_scenario.specs.Sorted.{put}
-use Rattle.pf_scenario.specs.Event.{slot_of, is_of, run_cmp, in_run_order}
-use Rattle.pf_scenario.specs.Scenario.{Plan, without, events_of}
+use Rattle.pf_scenario.specs.Sorted.{put_in_order}
+use Rattle.pf_scenario.specs.Event.{slot_of, is_of_slot, run_cmp, in_run_order}
+use Rattle.pf_scenario.specs.Scenario.{Plan, events_without, events_of}
 use Rattle.pf_scenario.specs.TimeOrder.{time_cmp, put_in_time, in_time_order}
-use Rattle.pf_scenario.specs.Index.{AreApart}
+use Rattle.pf_scenario.specs.Index.{AreDistinctEvents}
 use Rattle.pf_scenario.specs.declared.event.Numbered.{Numbered}
 
--- an event put amid others that are apart from it
-pub in_time_middle : (front : List Numbered) (x : Numbered) (back : List Numbered) → All (λ y. AreApart y x) front → in_time_order (front ++ x ∷ back) ≡ put_in_time x (in_time_order (front ++ back))
+-- an event put_in_order amid others that are apart from it
+pub in_time_middle : (front : List Numbered) (x : Numbered) (back : List Numbered) → All (λ y. AreDistinctEvents y x) front → in_time_order (front ++ x ∷ back) ≡ put_in_time x (in_time_order (front ++ back))
 in_time_middle front x back apart =
-    sorted_middle time_cmp_total front x back (All-weaker (λ y. AreApart y x) (λ y. (time_cmp y x ≢ Equal) × (time_cmp x y ≢ Equal)) (λ y a. (time_differs y x a.numbers, time_differs x y (apart_back y x a).numbers)) front apart)
+    sorted_middle time_cmp_total front x back (All-weaker (λ y. AreDistinctEvents y x) (λ y. (time_cmp y x ≢ Equal) × (time_cmp x y ≢ Equal)) (λ y a. (time_differs y x a.numbers, time_differs x y (apart_back y x a).numbers)) front apart)
 
--- taken out by number before or after the events are put in time order
-pub in_time_without : (id : ℕ) (events : List Numbered) → without id (in_time_order events) ≡ in_time_order (without id events)
+-- taken out by number before or after the events are put_in_order in time order
+pub in_time_without : (id : ℕ) (events : List Numbered) → events_without id (in_time_order events) ≡ in_time_order (events_without id events)
 in_time_without id events = filter-sorted_by (λ x. not (x.id == id)) time_cmp_total events
 
 -- a test finds an event of another number in either order
-pub beside_in_time : (p : Numbered → Bool) (id : ℕ) (events : List Numbered) → list_any p (without id (in_time_order events)) ≡ list_any p (without id events)
-beside_in_time p id events = ap (list_any p) (in_time_without id events) ∙ list_any-sorted_by p time_cmp (without id events)
+pub beside_in_time : (p : Numbered → Bool) (id : ℕ) (events : List Numbered) → list_any p (events_without id (in_time_order events)) ≡ list_any p (events_without id events)
+beside_in_time p id events = ap (list_any p) (in_time_without id events) ∙ list_any-sorted_by p time_cmp (events_without id events)
 
 -- in one slot the order in time is that of a run
 time_in_slot : (x y : Numbered) → slot_of x.event ≡ slot_of y.event → time_cmp x y ≡ run_cmp x y
@@ -36,16 +36,16 @@ unfolding time_cmp
 time_in_slot x y same =
     ap (λ o. ordering_then o (run_cmp x y)) (ap (λ t. nat_cmp (slot_of x.event) t) (sym same) ∙ tied_itself nat_cmp_total (slot_of x.event))
 
-slot_order : (t : ℕ) (xs : List Numbered) → All (λ x. is_of t x ≡ true) xs → in_time_order xs ≡ in_run_order xs
+slot_order : (t : ℕ) (xs : List Numbered) → All (λ x. is_of_slot t x ≡ true) xs → in_time_order xs ≡ in_run_order xs
 slot_order t [] h = refl
 slot_order t (x ∷ xs) h =
-    let here = eqb-true _ _ (All-head (λ x. is_of t x ≡ true) x xs h) in
-    let later = All-tail (λ x. is_of t x ≡ true) x xs h in
-    let slots = All-sorted_by (λ y. is_of t y ≡ true) time_cmp xs later in
-    put_agree time_cmp run_cmp x (in_time_order xs) (All-weaker (λ y. is_of t y ≡ true) (λ y. time_cmp x y ≡ run_cmp x y) (λ y of. time_in_slot x y (here ∙ sym (eqb-true _ _ of))) (in_time_order xs) slots)
-    ∙ ap (put run_cmp x) (slot_order t xs later)
+    let here = eqb-true _ _ (All-head (λ x. is_of_slot t x ≡ true) x xs h) in
+    let later = All-tail (λ x. is_of_slot t x ≡ true) x xs h in
+    let slots = All-sorted_by (λ y. is_of_slot t y ≡ true) time_cmp xs later in
+    put_agree time_cmp run_cmp x (in_time_order xs) (All-weaker (λ y. is_of_slot t y ≡ true) (λ y. time_cmp x y ≡ run_cmp x y) (λ y of. time_in_slot x y (here ∙ sym (eqb-true _ _ of))) (in_time_order xs) slots)
+    ∙ ap (put_in_order run_cmp x) (slot_order t xs later)
 
 -- the events of a slot, cut out of all events in time order
-pub events_of-in_time : (s : Plan) (t : ℕ) → filter (is_of t) (in_time_order s.events) ≡ events_of s t
+pub events_of-in_time : (s : Plan) (t : ℕ) → filter (is_of_slot t) (in_time_order s.events) ≡ events_of s t
 unfolding events_of
-events_of-in_time s t = filter-sorted_by (is_of t) time_cmp_total s.events ∙ slot_order t (filter (is_of t) s.events) (filter_passes (is_of t) s.events)
+events_of-in_time s t = filter-sorted_by (is_of_slot t) time_cmp_total s.events ∙ slot_order t (filter (is_of_slot t) s.events) (filter_passes (is_of_slot t) s.events)

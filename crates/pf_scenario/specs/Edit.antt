@@ -6,7 +6,7 @@ use Rattle.pf_weight.specs.Weighed.{weight_fault}
 use Rattle.pf_weight.specs.declared.task.TheConstants.{LARGEST_TASK}
 use Rattle.pf_scenario.specs.System.{System, IsSystem}
 use Rattle.pf_scenario.specs.Event.{slot_of, task_of}
-use Rattle.pf_scenario.specs.Scenario.{Plan, is_held, without}
+use Rattle.pf_scenario.specs.Scenario.{Plan, is_held, events_without}
 use Rattle.pf_scenario.specs.declared.limits.TheConstants.{MOST_EARLY, LONGEST_DELAY}
 use Rattle.pf_scenario.specs.declared.scenario.TheConstants.{MOST_EVENTS, LAST_NUMBER}
 use Rattle.pf_scenario.specs.declared.event.Event.{Event}
@@ -79,7 +79,7 @@ edit_fault s (Insert event) =
     (or_else (unless (nat_lt (length s.events) MOST_EVENTS) TooManyEvents)
     (unless (nat_le s.next LAST_NUMBER) NumbersSpent))
 edit_fault s (Alter id event) =
-    or_else (unless (is_held s.events id) EventNotFound) (event_fault s.settings (without id s.events) event)
+    or_else (unless (is_held s.events id) EventNotFound) (event_fault s.settings (events_without id s.events) event)
 edit_fault s (Strike id) = unless (is_held s.events id) EventNotFound
 
 -- the event is within its limits

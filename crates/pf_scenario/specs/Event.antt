@@ -30,8 +30,8 @@ task_of (Delay slot task by) = Some task
 task_of (Limit slot count) = None
 
 -- the event is of slot t
-abbrev pub is_of : ℕ → Numbered → Bool
-is_of t x = slot_of x.event == t
+abbrev pub is_of_slot : ℕ → Numbered → Bool
+is_of_slot t x = slot_of x.event == t
 
 -- the event joins the task, or leaves it
 abbrev pub is_join_of : ℕ → Event → Bool

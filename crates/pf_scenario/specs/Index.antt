@@ -10,12 +10,12 @@ use Rattle.pf_scenario.specs.declared.event.Event.{Event}
 use Rattle.pf_scenario.specs.declared.event.Numbered.{Numbered}
 
 -- the number of the first event that passes a test, or 0
-abbrev pub number_of : (Event → Bool) → List Numbered → ℕ
-number_of p [] = 0
-number_of p (x ∷ xs) = if p x.event then x.id else number_of p xs
+abbrev pub first_number_of : (Event → Bool) → List Numbered → ℕ
+first_number_of p [] = 0
+first_number_of p (x ∷ xs) = if p x.event then x.id else first_number_of p xs
 
 -- two events of different numbers, not both joining one task, and not both leaving one
-pub record AreApart (x y : Numbered) : Type 0 where
+pub record AreDistinctEvents (x y : Numbered) : Type 0 where
   pub numbers : (x.id == y.id) ≡ false
   pub joins : join_alike x.event y.event ≡ false
   pub leaves : leave_alike x.event y.event ≡ false
@@ -27,19 +27,19 @@ IsInTime = AllPairs (λ x y. is_lt (time_cmp y x) ≡ false)
 -- the events in time order, and by task the numbers of the joins and of the leaves; 0 where there is none
 pub record IsIndexed (order : List Numbered) (joins leaves : List ℕ) : Type 0 where
   pub in_time : IsInTime order
-  pub apart : AllPairs AreApart order
+  pub apart : AllPairs AreDistinctEvents order
   pub given : All (λ x. 1 ≤ x.id) order
-  pub joined : (t : ℕ) → slice_index joins t ≡ number_of (is_join_of t) order
-  pub left : (t : ℕ) → slice_index leaves t ≡ number_of (is_leave_of t) order
+  pub joined : (t : ℕ) → slice_index joins t ≡ first_number_of (is_join_of t) order
+  pub left : (t : ℕ) → slice_index leaves t ≡ first_number_of (is_leave_of t) order
 
 -- the event can be put among these
-pub record IsNew (x : Numbered) (events : List Numbered) : Type 0 where
+pub record IsNewEvent (x : Numbered) (events : List Numbered) : Type 0 where
   pub given : 1 ≤ x.id
   pub task : IfSome (task_of x.event) (λ task. task ≤ LARGEST_TASK)
-  pub apart : All (λ y. AreApart y x) events
+  pub apart : All (λ y. AreDistinctEvents y x) events
 
 -- the table has a place for the task of the event
-pub record HasRoom (joins leaves : List ℕ) (event : Event) : Type 0 where
+pub record HasTaskRoom (joins leaves : List ℕ) (event : Event) : Type 0 where
   pub join_place : (t : ℕ) → is_join_of t event ≡ true → t + 1 ≤ length joins
   pub leave_place : (t : ℕ) → is_leave_of t event ≡ true → t + 1 ≤ length leaves
 

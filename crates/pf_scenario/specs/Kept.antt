@@ -7,11 +7,11 @@ use Rattle.pf_scenario.specs.TimeOrder.{in_time_order}
 use Rattle.pf_scenario.specs.declared.event.Numbered.{Numbered}
 
 -- the event of this number stands at i
-pub record IsPlace (events : List Numbered) (id i : ℕ) : Type 0 where
+pub record IsEventPlace (events : List Numbered) (id i : ℕ) : Type 0 where
   pub within : i < length events
   pub number : HoldsAt (λ x. x.id ≡ id) events i
 
 -- a scenario, beside the index of its events
-pub record IsKept (s : Plan) (index : List Numbered) : Type 0 where
+pub record IsIndexedPlan (s : Plan) (index : List Numbered) : Type 0 where
   pub scenario : IsScenario s
   pub indexed : index ≡ in_time_order s.events

@@ -1,10 +1,10 @@
 ghost use Rattle.std.specs.Prelude.{◌≡◌, [], IfOk, OnOk, OnErr, filter, Contains};
 ghost use Rattle.std.specs.List.{list_any};
-ghost use Rattle.pf_scenario.specs.Event.{is_of};
-ghost use Rattle.pf_scenario.specs.Scenario.{without};
+ghost use Rattle.pf_scenario.specs.Event.{is_of_slot};
+ghost use Rattle.pf_scenario.specs.Scenario.{events_without};
 ghost use Rattle.pf_scenario.specs.Edit.{join_alike, leave_alike};
 ghost use Rattle.pf_scenario.specs.TimeOrder.{put_in_time};
-ghost use Rattle.pf_scenario.specs.Index.{IsNew};
+ghost use Rattle.pf_scenario.specs.Index.{IsNewEvent};
 
 use crate::event::{Event, Numbered};
 use crate::order::{place_for, place_held, slot_places};
@@ -51,7 +51,7 @@ impl Index {
     ///
     /// Where memory is refused: the events are as before.
     pub fn put(&mut self, x: Numbered) -> Result<(), AllocError>
-        requires { IsNew x self.old }
+        requires { IsNewEvent x self.old }
         ensures ok { OnOk result (self.new ≡ put_in_time x self.old) }
         ensures err { OnErr result (self.new ≡ self.old) }
     {
@@ -65,7 +65,7 @@ impl Index {
     /// Takes an event out.
     pub fn take_out(&mut self, x: Numbered)
         requires { Contains self.old x }
-        ensures { self.new ≡ without x.id self.old }
+        ensures { self.new ≡ events_without x.id self.old }
     {
         let place = place_held(&self.order, &x);
         self.order.remove(place);
@@ -79,8 +79,8 @@ impl Index {
     /// Where memory is refused: the events are as before.
     pub fn replace(&mut self, was: Numbered, x: Numbered) -> Result<(), AllocError>
         requires held { Contains self.old was }
-        requires new { IsNew x (without was.id self.old) }
-        ensures ok { OnOk result (self.new ≡ put_in_time x (without was.id self.old)) }
+        requires new { IsNewEvent x (events_without was.id self.old) }
+        ensures ok { OnOk result (self.new ≡ put_in_time x (events_without was.id self.old)) }
         ensures err { OnErr result (self.new ≡ self.old) }
     {
         grow_for(&mut self.joins, &mut self.leaves, &x.event)?;
@@ -98,7 +98,7 @@ impl Index {
 
     /// Whether an event of another number than this one joins the task that the event joins.
     pub fn joins_beside(&self, id: u64, event: &Event) -> bool
-        ensures { result ≡ list_any (λ x. join_alike x.event event.now) (without id self.now) }
+        ensures { result ≡ list_any (λ x. join_alike x.event event.now) (events_without id self.now) }
     {
         match *event {
             Event::Join { task, .. } => notes_other(&self.joins, task, id),
@@ -108,7 +108,7 @@ impl Index {
 
     /// Whether an event of another number than this one leaves the task that the event leaves.
     pub fn leaves_beside(&self, id: u64, event: &Event) -> bool
-        ensures { result ≡ list_any (λ x. leave_alike x.event event.now) (without id self.now) }
+        ensures { result ≡ list_any (λ x. leave_alike x.event event.now) (events_without id self.now) }
     {
         match *event {
             Event::Leave { task, .. } => notes_other(&self.leaves, task, id),
@@ -122,7 +122,7 @@ impl Index {
     ///
     /// Where memory is refused.
     pub fn of_slot(&self, t: u64) -> Result<Vec<Numbered>, AllocError>
-        ensures { IfOk result (λ v. v.items ≡ filter (is_of t) self.now) }
+        ensures { IfOk result (λ v. v.items ≡ filter (is_of_slot t) self.now) }
     {
         let (low, high) = slot_places(&self.order, t);
         Vec::from_slice(*self.order.allocator(), &self.order[low..high])

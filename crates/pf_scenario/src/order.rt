@@ -1,10 +1,10 @@
 ghost use Rattle.std.specs.Prelude.{◌≡◌, ◌<◌, ◌≤◌, length, slice_index_or, slice_range, filter, AllPairs, Contains};
 ghost use Rattle.std.specs.List.{insert, remove};
 ghost use Rattle.std.specs.Ordering.{is_lt};
-ghost use Rattle.pf_scenario.specs.Event.{is_of};
-ghost use Rattle.pf_scenario.specs.Scenario.{without};
+ghost use Rattle.pf_scenario.specs.Event.{is_of_slot};
+ghost use Rattle.pf_scenario.specs.Scenario.{events_without};
 ghost use Rattle.pf_scenario.specs.TimeOrder.{time_cmp, put_in_time};
-ghost use Rattle.pf_scenario.specs.Index.{AreApart, IsInTime};
+ghost use Rattle.pf_scenario.specs.Index.{AreDistinctEvents, IsInTime};
 
 use crate::event::Numbered;
 
@@ -40,11 +40,11 @@ pub fn place_for(order: &[Numbered], x: &Numbered) -> usize
 /// Where the event stands among events in time order.
 pub fn place_held(order: &[Numbered], x: &Numbered) -> usize
     requires in_time { IsInTime order.now }
-    requires apart { AllPairs AreApart order.now }
+    requires apart { AllPairs AreDistinctEvents order.now }
     requires held { Contains order.now x.now }
     ensures within { result < length order.now }
     ensures value { slice_index_or order.now result x.now ≡ x.now }
-    ensures taken { remove order.now result ≡ without x.now.id order.now }
+    ensures taken { remove order.now result ≡ events_without x.now.id order.now }
 {
     order.partition_point(|y| is_before(y, x))
 }
@@ -54,7 +54,7 @@ pub fn slot_places(order: &[Numbered], t: u64) -> (usize, usize)
     requires { IsInTime order.now }
     ensures ordered { result.0 ≤ result.1 }
     ensures within { result.1 ≤ length order.now }
-    ensures slot { slice_range order.now result.0 result.1 ≡ filter (is_of t) order.now }
+    ensures slot { slice_range order.now result.0 result.1 ≡ filter (is_of_slot t) order.now }
 {
     let low = order.partition_point(|x| x.event.slot() < t);
     let high = order.partition_point(|x| x.event.slot() <= t);

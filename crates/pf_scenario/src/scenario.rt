@@ -1,7 +1,7 @@
 ghost use Rattle.std.specs.Prelude.{◌≡◌, ◌≤◌, ◌↔◌, Option, Some, None, IfOk, OnOk, OnErr, Err};
 ghost use Rattle.std.specs.List.{list_any};
 ghost use Rattle.std.specs.Result.{result_err};
-ghost use Rattle.pf_scenario.specs.Scenario.{Plan, opening, is_held, without, changed, concerned, held_slot, touched_slot, events_of};
+ghost use Rattle.pf_scenario.specs.Scenario.{Plan, opening_plan, is_held, events_without, plan_after, number_of_change, held_slot, slot_touched, events_of};
 ghost use Rattle.pf_scenario.specs.Edit.{IsScenario, event_fault, edit_fault, unless, join_alike, leave_alike};
 ghost use Rattle.pf_scenario.specs.declared.fault.EditFault.{EditFault};
 ghost use Rattle.pf_scenario.specs.declared.fault.EditFault.TheVariants.{EventNotFound};
@@ -36,19 +36,19 @@ pub struct Scenario {
 
 impl Model for Scenario {
     ghost use Rattle.pf_scenario.specs.Scenario.{Plan};
-    ghost use Rattle.pf_scenario.specs.Kept.{IsKept};
+    ghost use Rattle.pf_scenario.specs.Kept.{IsIndexedPlan};
 
     ghost Value = { Plan };
 
     ghost view = { λ s. record { settings = s.settings; events = s.events.items; next = s.next } };
 
-    ghost invariant = { λ s. IsKept (record { settings = s.settings; events = s.events.items; next = s.next }) s.index };
+    ghost invariant = { λ s. IsIndexedPlan (record { settings = s.settings; events = s.events.items; next = s.next }) s.index };
 }
 
 impl Scenario {
     /// The scenario with no events. The first event gets the number 1.
     pub fn new(alloc: Global, settings: Settings) -> Self
-        ensures value { result ≡ opening settings }
+        ensures value { result ≡ opening_plan settings }
         ensures scenario { IsScenario result }
     {
         // What settings keep is known from their calls alone.
@@ -110,7 +110,7 @@ impl Scenario {
 
     /// Why the event is refused beside the events of other numbers than this one.
     fn check_event(&self, id: u64, event: &Event) -> Result<(), EditFault>
-        ensures { result_err result ≡ event_fault self.now.settings (without id self.now.events) event.now }
+        ensures { result_err result ≡ event_fault self.now.settings (events_without id self.now.events) event.now }
     {
         check_limits(self.settings, event)?;
         if self.joins_beside(id, event) {
@@ -124,14 +124,14 @@ impl Scenario {
 
     /// Whether an event of another number than this one joins the task that the event joins.
     fn joins_beside(&self, id: u64, event: &Event) -> bool
-        ensures { result ≡ list_any (λ x. join_alike x.event event.now) (without id self.now.events) }
+        ensures { result ≡ list_any (λ x. join_alike x.event event.now) (events_without id self.now.events) }
     {
         self.index.joins_beside(id, event)
     }
 
     /// Whether an event of another number than this one leaves the task that the event leaves.
     fn leaves_beside(&self, id: u64, event: &Event) -> bool
-        ensures { result ≡ list_any (λ x. leave_alike x.event event.now) (without id self.now.events) }
+        ensures { result ≡ list_any (λ x. leave_alike x.event event.now) (events_without id self.now.events) }
     {
         self.index.leaves_beside(id, event)
     }
@@ -142,7 +142,7 @@ impl Scenario {
     ///
     /// `Refused` where `check` refuses the change, and `NoMemory` where memory is refused: the scenario is as before.
     pub fn apply(&mut self, change: Change) -> Result<u64, ApplyFault>
-        ensures ok { IfOk result (λ id. (id ≡ concerned self.old change) × (self.new ≡ changed self.old change)) }
+        ensures ok { IfOk result (λ id. (id ≡ number_of_change self.old change) × (self.new ≡ plan_after self.old change)) }
 
         // It is refused just where `check` refuses it, also where memory is short.
         ensures refused { (f : EditFault) → (edit_fault self.old change ≡ Some f) ↔ (result ≡ Err (Refused f)) }
@@ -163,7 +163,7 @@ impl Scenario {
     /// Where memory is refused: the scenario is as before.
     pub fn make(&mut self, change: Change) -> Result<u64, AllocError>
         requires { edit_fault self.old change ≡ None }
-        ensures ok { IfOk result (λ id. (id ≡ concerned self.old change) × (self.new ≡ changed self.old change)) }
+        ensures ok { IfOk result (λ id. (id ≡ number_of_change self.old change) × (self.new ≡ plan_after self.old change)) }
         ensures err { OnErr result (self.new ≡ self.old) }
         ensures scenario { IsScenario self.new }
     {
@@ -183,7 +183,7 @@ impl Scenario {
     /// Holds a new event under the next number.
     fn insert(&mut self, event: Event) -> Result<u64, AllocError>
         requires { edit_fault self.old (Insert event) ≡ None }
-        ensures ok { IfOk result (λ id. (id ≡ self.old.next) × (self.new ≡ changed self.old (Insert event))) }
+        ensures ok { IfOk result (λ id. (id ≡ self.old.next) × (self.new ≡ plan_after self.old (Insert event))) }
         ensures err { OnErr result (self.new ≡ self.old) }
         ensures scenario { IsScenario self.new }
     {
@@ -204,7 +204,7 @@ impl Scenario {
     /// Puts the event in place of the one of this number.
     fn alter(&mut self, id: u64, event: Event) -> Result<(), AllocError>
         requires { edit_fault self.old (Alter id event) ≡ None }
-        ensures ok { OnOk result (self.new ≡ changed self.old (Alter id event)) }
+        ensures ok { OnOk result (self.new ≡ plan_after self.old (Alter id event)) }
         ensures err { OnErr result (self.new ≡ self.old) }
         ensures scenario { IsScenario self.new }
     {
@@ -221,7 +221,7 @@ impl Scenario {
     /// Drops the event of this number.
     fn strike(&mut self, id: u64)
         requires { edit_fault self.old (Strike id) ≡ None }
-        ensures value { self.new ≡ changed self.old (Strike id) }
+        ensures value { self.new ≡ plan_after self.old (Strike id) }
         ensures scenario { IsScenario self.new }
     {
         let Some(i) = place_of(&self.events, id) else {
@@ -234,7 +234,7 @@ impl Scenario {
     /// The least slot that the change touches: for an alter the lower of the old slot and the new. `None` where no
     /// event has the number.
     pub fn first_slot(&self, change: &Change) -> Option<u64>
-        ensures { result ≡ touched_slot self.now change.now }
+        ensures { result ≡ slot_touched self.now change.now }
     {
         match *change {
             Change::Insert(event) => Some(event.slot()),

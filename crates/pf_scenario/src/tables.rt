@@ -1,6 +1,6 @@
 ghost use Rattle.std.specs.Prelude.{◌≡◌, ◌==◌, ◌&&◌, not, ℕ, ◌<◌, ◌≤◌, length, slice_index, OnOk, IfSome};
 ghost use Rattle.pf_scenario.specs.Event.{task_of};
-ghost use Rattle.pf_scenario.specs.Index.{is_join_of, is_leave_of, HasRoom, Notes};
+ghost use Rattle.pf_scenario.specs.Index.{is_join_of, is_leave_of, HasTaskRoom, Notes};
 
 use crate::event::Event;
 use pf_weight::task::LARGEST_TASK;
@@ -36,7 +36,7 @@ pub fn grow_for(
     requires { IfSome (task_of event.now) (λ task. task ≤ LARGEST_TASK) }
     ensures joins { (k : ℕ) → slice_index joins.new.items k ≡ slice_index joins.old.items k }
     ensures leaves { (k : ℕ) → slice_index leaves.new.items k ≡ slice_index leaves.old.items k }
-    ensures ok { OnOk result (HasRoom joins.new.items leaves.new.items event.now) }
+    ensures ok { OnOk result (HasTaskRoom joins.new.items leaves.new.items event.now) }
 {
     match *event {
         Event::Join { task, .. } => grow(joins, task),
@@ -47,7 +47,7 @@ pub fn grow_for(
 
 /// Notes the number for the task of a join or a leave.
 pub fn note(joins: &mut Vec<u64>, leaves: &mut Vec<u64>, event: &Event, number: u64)
-    requires { HasRoom joins.old.items leaves.old.items event.now }
+    requires { HasTaskRoom joins.old.items leaves.old.items event.now }
     ensures joins { Notes is_join_of joins.old.items joins.new.items event.now number }
     ensures leaves { Notes is_leave_of leaves.old.items leaves.new.items event.now number }
     ensures join_places { length joins.new.items ≡ length joins.old.items }

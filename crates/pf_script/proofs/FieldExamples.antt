@@ -1,6 +1,6 @@
 -- Corners of fields, computed from the definitions.
 use Rattle.std.proofs.Common.{◌≡◌, [], ◌∷◌, Some, None, true, false, refl, codes}
-use Rattle.pf_script.specs.Fields.{number_of, is_word, is_of}
+use Rattle.pf_script.specs.Fields.{number_of, is_word, is_record_of}
 
 -- leading zeros are allowed
 pub leading-zeros : number_of (codes "007") ≡ Some 7
@@ -26,7 +26,7 @@ unfolding number_of
 a-sign = refl
 
 -- words are compared byte for byte
-pub a-word : is_of (codes "leave" ∷ codes "1" ∷ []) (codes "leave") 2 ≡ true
+pub a-word : is_record_of (codes "leave" ∷ codes "1" ∷ []) (codes "leave") 2 ≡ true
 unfolding is_word
 a-word = refl
 

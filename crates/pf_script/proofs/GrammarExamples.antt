@@ -10,7 +10,7 @@ use Rattle.pf_script.specs.declared.line.Line.{Line}
 use Rattle.pf_script.specs.declared.line.Line.TheVariants.{Edit, Steps}
 use Rattle.pf_script.specs.declared.line.Opening.{Opening}
 use Rattle.pf_script.specs.Fields.{number_of, is_word}
-use Rattle.pf_script.specs.Grammar.{is_heading, settings_of, opening_of, join_of, leave_of, delay_of, limit_of, event_of, strike_of, alter_of, change_of, steps_of, edit_of, line_of}
+use Rattle.pf_script.specs.Grammar.{is_heading, settings_of, opening_of, join_of_fields, leave_of, delay_of, limit_of, event_of, strike_of, alter_of, change_of, steps_of, edit_of, line_of}
 use Rattle.pf_script.specs.Script.{script_records}
 
 -- what the records of a text are as lines, as headings and as openings
@@ -47,18 +47,18 @@ no-opening = refl
 pub changes : lines_in First (codes "join,0,1,2,3,4\nleave,5,1\ndelay,6,1,7\nalter,3,leave,4,1\nstrike,2\n")
     ≡ Some (Edit (Insert (Join 0 1 2 3 4)) false) ∷ Some (Edit (Insert (Leave 5 1)) false) ∷ Some (Edit (Insert (Delay 6 1 7)) false)
     ∷ Some (Edit (Alter 3 (Leave 4 1)) false) ∷ Some (Edit (Strike 2) false) ∷ []
-unfolding next_record records_from strip_bom line_of edit_of change_of strike_of alter_of event_of join_of leave_of delay_of number_of is_word
+unfolding next_record records_from strip_bom line_of edit_of change_of strike_of alter_of event_of join_of_fields leave_of delay_of number_of is_word
 changes = refl
 
 pub strict-changes : lines_in First (codes "strict,join,0,1,2,3,4\nstrict,alter,3,delay,4,1,1\nstrict,strike,2\n")
     ≡ Some (Edit (Insert (Join 0 1 2 3 4)) true) ∷ Some (Edit (Alter 3 (Delay 4 1 1)) true) ∷ Some (Edit (Strike 2) true) ∷ []
-unfolding next_record records_from strip_bom line_of edit_of change_of strike_of alter_of event_of join_of delay_of number_of is_word
+unfolding next_record records_from strip_bom line_of edit_of change_of strike_of alter_of event_of join_of_fields delay_of number_of is_word
 strict-changes = refl
 
 -- numbers of events that are out of their limits are lines too
 pub out-of-limits : lines_in First (codes "join,1048576,0,0,0,999999999999999\ndelay,0,4096,0\nstrike,0\n")
     ≡ Some (Edit (Insert (Join 1048576 0 0 0 999999999999999)) false) ∷ Some (Edit (Insert (Delay 0 4096 0)) false) ∷ Some (Edit (Strike 0) false) ∷ []
-unfolding next_record records_from strip_bom line_of edit_of change_of strike_of event_of join_of delay_of number_of is_word
+unfolding next_record records_from strip_bom line_of edit_of change_of strike_of event_of join_of_fields delay_of number_of is_word
 out-of-limits = refl
 
 -- steps, one to the horizon
@@ -87,7 +87,7 @@ no-limits = refl
 -- too few fields, too many, and fields that are no numbers
 pub no-events : lines_in First (codes "join,0,1\njoin,0,1,1,2,0,7\njoin,+0,1,1,2,0\nleave,0,1,9\nleave,0\ndelay,0,1\ndelay,0,1,1,1\nleave, 0,1\nLeave,0,1\n")
     ≡ None ∷ None ∷ None ∷ None ∷ None ∷ None ∷ None ∷ None ∷ None ∷ []
-unfolding next_record records_from strip_bom line_of edit_of change_of event_of join_of leave_of delay_of number_of is_word
+unfolding next_record records_from strip_bom line_of edit_of change_of event_of join_of_fields leave_of delay_of number_of is_word
 no-events = refl
 
 -- a number has 1 to 15 digits, and leading zeros are allowed

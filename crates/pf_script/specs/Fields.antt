@@ -23,5 +23,5 @@ unfoldable pub is_word : List (List ℕ) → ℕ → List ℕ → Bool
 is_word fields place word = bytes_eq (field fields place) word
 
 -- whether the fields are so many, the first of them this word
-abbrev pub is_of : List (List ℕ) → List ℕ → ℕ → Bool
-is_of fields word count = (length fields == count) && is_word fields 0 word
+abbrev pub is_record_of : List (List ℕ) → List ℕ → ℕ → Bool
+is_record_of fields word count = (length fields == count) && is_word fields 0 word

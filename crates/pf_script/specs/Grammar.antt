@@ -10,7 +10,7 @@ use Rattle.pf_script.specs.declared.version.Version.TheVariants.{First, Second}
 use Rattle.pf_script.specs.declared.line.Line.{Line}
 use Rattle.pf_script.specs.declared.line.Line.TheVariants.{Edit, Steps}
 use Rattle.pf_script.specs.declared.line.Opening.{Opening}
-use Rattle.pf_script.specs.Fields.{number, is_word, is_of}
+use Rattle.pf_script.specs.Fields.{number, is_word, is_record_of}
 
 -- the second step from the first one's value; none where the first gives none
 infixl 10 ◌>>=◌
@@ -29,7 +29,7 @@ has_limits Second = true
 
 -- `pfair,2`: what a script of version 2 begins with
 unfoldable pub is_heading : List (List ℕ) → Bool
-is_heading fields = is_of fields (codes "pfair") 2 && is_word fields 1 (codes "2")
+is_heading fields = is_record_of fields (codes "pfair") 2 && is_word fields 1 (codes "2")
 
 -- the four numbers of `settings,M,BASE,CAP,EVERY`
 unfoldable pub settings_of : List (List ℕ) → Option Opening
@@ -42,11 +42,11 @@ settings_of fields = do
 
 -- `settings,M,BASE,CAP,EVERY`
 unfoldable pub opening_of : List (List ℕ) → Option Opening
-opening_of fields = if is_of fields (codes "settings") 5 then settings_of fields else None
+opening_of fields = if is_record_of fields (codes "settings") 5 then settings_of fields else None
 
 -- the numbers of `join,SLOT,TASK,COST,PERIOD,EARLY`
-unfoldable pub join_of : List (List ℕ) → Option Event
-join_of fields = do
+unfoldable pub join_of_fields : List (List ℕ) → Option Event
+join_of_fields fields = do
   slot ← number fields 1
   task ← number fields 2
   cost ← number fields 3
@@ -79,10 +79,10 @@ limit_of fields = do
 -- a join, a leave, a delay or, in version 2, a limit
 unfoldable pub event_of : Version → List (List ℕ) → Option Event
 event_of version fields =
-    if is_of fields (codes "join") 6 then join_of fields
-    else if is_of fields (codes "leave") 3 then leave_of fields
-    else if is_of fields (codes "delay") 4 then delay_of fields
-    else if has_limits version && is_of fields (codes "limit") 3 then limit_of fields
+    if is_record_of fields (codes "join") 6 then join_of_fields fields
+    else if is_record_of fields (codes "leave") 3 then leave_of fields
+    else if is_record_of fields (codes "delay") 4 then delay_of fields
+    else if has_limits version && is_record_of fields (codes "limit") 3 then limit_of fields
     else None
 
 -- the number of `strike,ID`
@@ -99,7 +99,7 @@ alter_of version fields = do
 -- a strike, an alter, or an event to insert
 unfoldable pub change_of : Version → List (List ℕ) → Option Change
 change_of version fields =
-    if is_of fields (codes "strike") 2 then strike_of fields
+    if is_record_of fields (codes "strike") 2 then strike_of fields
     else if is_word fields 0 (codes "alter") then alter_of version fields
     else option_map (λ event. Insert event) (event_of version fields)
 
@@ -116,7 +116,7 @@ edit_of version strict fields = option_map (λ change. Edit change strict) (chan
 -- `step`, `step,N`, `strict,` and the fields of a change, or a change
 unfoldable pub line_of : Version → List (List ℕ) → Option Line
 line_of version fields =
-    if is_of fields (codes "step") 1 then Some (Steps 1)
-    else if is_of fields (codes "step") 2 then steps_of version fields
+    if is_record_of fields (codes "step") 1 then Some (Steps 1)
+    else if is_record_of fields (codes "step") 2 then steps_of version fields
     else if is_word fields 0 (codes "strict") then edit_of version true (drop 1 fields)
     else edit_of version false fields

@@ -47,7 +47,7 @@ impl<'a> Model for Fields<'a> {
 impl<'a> Fields<'a> {
     ghost use Rattle.std.specs.Prelude.{◌≡◌, ◌==◌, ◌<◌, ◌^◌, length, drop, IfSome};
     ghost use Rattle.csv.specs.Records.{fields_of};
-    ghost use Rattle.pf_script.specs.Fields.{field, number, is_word, is_of};
+    ghost use Rattle.pf_script.specs.Fields.{field, number, is_word, is_record_of};
 
     /// All fields of a record.
     pub fn new(row: &'a ByteRecord) -> Self
@@ -113,7 +113,7 @@ impl<'a> Fields<'a> {
 
     /// Whether there are so many fields, the first of them this word.
     pub fn is_of(&self, word: &[u8], count: usize) -> bool
-        ensures { result ≡ is_of self.now word.now count }
+        ensures { result ≡ is_record_of self.now word.now count }
     {
         self.len() == count && self.is_word(0, word)
     }

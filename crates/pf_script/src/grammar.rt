@@ -1,5 +1,5 @@
 ghost use Rattle.std.specs.Prelude.{◌≡◌};
-ghost use Rattle.pf_script.specs.Grammar.{is_heading, opening_of, settings_of, join_of, leave_of, delay_of, limit_of, event_of, strike_of, alter_of, change_of, steps_of, edit_of, line_of};
+ghost use Rattle.pf_script.specs.Grammar.{is_heading, opening_of, settings_of, join_of_fields, leave_of, delay_of, limit_of, event_of, strike_of, alter_of, change_of, steps_of, edit_of, line_of};
 
 use crate::fields::Fields;
 use crate::line::{Line, Opening};
@@ -45,7 +45,7 @@ pub fn read_line(fields: &Fields, version: Version) -> Option<Line>
     read_edit(fields, version, false)
 }
 
-// Of a record `settings,M,BASE,CAP,EVERY`.
+/// Of a record `settings,M,BASE,CAP,EVERY`.
 #[tactic(auto, unfolding(crate::specs::Grammar::settings_of))]
 fn read_settings(fields: &Fields) -> Option<Opening>
     ensures { result ≡ settings_of fields.now }
@@ -58,7 +58,7 @@ fn read_settings(fields: &Fields) -> Option<Opening>
     })
 }
 
-// Of a record `step,N`.
+/// Of a record `step,N`.
 #[tactic(auto, unfolding(crate::specs::Grammar::steps_of))]
 fn read_steps(fields: &Fields, version: Version) -> Option<Line>
     ensures { result ≡ steps_of version fields.now }
@@ -70,7 +70,7 @@ fn read_steps(fields: &Fields, version: Version) -> Option<Line>
     Some(Line::Steps(count))
 }
 
-// A change, strict or not.
+/// A change, strict or not.
 #[tactic(auto, unfolding(crate::specs::Grammar::edit_of))]
 fn read_edit(fields: &Fields, version: Version, strict: bool) -> Option<Line>
     ensures { result ≡ edit_of version strict fields.now }
@@ -79,7 +79,7 @@ fn read_edit(fields: &Fields, version: Version, strict: bool) -> Option<Line>
     Some(Line::Edit { change, strict })
 }
 
-// A strike, an alter, or an event to insert.
+/// A strike, an alter, or an event to insert.
 #[tactic(auto, unfolding(crate::specs::Grammar::change_of))]
 fn read_change(fields: &Fields, version: Version) -> Option<Change>
     ensures { result ≡ change_of version fields.now }
@@ -93,7 +93,7 @@ fn read_change(fields: &Fields, version: Version) -> Option<Change>
     Some(Change::Insert(read_event(fields, version)?))
 }
 
-// Of a record `strike,ID`.
+/// Of a record `strike,ID`.
 #[tactic(auto, unfolding(crate::specs::Grammar::strike_of))]
 fn read_strike(fields: &Fields) -> Option<Change>
     ensures { result ≡ strike_of fields.now }
@@ -101,7 +101,7 @@ fn read_strike(fields: &Fields) -> Option<Change>
     Some(Change::Strike(fields.number(1)?))
 }
 
-// Of a record `alter,ID,` and the fields of an event.
+/// Of a record `alter,ID,` and the fields of an event.
 #[tactic(auto, unfolding(crate::specs::Grammar::alter_of))]
 fn read_alter(fields: &Fields, version: Version) -> Option<Change>
     ensures { result ≡ alter_of version fields.now }
@@ -111,7 +111,7 @@ fn read_alter(fields: &Fields, version: Version) -> Option<Change>
     Some(Change::Alter(id, event))
 }
 
-// A join, a leave, a delay or, in the second version, a limit.
+/// A join, a leave, a delay or, in the second version, a limit.
 #[tactic(auto, unfolding(crate::specs::Grammar::event_of))]
 fn read_event(fields: &Fields, version: Version) -> Option<Event>
     ensures { result ≡ event_of version fields.now }
@@ -131,10 +131,10 @@ fn read_event(fields: &Fields, version: Version) -> Option<Event>
     None
 }
 
-// Of a record `join,SLOT,TASK,COST,PERIOD,EARLY`.
-#[tactic(auto, unfolding(crate::specs::Grammar::join_of))]
+/// Of a record `join,SLOT,TASK,COST,PERIOD,EARLY`.
+#[tactic(auto, unfolding(crate::specs::Grammar::join_of_fields))]
 fn read_join(fields: &Fields) -> Option<Event>
-    ensures { result ≡ join_of fields.now }
+    ensures { result ≡ join_of_fields fields.now }
 {
     Some(Event::Join {
         slot: fields.number(1)?,
@@ -145,7 +145,7 @@ fn read_join(fields: &Fields) -> Option<Event>
     })
 }
 
-// Of a record `leave,SLOT,TASK`.
+/// Of a record `leave,SLOT,TASK`.
 #[tactic(auto, unfolding(crate::specs::Grammar::leave_of))]
 fn read_leave(fields: &Fields) -> Option<Event>
     ensures { result ≡ leave_of fields.now }
@@ -156,7 +156,7 @@ fn read_leave(fields: &Fields) -> Option<Event>
     })
 }
 
-// Of a record `delay,SLOT,TASK,BY`.
+/// Of a record `delay,SLOT,TASK,BY`.
 #[tactic(auto, unfolding(crate::specs::Grammar::delay_of))]
 fn read_delay(fields: &Fields) -> Option<Event>
     ensures { result ≡ delay_of fields.now }
@@ -168,7 +168,7 @@ fn read_delay(fields: &Fields) -> Option<Event>
     })
 }
 
-// Of a record `limit,SLOT,COUNT`.
+/// Of a record `limit,SLOT,COUNT`.
 #[tactic(auto, unfolding(crate::specs::Grammar::limit_of))]
 fn read_limit(fields: &Fields) -> Option<Event>
     ensures { result ≡ limit_of fields.now }

@@ -58,7 +58,7 @@ impl<W: Write> CountedWriter<W> {
     }
 }
 
-// Whether a write failed: an error, or none of the bytes offered taken.
+/// Whether a write failed: an error, or none of the bytes offered taken.
 fn has_failed(outcome: &io::Result<usize>, buf: &[u8]) -> bool
     ensures { result ≡ is_failed_write outcome.now buf.now }
 {

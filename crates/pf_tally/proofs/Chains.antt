@@ -14,19 +14,19 @@ use Rattle.pf_scenario.specs.declared.event.Event.{Event}
 use Rattle.pf_scenario.specs.declared.event.Event.TheVariants.{Join, Leave, Delay, Limit}
 use Rattle.pf_scenario.specs.declared.event.Numbered.{Numbered}
 use Rattle.pf_run.specs.Record.{Slot}
-use Rattle.pf_run.specs.Inside.{Joined, held_back, shift_of}
+use Rattle.pf_run.specs.Inside.{Joined, hold_back_of, shift_of}
 use Rattle.pf_tally.specs.Clock.{Stop, next_at, is_stopped, clock_of}
 use Rattle.pf_tally.specs.Log.{RiseFrom}
-use Rattle.pf_tally.specs.Held.{delayed, next_in, held_by, held_from, stop_of, part_of, stopped_below, IsChain}
-use Rattle.pf_tally.specs.Late.{counted}
+use Rattle.pf_tally.specs.Held.{delay_from, next_in, held_by, held_from, stop_of, part_of, stopped_below, AreSuccessive}
+use Rattle.pf_tally.specs.Late.{hold_of}
 use Rattle.pf_tally.specs.declared.held.Held.{Held}
 use Rattle.pf_tally.proofs.Windows.{releases_rise}
 use Rattle.pf_tally.proofs.Delays.{stops_are, held_chain, next_rises, next_in_rises}
 
-counted_by : (r : List Slot) (j : Joined) (shift i : ℕ) (x : Event) → held_back r j.task i x ≡ sum_by (counted i) (held_by (next_at r j) j shift x)
+counted_by : (r : List Slot) (j : Joined) (shift i : ℕ) (x : Event) → hold_back_of r j.task i x ≡ sum_by (hold_of i) (held_by (next_at r j) j shift x)
 counted_by r j shift i (Delay slot task by) = one_or_none (task == j.task) (next_at r j slot)
   where
-    one_or_none : (b : Bool) (sub : ℕ) → cond (b && nat_le sub i) by 0 ≡ sum_by (counted i) (cond b (let held : Held = record { sub = sub; shift = shift; by = by } in held ∷ []) [])
+    one_or_none : (b : Bool) (sub : ℕ) → cond (b && nat_le sub i) by 0 ≡ sum_by (hold_of i) (cond b (let held : Held = record { sub = sub; shift = shift; by = by } in held ∷ []) [])
     one_or_none true sub = omega arith
     one_or_none false sub = refl
 counted_by r j shift i (Join slot task cost period early) = refl
@@ -34,12 +34,12 @@ counted_by r j shift i (Leave slot task) = refl
 counted_by r j shift i (Limit slot count) = refl
 
 pub all_counted : (r : List Slot) (j : Joined) (shift i : ℕ) (xs : List Numbered) →
-    sum_by (λ x. held_back r j.task i x.event) xs ≡ sum_by (counted i) (held_from (next_at r j) j shift xs)
+    sum_by (λ x. hold_back_of r j.task i x.event) xs ≡ sum_by (hold_of i) (held_from (next_at r j) j shift xs)
 all_counted r j shift i [] = refl
 all_counted r j shift i (x ∷ xs) =
-    sum_by-cons (λ x. held_back r j.task i x.event) x xs
-    ∙ ap₂ (λ a b. a + b) (counted_by r j shift i x.event) (all_counted r j (shift + delayed j x.event) i xs)
-    ∙ sym (sum_by-append (counted i) (held_by (next_at r j) j shift x.event) (held_from (next_at r j) j (shift + delayed j x.event) xs))
+    sum_by-cons (λ x. hold_back_of r j.task i x.event) x xs
+    ∙ ap₂ (λ a b. a + b) (counted_by r j shift i x.event) (all_counted r j (shift + delay_from j x.event) i xs)
+    ∙ sym (sum_by-append (hold_of i) (held_by (next_at r j) j shift x.event) (held_from (next_at r j) j (shift + delay_from j x.event) xs))
 
 -- the shift behind the first k delays of a chain
 abbrev pub shift_behind : ℕ → List Held → ℕ → ℕ
@@ -47,29 +47,29 @@ shift_behind shift hs zero = shift
 shift_behind shift [] (suc k) = shift
 shift_behind shift (h ∷ hs) (suc k) = shift_behind (h.shift + h.by) hs k
 
-none_counted : (i : ℕ) (hs : List Held) → All (λ h. nat_le h.sub i ≡ false) hs → sum_by (counted i) hs ≡ 0
+none_counted : (i : ℕ) (hs : List Held) → All (λ h. nat_le h.sub i ≡ false) hs → sum_by (hold_of i) hs ≡ 0
 none_counted i [] none = refl
 none_counted i (h ∷ hs) none =
     omega (
       arith,
-      sum_by-cons (counted i) h hs,
+      sum_by-cons (hold_of i) h hs,
       cond-false {A = ℕ} (nat_le h.sub i) h.by 0 (All-head (λ h. nat_le h.sub i ≡ false) h hs none),
       none_counted i hs (All-tail (λ h. nat_le h.sub i ≡ false) h hs none),
     )
 
 -- where subtasks up to i are those of the first k delays
-pub behind_is : (i k sub shift : ℕ) (hs : List Held) → IsChain sub shift hs → k ≤ length hs →
+pub behind_is : (i k sub shift : ℕ) (hs : List Held) → AreSuccessive sub shift hs → k ≤ length hs →
     ((m : ℕ) (d : Held) → m < k → nat_le (get_or hs m d).sub i ≡ true) →
     ((m : ℕ) (d : Held) → k ≤ m → m < length hs → nat_le (get_or hs m d).sub i ≡ false) →
-    shift_behind shift hs k ≡ shift + sum_by (counted i) hs
+    shift_behind shift hs k ≡ shift + sum_by (hold_of i) hs
 behind_is i zero sub shift hs chain within passes fails = omega (arith, none_counted i hs (λ m d below. fails m d (omega arith) below))
 behind_is i (suc k) sub shift [] chain within passes fails = absurd (omega arith)
 behind_is i (suc k) sub shift (h ∷ hs) chain within passes fails =
     let rest = behind_is i k h.sub (shift + h.by) hs chain.2 (omega arith) (λ m d below. passes (suc m) d (omega arith)) (λ m d above below. fails (suc m) d (omega arith) (omega arith)) in
     ap (λ n. shift_behind (n + h.by) hs k) chain.1
     ∙ rest
-    ∙ add_assoc shift h.by (sum_by (counted i) hs)
-    ∙ ap (λ n. shift + n) (sym (sum_by-cons (counted i) h hs ∙ ap (λ n. n + sum_by (counted i) hs) (cond-true {A = ℕ} (nat_le h.sub i) h.by 0 (passes 0 h (omega arith)))))
+    ∙ add_assoc shift h.by (sum_by (hold_of i) hs)
+    ∙ ap (λ n. shift + n) (sym (sum_by-cons (hold_of i) h hs ∙ ap (λ n. n + sum_by (hold_of i) hs) (cond-true {A = ℕ} (nat_le h.sub i) h.by 0 (passes 0 h (omega arith)))))
 
 pub behind_last : (k shift : ℕ) (hs : List Held) (d : Held) → k < length hs → shift_behind shift hs (k + 1) ≡ (get_or hs k d).shift + (get_or hs k d).by
 behind_last k shift [] d within = absurd (omega arith)
@@ -94,7 +94,7 @@ abbrev pub StopsRise : ℕ → List Stop → Type 0
 StopsRise from [] = Unit {0}
 StopsRise from (t ∷ ss) = (from ≤ t.start) × (t.start ≤ t.end) × StopsRise t.end ss
 
-pub chain_stops : (w : Share) (sub shift : ℕ) (hs : List Held) → IsShare w → IsChain sub shift hs → StopsRise (release_of w sub + shift) (map (stop_of w) hs)
+pub chain_stops : (w : Share) (sub shift : ℕ) (hs : List Held) → IsShare w → AreSuccessive sub shift hs → StopsRise (release_of w sub + shift) (map (stop_of w) hs)
 chain_stops w sub shift [] share chain = tt
 chain_stops w sub shift (h ∷ hs) share chain =
     let up : release_of w sub ≤ release_of w h.sub = releases_rise w sub h.sub share chain.0 in
@@ -207,7 +207,7 @@ stops_within j ran xs n share rise joined =
     omega (arith, all, same)
 
 -- the subtasks of a chain rise
-chain_above : (sub shift : ℕ) (hs : List Held) → IsChain sub shift hs → All (λ h. sub ≤ h.sub) hs
+chain_above : (sub shift : ℕ) (hs : List Held) → AreSuccessive sub shift hs → All (λ h. sub ≤ h.sub) hs
 chain_above sub shift [] chain = λ k d within. absurd (omega arith)
 chain_above sub shift (h ∷ hs) chain = λ k d within. above_at k d within chain.0 (chain_above h.sub (shift + h.by) hs chain.2)
   where
@@ -215,7 +215,7 @@ chain_above sub shift (h ∷ hs) chain = λ k d within. above_at k d within chai
     above_at zero d within first rest = first
     above_at (suc k) d within first rest = let later : h.sub ≤ (get_or hs k d).sub = rest k d (omega arith) in omega arith
 
-pub chain_rises : (sub shift : ℕ) (hs : List Held) → IsChain sub shift hs → IsNonDecreasingBy (λ h. h.sub) hs
+pub chain_rises : (sub shift : ℕ) (hs : List Held) → AreSuccessive sub shift hs → IsNonDecreasingBy (λ h. h.sub) hs
 chain_rises sub shift [] chain = λ i j d before within. absurd (omega arith)
 chain_rises sub shift (h ∷ hs) chain = λ i j d before within. rise_at i j d before within (chain_above h.sub (shift + h.by) hs chain.2) (chain_rises h.sub (shift + h.by) hs chain.2)
   where
@@ -226,11 +226,11 @@ chain_rises sub shift (h ∷ hs) chain = λ i j d before within. rise_at i j d b
     rise_at (suc i) (suc j) d before within first rest = rest i j d (omega arith) (omega arith)
 
 -- Use: the shift behind a cut of the delays.
-pub shift_none : (shift i k : ℕ) (hs : List Held) → IsChain 0 shift hs → k ≡ 0 → ((m : ℕ) (d : Held) → k ≤ m → m < length hs → nat_le (get_or hs m d).sub i ≡ false) → shift ≡ shift + sum_by (counted i) hs
+pub shift_none : (shift i k : ℕ) (hs : List Held) → AreSuccessive 0 shift hs → k ≡ 0 → ((m : ℕ) (d : Held) → k ≤ m → m < length hs → nat_le (get_or hs m d).sub i ≡ false) → shift ≡ shift + sum_by (hold_of i) hs
 shift_none shift i k hs chain none fails = behind_is i 0 0 shift hs chain (omega arith) (λ m d below. absurd (omega arith)) (λ m d above below. fails m d (omega arith) below)
 
-pub shift_some : (shift i k : ℕ) (hs : List Held) (d : Held) → IsChain 0 shift hs → 1 ≤ k → k ≤ length hs → ((m : ℕ) (d : Held) → m < k → nat_le (get_or hs m d).sub i ≡ true) →
+pub shift_some : (shift i k : ℕ) (hs : List Held) (d : Held) → AreSuccessive 0 shift hs → 1 ≤ k → k ≤ length hs → ((m : ℕ) (d : Held) → m < k → nat_le (get_or hs m d).sub i ≡ true) →
     ((m : ℕ) (d : Held) → k ≤ m → m < length hs → nat_le (get_or hs m d).sub i ≡ false) →
-    (get_or hs (k - 1) d).shift + (get_or hs (k - 1) d).by ≡ shift + sum_by (counted i) hs
+    (get_or hs (k - 1) d).shift + (get_or hs (k - 1) d).by ≡ shift + sum_by (hold_of i) hs
 shift_some shift i k hs d chain some within passes fails =
     sym (behind_last (k - 1) shift hs d (omega arith)) ∙ ap (shift_behind shift hs) (let z : k - 1 + 1 ≡ k = omega arith in z) ∙ behind_is i k 0 shift hs chain within passes fails

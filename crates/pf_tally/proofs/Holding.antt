@@ -11,7 +11,7 @@ use Rattle.pf_run.specs.Record.{Slot}
 use Rattle.pf_run.specs.Inside.{Joined}
 use Rattle.pf_tally.specs.Clock.{next_at}
 use Rattle.pf_tally.specs.Quanta.{slots_of}
-use Rattle.pf_tally.specs.Held.{delayed, next_in, held_by, held_from, AreDelays}
+use Rattle.pf_tally.specs.Held.{delay_from, next_in, held_by, held_from, AreDelays}
 use Rattle.pf_tally.specs.declared.held.Held.{Held}
 use Rattle.pf_tally.proofs.Places.{done_is}
 
@@ -35,16 +35,16 @@ count_from_cut p (x ∷ xs) (suc i) within first last =
     )
 
 held_push : (next : ℕ → ℕ) (j : Joined) (shift : ℕ) (xs : List Numbered) (x : Numbered) →
-    held_from next j shift (xs ++ x ∷ []) ≡ held_from next j shift xs ++ held_by next j (shift + sum_by (λ x. delayed j x.event) xs) x.event
+    held_from next j shift (xs ++ x ∷ []) ≡ held_from next j shift xs ++ held_by next j (shift + sum_by (λ x. delay_from j x.event) xs) x.event
 held_push next j shift [] x = append-nil (held_by next j shift x.event) ∙ ap (λ n. held_by next j n x.event) (let z : shift ≡ shift + 0 = omega arith in z)
 held_push next j shift (y ∷ ys) x =
-    ap (λ hs. held_by next j shift y.event ++ hs) (held_push next j (shift + delayed j y.event) ys x)
-    ∙ sym (append_assoc (held_by next j shift y.event) (held_from next j (shift + delayed j y.event) ys) (held_by next j (shift + delayed j y.event + sum_by (λ x. delayed j x.event) ys) x.event))
+    ap (λ hs. held_by next j shift y.event ++ hs) (held_push next j (shift + delay_from j y.event) ys x)
+    ∙ sym (append_assoc (held_by next j shift y.event) (held_from next j (shift + delay_from j y.event) ys) (held_by next j (shift + delay_from j y.event + sum_by (λ x. delay_from j x.event) ys) x.event))
     ∙ ap (λ n. held_from next j shift (y ∷ ys) ++ held_by next j n x.event)
-    (let z : shift + delayed j y.event + sum_by (λ x. delayed j x.event) ys ≡ shift + sum_by (λ x. delayed j x.event) (y ∷ ys) = omega (arith, sum_by-cons (λ x. delayed j x.event) y ys) in z)
+    (let z : shift + delay_from j y.event + sum_by (λ x. delay_from j x.event) ys ≡ shift + sum_by (λ x. delay_from j x.event) (y ∷ ys) = omega (arith, sum_by-cons (λ x. delay_from j x.event) y ys) in z)
 
 -- by how much the event holds the task back
-none_delays : (next : ℕ → ℕ) (j : Joined) (shift : ℕ) (x : Event) → [] ≡ held_by next j shift x → delayed j x ≡ 0
+none_delays : (next : ℕ → ℕ) (j : Joined) (shift : ℕ) (x : Event) → [] ≡ held_by next j shift x → delay_from j x ≡ 0
 none_delays next j shift (Delay slot task by) is = one_or_none (task == j.task) is
   where
     one_or_none : (b : Bool) → [] ≡ cond b (let held : Held = record { sub = next slot; shift = shift; by = by } in held ∷ []) [] → cond b by 0 ≡ 0
@@ -54,7 +54,7 @@ none_delays next j shift (Join slot task cost period early) is = refl
 none_delays next j shift (Leave slot task) is = refl
 none_delays next j shift (Limit slot count) is = refl
 
-some_delays : (next : ℕ → ℕ) (j : Joined) (shift : ℕ) (x : Event) (h : Held) → h ∷ [] ≡ held_by next j shift x → delayed j x ≡ h.by
+some_delays : (next : ℕ → ℕ) (j : Joined) (shift : ℕ) (x : Event) (h : Held) → h ∷ [] ≡ held_by next j shift x → delay_from j x ≡ h.by
 some_delays next j shift (Delay slot task by) h is = one_or_none (task == j.task) is
   where
     one_or_none : (b : Bool) → h ∷ [] ≡ cond b (let held : Held = record { sub = next slot; shift = shift; by = by } in held ∷ []) [] → cond b by 0 ≡ h.by
@@ -67,7 +67,7 @@ some_delays next j shift (Limit slot count) h is = cc
 -- what is collected of some events
 pub record AreHeld (next : ℕ → ℕ) (j : Joined) (xs : List Numbered) (held : List Held) (shift : ℕ) : Type 0 where
   pub delays : held ≡ held_from next j j.slot xs
-  pub shift_is : shift ≡ j.slot + sum_by (λ x. delayed j x.event) xs
+  pub shift_is : shift ≡ j.slot + sum_by (λ x. delay_from j x.event) xs
 
 pub none_held : (next : ℕ → ℕ) (j : Joined) (xs : List Numbered) (held : List Held) → held ≡ [] → AreHeld next j (take 0 xs) held j.slot
 none_held next j xs held none = record { delays = none; shift_is = omega arith }
@@ -80,7 +80,7 @@ held_one next j xs held after shift shift' k d h within is push more before =
     let P : List Numbered → Type 0 = λ ys. AreHeld next j ys after shift' in
     subst P (sym (take_more xs k d within)) (record {
       delays = push ∙ ap₂ (λ hs ks. hs ++ ks) before.delays (is ∙ ap (λ n. held_by next j n x.event) before.shift_is) ∙ sym (held_push next j j.slot (take k xs) x);
-      shift_is = omega (arith, sum_by_push (λ x. delayed j x.event) (take k xs) x, before.shift_is, some_delays next j shift x.event h is);
+      shift_is = omega (arith, sum_by_push (λ x. delay_from j x.event) (take k xs) x, before.shift_is, some_delays next j shift x.event h is);
     })
 
 pub held_none : (next : ℕ → ℕ) (j : Joined) (xs : List Numbered) (held : List Held) (shift k : ℕ) (d : Numbered) → k < length xs →
@@ -90,7 +90,7 @@ held_none next j xs held shift k d within is before =
     let P : List Numbered → Type 0 = λ ys. AreHeld next j ys held shift in
     subst P (sym (take_more xs k d within)) (record {
       delays = sym (append-nil held) ∙ ap₂ (λ hs ks. hs ++ ks) before.delays (is ∙ ap (λ n. held_by next j n x.event) before.shift_is) ∙ sym (held_push next j j.slot (take k xs) x);
-      shift_is = omega (arith, sum_by_push (λ x. delayed j x.event) (take k xs) x, before.shift_is, none_delays next j shift x.event is);
+      shift_is = omega (arith, sum_by_push (λ x. delay_from j x.event) (take k xs) x, before.shift_is, none_delays next j shift x.event is);
     })
 
 pub all_held : (next : ℕ → ℕ) (j : Joined) (xs : List Numbered) (held : List Held) (shift k : ℕ) → length xs ≤ k → AreHeld next j (take k xs) held shift → held ≡ held_from next j j.slot xs
@@ -100,8 +100,8 @@ all_held next j xs held shift k over are = are.delays ∙ ap (held_from next j j
 pub held_room : (next : ℕ → ℕ) (j : Joined) (xs : List Numbered) (held : List Held) (shift k : ℕ) (d : Numbered) (h : Held) → AreDelays j xs → AreHeld next j (take k xs) held shift → k < length xs →
     h ∷ [] ≡ held_by next j shift (get_or xs k d).event → shift + h.by < 2 ^ 40
 held_room next j xs held shift k d h delays are within is =
-    let sum : sum_by (λ x. delayed j x.event) (take k xs) ≤ length (take k xs) * 2 ^ 20 =
-    sum_by-le (λ x. delayed j x.event) (2 ^ 20) (take k xs) (All-take (λ x. delayed j x.event ≤ 2 ^ 20) k xs delays.short) in
+    let sum : sum_by (λ x. delay_from j x.event) (take k xs) ≤ length (take k xs) * 2 ^ 20 =
+    sum_by-le (λ x. delay_from j x.event) (2 ^ 20) (take k xs) (All-take (λ x. delay_from j x.event ≤ 2 ^ 20) k xs delays.short) in
     omega (
       arith,
       sum,

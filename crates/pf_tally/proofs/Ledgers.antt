@@ -15,7 +15,7 @@ use Rattle.pf_scenario.specs.declared.event.Numbered.{Numbered}
 use Rattle.pf_run.specs.declared.denied.Denied.{Denied}
 use Rattle.pf_run.specs.Record.{Slot, in_force}
 use Rattle.pf_run.specs.Inside.{Joined, join_of, inside}
-use Rattle.pf_run.specs.Run.{standing}
+use Rattle.pf_run.specs.Run.{events_in_force}
 use Rattle.pf_run.specs.Computed.{run_of}
 use Rattle.pf_run.specs.RunRows.{AreOfRun, rows_in, denials_in}
 use Rattle.pf_run.proofs.Runs.{computed_length}
@@ -31,7 +31,7 @@ use Rattle.pf_tally.specs.Ledger.{IsLedger}
 use Rattle.pf_tally.specs.Log.{IsLog}
 use Rattle.pf_table.specs.Lists.{noted_of}
 use Rattle.pf_tally.specs.Noted.{IsRow, IsTableOf}
-use Rattle.pf_tally.specs.Own.{own, AreDiaries}
+use Rattle.pf_tally.specs.Own.{events_of_task, AreDiaries}
 use Rattle.pf_tally.specs.Quanta.{slots_of, slots_in}
 use Rattle.pf_tally.specs.declared.lag.Lag.{Lag}
 use Rattle.pf_tally.specs.declared.ledger.Ledger.{Ledger}
@@ -50,7 +50,7 @@ rows_known s m rows denials are is =
     let Q : ℕ → Type 0 = λ m. All (IsRow m) (rows_in s (length rows)) in
     subst P (sym are.are_rows) (subst Q (sym is) (rows_of_run s (length rows) are.scenario))
 
-known_denials : (s : Plan) (n : ℕ) (denials : List Denied) → denials ≡ denials_in s n → in_force denials (past s n) ≡ standing s (run_of s n) n
+known_denials : (s : Plan) (n : ℕ) (denials : List Denied) → denials ≡ denials_in s n → in_force denials (past s n) ≡ events_in_force s (run_of s n) n
 unfolding denials_in
 known_denials s n denials is = ap (λ ds. in_force ds (past s n)) is
 
@@ -71,7 +71,7 @@ ledger_made s rows denials ledger are settings now events diaries quanta =
       quanta = λ task. quanta.each task ∙ ap (λ rows. slots_in rows task) are.are_rows ∙ slots_seated s n task are.scenario;
     }
 
--- what is known of a task of the ledger: its quanta, its own events, and that it can be tallied by these
+-- what is known of a task of the ledger: its quanta, its events_of_task events, and that it can be tallied by these
 module _ (s : Plan) (n : ℕ) (ledger : Ledger) (known : IsLedger s n ledger) (j : Joined) (at : Contains (filter_map (join_of ledger.settings.base) ledger.events.items) j) where
   task_known : CanTally j (slots_of (run_of s n) j.task) ledger.events.items ledger.now
   task_known =
@@ -85,7 +85,7 @@ module _ (s : Plan) (n : ℕ) (ledger : Ledger) (known : IsLedger s n ledger) (j
   task_ran : (ran : List ℕ) → ran ≡ noted_of ledger.quanta j.task → ran ≡ slots_of (run_of s n) j.task
   task_ran ran of_ran = of_ran ∙ known.quanta j.task
 
-  task_diary : (diary : List Numbered) → diary ≡ noted_of ledger.diaries j.task → diary ≡ own j.task ledger.events.items
+  task_diary : (diary : List Numbered) → diary ≡ noted_of ledger.diaries j.task → diary ≡ events_of_task j.task ledger.events.items
   task_diary diary of_diary = of_diary ∙ known.diaries.each j.task
 
   task_can : (ran : List ℕ) (diary : List Numbered) → ran ≡ noted_of ledger.quanta j.task → diary ≡ noted_of ledger.diaries j.task → CanTally j ran diary ledger.now
@@ -108,7 +108,7 @@ pub lags_known : (s : Plan) (n : ℕ) (ledger : Ledger) (lags : List Lag) (tasks
 unfolding lags_of
 lags_known s n ledger lags tasks k known of_tasks of_lags over =
     of_lags ∙ ap (map (lag_of (run_of s n) ledger.events.items)) (take_all k tasks over ∙ of_tasks)
-    ∙ ap₂ (λ (xs : List Numbered) base. map (lag_of (run_of s n) xs) (by_task (inside base xs))) (known.events ∙ ap (standing s (run_of s n)) (sym known.slots)) (ap (λ settings. settings.base) known.settings)
+    ∙ ap₂ (λ (xs : List Numbered) base. map (lag_of (run_of s n) xs) (by_task (inside base xs))) (known.events ∙ ap (events_in_force s (run_of s n)) (sym known.slots)) (ap (λ settings. settings.base) known.settings)
 
 -- a step over the tasks inside
 module _ (s : Plan) (n : ℕ) (ledger : Ledger) (known : IsLedger s n ledger) (tasks : List Joined) (of_tasks : tasks ≡ by_task (inside ledger.settings.base ledger.events.items)) where
@@ -192,4 +192,4 @@ module _ (s : Plan) (n : ℕ) (ledger : Ledger) (known : IsLedger s n ledger) (t
       misses_sorted (run_of s n) ledger.events.items tasks misses sorted shares differ e same up
       ∙ ap (λ js. in_miss_order (flat_map f js)) of_tasks
       ∙ ap₂ (λ (xs : List Numbered) base. in_miss_order (flat_map (misses_of_task (run_of s n) xs) (filter_map (join_of base) xs)))
-      (known.events ∙ ap (standing s (run_of s n)) (sym known.slots)) (ap (λ settings. settings.base) known.settings)
+      (known.events ∙ ap (events_in_force s (run_of s n)) (sym known.slots)) (ap (λ settings. settings.base) known.settings)

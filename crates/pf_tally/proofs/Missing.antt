@@ -30,7 +30,7 @@ use Rattle.pf_run.proofs.Counting.{found_counted}
 use Rattle.pf_run.proofs.Containing.{contains_none, pairs_append, pairs_tail}
 use Rattle.pf_tally.specs.Clock.{next_at}
 use Rattle.pf_tally.specs.Held.{held_from}
-use Rattle.pf_tally.specs.Late.{counted, due_at, is_late, late_miss, late_misses, miss_if}
+use Rattle.pf_tally.specs.Late.{hold_of, due_at, is_late, late_miss, late_misses, miss_if}
 use Rattle.pf_tally.specs.Misses.{due_of, ran_in, leaves_after, is_missed, miss_of, misses_of_task, miss_cmp, in_miss_order}
 use Rattle.pf_tally.specs.Quanta.{slots_of}
 use Rattle.pf_tally.specs.declared.held.Held.{Held}
@@ -41,7 +41,7 @@ use Rattle.pf_tally.proofs.Subs.{ran_is}
 use Rattle.pf_tally.proofs.Windows.{deadlines_rise}
 
 -- later subtasks are due later
-counted_rises : (i k : ℕ) → i ≤ k → (h : Held) → counted i h ≤ counted k h
+counted_rises : (i k : ℕ) → i ≤ k → (h : Held) → hold_of i h ≤ hold_of k h
 counted_rises i k within h = ⊎_elim
     (λ yes. let low : h.sub ≤ i = leb-true h.sub i yes in
     let later : nat_le h.sub k ≡ true = le-leb h.sub k (omega arith) in
@@ -51,7 +51,7 @@ counted_rises i k within h = ⊎_elim
 
 pub dues_rise : (j : Joined) (held : List Held) (i k : ℕ) → IsShare j.weight → i < k → due_at j held i < due_at j held k
 dues_rise j held i k share below =
-    omega (arith, deadlines_rise j.weight i k share below, sum_by-le-sum_by (counted i) (counted k) held (counted_rises i k (omega arith)))
+    omega (arith, deadlines_rise j.weight i k share below, sum_by-le-sum_by (hold_of i) (hold_of k) held (counted_rises i k (omega arith)))
 
 -- one more subtask, and none once one is due after the last slot
 module _ (j : Joined) (ran : List ℕ) (held : List Held) (last : ℕ) where

@@ -15,7 +15,7 @@ use Rattle.pf_scenario.specs.Edit.{IsScenario}
 use Rattle.pf_scenario.specs.declared.event.Numbered.{Numbered}
 use Rattle.pf_run.specs.Record.{Slot, runs, done, next_sub}
 use Rattle.pf_run.specs.Inside.{Joined, inside, ready, ready_key, next_key, member_of, eligible_from}
-use Rattle.pf_run.specs.Run.{standing, pick_of, IsNextSlot, IsRun}
+use Rattle.pf_run.specs.Run.{events_in_force, pick_of_key, IsNextSlot, IsRun}
 use Rattle.pf_run.specs.Computed.{run_of}
 use Rattle.pf_run.proofs.Containing.{contains_none, contains_head, contains_tail, contains_cases}
 use Rattle.pf_run.proofs.Runs.{run_is_computed}
@@ -59,13 +59,13 @@ Numbers r picks = All (λ p. p.sub ≡ next_sub r p.task) picks
 
 next_numbers : (s : Plan) (r : List Slot) (slot : Slot) → IsNextSlot s r slot → Numbers r slot.picks
 next_numbers s r slot next =
-    let xs = standing s (r ++ slot ∷ []) (suc (length r)) in
+    let xs = events_in_force s (r ++ slot ∷ []) (suc (length r)) in
     let chosen = next.picks.chosen in
     let e : Priority = record { deadline = 0; bit = 0; group = 0; task = 0; sub = 0 } in
     subst (Numbers r) (sym next.picks.subtasks) (λ k d within.
-    let inside : k < length chosen = omega (arith, length-map chosen pick_of) in
+    let inside : k < length chosen = omega (arith, length-map chosen pick_of_key) in
     let at = ((next.picks.are_first.exactly (get_or chosen k e)).0 (Contains-get_or chosen k e inside)).0 in
-    subst (λ (p : Pick). p.sub ≡ next_sub r p.task) (sym (get_or-map pick_of chosen k e d inside))
+    subst (λ (p : Pick). p.sub ≡ next_sub r p.task) (sym (get_or-map pick_of_key chosen k e d inside))
     (ready_sub s.settings.base r xs (get_or chosen k e) at))
 
 -- subtask i of the task is among the picks just where the task is and i is its next one

@@ -21,7 +21,7 @@ use Rattle.pf_run.proofs.Joins.{inside_differ}
 use Rattle.pf_tally.specs.Clock.{clock_of}
 use Rattle.pf_tally.specs.Lags.{by_task, lag_of}
 use Rattle.pf_tally.specs.Quanta.{slots_of}
-use Rattle.pf_tally.specs.Held.{delayed, next_in, held_by, held_from, IsSmall, CanTally, stopped_below}
+use Rattle.pf_tally.specs.Held.{delay_from, next_in, held_by, held_from, IsSmall, CanTally, stopped_below}
 use Rattle.pf_tally.specs.declared.held.Held.{Held}
 use Rattle.pf_tally.proofs.Chains.{clock_is}
 use Rattle.pf_tally.proofs.Holding.{next_is}
@@ -30,7 +30,7 @@ use Rattle.pf_tally.proofs.Sorts.{one_sorted}
 
 -- the delays of a task are small
 module _ (next : ℕ → ℕ) (j : Joined) (some : (u : ℕ) → 1 ≤ next u) (within : (u : ℕ) → next u ≤ 2 ^ 24) where
-  small_one : (shift : ℕ) (x : Event) → shift < 2 ^ 40 → delayed j x ≤ 2 ^ 20 → All IsSmall (held_by next j shift x)
+  small_one : (shift : ℕ) (x : Event) → shift < 2 ^ 40 → delay_from j x ≤ 2 ^ 20 → All IsSmall (held_by next j shift x)
   small_one shift (Delay slot task by) room short = one_or_none (task == j.task) short
     where
       one_or_none : (b : Bool) → cond b by 0 ≤ 2 ^ 20 → All IsSmall (cond b (let held : Held = record { sub = next slot; shift = shift; by = by } in held ∷ []) [])
@@ -41,13 +41,13 @@ module _ (next : ℕ → ℕ) (j : Joined) (some : (u : ℕ) → 1 ≤ next u) (
   small_one shift (Leave slot task) room short = All-nil IsSmall
   small_one shift (Limit slot count) room short = All-nil IsSmall
 
-  small_held : (shift : ℕ) (xs : List Numbered) → shift + length xs * 2 ^ 20 < 2 ^ 40 → All (λ x. delayed j x.event ≤ 2 ^ 20) xs → All IsSmall (held_from next j shift xs)
+  small_held : (shift : ℕ) (xs : List Numbered) → shift + length xs * 2 ^ 20 < 2 ^ 40 → All (λ x. delay_from j x.event ≤ 2 ^ 20) xs → All IsSmall (held_from next j shift xs)
   small_held shift [] room short = All-nil IsSmall
   small_held shift (x ∷ xs) room short =
-      let here : delayed j x.event ≤ 2 ^ 20 = All-head (λ x. delayed j x.event ≤ 2 ^ 20) x xs short in
-      All-append IsSmall (held_by next j shift x.event) (held_from next j (shift + delayed j x.event) xs)
+      let here : delay_from j x.event ≤ 2 ^ 20 = All-head (λ x. delay_from j x.event ≤ 2 ^ 20) x xs short in
+      All-append IsSmall (held_by next j shift x.event) (held_from next j (shift + delay_from j x.event) xs)
       (small_one shift x.event (omega arith) here)
-      (small_held (shift + delayed j x.event) xs (omega arith) (All-tail (λ x. delayed j x.event ≤ 2 ^ 20) x xs short))
+      (small_held (shift + delay_from j x.event) xs (omega arith) (All-tail (λ x. delay_from j x.event ≤ 2 ^ 20) x xs short))
 
 pub all_small : (j : Joined) (ran : List ℕ) (xs : List Numbered) (n : ℕ) → CanTally j ran xs n → All IsSmall (held_from (next_in ran) j j.slot xs)
 all_small j ran xs n can =

@@ -12,9 +12,9 @@ use Rattle.pf_run.specs.Inside.{Joined}
 use Rattle.pf_tally.specs.declared.held.Held.{Held}
 
 -- by how much an event delays the task
-abbrev pub delayed : Joined → Event → ℕ
-delayed j (Delay slot task by) = if task == j.task then by else 0
-delayed j event = 0
+abbrev pub delay_from : Joined → Event → ℕ
+delay_from j (Delay slot task by) = if task == j.task then by else 0
+delay_from j event = 0
 
 -- the subtask that is next at slot u, where the task ran in these slots
 abbrev pub next_in : List ℕ → ℕ → ℕ
@@ -29,18 +29,18 @@ held_by next j shift event = []
 -- the same of these events, the first of which finds this shift
 abbrev pub held_from : (ℕ → ℕ) → Joined → ℕ → List Numbered → List Held
 held_from next j shift [] = []
-held_from next j shift (x ∷ xs) = held_by next j shift x.event ++ held_from next j (shift + delayed j x.event) xs
+held_from next j shift (x ∷ xs) = held_by next j shift x.event ++ held_from next j (shift + delay_from j x.event) xs
 
 -- the numbers of these events are small enough to be added to the task's join slot
 pub record AreDelays (j : Joined) (xs : List Numbered) : Type 0 where
   pub joined : j.slot < 2 ^ 22
-  pub short : All (λ x. delayed j x.event ≤ 2 ^ 20) xs
+  pub short : All (λ x. delay_from j x.event ≤ 2 ^ 20) xs
   pub few : length xs ≤ 65535
 
 -- each delay finds the shift that the one before it left, and no earlier subtask
-abbrev pub IsChain : ℕ → ℕ → List Held → Type 0
-IsChain sub shift [] = Unit {0}
-IsChain sub shift (h ∷ hs) = (sub ≤ h.sub) × (h.shift ≡ shift) × IsChain h.sub (shift + h.by) hs
+abbrev pub AreSuccessive : ℕ → ℕ → List Held → Type 0
+AreSuccessive sub shift [] = Unit {0}
+AreSuccessive sub shift (h ∷ hs) = (sub ≤ h.sub) × (h.shift ≡ shift) × AreSuccessive h.sub (shift + h.by) hs
 
 -- where a delay stops the clock of a task of this weight
 abbrev pub stop_of : Share → Held → Stop

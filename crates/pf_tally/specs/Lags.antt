@@ -7,7 +7,7 @@ use Rattle.pf_scenario.specs.Scenario.{Plan}
 use Rattle.pf_scenario.specs.declared.event.Numbered.{Numbered}
 use Rattle.pf_run.specs.Record.{Slot, done}
 use Rattle.pf_run.specs.Inside.{Joined, inside}
-use Rattle.pf_run.specs.Run.{standing}
+use Rattle.pf_run.specs.Run.{events_in_force}
 use Rattle.pf_tally.specs.Clock.{clock_of}
 use Rattle.pf_tally.specs.declared.lag.Lag.{Lag}
 
@@ -32,4 +32,4 @@ lag_of r xs j = record {
 
 -- the lags of the tasks inside after the record r of the scenario, by task number
 unfoldable pub lags_of : Plan → List Slot → List Lag
-lags_of s r = map (lag_of r (standing s r (length r))) (by_task (inside s.settings.base (standing s r (length r))))
+lags_of s r = map (lag_of r (events_in_force s r (length r))) (by_task (inside s.settings.base (events_in_force s r (length r))))

@@ -4,18 +4,18 @@ use Rattle.std.specs.List.{slice_get, range_with_len}
 use Rattle.std.specs.Option.{option_map_or}
 use Rattle.pf_weight.specs.Share.{IsShare}
 use Rattle.pf_window.specs.Window.{deadline_of}
-use Rattle.pf_tally.specs.Held.{IsChain, IsSmall}
+use Rattle.pf_tally.specs.Held.{AreSuccessive, IsSmall}
 use Rattle.pf_run.specs.Inside.{Joined}
 use Rattle.pf_tally.specs.declared.held.Held.{Held}
 use Rattle.pf_tally.specs.declared.miss.Miss.{Miss}
 
 -- by how much a delay holds subtask i back
-abbrev pub counted : ℕ → Held → ℕ
-counted i h = cond (nat_le h.sub i) h.by 0
+abbrev pub hold_of : ℕ → Held → ℕ
+hold_of i h = cond (nat_le h.sub i) h.by 0
 
 -- the shifted deadline of subtask i
 abbrev pub due_at : Joined → List Held → ℕ → ℕ
-due_at j held i = deadline_of j.weight i + (j.slot + sum_by (counted i) held)
+due_at j held i = deadline_of j.weight i + (j.slot + sum_by (hold_of i) held)
 
 -- subtask i is due by the last slot, and did not run before it was due
 abbrev pub is_late : Joined → List ℕ → List Held → ℕ → ℕ → Bool
@@ -43,5 +43,5 @@ pub record CanMiss (j : Joined) (held : List Held) (n : ℕ) : Type 0 where
   pub share : IsShare j.weight
   pub joined : j.slot < 2 ^ 22
   pub within : n ≤ 2 ^ 22
-  pub chain : IsChain 0 j.slot held
+  pub chain : AreSuccessive 0 j.slot held
   pub small : All IsSmall held

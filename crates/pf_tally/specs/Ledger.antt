@@ -2,7 +2,7 @@
 use Rattle.std.specs.Prelude.{◌≡◌, ℕ, length}
 use Rattle.pf_scenario.specs.Scenario.{Plan}
 use Rattle.pf_scenario.specs.Edit.{IsScenario}
-use Rattle.pf_run.specs.Run.{standing}
+use Rattle.pf_run.specs.Run.{events_in_force}
 use Rattle.pf_run.specs.Computed.{run_of}
 use Rattle.pf_tally.specs.Log.{IsLog}
 use Rattle.pf_table.specs.Lists.{noted_of}
@@ -16,7 +16,7 @@ pub record IsLedger (s : Plan) (n : ℕ) (ledger : Ledger) : Type 0 where
   pub settings : ledger.settings ≡ s.settings
   pub now : ledger.now ≡ n
   pub slots : length (run_of s n) ≡ n
-  pub events : ledger.events.items ≡ standing s (run_of s n) n
+  pub events : ledger.events.items ≡ events_in_force s (run_of s n) n
   pub log : IsLog s.settings n ledger.events.items
   pub diaries : AreDiaries ledger.events.items ledger.diaries
   pub quanta : (task : ℕ) → noted_of ledger.quanta task ≡ slots_of (run_of s n) task

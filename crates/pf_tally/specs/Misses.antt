@@ -11,7 +11,7 @@ use Rattle.pf_scenario.specs.Scenario.{Plan}
 use Rattle.pf_scenario.specs.declared.event.Numbered.{Numbered}
 use Rattle.pf_run.specs.Record.{Slot}
 use Rattle.pf_run.specs.Inside.{Joined, join_of, shift_of}
-use Rattle.pf_run.specs.Run.{standing}
+use Rattle.pf_run.specs.Run.{events_in_force}
 use Rattle.pf_tally.specs.declared.miss.Miss.{Miss}
 
 -- the shifted deadline of subtask i, where the events xs are in force
@@ -51,5 +51,5 @@ in_miss_order = sorted_by miss_cmp
 -- the missed windows of the tasks admitted so far, those that left too, after the record r of the scenario
 unfoldable pub misses_of : Plan → List Slot → List Miss
 misses_of s r =
-    in_miss_order (flat_map (misses_of_task r (standing s r (length r)))
-    (filter_map (join_of s.settings.base) (standing s r (length r))))
+    in_miss_order (flat_map (misses_of_task r (events_in_force s r (length r)))
+    (filter_map (join_of s.settings.base) (events_in_force s r (length r))))

@@ -1,7 +1,7 @@
 ghost use Rattle.std.specs.Prelude.{◌≡◌, ◌+◌, ◌^◌, ◌<◌, ◌≤◌, ◌&&◌, ℕ, nat_le, find, sum_by, All};
 ghost use Rattle.pf_run.specs.Inside.{is_leave_of};
-ghost use Rattle.pf_tally.specs.Held.{IsChain, IsSmall};
-ghost use Rattle.pf_tally.specs.Late.{counted, due_at};
+ghost use Rattle.pf_tally.specs.Held.{AreSuccessive, IsSmall};
+ghost use Rattle.pf_tally.specs.Late.{hold_of, due_at};
 ghost use Rattle.pf_tally.specs.Misses.{leaves_after};
 
 use crate::admitted::Admitted;
@@ -35,10 +35,10 @@ pub(crate) fn last_due(events: &[Numbered], task: Admitted, now: u64) -> u64
 
 /// The shift of subtask i, by the delays of the task.
 fn shift_at(task: Admitted, delays: &[Held], i: u64) -> u64
-    requires chain { IsChain 0 task.slot delays.now }
+    requires chain { AreSuccessive 0 task.slot delays.now }
     requires small { All IsSmall delays.now }
     requires joined { task.slot < 2 ^ 22 }
-    ensures value { result ≡ task.slot + sum_by (counted i) delays.now }
+    ensures value { result ≡ task.slot + sum_by (hold_of i) delays.now }
     ensures bound { result < 2 ^ 41 }
 {
     let count = delays.partition_point(|held| held.sub <= i);
@@ -53,7 +53,7 @@ fn shift_at(task: Admitted, delays: &[Held], i: u64) -> u64
 pub(crate) fn due_of(task: Admitted, delays: &[Held], i: u32) -> u64
     requires first { 1 ≤ i }
     requires last { i ≤ 2 ^ 24 }
-    requires chain { IsChain 0 task.slot delays.now }
+    requires chain { AreSuccessive 0 task.slot delays.now }
     requires small { All IsSmall delays.now }
     requires joined { task.slot < 2 ^ 22 }
     ensures { result ≡ due_at task delays.now i }

@@ -16,8 +16,8 @@ use Rattle.pf_scenario.specs.declared.event.Numbered.{Numbered}
 use Rattle.pf_run.specs.declared.denied.Denied.{Denied}
 use Rattle.pf_run.specs.Record.{Slot, denials_of, in_force}
 use Rattle.pf_run.specs.Inside.{count_of}
-use Rattle.pf_run.specs.Denials.{denial_of, denied_for, failing}
-use Rattle.pf_run.specs.Run.{standing, IsNextSlot, IsRun}
+use Rattle.pf_run.specs.Denials.{denial_of, denied_for, denials_behind}
+use Rattle.pf_run.specs.Run.{events_in_force, IsNextSlot, IsRun}
 use Rattle.pf_run.specs.Computed.{course_of, run_of}
 use Rattle.pf_engine.specs.Fits.{Kept, kept_after, Fits, Taken, CanTake, TakesSlot}
 use Rattle.pf_run.specs.RunRows.{AreOfRun, count_in_last, turns_behind, turns_of, rows_in, denials_in}
@@ -121,11 +121,11 @@ few_denied x t None = omega arith
 few_denied x t (Some denial) = omega arith
 
 few_fail : (s : System) (r : List Slot) (denials : List Denied) (before xs : List Numbered) →
-    length (failing s r denials before xs) ≤ length xs
+    length (denials_behind s r denials before xs) ≤ length xs
 few_fail s r denials before [] = omega arith
 few_fail s r denials before (x ∷ xs) =
     let reason : Option Denial = denial_of s r (in_force denials before) x.event in
-    let later : List Denied = failing s r denials (before ++ x ∷ []) xs in
+    let later : List Denied = denials_behind s r denials (before ++ x ∷ []) xs in
     omega (
       arith,
       length-append (denied_for x (length r) reason) later,
@@ -201,7 +201,7 @@ module _ (s : Plan) (n : ℕ) (rows : List (List (Option Pick))) (denials : List
     count_is =
         let long : length (run_of s n ++ taken.slot ∷ []) ≡ suc (length (run_of s n)) = length_snoc (run_of s n) taken.slot in
         let one_more : length (run_of s n) + 1 ≡ length (run_of s n ++ taken.slot ∷ []) = omega arith in
-        next.count ∙ ap (λ t. count_of s.settings.processors (standing s (run_of s n ++ taken.slot ∷ []) t)) one_more
+        next.count ∙ ap (λ t. count_of s.settings.processors (events_in_force s (run_of s n ++ taken.slot ∷ []) t)) one_more
 
     -- Use: the slot that it takes can be seated.
     pub taken_turn : IsTurn s.settings.processors taken.count taken.slot.picks

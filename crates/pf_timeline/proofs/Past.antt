@@ -11,7 +11,7 @@ use Rattle.pf_scenario.specs.declared.event.Numbered.{Numbered}
 use Rattle.pf_run.specs.declared.denied.Denied.{Denied}
 use Rattle.pf_run.specs.Record.{Slot, denials_of, in_force}
 use Rattle.pf_run.specs.Inside.{count_of}
-use Rattle.pf_run.specs.Run.{standing, IsRun}
+use Rattle.pf_run.specs.Run.{events_in_force, IsRun}
 use Rattle.pf_run.specs.Computed.{run_of}
 use Rattle.pf_engine.specs.Fits.{Kept, kept_after, Fits}
 use Rattle.pf_run.specs.Laws.{events_below}
@@ -64,7 +64,7 @@ module _ (s q : Plan) (n : ℕ) (settings : s.settings ≡ q.settings) (same : e
         keeps = fits.keeps
             ∙ ap₂ (λ system events. kept_after system (run_of s n) (in_force (denials_of (run_of s n)) events)) settings
             (same_past s q n (length (run_of s n)) same (omega arith))
-            ∙ ap (λ r. kept_after q.settings r (standing q r (length r))) alike;
+            ∙ ap (λ r. kept_after q.settings r (events_in_force q r (length r))) alike;
       }
 
   pub of_run_alike : (rows : List (List (Option Pick))) (denials : List Denied) → IsScenario q → AreOfRun s n rows denials → AreOfRun q n rows denials

@@ -16,5 +16,5 @@ abbrev pub ok_unless : Option WeightFault → Share → Result Share WeightFault
 ok_unless None w = Ok w
 ok_unless (Some fault) w = Err fault
 
-abbrev pub weighed : ℕ → ℕ → ℕ → Result Share WeightFault
-weighed base cost period = ok_unless (weight_fault base cost period) (share_of base cost period)
+abbrev pub share_or_fault : ℕ → ℕ → ℕ → Result Share WeightFault
+share_or_fault base cost period = ok_unless (weight_fault base cost period) (share_of base cost period)

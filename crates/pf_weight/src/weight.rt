@@ -1,6 +1,6 @@
 ghost use Rattle.std.specs.Prelude.{◌≡◌, ◌≢◌, ◌<◌, ◌%◌, ◌↔◌, Err};
 ghost use Rattle.pf_weight.specs.Share.{Share, IsShare, is_heavy};
-ghost use Rattle.pf_weight.specs.Weighed.{weighed};
+ghost use Rattle.pf_weight.specs.Weighed.{share_or_fault};
 
 use crate::base::Base;
 use crate::fault::WeightFault;
@@ -34,7 +34,7 @@ impl Weight {
     /// The first of these that is true, in the order of `WeightFault`: no cost, a cost above the period, a period that
     /// does not divide the base.
     pub fn new(base: Base, cost: u64, period: u64) -> Result<Self, WeightFault>
-        ensures value { result ≡ weighed base cost period }
+        ensures value { result ≡ share_or_fault base cost period }
         ensures zero_cost { (result ≡ Err WeightFault.ZeroCost) ↔ (cost ≡ 0) }
         ensures above_period { (result ≡ Err WeightFault.CostAbovePeriod) ↔ ((cost ≢ 0) × (period < cost)) }
         ensures not_in_base { result ≡ Err WeightFault.PeriodNotInBase → base % period ≢ 0 }

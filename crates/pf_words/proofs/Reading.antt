@@ -9,7 +9,7 @@ use Rattle.pf_words.specs.declared.request.Request.TheVariants.{Run, Show}
 use Rattle.pf_words.specs.declared.request.WordsFault.{WordsFault}
 use Rattle.pf_words.specs.declared.request.WordsFault.TheVariants.{Refused, UnknownFormat, NoMemory}
 use Rattle.pf_words.specs.CommandLine.{kinds_of, name_behind_run, name_given, program}
-use Rattle.pf_words.specs.Asked.{IsAsked, IsShown, ShowsError, format_asked, format_or_tables, run_in, run_of}
+use Rattle.pf_words.specs.Asked.{IsAsked, IsShown, ShowsError, format_asked, format_or_tables, run_in, run_request}
 
 -- one function after another over what may be there
 pub option_map-option_map : {X Y Z : Type 0} (f : Y → Z) (g : X → Y) (o : Option X) → option_map f (option_map g o) ≡ option_map (λ x. f (g x)) o
@@ -47,7 +47,7 @@ taken_format words found taken is = rw (taken, is) refl
 
 -- words that the grammar takes
 pub taken_words : (words : List Text) (found : Option (Text × List Row)) → kinds_of words ≡ [] → found ≡ subcommand_of program words
-    → IsAsked words (run_of (name_behind_run found))
+    → IsAsked words (run_request (name_behind_run found))
 taken_words words found taken is =
     asked_in words (format_or_tables (name_behind_run found)) taken (taken_format words found taken is)
 

@@ -57,8 +57,8 @@ run_in None = Err UnknownFormat
 run_in (Some format) = Ok (Run format)
 
 -- what words ask for that the grammar takes, by the text of `--format`
-abbrev pub run_of : Option Text → Result Request WordsFault
-run_of name = run_in (format_or_tables name)
+abbrev pub run_request : Option Text → Result Request WordsFault
+run_request name = run_in (format_or_tables name)
 
 -- what is answered to an error of this kind
 abbrev pub ShowsError : ErrorKind → Result Request WordsFault → Type 0

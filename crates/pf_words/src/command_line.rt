@@ -51,7 +51,7 @@ Formats:
 Status: 0 done, 1 a bad record or a script that is too long, 2 words that are not understood, 3 a fault of reading or
 writing, 4 out of memory. What is wrong is told on standard error.";
 
-// The words that the program knows.
+/// The words that the program knows.
 pub(crate) fn program<'a>(alloc: Global) -> Result<Command<'a>, AllocError>
     ensures { IfOk result (λ c. app_of c ≡ program) }
 {
@@ -60,7 +60,7 @@ pub(crate) fn program<'a>(alloc: Global) -> Result<Command<'a>, AllocError>
     program.subcommand(run)
 }
 
-// The program without its subcommand.
+/// The program without its subcommand.
 fn bare_program<'a>(alloc: Global) -> Result<Command<'a>, AllocError>
     ensures { IfOk result (λ c. app_of c ≡ as_program (new_app (codes "pfair"))) }
 {
@@ -72,7 +72,7 @@ fn bare_program<'a>(alloc: Global) -> Result<Command<'a>, AllocError>
     program.bin_name("pfair")
 }
 
-// `run`, with `--format` and a text.
+/// `run`, with `--format` and a text.
 fn run_command<'a>(alloc: Global) -> Result<Command<'a>, AllocError>
     ensures shape { IfOk result (λ c. app_of c ≡ run_command) }
     ensures globals { IfOk result (λ c. (out-Command c).has_globals ≡ false) }

@@ -1,7 +1,7 @@
 ghost use Rattle.std.specs.Prelude.{◌≡◌, map, option_map};
 ghost use Rattle.clap.specs.Words.{kind_of, subcommand_rows_of};
 ghost use Rattle.pf_words.specs.CommandLine.{name_behind_run};
-ghost use Rattle.pf_words.specs.Asked.{IsAsked, ShowsError, run_of};
+ghost use Rattle.pf_words.specs.Asked.{IsAsked, ShowsError, run_request};
 
 use crate::command_line::program;
 use crate::format::Format;
@@ -24,9 +24,9 @@ pub fn read_words<S: AsStr>(alloc: Global, words: &[S]) -> Result<Request, Words
     }
 }
 
-// What words ask for that the grammar takes.
+/// What words ask for that the grammar takes.
 fn read_matches(matches: &ArgMatches<'_>) -> Result<Request, WordsFault>
-    ensures { result ≡ run_of (name_behind_run (subcommand_rows_of matches.now)) }
+    ensures { result ≡ run_request (name_behind_run (subcommand_rows_of matches.now)) }
 {
     let Some(name) = format_name(matches) else {
         return Ok(Request::Run(Format::Tables));
@@ -37,14 +37,14 @@ fn read_matches(matches: &ArgMatches<'_>) -> Result<Request, WordsFault>
     }
 }
 
-// The text of `--format` behind `run`.
+/// The text of `--format` behind `run`.
 fn format_name<'a>(matches: &ArgMatches<'a>) -> Option<&'a str>
     ensures { option_map (λ name. name.now) result ≡ name_behind_run (subcommand_rows_of matches.now) }
 {
     matches.subcommand_matches("run")?.get_str("format")
 }
 
-// What words ask for that the grammar does not take: help, the version, or nothing.
+/// What words ask for that the grammar does not take: help, the version, or nothing.
 fn read_error(alloc: Global, error: &clap::Error) -> Result<Request, WordsFault>
     ensures { ShowsError (kind_of error.now) result }
 {

@@ -11,7 +11,7 @@ use std::io::Write;
 // What became of a text: whether it was written, what the writer got, and how many of its writes failed.
 type Written = (bool, Vec<u8>, u64);
 
-// Puts `abc`, nothing and `de`, and finishes.
+/// Puts `abc`, nothing and `de`, and finishes.
 fn put_five(mut lines: Lines, writer: &mut CountedWriter<Reluctant>) -> Result<(), WriteFault>
     requires { write_failures writer.old ≡ 0 }
 {
@@ -21,7 +21,7 @@ fn put_five(mut lines: Lines, writer: &mut CountedWriter<Reluctant>) -> Result<(
     lines.finish(writer)
 }
 
-// Writes five bytes to a writer that stops at this call.
+/// Writes five bytes to a writer that stops at this call.
 fn write_five(alloc: Global, stops_at: u64, fails: bool) -> Result<Written, AllocError> {
     let lines = Lines::new(alloc)?;
     let mut writer = CountedWriter::new(Reluctant {
@@ -36,7 +36,7 @@ fn write_five(alloc: Global, stops_at: u64, fails: bool) -> Result<Written, Allo
     Ok((outcome.is_ok(), writer.into_inner().got, failures))
 }
 
-// Whether the writer got the bytes before the call at which it stops, and no more.
+/// Whether the writer got the bytes before the call at which it stops, and no more.
 fn has_front(written: &Written, stops_at: u64) -> bool {
     let taken = stops_at.saturating_sub(1).min(5) as usize;
     let (done, got, failures) = written;
@@ -60,7 +60,7 @@ fn a_stopped_writer_has_the_front_of_the_text(rt: HostRuntime) -> Result<(), All
     Ok(())
 }
 
-// How many bytes a writer has once two texts were put and the lines finished.
+/// How many bytes a writer has once two texts were put and the lines finished.
 fn put_two(
     mut lines: Lines,
     held: Vec<u8>,
@@ -74,7 +74,7 @@ fn put_two(
     Ok(writer.into_inner().len())
 }
 
-// The same of texts of so many bytes, at most 70,000.
+/// The same of texts of so many bytes, at most 70,000.
 fn put_long(alloc: Global, first: usize, second: usize) -> Result<Option<usize>, AllocError> {
     let long = [b'x'; 70_000];
     let lines = Lines::new(alloc)?;
@@ -100,7 +100,7 @@ fn a_long_text_goes_through(rt: HostRuntime) -> Result<(), AllocError> {
     Ok(())
 }
 
-// Whether a flush of the counting writer reaches the writer underneath.
+/// Whether a flush of the counting writer reaches the writer underneath.
 fn is_flushed(alloc: Global) -> io::Result<bool> {
     let mut writer = CountedWriter::new(Reluctant {
         got: Vec::new(alloc),

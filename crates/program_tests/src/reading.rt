@@ -14,7 +14,7 @@ fn length_of(outcome: Result<Vec<u8>, ReadingFault>) -> Result<usize, ReadingFau
     }
 }
 
-// Reads `step` and a line end byte by byte, with a fault at this call.
+/// Reads `step` and a line end byte by byte, with a fault at this call.
 fn read_step(alloc: Global, fails_at: u64, kind: io::ErrorKind) -> Reading {
     let mut reader = CountedReader::new(OneByOne {
         bytes: b"step\n",
@@ -27,7 +27,7 @@ fn read_step(alloc: Global, fails_at: u64, kind: io::ErrorKind) -> Reading {
     (length_of(outcome), failures, reader.into_inner().calls)
 }
 
-// Whether no more was read than up to the fault, or up to the end at the sixth call. Memory may be refused.
+/// Whether no more was read than up to the fault, or up to the end at the sixth call. Memory may be refused.
 fn is_as_it_should(reading: &Reading, fails_at: u64) -> bool {
     match reading.0 {
         Ok(length) => (length, reading.1, reading.2, fails_at) == (5, 0, 6, 7),
@@ -46,7 +46,7 @@ fn a_failing_reader_is_a_fault_of_reading(rt: HostRuntime) {
     }
 }
 
-// Reads a script of this length, and how many bytes the reader has left.
+/// Reads a script of this length, and how many bytes the reader has left.
 fn read_plenty(alloc: Global, length: usize) -> (Result<usize, ReadingFault>, usize) {
     let mut reader = CountedReader::new(Plenty { left: length });
     let outcome = read_script(alloc, &mut reader);

@@ -26,7 +26,7 @@ struct Ending {
     failed_writes: u64,
 }
 
-// The reader gives one byte a call, and fails at the call numbered `fails_at`.
+/// The reader gives one byte a call, and fails at the call numbered `fails_at`.
 fn read_until(alloc: Global, fails_at: u64) -> Ending {
     let mut reader = CountedReader::new(OneByOne {
         bytes: SCRIPT,
@@ -45,7 +45,7 @@ fn read_until(alloc: Global, fails_at: u64) -> Ending {
     }
 }
 
-// The writer takes one byte a call, and none at the call numbered `stops_at`.
+/// The writer takes one byte a call, and none at the call numbered `stops_at`.
 fn written_until(alloc: Global, stops_at: u64, fails: bool) -> Ending {
     let mut reader = CountedReader::new(SCRIPT);
     let mut writer = CountedWriter::new(Reluctant {
@@ -65,7 +65,7 @@ fn written_until(alloc: Global, stops_at: u64, fails: bool) -> Ending {
     }
 }
 
-// Whether it ended so, with this text and so many failures, or with the want of memory and a front of the answer.
+/// Whether it ended so, with this text and so many failures, or with the want of memory and a front of the answer.
 fn ends(ending: &Ending, outcome: Result<(), RunFault>, text: &[u8], failures: (u64, u64)) -> bool {
     if ending.outcome == Err(RunFault::NoMemory) {
         return ANSWER.starts_with(&ending.text);
@@ -89,7 +89,7 @@ fn a_failing_reader_leaves_the_writer(rt: HostRuntime) {
     assert!(rt; ends(&ending, Ok(()), ANSWER, (0, 0)));
 }
 
-// The writer stops at each of its calls in turn.
+/// The writer stops at each of its calls in turn.
 fn stops_everywhere(rt: &(impl Abort + AllocGlobal), fails: bool) {
     for written in 0..ANSWER.len() {
         let ending = written_until(rt.alloc(), written as u64 + 1, fails);

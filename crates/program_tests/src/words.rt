@@ -14,13 +14,13 @@ struct Ending {
 }
 
 impl Ending {
-    // Whether it ended with this status, wrote nothing and told this.
+    /// Whether it ended with this status, wrote nothing and told this.
     fn tells(&self, status: u8, text: &[u8]) -> bool {
         self.status == status && self.written.is_empty() && self.told.as_slice() == text
     }
 }
 
-// Does what the words say over a script. Ends with the want of memory where the program does.
+/// Does what the words say over a script. Ends with the want of memory where the program does.
 fn end_of(rt: &HostRuntime, words: &[&str], script: &[u8]) -> Result<Ending, AllocError> {
     let mut reader = CountedReader::new(script);
     let mut writer = CountedWriter::new(Vec::with_capacity(rt.alloc(), 8192)?);
@@ -36,7 +36,7 @@ fn end_of(rt: &HostRuntime, words: &[&str], script: &[u8]) -> Result<Ending, All
     })
 }
 
-// Whether clap refuses these words, with its own text.
+/// Whether clap refuses these words, with its own text.
 fn is_refused(rt: &HostRuntime, words: &[&str]) -> Result<bool, AllocError> {
     let ending = end_of(rt, words, b"")?;
     let refused = ending.status == 2 && ending.written.is_empty();
@@ -70,7 +70,7 @@ fn another_format_is_unknown(rt: HostRuntime) -> Result<(), AllocError> {
     Ok(())
 }
 
-// Whether these words show a help that has this usage and the example.
+/// Whether these words show a help that has this usage and the example.
 fn shows_help(rt: &HostRuntime, words: &[&str], usage: &str) -> Result<bool, AllocError> {
     let ending = end_of(rt, words, b"")?;
     let Ok(text) = str::from_utf8(&ending.written) else {
@@ -110,12 +110,12 @@ fn a_bad_record_is_told(rt: HostRuntime) -> Result<(), AllocError> {
 // The status, and what is told.
 type Told = (u8, Vec<u8>);
 
-// Whether that is this status and text, or the want of memory.
+/// Whether that is this status and text, or the want of memory.
 fn is_told(told: &Told, status: u8, text: &[u8]) -> bool {
     told.0 == 4 || (told.0 == status && told.1.as_slice() == text)
 }
 
-// Over a script that is too long.
+/// Over a script that is too long.
 fn told_too_long(rt: &HostRuntime) -> Result<Told, AllocError> {
     let mut reader = CountedReader::new(Plenty { left: 16_777_217 });
     let mut writer = CountedWriter::new(Vec::new(rt.alloc()));
@@ -132,7 +132,7 @@ fn a_script_too_long_is_told(rt: HostRuntime) -> Result<(), AllocError> {
     Ok(())
 }
 
-// Where the reader fails at its third call.
+/// Where the reader fails at its third call.
 fn told_of_reader(rt: &HostRuntime) -> Result<Told, AllocError> {
     let mut reader = CountedReader::new(OneByOne {
         bytes: b"settings,1,1,1,1\n",
@@ -146,7 +146,7 @@ fn told_of_reader(rt: &HostRuntime) -> Result<Told, AllocError> {
     Ok((status, told))
 }
 
-// Where the writer fails at its third call.
+/// Where the writer fails at its third call.
 fn told_of_writer(rt: &HostRuntime, word: &str) -> Result<Told, AllocError> {
     let mut reader = CountedReader::new(b"settings,1,1,1,1\n".as_slice());
     let mut writer = CountedWriter::new(Reluctant {
@@ -181,7 +181,7 @@ fn a_failed_stream_is_told(rt: HostRuntime) -> Result<(), AllocError> {
     Ok(())
 }
 
-// Where the words could not be had.
+/// Where the words could not be had.
 fn told_of_words(rt: &HostRuntime, kind: io::ErrorKind) -> Result<Told, AllocError> {
     let mut told = Vec::with_capacity(rt.alloc(), 1024)?;
     let status = tell_unread(&io::Error::from(kind), &mut told);

@@ -90,7 +90,7 @@ fn events_at_their_limits(rt: HostRuntime) -> Result<(), Fail> {
     Ok(())
 }
 
-// The lesser number is altered last, and the greater still comes later in the slot.
+/// The lesser number is altered last, and the greater still comes later in the slot.
 #[test]
 fn two_limits_of_one_slot(rt: HostRuntime) -> Result<(), Fail> {
     let mut s = Scenario::new(rt.alloc(), Settings::new(2, 1, 2)?);

@@ -28,7 +28,7 @@ impl Twin {
         })
     }
 
-    // The list's key of the task, which goes.
+    /// The list's key of the task, which goes.
     fn take_listed(&mut self, task: u32) -> Option<Key> {
         let at = self
             .waiters
@@ -37,7 +37,7 @@ impl Twin {
         Some(self.waiters.remove(at).key)
     }
 
-    // The task of the list's first ready key in the order.
+    /// The task of the list's first ready key in the order.
     fn first_ready(&self, meter: &mut Meter) -> Option<u32> {
         let mut first: Option<Key> = None;
         for waiter in &self.waiters {

@@ -31,7 +31,7 @@ impl Twin {
         self.list.iter().any(|key| key.task() == task)
     }
 
-    // The place of the key in the list.
+    /// The place of the key in the list.
     fn place(&self, meter: &mut Meter, key: &Key) -> usize
         ensures { result ≤ vec_len self.now.list }
     {
@@ -43,7 +43,7 @@ impl Twin {
         self.list.len()
     }
 
-    // Adds the key to the list alone.
+    /// Adds the key to the list alone.
     fn list_key(&mut self, meter: &mut Meter, key: Key) -> Result<(), AllocError>
         ensures { self.new.heap ≡ self.old.heap }
     {

@@ -48,7 +48,7 @@ fn insert_again(s: &mut Scenario, events: &[Numbered]) -> Result<bool, ApplyFaul
     Ok(refused)
 }
 
-// The table of joins grows twice: for the task's first join, and for a join of a greater task.
+/// The table of joins grows twice: for the task's first join, and for a join of a greater task.
 #[test]
 fn changes_are_made_again(rt: HostRuntime) -> Result<(), Fail> {
     let mut s = Scenario::new(rt.alloc(), Settings::new(1, 6, 6)?);

@@ -4,11 +4,11 @@ use Rattle.std.proofs.lemmas.Bool.{ltb-true, ltb-false}
 use Rattle.std.proofs.lemmas.List.{get_or_read}
 use Rattle.std.proofs.lemmas.List.Sorted.{IsPartitionPoint-from_clause, IsPartitionedBy-ltb}
 use Rattle.pf_calendar.specs.declared.entry.Entry.{Entry}
-use Rattle.pf_calendar.specs.Steps.{IsPlace, HasEntry}
+use Rattle.pf_calendar.specs.Steps.{IsSlotPlace, HasEntry}
 use Rattle.pf_calendar.proofs.names.open.Goals as goal
 use Rattle.pf_calendar.proofs.names.open.Goals.{After-partition_point-at, else-at-len-via-then-at-len+else-index-slot, else-at-len-via-else-at-len}
 
-place_from : (es : List Entry) (slot at : ℕ) → at ≤ length es → IsPartitionPoint (λ e. ltb e.slot slot ≡ true) (λ e. ltb e.slot slot ≡ false) es at → IsPlace es slot at
+place_from : (es : List Entry) (slot at : ℕ) → at ≤ length es → IsPartitionPoint (λ e. ltb e.slot slot ≡ true) (λ e. ltb e.slot slot ≡ false) es at → IsSlotPlace es slot at
 place_from es slot at le p = record {
   within = le;
   before = λ k d lt. ltb-true (get_or es k d).slot slot (p.0 k d (omega arith) lt);
@@ -16,13 +16,13 @@ place_from es slot at le p = record {
 }
 
 -- the partition point is the slot's place
-place : (c : After-partition_point-at) → IsPlace c.args.entries.now.items c.args.slot c.partition_point-at.result
+place : (c : After-partition_point-at) → IsSlotPlace c.args.entries.now.items c.args.slot c.partition_point-at.result
 place c =
     let at = c.partition_point-at.result in
     let rise = subst (λ l. IsNonDecreasingBy (λ (e : Entry). e.slot) l) (sym c.deref.ensures.value) c.requires.rise in
     let p = IsPartitionPoint-from_clause (λ (e : Entry). ltb e.slot c.args.slot) c.deref.result.now at c.partition_point-at.ensures.partitioned
     (IsPartitionedBy-ltb (λ (e : Entry). e.slot) c.deref.result.now c.args.slot rise) (λ a r g h. search rules) in
-    subst (λ l. IsPlace l c.args.slot at) c.deref.ensures.value (place_from c.deref.result.now c.args.slot at c.partition_point-at.ensures.bound p)
+    subst (λ l. IsSlotPlace l c.args.slot at) c.deref.ensures.value (place_from c.deref.result.now c.args.slot at c.partition_point-at.ensures.bound p)
 
 pub returns-then-index-slot-clause-opened : goal.returns-then-index-slot-clause-opened
 returns-then-index-slot-clause-opened c =

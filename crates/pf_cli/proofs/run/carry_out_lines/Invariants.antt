@@ -1,5 +1,5 @@
 use Rattle.std.proofs.Common.{◌≡◌, ◌+◌, ◌^◌, ◌<◌, length}
-use Rattle.pf_cli.specs.Meaning.{behind}
+use Rattle.pf_cli.specs.Meaning.{text_and_then}
 use Rattle.pf_cli.proofs.Scripts.{IsUnderWay, to_come}
 use Rattle.pf_cli.proofs.run.carry_out_lines.Given as goal
 
@@ -7,7 +7,7 @@ use Rattle.pf_cli.proofs.run.carry_out_lines.Given as goal
 abbrev pub invariant-records : goal.invariant-records
 invariant-records g l = record {
   way : IsUnderWay l.version l.number l.session l.script (g.W.Write.contents l.fn.writer) (g.W.Write.contents l.writer)
-      (behind l.fn.session.lines (to_come l.version l.fn.first l.fn.session l.fn.script));
+      (text_and_then l.fn.session.lines (to_come l.version l.fn.first l.fn.session l.fn.script));
   count : g.W.Sink.failed l.writer ≡ g.W.Sink.failed l.fn.writer;
   counted : l.number + length l.script < 2 ^ 64;
 }

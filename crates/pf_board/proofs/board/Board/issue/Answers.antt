@@ -3,7 +3,7 @@ use Rattle.pf_board.specs.declared.quantum.Quantum.{Quantum}
 use Rattle.pf_board.specs.declared.view.View.{View}
 use Rattle.atomic_table.specs.Seated.{TableId}
 use Rattle.pf_board.specs.Passes.{Keeping, but}
-use Rattle.pf_board.specs.Quanta.{without}
+use Rattle.pf_board.specs.Quanta.{quanta_without}
 use Rattle.pf_board.specs.Views.{keeping}
 use Rattle.pf_board.specs.Words.{FitsWord, word_of, quantum_at}
 use Rattle.pf_board.proofs.Cells.{puts}
@@ -41,5 +41,5 @@ returns g c =
     let is = is_quantum q c.encode-bits.result.bits c.requires.fits c.encode-bits.ensures in
     let put = rw is at (e.0 q.processor refl).same in
     ap (λ (v : View g.row.E.Denot g.row.I-Terms.Denot). keeping c.store.new.seat.table_id v) put
-    ∙ (ap (λ (t : TableId). record (keeping t c.keeper.inside.seat.me.0) { left = without q c.keeper.inside.seat.me.0.left; empty = but q.processor c.keeper.inside.seat.me.0.empty }) c.store.ensures.0
-    ∙ ap (λ (k : Keeping g.row.E.Denot g.row.I-Terms.Denot). record k { left = without q k.left; empty = but q.processor k.empty }) c.keeper.view_is)
+    ∙ (ap (λ (t : TableId). record (keeping t c.keeper.inside.seat.me.0) { left = quanta_without q c.keeper.inside.seat.me.0.left; empty = but q.processor c.keeper.inside.seat.me.0.empty }) c.store.ensures.0
+    ∙ ap (λ (k : Keeping g.row.E.Denot g.row.I-Terms.Denot). record k { left = quanta_without q k.left; empty = but q.processor k.empty }) c.keeper.view_is)

@@ -7,7 +7,7 @@ use Rattle.pf_order.proofs.Comparing.{compares_within}
 use Rattle.pf_heap.specs.Keys.{list_of}
 use Rattle.pf_heap.proofs.Digits.{digits-mono}
 use Rattle.pf_calendar.specs.declared.entry.Entry.{Entry}
-use Rattle.pf_calendar.specs.Queues.{Queues, list_at, count_of}
+use Rattle.pf_calendar.specs.Queues.{Queues, list_at, key_count}
 use Rattle.pf_calendar.proofs.Naming.{no_entry}
 use Rattle.pf_calendar.proofs.Arranged.{entry_listed}
 use Rattle.pf_calendar.proofs.Whole.{none_empty, IsCalendarAfter, has_unused, slots_rise, some_free, absent_from, opened, opened_within, opened_size, put_done, with_room, count_is}
@@ -67,12 +67,12 @@ returns-clause-comparisons c =
     let e = c.index-entry.result.now in
     compares_within
     (
-    digits-mono (set.len (list_of heaps e.heap) + 1) (count_of c.args.self.now + 1)
+    digits-mono (set.len (list_of heaps e.heap) + 1) (key_count c.args.self.now + 1)
     (omega (
       arith,
       ap (λ (x : Entry). set.len (list_of heaps x.heap)) (entry_is (goal.at.returns-clause-comparisons c).After-index-entry),
       opened_size laid c.open-at.ensures.opened,
-      ap count_of c.self.view_is,
+      ap key_count c.self.view_is,
       count_is laid (c.self.inside.limit - c.self.inside.held),
     ))
     ) c.insert.ensures.comparisons

@@ -2,7 +2,7 @@ use Rattle.std.proofs.Common.{◌≡◌, ℕ, ◌+◌, ◌-◌, ◌^◌, ◌≤�
 use Rattle.std.specs.Prelude.{replicate}
 use Rattle.std.specs.FinSet as set
 use Rattle.std.specs.Vec.{vec_capacity}
-use Rattle.pf_calendar.specs.Queues.{Queues, count_of}
+use Rattle.pf_calendar.specs.Queues.{Queues, key_count}
 use Rattle.pf_calendar.specs.Invariant.{IsCalendar}
 use Rattle.pf_calendar.specs.Steps.{AddsHeaps}
 use Rattle.pf_calendar.proofs.Merging.{append_none}
@@ -32,7 +32,7 @@ grown c =
 fits : (c : After-add_heaps) → c.self.inside.held + c.args.n ≤ 2 ^ 32 - 3
 fits c =
     let laid = c.self.invariant.laid in
-    omega (arith, c.requires, laid.held_is, ap count_of c.self.view_is, count_is laid (c.self.inside.limit - c.self.inside.held))
+    omega (arith, c.requires, laid.held_is, ap key_count c.self.view_is, count_is laid (c.self.inside.limit - c.self.inside.held))
 
 -- the calendar with n more heaps, under a limit that they are enough for
 enough : (c : After-add_heaps) (n limit : ℕ) → n ≤ c.saturating_sub-more.result → AddsHeaps c.reserve.new.self c.add_heaps.new.heaps c.reserve-3.new.self.items c.add_heaps.new.names.items n →
@@ -89,7 +89,7 @@ add_heaps-requires-clause-few c =
       arith,
       c.requires,
       laid.held_is,
-      ap count_of c.self.view_is,
+      ap key_count c.self.view_is,
       count_is laid (c.self.inside.limit - c.self.inside.held),
       laid.many,
       laid.small,

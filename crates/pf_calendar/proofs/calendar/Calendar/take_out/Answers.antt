@@ -10,7 +10,7 @@ use Rattle.pf_heap.specs.Digits.{digits}
 use Rattle.pf_heap.proofs.Digits.{digits-mono}
 use Rattle.pf_calendar.specs.Invariant.{waiting_in}
 use Rattle.pf_calendar.specs.declared.entry.Entry.{Entry}
-use Rattle.pf_calendar.specs.Queues.{Queues, count_of, IsHeld, TakesOut, EachTaskOnce, NoneEmpty}
+use Rattle.pf_calendar.specs.Queues.{Queues, key_count, IsQueued, TakesOut, EachTaskOnce, NoneEmpty}
 use Rattle.pf_calendar.specs.Steps.{RemovesAt}
 use Rattle.pf_calendar.proofs.Naming.{no_entry}
 use Rattle.pf_calendar.proofs.Arranged.{ready_listed, entry_listed}
@@ -75,14 +75,14 @@ returns-in_default-remove_waiting-clause-taken c =
     let none : All (λ (e : Entry). HasNone (list_of heaps e.heap) c.args.task) es =
     subst (λ (h : Heaps). All (λ (e : Entry). HasNone (list_of h e.heap) c.args.task) es) c.in_default.ensures.removed.1
     (subst (λ (l : List Entry). All (λ (e : Entry). HasNone (list_of c.remove.new.self e.heap) c.args.task) l) c.deref.ensures.value c.in_default-remove_waiting.ensures.removed.1) in (
-      subst (λ (q : Queues). ¬ (IsHeld q c.args.task)) c.self.view_is
+      subst (λ (q : Queues). ¬ (IsQueued q c.args.task)) c.self.view_is
           (not_held c.self.invariant.laid (c.self.inside.limit - c.self.inside.held) c.args.task c.in_default.ensures.removed.0 none),
       ap (λ h. seen h c.self.inside.ready es (c.self.inside.limit - c.self.inside.held)) same ∙ c.self.view_is,
     )
 
 pub returns-in_default-remove_waiting-clause-comparisons : goal.returns-in_default-remove_waiting-clause-comparisons
 returns-in_default-remove_waiting-clause-comparisons c =
-    waiting_made _ c.remove.new.meter c.remove_waiting.new.meter _ c.remove.new.self _ c.deref.result.now (count_of c.args.self.now) c.in_default.ensures.unfound c.in_default.ensures.removed.1 c.deref.ensures.value
+    waiting_made _ c.remove.new.meter c.remove_waiting.new.meter _ c.remove.new.self _ c.deref.result.now (key_count c.args.self.now) c.in_default.ensures.unfound c.in_default.ensures.removed.1 c.deref.ensures.value
     (waiting_within c.self.invariant.laid c.self.view_is)
     c.in_default-remove_waiting.ensures.comparisons
 
@@ -119,7 +119,7 @@ returns-clause-taken c =
 
 pub returns-clause-comparisons : goal.returns-clause-comparisons
 returns-clause-comparisons c =
-    waiting_made _ c.remove.new.meter c.remove_waiting.new.meter _ c.remove.new.self _ c.deref.result.now (count_of c.args.self.now) c.in_default.ensures.unfound c.in_default.ensures.removed.1 c.deref.ensures.value
+    waiting_made _ c.remove.new.meter c.remove_waiting.new.meter _ c.remove.new.self _ c.deref.result.now (key_count c.args.self.now) c.in_default.ensures.unfound c.in_default.ensures.removed.1 c.deref.ensures.value
     (waiting_within c.self.invariant.laid c.self.view_is)
     c.in-Some-remove_waiting.ensures.comparisons
 

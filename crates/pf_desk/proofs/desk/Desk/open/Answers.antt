@@ -1,17 +1,17 @@
 use Rattle.std.proofs.Common.{refl}
-use Rattle.pf_scenario.specs.Scenario.{opening}
+use Rattle.pf_scenario.specs.Scenario.{opening_plan}
 use Rattle.pf_desk.proofs.Entering.{opening_kept, opening_shown, is_desk}
 use Rattle.pf_desk.proofs.desk.Desk.open.Goals as goal
 
 pub invariant_of-result : goal.invariant_of-result
 invariant_of-result c =
     rw (c.new-2.ensures.value, c.new-3.ensures.items)
-    (opening_kept c.args.settings c.in-Ok.timeline (c.in-Ok.ensures.stands (opening c.args.settings) refl (rw c.new-2.ensures.value at c.new-2.ensures.scenario)))
+    (opening_kept c.args.settings c.in-Ok.timeline (c.in-Ok.ensures.stands (opening_plan c.args.settings) refl (rw c.new-2.ensures.value at c.new-2.ensures.scenario)))
 
 pub returns-clause-value : goal.returns-clause-value
 returns-clause-value c =
     rw (c.new-2.ensures.value, c.new-3.ensures.items)
-    (opening_shown c.args.settings c.in-Ok.timeline (c.in-Ok.ensures.stands (opening c.args.settings) refl (rw c.new-2.ensures.value at c.new-2.ensures.scenario)))
+    (opening_shown c.args.settings c.in-Ok.timeline (c.in-Ok.ensures.stands (opening_plan c.args.settings) refl (rw c.new-2.ensures.value at c.new-2.ensures.scenario)))
 
 pub returns-clause-desk : goal.returns-clause-desk
 returns-clause-desk c = is_desk _ _ _ (invariant_of-result c)

@@ -1,5 +1,5 @@
 use Rattle.std.proofs.Common.{◌≡◌, ◌+◌, ◌≤◌, ◌++◌, length, drop, vec_len, vec_capacity}
-use Rattle.pf_engine.specs.Kept.{kept_after_events, denials_in}
+use Rattle.pf_engine.specs.Kept.{kept_after_events, denials_of_slot}
 use Rattle.pf_engine.specs.Points.{IsAt}
 use Rattle.pf_engine.specs.Keeping.{kept_of}
 use Rattle.pf_engine.proofs.state.State.take_events.Given as goal
@@ -10,5 +10,5 @@ invariant-loop-x l = record {
   spare : length l.events ≤ l.self.tasks.spare + l.x-index;
   room : vec_len l.denials + length l.events ≤ vec_capacity l.denials + l.x-index;
   state : kept_after_events (kept_of l.self) (drop l.x-index l.events) ≡ kept_after_events (kept_of l.fn.self) l.events;
-  given : l.denials.items ++ denials_in (kept_of l.self) (drop l.x-index l.events) ≡ l.fn.denials.items ++ denials_in (kept_of l.fn.self) l.events;
+  given : l.denials.items ++ denials_of_slot (kept_of l.self) (drop l.x-index l.events) ≡ l.fn.denials.items ++ denials_of_slot (kept_of l.fn.self) l.events;
 }

@@ -3,7 +3,7 @@ use Rattle.std.specs.Vec.{vec_capacity}
 use Rattle.std.specs.FinSet as fin
 use Rattle.pf_table.specs.Grown.{Grown}
 use Rattle.pf_heap.specs.Forest.{none}
-use Rattle.pf_heap.specs.Keys.{list_of, with_list, without}
+use Rattle.pf_heap.specs.Keys.{list_of, with_list, other_keys}
 use Rattle.pf_heap.specs.Digits.{digits}
 use Rattle.pf_heap.proofs.Lists.{written_back}
 use Rattle.pf_heap.proofs.Whole.{place_read, place_low, each_task_once, name_within, has_heap, IsArenaAfter, arena_as}
@@ -67,7 +67,7 @@ done : (c : After-set) → IsNodeOf c.self.inside.places.0 (get_or c.self.invari
     (set c.self.inside.heads.items c.h.inside.index c.cut_node-left.result.0)
     c.set.new.self.0
     c.cut_node-left.result.1 (c.self.inside.room + 1) (vec_capacity c.self.inside.nodes)
-    (record (with_list c.args.self.now c.args.h (without (list_of c.args.self.now c.args.h) c.args.task)) { spare = c.args.self.now.spare + 1 })
+    (record (with_list c.args.self.now c.args.h (other_keys (list_of c.args.self.now c.args.h) c.args.task)) { spare = c.args.self.now.spare + 1 })
     (2 * digits (fin.len (list_of c.args.self.now c.args.h))) c.args.meter.now c.cut_node-left.new.meter
 done c n =
     let long : length c.cut_node-left.new.nodes ≡ length c.self.inside.nodes.items = omega (arith, ap length c.deref_mut.ensures.value) in

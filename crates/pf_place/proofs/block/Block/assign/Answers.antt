@@ -1,12 +1,12 @@
 use Rattle.std.proofs.Common.{◌≤◌, ◌∙◌, length, subst, ap, sym, arith}
-use Rattle.pf_place.specs.Blocks.{Held, IsCut}
+use Rattle.pf_place.specs.Blocks.{Held, AreCutAt}
 use Rattle.pf_place.proofs.Blocks.{ends_from_cut}
 use Rattle.pf_place.proofs.block.Block.assign.Goals as goal
 
 pub unreachable-requires-in-Err-extend_from_slice : goal.unreachable-requires-in-Err-extend_from_slice
 unreachable-requires-in-Err-extend_from_slice c =
     let other = c.other.inside in
-    let cut = subst (λ (v : Held). IsCut v.rows other.ends.items other.places.items) c.other.view_is c.other.invariant in
+    let cut = subst (λ (v : Held). AreCutAt v.rows other.ends.items other.places.items) c.other.view_is c.other.invariant in
     let room = subst (λ (v : Held). length c.args.other.now.rows ≤ v.rows_room) (sym c.self.view_is) c.requires.for_rows in
     omega (
       arith,

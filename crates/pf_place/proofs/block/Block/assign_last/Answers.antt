@@ -1,12 +1,12 @@
 use Rattle.std.proofs.Common.{◌-◌, ◌∷◌, ◌∙◌, get_or, length, subst, ap, sym, arith}
-use Rattle.pf_place.specs.Blocks.{Held, IsCut}
+use Rattle.pf_place.specs.Blocks.{Held, AreCutAt}
 use Rattle.pf_place.proofs.Blocks.{last_is_rest, cut_other, cut_from_cut, rows_from_cut, written_back}
 use Rattle.pf_place.proofs.block.Block.assign_last.Goals as goal
 
 pub assign_from-requires : goal.assign_from-requires
 assign_from-requires c =
     let inside = c.self.inside in
-    let cut = subst (λ (v : Held). IsCut v.rows inside.ends.items inside.places.items) c.self.view_is c.self.invariant in
+    let cut = subst (λ (v : Held). AreCutAt v.rows inside.ends.items inside.places.items) c.self.view_is c.self.invariant in
     let last_is = ap (λ n. n - 1) (c.len-last.ensures ∙ inside.ends.ok.0) in
     let start_is = c.start_of-start.ensures ∙ ap (λ ends. get_or (0 ∷ ends) (c.len-last.result - 1) 0) c.deref.ensures.value in
     omega (arith, last_is_rest c.args.self.now.rows inside.ends.items inside.places.items cut c.requires.some _ _ last_is start_is, c.requires.long, ap length c.deref_mut.ensures.value)
@@ -14,7 +14,7 @@ assign_from-requires c =
 pub invariant_of-self : goal.invariant_of-self
 invariant_of-self c =
     let inside = c.self.inside in
-    let cut = subst (λ (v : Held). IsCut v.rows inside.ends.items inside.places.items) c.self.view_is c.self.invariant in
+    let cut = subst (λ (v : Held). AreCutAt v.rows inside.ends.items inside.places.items) c.self.view_is c.self.invariant in
     let last_is = ap (λ n. n - 1) (c.len-last.ensures ∙ inside.ends.ok.0) in
     let start_is = c.start_of-start.ensures ∙ ap (λ ends. get_or (0 ∷ ends) (c.len-last.result - 1) 0) c.deref.ensures.value in
     let other = cut_other c.args.self.now.rows inside.ends.items inside.places.items cut c.requires.some _ _ last_is start_is c.args.row.now c.requires.long in
@@ -24,7 +24,7 @@ invariant_of-self c =
 pub returns-clause-rows : goal.returns-clause-rows
 returns-clause-rows c =
     let inside = c.self.inside in
-    let cut = subst (λ (v : Held). IsCut v.rows inside.ends.items inside.places.items) c.self.view_is c.self.invariant in
+    let cut = subst (λ (v : Held). AreCutAt v.rows inside.ends.items inside.places.items) c.self.view_is c.self.invariant in
     let last_is = ap (λ n. n - 1) (c.len-last.ensures ∙ inside.ends.ok.0) in
     let start_is = c.start_of-start.ensures ∙ ap (λ ends. get_or (0 ∷ ends) (c.len-last.result - 1) 0) c.deref.ensures.value in
     let other = cut_other c.args.self.now.rows inside.ends.items inside.places.items cut c.requires.some _ _ last_is start_is c.args.row.now c.requires.long in

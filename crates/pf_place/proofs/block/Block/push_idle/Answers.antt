@@ -1,5 +1,5 @@
 use Rattle.std.proofs.Common.{◌≡◌, ◌+◌, ◌++◌, Option, None, [], ◌∷◌, length, replicate, subst, ap, ap₂, ◌∙◌, arith}
-use Rattle.pf_place.specs.Blocks.{Held, IsCut}
+use Rattle.pf_place.specs.Blocks.{Held, AreCutAt}
 use Rattle.std.proofs.lemmas.List.{take_all, length-replicate}
 use Rattle.pf_order.specs.declared.pick.Pick.{Pick}
 use Rattle.pf_place.specs.Occupancy.{idle_row}
@@ -9,7 +9,7 @@ use Rattle.pf_place.proofs.block.Block.push_idle.Goals as goal
 pub invariant_of-self-2 : goal.invariant_of-self-2
 invariant_of-self-2 c =
     let inside = c.self.inside in
-    let cut = subst (λ (v : Held). IsCut v.rows inside.ends.items inside.places.items) c.self.view_is c.self.invariant in
+    let cut = subst (λ (v : Held). AreCutAt v.rows inside.ends.items inside.places.items) c.self.view_is c.self.invariant in
     let places : c.resize.new.self.items ≡ inside.places.items ++ idle_row c.args.m =
     c.in-Ok.ensures.items
     ∙ ap₂ (λ front n. front ++ replicate n None)
@@ -25,7 +25,7 @@ invariant_of-self-2 c =
 pub returns-clause-ok : goal.returns-clause-ok
 returns-clause-ok c =
     let inside = c.self.inside in
-    let cut = subst (λ (v : Held). IsCut v.rows inside.ends.items inside.places.items) c.self.view_is c.self.invariant in
+    let cut = subst (λ (v : Held). AreCutAt v.rows inside.ends.items inside.places.items) c.self.view_is c.self.invariant in
     let places : c.resize.new.self.items ≡ inside.places.items ++ idle_row c.args.m =
     c.in-Ok.ensures.items
     ∙ ap₂ (λ front n. front ++ replicate n None)

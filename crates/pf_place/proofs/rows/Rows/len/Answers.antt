@@ -1,6 +1,6 @@
 use Rattle.std.proofs.Common.{◌≡◌, ◌*◌, ◌+◌, length, length-append, ap, sym, ◌∙◌, arith}
 use Rattle.pf_place.specs.Filed.{rows_of_each}
-use Rattle.pf_place.specs.Blocks.{joined}
+use Rattle.pf_place.specs.Blocks.{all_rows_of}
 use Rattle.pf_place.proofs.Filed.{length-full, count_blocks}
 use Rattle.pf_place.proofs.rows.Rows.len.Goals as goal
 
@@ -17,7 +17,7 @@ returns c =
     omega (
       arith,
       ap length c.self.view_is,
-      length-append (joined full) inside.open.rows,
+      length-append (all_rows_of full) inside.open.rows,
       length-full full c.self.invariant.whole,
       count_blocks inside.full.items,
       inside.full.ok.0,

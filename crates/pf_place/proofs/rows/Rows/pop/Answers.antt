@@ -2,7 +2,7 @@ use Rattle.std.proofs.Common.{◌≡◌, ◌<◌, ◌++◌, [], ◌∷◌, lengt
 use Rattle.pf_place.specs.Filed.{AreFiled, rows_of_each}
 use Rattle.std.specs.Arc.{arc_value}
 use Rattle.std.proofs.lemmas.List.{append-nil}
-use Rattle.pf_place.specs.Blocks.{joined, Held, HasRoomFor}
+use Rattle.pf_place.specs.Blocks.{all_rows_of, Held, HasRoomFor}
 use Rattle.pf_place.specs.RunRows.{but_last}
 use Rattle.pf_place.proofs.Filed.{room_for_last, filed_opened, filed_open, blocks_more, but_last_in_open, joined-more, count_blocks, room_more, nothing_left}
 use Rattle.pf_place.proofs.rows.Rows.pop.Goals as goal
@@ -44,16 +44,16 @@ returns-in-Some c =
     let filed = subst (λ xs. AreFiled xs inside.open) full_is c.self.invariant in
     let some : 0 < length inside.open.rows = omega (arith, c.len.ensures) in
     let empty : but_last inside.open.rows ≡ [] = sym c.pop.ensures.rows ∙ nothing_left c.pop.new.self.rows (omega (arith, c.len-2.ensures)) in
-    ap (λ rows. joined full ++ rows) (c.assign.ensures.rows ∙ ap (λ (held : Held). held.rows) c.deref.ensures ∙ sym (append-nil block))
+    ap (λ rows. all_rows_of full ++ rows) (c.assign.ensures.rows ∙ ap (λ (held : Held). held.rows) c.deref.ensures ∙ sym (append-nil block))
     ∙ sym (joined-more full block [])
-    ∙ ap₂ (λ xs rows. joined xs ++ rows) (sym full_is) (sym empty)
-    ∙ sym (but_last_in_open (joined old) inside.open.rows some)
+    ∙ ap₂ (λ xs rows. all_rows_of xs ++ rows) (sym full_is) (sym empty)
+    ∙ sym (but_last_in_open (all_rows_of old) inside.open.rows some)
     ∙ ap but_last c.self.view_is
 
 pub returns-else-len-eq0-2 : goal.returns-else-len-eq0-2
 returns-else-len-eq0-2 c =
     let inside = c.self.inside in
     let full = rows_of_each inside.full.items in
-    ap (λ rows. joined full ++ rows) c.pop.ensures.rows
-    ∙ sym (but_last_in_open (joined full) inside.open.rows (omega (arith, c.len.ensures)))
+    ap (λ rows. all_rows_of full ++ rows) c.pop.ensures.rows
+    ∙ sym (but_last_in_open (all_rows_of full) inside.open.rows (omega (arith, c.len.ensures)))
     ∙ ap but_last c.self.view_is

@@ -1,4 +1,4 @@
-use Rattle.pf_scenario.specs.Scenario.{without}
+use Rattle.pf_scenario.specs.Scenario.{events_without}
 use Rattle.std.proofs.Common.{refl, sym}
 use Rattle.pf_scenario.proofs.Indexing.{joins_beside, none_joins, is_no_join}
 use Rattle.pf_scenario.proofs.index.Index.joins_beside.Goals as goal
@@ -9,4 +9,4 @@ returns-in-Join c =
     rw (c.notes_other.ensures, c.deref.ensures.value, c.in-Join.is, ← c.self.view_is) (sym told)
 
 pub returns-in-Leave : goal.returns-in-Leave
-returns-in-Leave c = sym (none_joins c.args.event.now (without c.args.id c.args.self.now) (λ t. is_no_join c.args.event.now t c.in-Leave.is))
+returns-in-Leave c = sym (none_joins c.args.event.now (events_without c.args.id c.args.self.now) (λ t. is_no_join c.args.event.now t c.in-Leave.is))

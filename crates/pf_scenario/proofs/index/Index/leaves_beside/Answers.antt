@@ -1,4 +1,4 @@
-use Rattle.pf_scenario.specs.Scenario.{without}
+use Rattle.pf_scenario.specs.Scenario.{events_without}
 use Rattle.std.proofs.Common.{refl, sym}
 use Rattle.pf_scenario.proofs.Indexing.{leaves_beside, none_leaves, is_no_leave}
 use Rattle.pf_scenario.proofs.index.Index.leaves_beside.Goals as goal
@@ -9,4 +9,4 @@ returns-in-Leave c =
     rw (c.notes_other.ensures, c.deref.ensures.value, c.in-Leave.is, ← c.self.view_is) (sym told)
 
 pub returns-in-Join : goal.returns-in-Join
-returns-in-Join c = sym (none_leaves c.args.event.now (without c.args.id c.args.self.now) (λ t. is_no_leave c.args.event.now t c.in-Join.is))
+returns-in-Join c = sym (none_leaves c.args.event.now (events_without c.args.id c.args.self.now) (λ t. is_no_leave c.args.event.now t c.in-Join.is))

@@ -1,6 +1,6 @@
 use Rattle.std.proofs.Common.{sym, subst}
 use Rattle.std.specs.List.{remove}
-use Rattle.pf_scenario.specs.Index.{IsNew}
+use Rattle.pf_scenario.specs.Index.{IsNewEvent}
 use Rattle.pf_scenario.proofs.Indexing.{split_here, indexed_grown, room_held, indexed_taken, indexed_put}
 use Rattle.pf_scenario.proofs.index.Index.replace.Goals as goal
 
@@ -24,5 +24,5 @@ invariant_of-self-2 c =
     let out = c.remove.ensures.items in
     let put = rw (c.deref-2.ensures.value, out) at c.place_for-place.ensures.put in
     let gone = rw c.deref.ensures.value at c.place_held-from.ensures.taken in
-    let new = subst (IsNew c.args.x) (sym gone) (rw (← c.self.view_is) at c.requires.new) in
+    let new = subst (IsNewEvent c.args.x) (sym gone) (rw (← c.self.view_is) at c.requires.new) in
     rw (c.in-Ok.ensures.items, out) (indexed_put (remove order i) _ _ _ _ c.args.x c.place_for-place.result taken new put c.note-2.ensures.joins c.note-2.ensures.leaves)
