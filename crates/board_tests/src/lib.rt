@@ -4,7 +4,6 @@
 
 #[cfg(test)]
 mod board;
-#[cfg(test)]
 mod entry;
 #[cfg(test)]
 mod growths;

@@ -3,21 +3,25 @@ use Rattle.std.proofs.Common.{◌≡◌, ◌≢◌, ℕ, zero, suc, ◌+◌, ◌
 use Rattle.std.specs.Prelude.{slice_index, slice_set, if◌then◌else◌}
 use Rattle.std.proofs.lemmas.Grind.{common_steps}
 use Rattle.std.proofs.lemmas.Bool.Decides.{nat_tests}
+use mathlib.Core.List.{IsPrefix}
 use mathlib.Core.Option.{some, some-injective}
 use prog.Atomic.{either}
 use lib.ListN.{get_elem?}
 use Rattle.atomic_table.specs.Table.{State, keeps, Allows}
 use Rattle.pf_board.specs.declared.quantum.Quantum.{Quantum}
+use Rattle.pf_board.specs.declared.hand.Hand.{Hand}
 use Rattle.pf_board.specs.declared.view.View.{View}
 use Rattle.pf_board.specs.declared.charter.Charter.{Charter}
-use Rattle.pf_board.specs.Quanta.{weigh, times, one_if, is_same, issues, quanta_without}
+use Rattle.pf_board.specs.Quanta.{total, weigh, times, one_if, is_same, issues, quanta_without}
 use Rattle.pf_board.specs.Words.{quantum_at, on_word, on_words}
-use Rattle.pf_board.specs.Passes.{IsIn, but}
+use Rattle.pf_board.specs.Passes.{IsIn, but, calls_by}
 use Rattle.pf_board.specs.Kept.{held, AreEmpty, Core, Fits, Balances, Kept}
 use Rattle.pf_board.specs.Told.{Peeked, Checked, Put, Taken, after_take}
-use Rattle.pf_board.proofs.Sums.{set_all, at_end, total_set, total_at}
+use Rattle.pf_board.proofs.Sums.{set_all, set_at, at_end, total_set, total_at}
+use Rattle.atomic_table.proofs.Lists.{set_else}
 use Rattle.pf_board.proofs.Weights.{weigh_snoc, weigh_without, times_own, once_snoc, on_words_set, full_word}
-use Rattle.pf_board.proofs.Seats.{set_own, hands_set, quiet}
+use Rattle.pf_board.proofs.Acting.{issues_one, takes_one}
+use Rattle.pf_board.proofs.Seats.{set_own, hands_set, quiet, no_other, no_guest, differs, guest_differs, number_below}
 
 word_at : (words : List ℕ) (l : ℕ) (cells : List ℕ) (p : ℕ) → words ≡ l ∷ cells → slice_index words (p + 1) ≡ slice_index cells p
 word_at words l cells p e = let n : p + 1 ≡ suc p = omega arith in ap (λ ws. slice_index ws (p + 1)) e ∙ ap (λ k. slice_index (l ∷ cells) k) n
@@ -85,7 +89,7 @@ module _ {E T : Type 0} (legal : T → List (ℕ × E) → Type 0) (quanta : E �
       let f = k.fits id v at in
       let n = slice_index s.words (p + 1) in
       let w : View E T = record v { loads = v.loads ++ (1 + p, n) ∷ [] } in
-      let mine : Fits charter.terms.value k.core id w = record { of_terms = f.of_terms; seen = f.seen; mine = f.mine; idle = f.idle; guests = f.guests; whole = λ on. let x = f.whole on in record { here = x.here; whole = x.whole; next = x.next; empty = x.empty; issued = x.issued; left = x.left } } in (
+      let mine : Fits charter.terms.value k.core id w = record { of_terms = f.of_terms; seen = f.seen; mine = f.mine; took = f.took; idle = f.idle; guests = f.guests; whole = λ on. let x = f.whole on in record { here = x.here; whole = x.whole; next = x.next; empty = x.empty; issued = x.issued; left = x.left } } in (
         w,
         keeps,
         tt,
@@ -101,7 +105,7 @@ module _ {E T : Type 0} (legal : T → List (ℕ × E) → Type 0) (quanta : E �
       let n = slice_index s.words (p + 1) in
       let there : slice_index k.core.cells p ≡ n = sym (word_at s.words (length k.core.log) k.core.cells p k.words_are) in
       let w : View E T = record v { loads = v.loads ++ (1 + p, n) ∷ []; empty = if n == 0 then v.empty ++ p ∷ [] else v.empty } in
-      let mine : Fits charter.terms.value k.core id w = record { of_terms = f.of_terms; seen = f.seen; mine = f.mine; idle = f.idle; guests = f.guests; whole = λ on. let x = f.whole on in record { here = x.here; whole = x.whole; next = x.next; empty = known_empty k.core.cells v.empty n p (n == 0) refl there x.empty; issued = x.issued; left = x.left } } in (
+      let mine : Fits charter.terms.value k.core id w = record { of_terms = f.of_terms; seen = f.seen; mine = f.mine; took = f.took; idle = f.idle; guests = f.guests; whole = λ on. let x = f.whole on in record { here = x.here; whole = x.whole; next = x.next; empty = known_empty k.core.cells v.empty n p (n == 0) refl there x.empty; issued = x.issued; left = x.left } } in (
         w,
         keeps,
         tt,
@@ -145,6 +149,7 @@ module _ {E T : Type 0} (legal : T → List (ℕ × E) → Type 0) (quanta : E �
         of_terms = f.of_terms;
         seen = f.seen;
         mine = f.mine;
+        took = f.took;
         idle = f.idle;
         guests = f.guests;
         whole = λ _. record {
@@ -158,7 +163,7 @@ module _ {E T : Type 0} (legal : T → List (ℕ × E) → Type 0) (quanta : E �
       } in
       let others : (i : ℕ) (u : View E T) → i ≢ id → get_elem? s.views i ≡ some u → Fits charter.terms.value core i u = λ i u apart e.
       let g = k.fits i u e in
-      record { of_terms = g.of_terms; seen = g.seen; mine = g.mine; idle = g.idle; guests = g.guests; whole = λ is_on. absurd (apart (sym (g.whole is_on).here ∙ all.here)) } in (
+      record { of_terms = g.of_terms; seen = g.seen; mine = g.mine; took = g.took; idle = g.idle; guests = g.guests; whole = λ is_on. absurd (apart (sym (g.whole is_on).here ∙ all.here)) } in (
         w,
         keeps,
         tt,
@@ -170,6 +175,8 @@ module _ {E T : Type 0} (legal : T → List (ℕ × E) → Type 0) (quanta : E �
           fits = set_all (Fits charter.terms.value core) s.views id w others mine;
           hands = hands_set k.core.next s.views id v w at (record { each = λ m. refl; all = refl }) k.hands;
           room = k.room;
+          unmade = k.unmade;
+          reached = issues_one quanta steps (legal charter.terms.value) charter.processors charter.passes k.core q x k.reached (let l = k.balances.last (λ r. one_if (is_same q r)) in omega arith) fresh none (omega (arith, k.wide, below)) some_word is;
           balances =
               let b = put_balance k.core s.views q x none (omega (arith, k.wide, below)) some_word is (omega arith) fresh k.balances in record {
                 issues_are = b.issues_are;
@@ -189,18 +196,32 @@ module _ {E T : Type 0} (legal : T → List (ℕ × E) → Type 0) (quanta : E �
       let q = quantum_at p old in
       let there : slice_index k.core.cells p ≡ old = sym (word_at s.words (length k.core.log) k.core.cells p k.words_are) ∙ found in
       let inside : p < length k.core.cells = within k.core.cells p (rw there some_word) in
-      let core : Core E = record k.core { cells = slice_set k.core.cells p 0 } in
+      let took = f.took named in
+      let core : Core E = record k.core { cells = slice_set k.core.cells p 0; taken = slice_set k.core.taken v.me (v.taken ++ q ∷ []) } in
       let w : View E T = record v { taken = v.taken ++ q ∷ [] } in
-      let still : (j : ℕ) (u : View E T) → Fits charter.terms.value k.core j u → Fits charter.terms.value core j u = λ j u g. record {
+      let theirs : (m : ℕ) → m ≢ v.me → get_elem? core.taken m ≡ get_elem? k.core.taken m = λ m apart. set_else k.core.taken v.me m (v.taken ++ q ∷ []) apart in
+      let guests : (u : View E T) → total (λ y. one_if (y.me == v.me)) u.guests ≡ 0 → (j : ℕ) → Fits charter.terms.value k.core j u → (i : ℕ) (y : Hand E) → get_elem? u.guests i ≡ some y → IsPrefix y.seen core.log × (y.mine ≡ calls_by y.me core.log) × (get_elem? core.taken y.me ≡ some y.taken) = λ u none j g i y e.
+      let z = g.guests i y e in (z.0, z.1, theirs y.me (λ s. guest_differs v.me u.guests i y e none (sym s)) ∙ z.2) in
+      let still : (j : ℕ) (u : View E T) → j ≢ id → get_elem? s.views j ≡ some u → Fits charter.terms.value core j u = λ j u apart e.
+      let g = k.fits j u e in
+      let none = no_other s.views k.core.next id j v u named k.hands apart at e in record {
         of_terms = g.of_terms;
         seen = g.seen;
         mine = g.mine;
+        took = λ is_named. theirs u.me (λ s. differs v.me u is_named none (sym s)) ∙ g.took is_named;
         idle = g.idle;
-        guests = g.guests;
+        guests = guests u (omega arith) j g;
         whole = λ on. let x = g.whole on in record { here = x.here; whole = x.whole; next = x.next; empty = λ y e. cleared k.core.cells p y (x.empty y e); issued = x.issued; left = x.left };
       } in
-      let g = still id v f in
-      let mine : Fits charter.terms.value core id w = record { of_terms = g.of_terms; seen = g.seen; mine = g.mine; idle = λ unnamed. absurd (true≢false (sym named ∙ unnamed)); guests = g.guests; whole = λ on. let x = g.whole on in record { here = x.here; whole = x.whole; next = x.next; empty = x.empty; issued = x.issued; left = x.left } } in
+      let mine : Fits charter.terms.value core id w = record {
+        of_terms = f.of_terms;
+        seen = f.seen;
+        mine = f.mine;
+        took = λ _. set_at k.core.taken v.me v.taken (v.taken ++ q ∷ []) took;
+        idle = λ unnamed. absurd (true≢false (sym named ∙ unnamed));
+        guests = guests v (no_guest s.views k.core.next id v named k.hands at) id f;
+        whole = λ on. let x = f.whole on in record { here = x.here; whole = x.whole; next = x.next; empty = λ y e. cleared k.core.cells p y (x.empty y e); issued = x.issued; left = x.left };
+      } in
       let moved : (h : Quantum → ℕ) → weigh h (on_words 0 core.cells) + h q ≡ weigh h (on_words 0 k.core.cells) = λ h.
       let a = on_words_set h 0 k.core.cells p p 0 (omega arith) inside in
       let before = ap (λ (m : ℕ). weigh h (on_word p m)) there in
@@ -218,9 +239,11 @@ module _ {E T : Type 0} (legal : T → List (ℕ × E) → Type 0) (quanta : E �
           words_are = word_set s.words (length k.core.log) k.core.cells p 0 k.words_are;
           wide = length_set k.core.cells p 0 ∙ k.wide;
           legal_log = k.legal_log;
-          fits = set_all (Fits charter.terms.value core) s.views id w (λ j u _ e. still j u (k.fits j u e)) mine;
+          fits = set_all (Fits charter.terms.value core) s.views id w still mine;
           hands = hands_set k.core.next s.views id v w at (record { each = λ m. refl; all = refl }) k.hands;
           room = k.room;
+          unmade = λ m le lt. theirs m (λ e. let b = number_below s.views k.core.next id v named k.hands at in absurd (omega arith)) ∙ k.unmade m le lt;
+          reached = takes_one quanta steps (legal charter.terms.value) charter.processors charter.passes k.core p old v.me v.taken k.reached there inside some_word took;
           balances = balances;
         },
         (let t = total_set (held one) s.views id v w at in let a = total_at (held one) s.views id v at in let e = k.balances.issued_are one in let o = k.balances.once q in let m = moved one in let l = times_own q v.taken in let w' = weigh_snoc one v.taken q in omega arith),
@@ -235,7 +258,7 @@ module _ {E T : Type 0} (legal : T → List (ℕ × E) → Type 0) (quanta : E �
       let f = k.fits id v at in
       let n = slice_index s.words (p + 1) in
       let w : View E T = record v { loads = v.loads ++ (1 + p, n) ∷ [] } in
-      let mine : Fits charter.terms.value k.core id w = record { of_terms = f.of_terms; seen = f.seen; mine = f.mine; idle = f.idle; guests = f.guests; whole = λ on. let x = f.whole on in record { here = x.here; whole = x.whole; next = x.next; empty = x.empty; issued = x.issued; left = x.left } } in (
+      let mine : Fits charter.terms.value k.core id w = record { of_terms = f.of_terms; seen = f.seen; mine = f.mine; took = f.took; idle = f.idle; guests = f.guests; whole = λ on. let x = f.whole on in record { here = x.here; whole = x.whole; next = x.next; empty = x.empty; issued = x.issued; left = x.left } } in (
         quiet legal quanta steps charter s.words (slice_set s.words (p + 1) n) s.views id v w k at (record { each = λ m. refl; all = refl }) (λ h. refl) mine (set_own s.words (p + 1)),
         λ e. absurd (true≢false (sym (same_test n old e) ∙ is)),
       )

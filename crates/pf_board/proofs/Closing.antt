@@ -8,11 +8,11 @@ use Rattle.pf_board.specs.declared.quantum.Quantum.{Quantum}
 use Rattle.pf_board.specs.declared.hand.Hand.{Hand}
 use Rattle.pf_board.specs.declared.view.View.{View}
 use Rattle.pf_board.specs.declared.charter.Charter.{Charter}
-use Rattle.pf_board.specs.Quanta.{one_if, is_same, weigh, times, issues, last_issues}
-use Rattle.pf_board.specs.Words.{on_words, quantum_at}
+use Rattle.pf_board.specs.Quanta.{total, one_if, is_same, weigh, times, issues, last_issues}
+use Rattle.pf_board.specs.Words.{on_word, on_words, on_each_word, quantum_at}
 use Rattle.pf_board.specs.Passes.{Passing, calls_by, all_taken}
-use Rattle.pf_board.specs.Closed.{RisesFrom, hand_in, hands_in, Closes}
-use Rattle.pf_board.specs.Kept.{total, hand_count, held, Kept}
+use Rattle.pf_board.specs.Closed.{RisesFrom, hand_in, hands_in, together, Closes}
+use Rattle.pf_board.specs.Kept.{hand_count, held, machine_of, Kept}
 use Rattle.pf_board.proofs.Sums.{total_at, total_two}
 use Rattle.pf_board.proofs.Weights.{weigh-append}
 
@@ -23,6 +23,10 @@ rises_less p m (q ∷ qs) r = (let a = r.0 in omega arith, r.1, r.2)
 rises_word : (p m n : ℕ) (b : Bool) (qs : List Quantum) → p < m → RisesFrom (suc p) m qs → RisesFrom p m ((if b then [] else quantum_at p n ∷ []) ++ qs)
 rises_word p m n true qs lt r = rises_less p m qs r
 rises_word p m n false qs lt r = (omega arith, lt, r)
+
+words_together : (p : ℕ) (cells : List ℕ) → together (on_each_word p cells) ≡ on_words p cells
+words_together p [] = refl
+words_together p (n ∷ cells) = ap (λ qs. on_word p n ++ qs) (words_together (suc p) cells)
 
 -- the quanta on words stand by processor
 words_rise : (p m : ℕ) (cells : List ℕ) → p + length cells ≡ m → RisesFrom p m (on_words p cells)
@@ -73,7 +77,7 @@ module _ {E T : Type 0} where
 
 module _ {E T : Type 0} (legal : T → List (ℕ × E) → Type 0) (quanta : E → List Quantum) (steps : E → Bool) (charter : Charter T) where
   pub closes : (words : List ℕ) (views : List (View E T)) (id : ℕ) (v : View E T) (ps : List (Passing E T)) → (k : Kept quanta steps legal charter words views) → get_elem? views id ≡ some v → IsLast ps v
-      → Closes quanta steps charter.processors charter.passes v.seen ps (on_words 0 k.core.cells)
+      → Closes quanta steps (legal charter.terms.value) charter.processors charter.passes v.seen ps (on_words 0 k.core.cells)
   closes words views id v ps k at l =
       let f = k.fits id v at in
       let all = f.whole l.on in
@@ -100,6 +104,14 @@ module _ {E T : Type 0} (legal : T → List (ℕ × E) → Type 0) (quanta : E �
             let only = total_only (held h) views id v at others in
             let m = mine h in let i = issues_is q in let e = b.issued_are h in let a = weigh-append h (on_words 0 cells) (all_taken ps) in
             omega arith;
+        machine = record {
+          state = machine_of k.core;
+          issued = k.core.issued;
+          reached = k.reached;
+          history_is = log;
+          left_is = words_together 0 cells;
+          taken = λ i p there. (f.guests i (hand_in p) (ap (λ gs. get_elem? gs i) l.guests ∙ hand_at ps i p there)).2;
+        };
         fronts = λ i p there.
             let g = f.guests i (hand_in p) (ap (λ gs. get_elem? gs i) l.guests ∙ hand_at ps i p there) in
             (subst (λ x. IsPrefix p.seen x) log g.0, g.1 ∙ ap (calls_by p.me) log);

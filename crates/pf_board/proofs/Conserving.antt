@@ -17,6 +17,13 @@ none_in q (suc n) = let t = none_in q n in omega arith
 no_longer : {A : Type 0} (xs : List A) (x : A) → xs ≡ xs ++ x ∷ [] → ⊥
 no_longer xs x e = let l = ap length e in let a = length-append xs (x ∷ []) in absurd (omega arith)
 
+module _ {E : Type 0} where
+  pub first_then : (a : Action E) (actions : List (Action E)) → issued_by (a ∷ []) ++ issued_by actions ≡ issued_by (a ∷ actions)
+  first_then (publish x) actions = refl
+  first_then enter actions = refl
+  first_then (issue q) actions = refl
+  first_then (take p pass) actions = refl
+
 module _ {E : Type 0} (quanta : E → List Quantum) (steps : E → Bool) where
   until_push : (all old : List Quantum) (xs : List (ℕ × E)) (x : ℕ × E) → issues_until quanta steps all old (xs ++ x ∷ []) ≡ (if is_step quanta steps x.1 then all ++ issues quanta xs else issues_until quanta steps all old xs)
   until_push all old [] x = ap (λ (a : List Quantum). if is_step quanta steps x.1 then a else old) (sym (append_none all))
@@ -125,12 +132,6 @@ module _ {E : Type 0} (quanta : E → List Quantum) (steps : E → Bool) where
     acts issued s (take p pass) t i d =
         subst (λ (u : Machine E). Inv (issued ++ []) u) (sym d.4)
         (subst (λ l. Inv l (record s { words = slice_set s.words p []; taken = slice_set s.taken pass (d.1 ++ d.0 ∷ []) })) (sym (append_none issued)) (took_one issued s p pass d.0 d.1 i d.2 d.3))
-
-    first_then : (a : Action E) (actions : List (Action E)) → issued_by (a ∷ []) ++ issued_by actions ≡ issued_by (a ∷ actions)
-    first_then (publish x) actions = refl
-    first_then enter actions = refl
-    first_then (issue q) actions = refl
-    first_then (take p pass) actions = refl
 
     reach : (issued : List Quantum) (s : Machine E) (actions : List (Action E)) (t : Machine E) → Inv issued s → Reaches quanta steps legal s actions t → Inv (issued ++ issued_by actions) t
     reach issued s [] t i e = subst (λ (u : Machine E). Inv (issued ++ []) u) e (subst (λ l. Inv l s) (sym (append_none issued)) i)

@@ -8,8 +8,7 @@ use Rattle.pf_board.specs.declared.hand.Hand.{Hand}
 use Rattle.pf_board.specs.Passes.{calls_by}
 use Rattle.pf_board.specs.Views.{with_turn, without_turn, hand_of, carrier_of, hosting, without_guests}
 use Rattle.pf_board.specs.Seats.{IsPass, IsKeeper}
-use Rattle.pf_board.specs.Kept.{total}
-use Rattle.pf_board.specs.Quanta.{one_if, is_same, times}
+use Rattle.pf_board.specs.Quanta.{total, one_if, is_same, times}
 use Rattle.pf_board.specs.Told.{Meets, Noted, Looked, Settled, Peeked, Checked, Put, Taken, after_take}
 use Rattle.pf_board.proofs.Looks.{calls_by-own}
 use Rattle.pf_board.proofs.Sums.{total-append}

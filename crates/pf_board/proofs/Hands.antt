@@ -9,10 +9,10 @@ use Rattle.pf_board.specs.declared.quantum.Quantum.{Quantum}
 use Rattle.pf_board.specs.declared.hand.Hand.{Hand}
 use Rattle.pf_board.specs.declared.view.View.{View}
 use Rattle.pf_board.specs.declared.charter.Charter.{Charter}
-use Rattle.pf_board.specs.Quanta.{weigh, one_if}
+use Rattle.pf_board.specs.Quanta.{total, weigh, one_if}
 use Rattle.pf_board.specs.Passes.{calls_by}
 use Rattle.pf_board.specs.Views.{spent, hand_of, without_hand, carrier_of, hosting, without_guests, guests_of, handed, with_hand}
-use Rattle.pf_board.specs.Kept.{total, hands_of, hand_count, held, Core, KnowsAll, Fits, Kept}
+use Rattle.pf_board.specs.Kept.{hands_of, hand_count, held, Core, KnowsAll, Fits, Kept}
 use Rattle.pf_board.proofs.Sums.{set_all, snoc_all, before_set, total_set, total_snoc, total-append}
 use Rattle.pf_board.proofs.Seats.{off, spent_fits}
 
@@ -42,6 +42,8 @@ module _ {E T : Type 0} (legal : T → List (ℕ × E) → Type 0) (quanta : E �
           all = let t = total_set hand_count s.views id v left at in let u = total_snoc hand_count xs right in let o = k.hands.all in let e = halves.all in omega arith;
         };
         room = k.room;
+        unmade = k.unmade;
+        reached = k.reached;
         balances = record {
           issues_are = k.balances.issues_are;
           issued_are = λ h. let t = total_set (held h) s.views id v left at in let u = total_snoc (held h) xs right in let o = k.balances.issued_are h in let e = halves.quanta_are h in omega arith;
@@ -66,6 +68,8 @@ module _ {E T : Type 0} (legal : T → List (ℕ × E) → Type 0) (quanta : E �
           all = let t = total_set hand_count s.views id v both at in let u = total_set hand_count (set s.views id both) other w spent there in let o = k.hands.all in let e = halves.all in omega arith;
         };
         room = k.room;
+        unmade = k.unmade;
+        reached = k.reached;
         balances = record {
           issues_are = k.balances.issues_are;
           issued_are = λ h. let t = total_set (held h) s.views id v both at in let u = total_set (held h) (set s.views id both) other w spent there in let o = k.balances.issued_are h in let e = halves.quanta_are h in omega arith;
@@ -88,10 +92,10 @@ module _ {E T : Type 0} (legal : T → List (ℕ × E) → Type 0) (quanta : E �
         all = let a = ap one_if named in omega arith;
         quanta_are = λ h. omega arith;
       })
-      (λ c f. record { of_terms = f.of_terms; seen = f.seen; mine = λ e. absurd (off e); idle = λ _. refl; guests = f.guests; whole = λ on. keeps_all c id v (without_hand v) refl refl refl refl refl (f.whole on) })
-      (λ c new f. record { of_terms = f.of_terms; seen = (c.log, refl); mine = λ e. absurd (off e); idle = λ _. refl; guests = one_guest c (hand_of v) (f.seen, f.mine named); whole = no_turn c new (carrier_of v) }) where
-        one_guest : (c : Core E) (x : Hand E) → IsPrefix x.seen c.log × (x.mine ≡ calls_by x.me c.log) → (k : ℕ) (g : Hand E) → get_elem? (x ∷ []) k ≡ some g → IsPrefix g.seen c.log × (g.mine ≡ calls_by g.me c.log)
-        one_guest c x fits zero g e = subst (λ (y : Hand E). IsPrefix y.seen c.log × (y.mine ≡ calls_by y.me c.log)) (some-injective _ _ e) fits
+      (λ c f. record { of_terms = f.of_terms; seen = f.seen; mine = λ e. absurd (off e); took = λ e. absurd (off e); idle = λ _. refl; guests = f.guests; whole = λ on. keeps_all c id v (without_hand v) refl refl refl refl refl (f.whole on) })
+      (λ c new f. record { of_terms = f.of_terms; seen = (c.log, refl); mine = λ e. absurd (off e); took = λ e. absurd (off e); idle = λ _. refl; guests = one_guest c (hand_of v) (f.seen, f.mine named, f.took named); whole = no_turn c new (carrier_of v) }) where
+        one_guest : (c : Core E) (x : Hand E) → IsPrefix x.seen c.log × (x.mine ≡ calls_by x.me c.log) × (get_elem? c.taken x.me ≡ some x.taken) → (k : ℕ) (g : Hand E) → get_elem? (x ∷ []) k ≡ some g → IsPrefix g.seen c.log × (g.mine ≡ calls_by g.me c.log) × (get_elem? c.taken g.me ≡ some g.taken)
+        one_guest c x fits zero g e = subst (λ (y : Hand E). IsPrefix y.seen c.log × (y.mine ≡ calls_by y.me c.log) × (get_elem? c.taken y.me ≡ some y.taken)) (some-injective _ _ e) fits
         one_guest c x fits (suc k) g e = absurd (cc)
 
   -- what stands in two lists together stands in one of them
@@ -108,14 +112,14 @@ module _ {E T : Type 0} (legal : T → List (ℕ × E) → Type 0) (quanta : E �
         all = let a = ap one_if unnamed in let t = total-append (λ (g : Hand E). 1) v.guests w.guests in omega arith;
         quanta_are = λ h. let a = ap (weigh h) none in let t = total-append (λ (g : Hand E). weigh h g.taken) v.guests w.guests in omega arith;
       })
-      (λ c f x. record { of_terms = f.of_terms; seen = f.seen; mine = f.mine; idle = f.idle; guests = either_list (λ g. IsPrefix g.seen c.log × (g.mine ≡ calls_by g.me c.log)) v.guests w.guests f.guests x.guests; whole = λ on. keeps_all c id v (hosting v w) refl refl refl refl refl (f.whole on) })
+      (λ c f x. record { of_terms = f.of_terms; seen = f.seen; mine = f.mine; took = f.took; idle = f.idle; guests = either_list (λ g. IsPrefix g.seen c.log × (g.mine ≡ calls_by g.me c.log) × (get_elem? c.taken g.me ≡ some g.taken)) v.guests w.guests f.guests x.guests; whole = λ on. keeps_all c id v (hosting v w) refl refl refl refl refl (f.whole on) })
 
   -- what a seat carries goes to a new seat
   pub releases : (id : ℕ) (v : View E T) → Splits Holds id v (without_guests v) (guests_of v)
   releases id v = cuts id v (without_guests v) (guests_of v)
       (record { each = λ m. omega arith; all = omega arith; quanta_are = λ h. omega arith })
-      (λ c f. record { of_terms = f.of_terms; seen = f.seen; mine = f.mine; idle = f.idle; guests = λ i g e. absurd (cc); whole = λ on. keeps_all c id v (without_guests v) refl refl refl refl refl (f.whole on) })
-      (λ c new f. record { of_terms = f.of_terms; seen = (c.log, refl); mine = λ e. absurd (off e); idle = λ _. refl; guests = f.guests; whole = no_turn c new (guests_of v) })
+      (λ c f. record { of_terms = f.of_terms; seen = f.seen; mine = f.mine; took = f.took; idle = f.idle; guests = λ i g e. absurd (cc); whole = λ on. keeps_all c id v (without_guests v) refl refl refl refl refl (f.whole on) })
+      (λ c new f. record { of_terms = f.of_terms; seen = (c.log, refl); mine = λ e. absurd (off e); took = λ e. absurd (off e); idle = λ _. refl; guests = f.guests; whole = no_turn c new (guests_of v) })
 
   -- a pass gets its hand back
   pub regains : (id : ℕ) (v : View E T) (other : ℕ) (w : View E T) (g : Hand E) → v.named ≡ false → v.taken ≡ [] → w.named ≡ false → w.taken ≡ [] → w.guests ≡ g ∷ [] → Joins Holds id v other w (with_hand v w) spent
@@ -127,4 +131,4 @@ module _ {E T : Type 0} (legal : T → List (ℕ × E) → Type 0) (quanta : E �
         all = let a = ap one_if unnamed in let d = ap one_if other_unnamed in let t = ap (total (λ (x : Hand E). 1)) one in omega arith;
         quanta_are = λ h. let a = ap (weigh h) none in let d = ap (weigh h) other_none in let t = ap (total (λ (x : Hand E). weigh h x.taken)) one in omega arith;
       })
-      (λ c f x. record { of_terms = f.of_terms; seen = f.seen; mine = λ _. (x.guests zero g (ap (λ gs. get_elem? gs zero) one)).1; idle = λ e. absurd (true≢false e); guests = f.guests; whole = λ on. keeps_all c id v (handed v (g ∷ [])) refl refl refl refl refl (f.whole on) }))
+      (λ c f x. record { of_terms = f.of_terms; seen = f.seen; mine = λ _. (x.guests zero g (ap (λ gs. get_elem? gs zero) one)).1; took = λ _. (x.guests zero g (ap (λ gs. get_elem? gs zero) one)).2; idle = λ e. absurd (true≢false e); guests = f.guests; whole = λ on. keeps_all c id v (handed v (g ∷ [])) refl refl refl refl refl (f.whole on) }))

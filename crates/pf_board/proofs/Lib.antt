@@ -1,3 +1,4 @@
+mod Acting
 mod Cells
 mod Closing
 mod Conserving
@@ -10,6 +11,7 @@ mod Looks
 mod Prefixes
 mod Reading
 mod Seats
+mod Showing
 mod Sums
 mod Takes
 mod Turns

@@ -10,15 +10,16 @@ use Rattle.pf_board.specs.declared.quantum.Quantum.{Quantum}
 use Rattle.pf_board.specs.declared.hand.Hand.{Hand}
 use Rattle.pf_board.specs.declared.view.View.{View}
 use Rattle.pf_board.specs.declared.charter.Charter.{Charter}
-use Rattle.pf_board.specs.Quanta.{weigh, times, one_if, is_same, issues, is_step, last_issues}
+use Rattle.pf_board.specs.Quanta.{total, weigh, times, one_if, is_same, issues, is_step, last_issues}
 use Rattle.pf_board.specs.Words.{on_words}
 use Rattle.pf_board.specs.Passes.{calls_by, IsIn}
-use Rattle.pf_board.specs.Kept.{total, hands_of, held, Core, Fits, IsOneEach, Balances, Kept}
+use Rattle.pf_board.specs.Kept.{held, Core, Fits, Balances, Kept}
 use Rattle.pf_board.specs.Told.{Learns, Looked, Settled, Noted}
 use Rattle.pf_board.proofs.Prefixes.{prefix_self, prefix_trans}
-use Rattle.pf_board.proofs.Sums.{set_all, total_at, total_two, one_below_most, one_as}
+use Rattle.pf_board.proofs.Sums.{set_all, total_at}
 use Rattle.pf_board.proofs.Weights.{weigh-append, weigh_push, last_push, no_quanta, clear_words}
-use Rattle.pf_board.proofs.Seats.{set_own, hands_set, held_set, quiet}
+use Rattle.pf_board.proofs.Acting.{enters}
+use Rattle.pf_board.proofs.Seats.{set_own, hands_set, held_set, quiet, no_other, no_guest, differs, guest_differs}
 
 module _ {E : Type 0} where
   pub calls_by-own : (m : ℕ) (xs : List (ℕ × E)) (e : E) → calls_by m (xs ++ (m, e) ∷ []) ≡ calls_by m xs ++ e ∷ []
@@ -59,7 +60,7 @@ module _ {E T : Type 0} (legal : T → List (ℕ × E) → Type 0) (quanta : E �
       let v = me.0 in
       let f = k.fits id v at in
       let w : View E T = record v { seen = k.core.log; loads = v.loads ++ (0, slice_index s.words 0) ∷ [] } in
-      let mine : Fits charter.terms.value k.core id w = record { of_terms = f.of_terms; seen = prefix_self k.core.log; mine = f.mine; idle = f.idle; guests = f.guests; whole = λ on. let x = f.whole on in record { here = x.here; whole = x.whole; next = x.next; empty = x.empty; issued = x.issued; left = x.left } } in (
+      let mine : Fits charter.terms.value k.core id w = record { of_terms = f.of_terms; seen = prefix_self k.core.log; mine = f.mine; took = f.took; idle = f.idle; guests = f.guests; whole = λ on. let x = f.whole on in record { here = x.here; whole = x.whole; next = x.next; empty = x.empty; issued = x.issued; left = x.left } } in (
         w,
         keeps,
         tt,
@@ -72,7 +73,7 @@ module _ {E T : Type 0} (legal : T → List (ℕ × E) → Type 0) (quanta : E �
       let v = me.0 in
       let f = k.fits id v at in
       let w : View E T = record v { seen = k.core.log } in
-      let mine : Fits charter.terms.value k.core id w = record { of_terms = f.of_terms; seen = prefix_self k.core.log; mine = f.mine; idle = f.idle; guests = f.guests; whole = λ on. let x = f.whole on in record { here = x.here; whole = x.whole; next = x.next; empty = x.empty; issued = x.issued; left = x.left } } in (
+      let mine : Fits charter.terms.value k.core id w = record { of_terms = f.of_terms; seen = prefix_self k.core.log; mine = f.mine; took = f.took; idle = f.idle; guests = f.guests; whole = λ on. let x = f.whole on in record { here = x.here; whole = x.whole; next = x.next; empty = x.empty; issued = x.issued; left = x.left } } in (
         w,
         keeps,
         tt,
@@ -106,32 +107,6 @@ module _ {E T : Type 0} (legal : T → List (ℕ × E) → Type 0) (quanta : E �
         let e = b.last h in
         omega arith
 
-  own_hand : (v : View E T) → v.named ≡ true → hands_of v.me v ≡ 1 + total (λ g. one_if (g.me == v.me)) v.guests
-  own_hand v named = let t = ap (λ (b : Bool). (if b then one_if (v.me == v.me) else 0)) named in let s = one_as v.me v.me refl in omega arith
-
-  -- a seat that has a number leaves no other seat a hand of it, and carries none itself
-  no_other : (views : List (View E T)) (next id j : ℕ) (v u : View E T) → v.named ≡ true → IsOneEach next views → j ≢ id → get_elem? views id ≡ some v → get_elem? views j ≡ some u → hands_of v.me u ≡ 0
-  no_other views next id j v u named one apart at there =
-      let t = total_two (hands_of v.me) views id j v u apart at there in
-      let e = one.each v.me in
-      let m = one_below_most next v.me in
-      let o = own_hand v named in
-      omega arith
-
-  no_guest : (views : List (View E T)) (next id : ℕ) (v : View E T) → v.named ≡ true → IsOneEach next views → get_elem? views id ≡ some v → total (λ g. one_if (g.me == v.me)) v.guests ≡ 0
-  no_guest views next id v named one at =
-      let t = total_at (hands_of v.me) views id v at in
-      let e = one.each v.me in
-      let m = one_below_most next v.me in
-      let o = own_hand v named in
-      omega arith
-
-  differs : (m : ℕ) (u : View E T) → u.named ≡ true → hands_of m u ≡ 0 → m ≢ u.me
-  differs m u named none same = let t = ap (λ (b : Bool). (if b then one_if (u.me == m) else 0)) named in let s = one_as u.me m (sym same) in absurd (omega arith)
-
-  guest_differs : (m : ℕ) (gs : List (Hand E)) (k : ℕ) (g : Hand E) → get_elem? gs k ≡ some g → total (λ g. one_if (g.me == m)) gs ≡ 0 → m ≢ g.me
-  guest_differs m gs k g e none same = let t = total_at (λ (g : Hand E). one_if (g.me == m)) gs k g e in let s = one_as g.me m (sym same) in absurd (omega arith)
-
   pub notes : (slots id : ℕ) (me : View E T × List (ℕ × Unit {0})) (entry : List E) (e : E) → entry ≡ e ∷ [] → me.0.turn ≡ true → me.0.named ≡ true
       → legal charter.terms.value (me.0.whole ++ (me.0.me, e) ∷ []) → length me.0.whole + 1 < 18446744073709551616
       → (is_step quanta steps e ≡ true → (me.0.left ≡ []) × ((p : ℕ) → p < charter.processors → IsIn me.0.empty p))
@@ -148,13 +123,14 @@ module _ {E T : Type 0} (legal : T → List (ℕ × E) → Type 0) (quanta : E �
       let n : slice_index s.words 0 ≡ length v.whole = ap (λ ws. slice_index ws 0) k.words_are ∙ ap length (sym all.whole) in
       let grows : IsPrefix k.core.log core.log = ((v.me, e) ∷ [], refl) in
       let number : (slice_index s.words 0 + 1) % 18446744073709551616 ≡ length core.log = omega (arith, n, length-append v.whole ((v.me, e) ∷ []), ap length log_is) in
-      let guests_fit : (m : ℕ) (u : View E T) → total (λ g. one_if (g.me == v.me)) u.guests ≡ 0 → Fits charter.terms.value k.core m u → (i : ℕ) (g : Hand E) → get_elem? u.guests i ≡ some g → IsPrefix g.seen core.log × (g.mine ≡ calls_by g.me core.log) = λ m u none x i g there.
+      let guests_fit : (m : ℕ) (u : View E T) → total (λ g. one_if (g.me == v.me)) u.guests ≡ 0 → Fits charter.terms.value k.core m u → (i : ℕ) (g : Hand E) → get_elem? u.guests i ≡ some g → IsPrefix g.seen core.log × (g.mine ≡ calls_by g.me core.log) × (get_elem? core.taken g.me ≡ some g.taken) = λ m u none x i g there.
       let y = x.guests i g there in
-      (prefix_trans g.seen k.core.log core.log y.0 grows, y.1 ∙ sym (calls_by-other g.me v.me k.core.log e (guest_differs v.me u.guests i g there none))) in
+      (prefix_trans g.seen k.core.log core.log y.0 grows, y.1 ∙ sym (calls_by-other g.me v.me k.core.log e (guest_differs v.me u.guests i g there none)), y.2) in
       let mine : Fits charter.terms.value core id w = record {
         of_terms = f.of_terms;
         seen = subst (λ l. IsPrefix log l) (sym log_is) (prefix_self log);
         mine = λ _. ap (λ l. l ++ e ∷ []) (f.mine named) ∙ sym (calls_by-own v.me k.core.log e);
+        took = f.took;
         idle = λ unnamed. absurd (true≢false (sym named ∙ unnamed));
         guests = guests_fit id v (no_guest s.views k.core.next id v named k.hands at) f;
         whole = λ _. record { here = all.here; whole = sym log_is; next = all.next; empty = all.empty; issued = all.issued; left = ap (λ l. l ++ quanta e) all.left };
@@ -165,6 +141,7 @@ module _ {E T : Type 0} (legal : T → List (ℕ × E) → Type 0) (quanta : E �
         of_terms = g.of_terms;
         seen = prefix_trans u.seen k.core.log core.log g.seen grows;
         mine = λ is_named. g.mine is_named ∙ sym (calls_by-other u.me v.me k.core.log e (differs v.me u is_named none));
+        took = g.took;
         idle = g.idle;
         guests = guests_fit j u (omega arith) g;
         whole = λ is_on. absurd (apart (sym (g.whole is_on).here ∙ all.here));
@@ -183,6 +160,8 @@ module _ {E T : Type 0} (legal : T → List (ℕ × E) → Type 0) (quanta : E �
           fits = set_all (Fits charter.terms.value core) s.views id w others mine;
           hands = hands_set k.core.next s.views id v w at (record { each = λ m. refl; all = refl }) k.hands;
           room = k.room;
+          unmade = k.unmade;
+          reached = enters quanta steps (legal charter.terms.value) charter.processors charter.passes k.core (v.me, e) k.reached k.balances.issues_are (subst (λ l. legal charter.terms.value l) (sym log_is) may) clear;
           balances = held_set legal quanta steps charter core s.views id v w at (λ h. refl) balances;
         },
         (

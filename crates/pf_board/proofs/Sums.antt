@@ -1,12 +1,12 @@
 -- Sums over lists, and what holds of each place of a list that changed.
-use Rattle.std.proofs.Common.{◌≡◌, ◌≢◌, ℕ, zero, suc, ◌+◌, ◌≤◌, ◌==◌, List, [], ◌∷◌, ◌++◌, length, set, refl, sym, ap, subst, ⊎_elim, arith, inl, inr, ◌⊎◌}
+use Rattle.std.proofs.Common.{◌≡◌, ◌≢◌, ℕ, zero, suc, ◌+◌, ◌<◌, ◌≤◌, ◌==◌, List, [], ◌∷◌, ◌++◌, length, set, refl, sym, ap, subst, ⊎_elim, arith, inl, inr, ◌⊎◌}
 use Rattle.std.proofs.lemmas.Grind.{common_steps}
 use Rattle.std.proofs.lemmas.Bool.Decides.{nat_tests}
 use mathlib.Core.Option.{some, some-injective}
 use lib.ListN.{get_elem?}
 use Rattle.atomic_table.proofs.Lists.{at_set}
-use Rattle.pf_board.specs.Kept.{total, one_below}
-use Rattle.pf_board.specs.Quanta.{one_if}
+use Rattle.pf_board.specs.Kept.{one_below}
+use Rattle.pf_board.specs.Quanta.{total, one_if}
 
 module _ {A : Type 0} where
   -- what holds of each place, after one changed
@@ -31,6 +31,12 @@ module _ {A : Type 0} where
       (others j u)
       (λ (x : (j ≡ length xs) × (w ≡ u)). subst (λ (y : ℕ × A). F y.0 y.1) (λ i. (sym x.0 i, x.1 i)) mine)
       (at_end xs w u j e)
+
+  -- the changed place holds what was put there
+  pub set_at : (xs : List A) (k : ℕ) (v w : A) → get_elem? xs k ≡ some v → get_elem? (set xs k w) k ≡ some w
+  set_at [] k v w e = absurd (cc)
+  set_at (x ∷ xs) zero v w e = refl
+  set_at (x ∷ xs) (suc k) v w e = set_at xs k v w e
 
   -- a place beside the changed one held before what it holds now
   pub before_set : (xs : List A) (id other : ℕ) (x w : A) → ¬ (other ≡ id) → get_elem? (set xs id x) other ≡ some w → get_elem? xs other ≡ some w
@@ -63,6 +69,12 @@ module _ {A : Type 0} where
 
   pub total_snoc : (f : A → ℕ) (xs : List A) (w : A) → total f (xs ++ w ∷ []) ≡ total f xs + f w
   total_snoc f xs w = let t = total-append f xs (w ∷ []) in omega arith
+
+pub below_of_one : (n m : ℕ) → 1 ≤ one_below n m → m < n
+below_of_one n m one = grind (arith, common_steps, nat_tests)
+
+pub not_below : (n m : ℕ) → one_below n m ≡ 0 → n ≤ m
+not_below n m e = grind (arith, common_steps, nat_tests)
 
 pub one_below_most : (n m : ℕ) → one_below n m ≤ 1
 one_below_most n m = grind (arith, common_steps, nat_tests)

@@ -1,5 +1,5 @@
--- The rule of the board's table: the words and the views show one legal history, and where each quantum of it is.
-use Rattle.std.specs.Prelude.{ℕ, slice_index, ◌≡◌, ◌+◌, ◌≤◌, ◌==◌, if◌then◌else◌, nat_lt, Bool, true, false, List, [], ◌∷◌, length}
+-- The rule of the board's table: the words and the views show one state that the shared machine reaches, but for what is published.
+use Rattle.std.specs.Prelude.{ℕ, slice_index, ◌≡◌, ◌+◌, ◌<◌, ◌≤◌, ◌==◌, if◌then◌else◌, nat_lt, Bool, true, false, List, [], ◌∷◌, length}
 use mathlib.Core.List.{IsPrefix}
 use mathlib.Core.Option.{some}
 use lib.ListN.{get_elem?}
@@ -7,14 +7,10 @@ use Rattle.pf_board.specs.declared.quantum.Quantum.{Quantum}
 use Rattle.pf_board.specs.declared.hand.Hand.{Hand}
 use Rattle.pf_board.specs.declared.view.View.{View}
 use Rattle.pf_board.specs.declared.charter.Charter.{Charter}
-use Rattle.pf_board.specs.Quanta.{weigh, one_if, issues, last_issues, IsOnceEach}
-use Rattle.pf_board.specs.Words.{on_words}
+use Rattle.pf_board.specs.Quanta.{total, weigh, one_if, issues, last_issues, IsOnceEach}
+use Rattle.pf_board.specs.Words.{on_words, on_each_word}
+use Rattle.pf_board.specs.Machine.{Machine, IsReached}
 use Rattle.pf_board.specs.Passes.{calls_by, IsIn}
-
--- f of each, added up
-abbrev pub total : {A : Type 0} → (A → ℕ) → List A → ℕ
-total f [] = 0
-total f (x ∷ xs) = f x + total f xs
 
 -- 1 for the numbers below n, and else 0
 abbrev pub one_below : ℕ → ℕ → ℕ
@@ -37,14 +33,20 @@ module _ {E T : Type 0} where
   abbrev pub held : (Quantum → ℕ) → View E T → ℕ
   held h v = weigh h v.taken + total (λ g. weigh h g.taken) v.guests
 
--- one state of the board: its history, the processors' words, the quanta that were issued and those that are left to issue, the seat with the turn, and the number of passes
+-- one state of the board: its history, the processors' words, what the pass of each number took, the quanta that were issued and those that are left to issue, the seat with the turn, and the number of passes made
 pub record Core (E : Type 0) : Type 0 where
   pub log : List (ℕ × E)
   pub cells : List ℕ
+  pub taken : List (List Quantum)
   pub issued : List Quantum
   pub left : List Quantum
   pub turn : ℕ
   pub next : ℕ
+
+module _ {E : Type 0} where
+  -- it as a state of the shared machine, where nothing is published that isn't entered
+  abbrev pub machine_of : Core E → Machine E
+  machine_of c = record { history = c.log; published = c.log; words = on_each_word 0 c.cells; taken = c.taken }
 
 module _ {E T : Type 0} where
   -- the seat with the turn knows the state
@@ -56,13 +58,14 @@ module _ {E T : Type 0} where
     pub issued : v.issued ≡ c.issued
     pub left : v.left ≡ c.left
 
-  -- what the rule says of one seat: its lists begin the history, and a pass knows its own entries
+  -- what the rule says of one seat: its lists begin the history, and a pass knows its own entries and what it took
   pub record Fits (terms : T) (c : Core E) (seat : ℕ) (v : View E T) : Type 0 where
     pub of_terms : (t : T) → v.terms ≡ t ∷ [] → t ≡ terms
     pub seen : IsPrefix v.seen c.log
     pub mine : v.named ≡ true → v.mine ≡ calls_by v.me c.log
+    pub took : v.named ≡ true → get_elem? c.taken v.me ≡ some v.taken
     pub idle : v.named ≡ false → v.taken ≡ []
-    pub guests : (k : ℕ) (g : Hand E) → get_elem? v.guests k ≡ some g → IsPrefix g.seen c.log × (g.mine ≡ calls_by g.me c.log)
+    pub guests : (k : ℕ) (g : Hand E) → get_elem? v.guests k ≡ some g → IsPrefix g.seen c.log × (g.mine ≡ calls_by g.me c.log) × (get_elem? c.taken g.me ≡ some g.taken)
     pub whole : v.turn ≡ true → KnowsAll c seat v
 
   -- each number below `next` has one hand
@@ -86,4 +89,6 @@ module _ {E T : Type 0} where
       pub fits : (seat : ℕ) (v : View E T) → get_elem? views seat ≡ some v → Fits charter.terms.value core seat v
       pub hands : IsOneEach core.next views
       pub room : core.next ≤ charter.passes
+      pub unmade : (m : ℕ) → core.next ≤ m → m < charter.passes → get_elem? core.taken m ≡ some []
+      pub reached : IsReached quanta steps (legal charter.terms.value) charter.processors charter.passes (machine_of core) core.issued
       pub balances : Balances core views

@@ -4,6 +4,7 @@ pub mod Machine
 pub mod Passes
 pub mod Quanta
 pub mod Seats
+pub mod Shown
 pub mod Takes
 pub mod Told
 pub mod Views

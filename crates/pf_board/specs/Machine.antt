@@ -4,8 +4,7 @@ use mathlib.Core.List.{IsPrefix}
 use mathlib.Core.Option.{some}
 use lib.ListN.{get_elem?}
 use Rattle.pf_board.specs.declared.quantum.Quantum.{Quantum}
-use Rattle.pf_board.specs.Quanta.{times, issues, is_step, last_issues, IsOnceEach}
-use Rattle.pf_board.specs.Kept.{total}
+use Rattle.pf_board.specs.Quanta.{total, times, issues, is_step, last_issues, IsOnceEach}
 
 -- the history, what is published, what lies on each processor's word (nothing, or one quantum), and what each pass took
 pub record Machine (E : Type 0) : Type 0 where
@@ -64,6 +63,12 @@ module _ {E : Type 0} (quanta : E → List Quantum) (steps : E → Bool) where
     abbrev pub Reaches : Machine E → List (Action E) → Machine E → Type 0
     Reaches s [] t = s ≡ t
     Reaches s (a ∷ actions) t = (u : Machine E) × Acts s a u × Reaches u actions t
+
+    -- from the opening some list of actions leads to s, and issues these quanta
+    pub record IsReached (processors passes : ℕ) (s : Machine E) (issued : List Quantum) : Type 0 where
+      pub actions : List (Action E)
+      pub reaches : Reaches (opening processors passes) actions s
+      pub issues_them : issued_by actions ≡ issued
 
     -- the quanta issued are those on the words and those taken, each once, all of them issues of the history; each issue before its last step was taken
     pub record IsConserved (issued : List Quantum) (s : Machine E) : Type 0 where

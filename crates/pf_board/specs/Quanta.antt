@@ -5,6 +5,11 @@ use Rattle.pf_board.specs.declared.quantum.Quantum.{Quantum}
 abbrev pub one_if : Bool → ℕ
 one_if b = if b then 1 else 0
 
+-- f of each, added up
+abbrev pub total : {A : Type 0} → (A → ℕ) → List A → ℕ
+total f [] = 0
+total f (x ∷ xs) = f x + total f xs
+
 abbrev pub is_same : Quantum → Quantum → Bool
 is_same q r = (q.slot == r.slot) && (q.processor == r.processor) && (q.task == r.task) && (q.sub == r.sub)
 

@@ -6,10 +6,9 @@ use lib.ListN.{get_elem?}
 use Rattle.pf_board.specs.declared.quantum.Quantum.{Quantum}
 use Rattle.pf_board.specs.declared.hand.Hand.{Hand}
 use Rattle.pf_board.specs.declared.view.View.{View}
-use Rattle.pf_board.specs.Quanta.{times, issues, quanta_without, AreApartQuanta}
+use Rattle.pf_board.specs.Quanta.{total, times, issues, quanta_without, AreApartQuanta}
 use Rattle.pf_board.specs.Words.{quantum_at}
 use Rattle.pf_board.specs.Passes.{calls_by, but}
-use Rattle.pf_board.specs.Kept.{total}
 
 module _ {E T : Type 0} (legal : T → List (ℕ × E) → Type 0) where
   -- the seat v carried the hand of the pass g, and has then seen the whole history as w

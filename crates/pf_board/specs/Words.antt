@@ -27,7 +27,11 @@ pub record AreInverse : Type 0 where
 abbrev pub on_word : ℕ → ℕ → List Quantum
 on_word processor n = if n == 0 then [] else quantum_at processor n ∷ []
 
--- what lies on the words of the processors from p on
+-- what lies on the words of the processors from p on, together, and on each of them
 abbrev pub on_words : ℕ → List ℕ → List Quantum
 on_words p [] = []
 on_words p (n ∷ ns) = on_word p n ++ on_words (suc p) ns
+
+abbrev pub on_each_word : ℕ → List ℕ → List (List Quantum)
+on_each_word p [] = []
+on_each_word p (n ∷ ns) = on_word p n ∷ on_each_word (suc p) ns

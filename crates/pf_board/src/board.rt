@@ -370,7 +370,7 @@ impl<E, I: Issues<E>> Board<E, I> {
         requires board { (keeper.board ≡ self.id) × AreOf self.id passes.items }
         requires here { keeper.has_turn ≡ true }
         requires none_left { keeper.left ≡ [] }
-        ensures closed { IfOk result (λ left. Closes I.quanta I.steps self.processors self.passes keeper.seen passes.items left.items) }
+        ensures closed { IfOk result (λ left. Closes I.quanta I.steps (I.legal self.terms) self.processors self.passes keeper.seen passes.items left.items) }
         ensures refused { IfErr result (λ h. (h.board ≡ self) × (h.keeper ≡ keeper) × (h.passes.items ≡ passes.items)) }
     {
         let Ok(mut left) = Vec::with_capacity(self.alloc, self.processors as usize) else {

@@ -1,4 +1,4 @@
-use Rattle.std.proofs.Common.{◌≡◌, List, ℕ, sym, ap, subst}
+use Rattle.std.proofs.Common.{List, ℕ, sym, ap, subst}
 use Rattle.pf_board.specs.Passes.{AreOf, Passing}
 use Rattle.pf_board.proofs.Known.{new_are_of}
 use Rattle.board_tests.specs.declared.entry.Entry.{Entry}

@@ -1,4 +1,4 @@
-use Rattle.std.proofs.Common.{◌≡◌, ℕ, ◌<◌, List, [], ◌∷◌, ◌++◌, sym, ap, subst, ◌∙◌}
+use Rattle.std.proofs.Common.{◌≡◌, ℕ, List, [], ◌∷◌, ◌++◌, sym, ap, subst, ◌∙◌}
 use Rattle.pf_board.specs.Passes.{IsIn, below}
 use Rattle.pf_board.proofs.Known.{checked_all}
 use Rattle.board_tests.specs.Entries.{step_of}

@@ -34,4 +34,4 @@ returns-clause-closed g c =
     let ws = slots_items c.close_with-closed.result.words in
     let items : c.read_words.new.left.items ≡ on_words 0 k.core.cells = c.read_words.ensures ∙ (ap (λ l. l ++ on_words 0 (drop 1 ws)) c.in-Ok.ensures.items ∙ ap (λ w. on_words 0 (drop 1 w)) (sym final.2 ∙ k.words_are)) in
     let seen : c.args.keeper.seen ≡ host.me.0.seen = sym (ap (λ x. x.seen) c.keeper.view_is) ∙ sym (ap (λ v. v.seen) is_with) in
-    rw (items, seen, sym (ap (λ x. x.processors) c.self.view_is), sym (ap (λ x. x.passes) c.self.view_is)) done
+    rw (items, seen, sym (ap (λ x. x.terms) c.self.view_is), sym (ap (λ x. x.processors) c.self.view_is), sym (ap (λ x. x.passes) c.self.view_is)) done
