@@ -15,7 +15,7 @@ use Rattle.pf_order.specs.Priority.{Priority, key_cmp}
 use Rattle.pf_heap.specs.Keys.{Heaps, list_of, EachTaskOnce}
 use Rattle.pf_heap.specs.Digits.{digits}
 use Rattle.pf_heap.proofs.Digits.{digits-mono}
-use Rattle.pf_calendar.specs.declared.entry.Entry.{Entry}
+use Rattle.pf_calendar.specs.declared.waiting_list.WaitingList.{WaitingList}
 use Rattle.pf_calendar.specs.Queues.{Queues, all_of, until, later, due, key_count}
 use Rattle.pf_calendar.specs.Invariant.{lists_in, waiting_in, names_of, name_count, IsLaidOut}
 use Rattle.pf_calendar.specs.Steps.{MergesAll}
@@ -29,15 +29,15 @@ use Rattle.pf_calendar.proofs.Arranged.{ready_listed, entry_listed, entry_apart,
 use Rattle.pf_calendar.proofs.Whole.{seen, waiting_is, count_is, sum_counts, IsCalendarAfter, entries_as}
 
 -- the first n entries are due at slot t, and no other
-pub record AreDue (es : List Entry) (t n : ℕ) : Type 0 where
+pub record AreDue (es : List WaitingList) (t n : ℕ) : Type 0 where
   pub within : n ≤ length es
-  pub front : (k : ℕ) (d : Entry) → k < n → (get_or es k d).slot ≤ t
-  pub back : (k : ℕ) (d : Entry) → n ≤ k → k < length es → t < (get_or es k d).slot
+  pub front : (k : ℕ) (d : WaitingList) → k < n → (get_or es k d).slot ≤ t
+  pub back : (k : ℕ) (d : WaitingList) → n ≤ k → k < length es → t < (get_or es k d).slot
 
-names-take : (n : ℕ) (es : List Entry) → names_of (take n es) ≡ take n (names_of es)
+names-take : (n : ℕ) (es : List WaitingList) → names_of (take n es) ≡ take n (names_of es)
 names-take n es = sym (take-map (λ e. e.heap) n es)
 
-names-drop : (n : ℕ) (es : List Entry) → names_of (drop n es) ≡ drop n (names_of es)
+names-drop : (n : ℕ) (es : List WaitingList) → names_of (drop n es) ≡ drop n (names_of es)
 names-drop n es = sym (drop-map (λ e. e.heap) n es)
 
 -- lists that are named once share no key
@@ -58,17 +58,17 @@ len-all_named heaps (n ∷ names) apart once =
       sum_by-cons fin.len (list_of heaps n) (map (list_of heaps) names),
     )
 
-sum-named : (heaps : Heaps) (es : List Entry) → sum_by fin.len (map (list_of heaps) (names_of es)) ≡ sum_by (λ (e : Entry). fin.len (list_of heaps e.heap)) es
+sum-named : (heaps : Heaps) (es : List WaitingList) → sum_by fin.len (map (list_of heaps) (names_of es)) ≡ sum_by (λ (e : WaitingList). fin.len (list_of heaps e.heap)) es
 sum-named heaps [] = refl
 sum-named heaps (e ∷ es) =
-    omega (arith, sum_by-cons fin.len (list_of heaps e.heap) (map (list_of heaps) (names_of es)), sum_by-cons (λ (x : Entry). fin.len (list_of heaps x.heap)) e es, sum-named heaps es)
+    omega (arith, sum_by-cons fin.len (list_of heaps e.heap) (map (list_of heaps) (names_of es)), sum_by-cons (λ (x : WaitingList). fin.len (list_of heaps x.heap)) e es, sum-named heaps es)
 
-module _ {heaps : Heaps} {ready : ℕ} {es : List Entry} {unused : List ℕ} {held limit room unused_room : ℕ} (laid : IsLaidOut heaps ready es unused held limit room unused_room)
+module _ {heaps : Heaps} {ready : ℕ} {es : List WaitingList} {unused : List ℕ} {held limit room unused_room : ℕ} (laid : IsLaidOut heaps ready es unused held limit room unused_room)
     {t n : ℕ} (are_due : AreDue es t n) where
-  abbrev front : List Entry
+  abbrev front : List WaitingList
   front = take n es
 
-  abbrev back : List Entry
+  abbrev back : List WaitingList
   back = drop n es
 
   long_front : length front ≡ n
@@ -87,8 +87,8 @@ module _ {heaps : Heaps} {ready : ℕ} {es : List Entry} {unused : List ℕ} {he
         let short : k < n = omega (arith, lt, long_front) in
         let within : k < length es = omega (arith, short, are_due.within) in
         let is : get_or front k d ≡ get_or es k no_entry = get_or-take n es k d short ∙ get_or_default es k d no_entry within in (
-          subst (λ (e : Entry). e.heap < length heaps.lists) (sym is) (entry_listed laid k within),
-          λ e. entry_apart laid k within (sym (ap (λ (x : Entry). x.heap) is) ∙ e),
+          subst (λ (e : WaitingList). e.heap < length heaps.lists) (sym is) (entry_listed laid k within),
+          λ e. entry_apart laid k within (sym (ap (λ (x : WaitingList). x.heap) is) ∙ e),
         )),
     λ h. omega (arith, once laid h, split_times h),
   )
@@ -109,7 +109,7 @@ module _ {heaps : Heaps} {ready : ℕ} {es : List Entry} {unused : List ℕ} {he
       )
 
   back_apart : (k : ℕ) → k < length back → (get_or back k no_entry).heap ≢ ready
-  back_apart k lt e = entry_apart laid (n + k) (omega (arith, lt, long_back)) (sym (ap (λ (x : Entry). x.heap) (back_at k lt)) ∙ e)
+  back_apart k lt e = entry_apart laid (n + k) (omega (arith, lt, long_back)) (sym (ap (λ (x : WaitingList). x.heap) (back_at k lt)) ∙ e)
 
   -- ---- the lists by slot
 
@@ -117,10 +117,10 @@ module _ {heaps : Heaps} {ready : ℕ} {es : List Entry} {unused : List ℕ} {he
   slot_in k lt = slot_at heaps es k fin.empty lt
 
   lists_front : lists_in heaps front ≡ take n (lists_in heaps es)
-  lists_front = sym (take-map (λ (e : Entry). (e.slot, list_of heaps e.heap)) n es)
+  lists_front = sym (take-map (λ (e : WaitingList). (e.slot, list_of heaps e.heap)) n es)
 
   lists_back : lists_in heaps back ≡ drop n (lists_in heaps es)
-  lists_back = sym (drop-map (λ (e : Entry). (e.slot, list_of heaps e.heap)) n es)
+  lists_back = sym (drop-map (λ (e : WaitingList). (e.slot, list_of heaps e.heap)) n es)
 
   is_until : (in_order (lists_in heaps front) ≡ true) × (finmap.from_sorted {R = nat_cmp} (lists_in heaps front) ≡ until t (finmap.from_sorted (lists_in heaps es)))
   is_until =
@@ -146,7 +146,7 @@ module _ {heaps : Heaps} {ready : ℕ} {es : List Entry} {unused : List ℕ} {he
   entries_until =
       ap (λ m. finmap.entries (until t m)) (waiting_is heaps es) ∙ ap finmap.entries (sym is_until.1) ∙ entries_in (lists_in heaps front) is_until.0
 
-  values_front : (l : List Entry) → map (λ e. e.1) (lists_in heaps l) ≡ map (list_of heaps) (names_of l)
+  values_front : (l : List WaitingList) → map (λ e. e.1) (lists_in heaps l) ≡ map (list_of heaps) (names_of l)
   values_front [] = refl
   values_front (e ∷ l) = ap (λ x. list_of heaps e.heap ∷ x) (values_front l)
 
@@ -156,15 +156,15 @@ module _ {heaps : Heaps} {ready : ℕ} {es : List Entry} {unused : List ℕ} {he
   merged_count : finmap.len (until t (waiting_in heaps es)) ≡ n
   merged_count = finmap.len-entries (until t (waiting_in heaps es)) ∙ ap length entries_until ∙ length-lists heaps front ∙ long_front
 
-  merged_size : (m : ℕ) → fin.len (list_of heaps ready) + sum_by (λ (e : Entry). fin.len (list_of heaps e.heap)) front ≤ key_count (seen heaps ready es m)
+  merged_size : (m : ℕ) → fin.len (list_of heaps ready) + sum_by (λ (e : WaitingList). fin.len (list_of heaps e.heap)) front ≤ key_count (seen heaps ready es m)
   merged_size m =
-      omega (arith, count_is laid m, sum_counts laid es laid.counted, sum_by-take-drop (λ (e : Entry). fin.len (list_of heaps e.heap)) es n)
+      omega (arith, count_is laid m, sum_counts laid es laid.counted, sum_by-take-drop (λ (e : WaitingList). fin.len (list_of heaps e.heap)) es n)
 
   -- what the merges cost, on what contracts see
   pub merges_cost : {m : ℕ} {now : Queues} → seen heaps ready es m ≡ now →
-      length front * digits (fin.len (list_of heaps ready) + sum_by (λ (e : Entry). fin.len (list_of heaps e.heap)) front) ≤ finmap.len (until t now.waiting) * digits (key_count now)
+      length front * digits (fin.len (list_of heaps ready) + sum_by (λ (e : WaitingList). fin.len (list_of heaps e.heap)) front) ≤ finmap.len (until t now.waiting) * digits (key_count now)
   merges_cost {m} {now} view =
-      let size = fin.len (list_of heaps ready) + sum_by (λ (e : Entry). fin.len (list_of heaps e.heap)) front in
+      let size = fin.len (list_of heaps ready) + sum_by (λ (e : WaitingList). fin.len (list_of heaps e.heap)) front in
       let more : n * digits size ≤ n * digits (key_count now) =
       mul-le-mul_left n (digits-mono size (key_count now) (omega (arith, merged_size m, ap key_count view))) in
       let counted : finmap.len (until t now.waiting) ≡ n = ap (λ (q : Queues). finmap.len (until t q.waiting)) (sym view) ∙ merged_count in
@@ -248,8 +248,8 @@ module _ {heaps : Heaps} {ready : ℕ} {es : List Entry} {unused : List ℕ} {he
           empty = subst (All (λ h. list_of heaps' h ≡ fin.empty)) (sym names) emptied;
           counted = λ k d lt.
               let is : get_or back k d ≡ get_or back k no_entry = get_or_default back k d no_entry lt in
-              subst (λ (e : Entry). e.count ≡ fin.len (list_of heaps' e.heap)) (sym is)
-              (All-drop (λ (e : Entry). e.count ≡ fin.len (list_of heaps e.heap)) n es laid.counted k no_entry lt
+              subst (λ (e : WaitingList). e.count ≡ fin.len (list_of heaps' e.heap)) (sym is)
+              (All-drop (λ (e : WaitingList). e.count ≡ fin.len (list_of heaps e.heap)) n es laid.counted k no_entry lt
               ∙ ap fin.len (sym (merges.others (get_or back k no_entry).heap (back_apart k lt) (back_unmerged k lt))));
           apart = apart_by heaps.lists heaps'.lists goes comes_from laid.apart;
           held_is = omega (
@@ -260,8 +260,8 @@ module _ {heaps : Heaps} {ready : ℕ} {es : List Entry} {unused : List ℕ} {he
                 (λ h. omega (arith, once laid h, split_times h, name_count-cons h ready (names_of front))),
             sum_by-cons fin.len (list_of heaps ready) (map (list_of heaps) (names_of front)),
             sum-named heaps front,
-            sum_counts laid front (All-take (λ (e : Entry). e.count ≡ fin.len (list_of heaps e.heap)) n es laid.counted),
-            sum_by-take-drop (λ (e : Entry). e.count) es n,
+            sum_counts laid front (All-take (λ (e : WaitingList). e.count ≡ fin.len (list_of heaps e.heap)) n es laid.counted),
+            sum_by-take-drop (λ (e : WaitingList). e.count) es n,
           );
           within = laid.within;
           enough = omega (arith, laid.enough, long_names, long_back);
@@ -271,10 +271,10 @@ module _ {heaps : Heaps} {ready : ℕ} {es : List Entry} {unused : List ℕ} {he
         }
 
     -- the calendar after the merges, as the code has its lists
-    pub advanced : {now : Queues} → seen heaps ready es (limit - held) ≡ now → {es' : List Entry} {unused' : List ℕ} → es' ≡ back → unused' ≡ unused ++ names_of front → All (λ e. 1 ≤ e.count) es →
+    pub advanced : {now : Queues} → seen heaps ready es (limit - held) ≡ now → {es' : List WaitingList} {unused' : List ℕ} → es' ≡ back → unused' ≡ unused ++ names_of front → All (λ e. 1 ≤ e.count) es →
         IsCalendarAfter heaps' ready es' unused' held limit room unused_room (record now { ready = fin.union now.ready (due t now.waiting); waiting = later t now.waiting })
     advanced view {es'} {unused'} left names some =
         entries_as left (record {
-          calendar = record { laid = advanced_laid unused' names; some = All-drop (λ (e : Entry). 1 ≤ e.count) n es some };
+          calendar = record { laid = advanced_laid unused' names; some = All-drop (λ (e : WaitingList). 1 ≤ e.count) n es some };
           view = advanced_seen (limit - held) ∙ ap (λ (q : Queues). record q { ready = fin.union q.ready (due t q.waiting); waiting = later t q.waiting }) view;
         })

@@ -14,13 +14,13 @@ use Rattle.std.specs.FinSet.{len-empty}
 use Rattle.std.specs.FinMap.Entries.{is_sorted}
 use Rattle.pf_order.specs.Priority.{key_cmp}
 use Rattle.pf_heap.specs.Keys.{Keys, Heaps, list_of, EachTaskOnce}
-use Rattle.pf_calendar.specs.declared.entry.Entry.{Entry}
+use Rattle.pf_calendar.specs.declared.waiting_list.WaitingList.{WaitingList}
 use Rattle.pf_calendar.specs.Invariant.{lists_in, names_of, name_count, IsLaidOut}
 use Rattle.pf_calendar.specs.Steps.{IsSlotPlace, HasEntry}
 use Rattle.pf_calendar.proofs.Naming.{no_entry, name_count-cons, name_count-append, name_count-nil, one_of, none_of, named_at, at_named, one_place, name_at, length-names, names-set, name_count-insert, lists_same, lists_set, lists-insert, length-lists, slot_at}
 use Rattle.pf_calendar.proofs.Maps.{in_order, set_in, insert_in}
 
-module _ {heaps : Heaps} {ready : ℕ} {es : List Entry} {unused : List ℕ} {held limit room unused_room : ℕ} (laid : IsLaidOut heaps ready es unused held limit room unused_room) where
+module _ {heaps : Heaps} {ready : ℕ} {es : List WaitingList} {unused : List ℕ} {held limit room unused_room : ℕ} (laid : IsLaidOut heaps ready es unused held limit room unused_room) where
   one_or_none : (h n : ℕ) → cond {A = ℕ} (ltb h n) 1 0 ≤ 1
   one_or_none h n = grind (arith, nat_tests)
 
@@ -71,8 +71,8 @@ module _ {heaps : Heaps} {ready : ℕ} {es : List Entry} {unused : List ℕ} {he
       (cases_lt (name_count i (names_of es)) 1)))
       (cases_eq ready i)
 
-  counted_of : (heaps' : Heaps) (x y : Entry) → x ≡ y → y.count ≡ fin.len (list_of heaps' y.heap) → x.count ≡ fin.len (list_of heaps' x.heap)
-  counted_of heaps' x y e h = subst (λ (z : Entry). z.count ≡ fin.len (list_of heaps' z.heap)) (sym e) h
+  counted_of : (heaps' : Heaps) (x y : WaitingList) → x ≡ y → y.count ≡ fin.len (list_of heaps' y.heap) → x.count ≡ fin.len (list_of heaps' x.heap)
+  counted_of heaps' x y e h = subst (λ (z : WaitingList). z.count ≡ fin.len (list_of heaps' z.heap)) (sym e) h
 
   -- list h becomes these keys, and `count` of them are counted at its entry
   pub entry_changed : (heaps' : Heaps) (at : ℕ) (keys : Keys) (count held' : ℕ) → at < length es →
@@ -81,7 +81,7 @@ module _ {heaps : Heaps} {ready : ℕ} {es : List Entry} {unused : List ℕ} {he
       IsLaidOut heaps' ready (set es at (record (get_or es at no_entry) { count = count })) unused held' limit room unused_room
   entry_changed heaps' at keys count held' lt is counts apart sum within spare =
       let e = get_or es at no_entry in
-      let e' : Entry = record e { count = count } in
+      let e' : WaitingList = record e { count = count } in
       let h_in : e.heap < length heaps.lists = entry_listed at lt in
       let here : list_of heaps' e.heap ≡ keys = ap (λ l. get_or l e.heap fin.empty) is ∙ get_or-set_same heaps.lists e.heap keys fin.empty h_in in
       let other : (i : ℕ) → i ≢ e.heap → list_of heaps' i ≡ list_of heaps i = λ i ne.
@@ -102,10 +102,10 @@ module _ {heaps : Heaps} {ready : ℕ} {es : List Entry} {unused : List ℕ} {he
             (λ same. counted_of heaps' (get_or (set es at e') k d) e' (ap (λ j. get_or (set es at e') j d) same ∙ get_or-set_same es at e' d lt) (counts ∙ ap fin.len (sym here)))
             (λ ne. counted_of heaps' (get_or (set es at e') k d) (get_or es k d) (get_or-set_other es at k e' d ne)
             (laid.counted k d (omega (arith, lk, long_es)) ∙ ap fin.len (sym (other (get_or es k d).heap (λ i.
-            entries_apart at k lt (omega (arith, lk, long_es)) ne (ap (λ (x : Entry). x.heap) (get_or_default es k no_entry d (omega (arith, lk, long_es))) ∙ i))))))
+            entries_apart at k lt (omega (arith, lk, long_es)) ne (ap (λ (x : WaitingList). x.heap) (get_or_default es k no_entry d (omega (arith, lk, long_es))) ∙ i))))))
             (cases_eq k at);
         apart = apart;
-        held_is = omega (arith, laid.held_is, sum, sum_by-set (λ (x : Entry). x.count) es at e' no_entry lt, ap fin.len ready_other);
+        held_is = omega (arith, laid.held_is, sum, sum_by-set (λ (x : WaitingList). x.count) es at e' no_entry lt, ap fin.len ready_other);
         within = within;
         enough = omega (arith, laid.enough, long_es);
         spare = spare;
@@ -130,7 +130,7 @@ module _ {heaps : Heaps} {ready : ℕ} {es : List Entry} {unused : List ℕ} {he
         small = laid.small;
         empty = λ k d lk. other (get_or unused k d) (λ i. unused_apart k ready lk (omega (arith, one_of ready ready refl)) (get_or_default unused k 0 d lk ∙ i)) ∙ laid.empty k d lk;
         counted = λ k d lk. laid.counted k d lk ∙ ap fin.len (sym (other (get_or es k d).heap (λ i.
-            entry_apart k lk (ap (λ (x : Entry). x.heap) (get_or_default es k no_entry d lk) ∙ i))));
+            entry_apart k lk (ap (λ (x : WaitingList). x.heap) (get_or_default es k no_entry d lk) ∙ i))));
         apart = apart;
         held_is = omega (arith, laid.held_is, sum, ap fin.len here);
         within = within;
@@ -147,7 +147,7 @@ module _ {heaps : Heaps} {ready : ℕ} {es : List Entry} {unused : List ℕ} {he
   fresh_in : (slot at : ℕ) → IsSlotPlace es slot at → ¬ (HasEntry es slot at) → at < length (lists_in heaps es) → slot < (get_or (lists_in heaps es) at (0, fin.empty)).0
   fresh_in slot at place fresh lt =
       let within : at < length es = omega (arith, lt, length-lists heaps es) in
-      let ne : slot ≢ (get_or es at no_entry).slot = λ e. fresh (within, λ d. ap (λ (x : Entry). x.slot) (get_or_default es at d no_entry within) ∙ sym e) in
+      let ne : slot ≢ (get_or es at no_entry).slot = λ e. fresh (within, λ d. ap (λ (x : WaitingList). x.slot) (get_or_default es at d no_entry within) ∙ sym e) in
       omega (arith, place.after at no_entry (omega arith) within, ne, slot_at heaps es at fin.empty within)
 
   -- a list for a slot that had none
@@ -161,12 +161,12 @@ module _ {heaps : Heaps} {ready : ℕ} {es : List Entry} {unused : List ℕ} {he
   pub entry_opened : (left : List ℕ) (h slot at : ℕ) → unused ≡ left ++ h ∷ [] → IsSlotPlace es slot at → ¬ (HasEntry es slot at) →
       IsLaidOut heaps ready (insert es at (record { slot = slot; heap = h; count = 0 })) left held limit room unused_room
   entry_opened left h slot at is place fresh =
-      let e : Entry = record { slot = slot; heap = h; count = 0 } in
+      let e : WaitingList = record { slot = slot; heap = h; count = 0 } in
       let long : length (insert es at e) ≡ length es + 1 = length-insert es at e place.within in
       let long_unused : length unused ≡ length left + 1 = ap length is ∙ length_push left h in
       let empty_at : list_of heaps h ≡ fin.empty =
       ap (list_of heaps) (sym (ap (λ l. get_or l (length left) 0) is ∙ get_or_push left h 0 (length left) refl)) ∙ laid.empty (length left) 0 (omega (arith, long_unused)) in
-      let sums : sum_by (λ (x : Entry). x.count) (insert es at e) ≡ sum_by (λ (x : Entry). x.count) es + 0 = sum_by-insert (λ (x : Entry). x.count) es at e in
+      let sums : sum_by (λ (x : WaitingList). x.count) (insert es at e) ≡ sum_by (λ (x : WaitingList). x.count) es + 0 = sum_by-insert (λ (x : WaitingList). x.count) es at e in
       record {
         rise = ap (is_sorted nat_cmp) (lists-insert heaps es at e) ∙ (opened_lists (list_of heaps h) slot at place fresh).0;
         named = λ i. omega (
@@ -185,10 +185,10 @@ module _ {heaps : Heaps} {ready : ℕ} {es : List Entry} {unused : List ℕ} {he
         many = omega (arith, laid.many, long, long_unused);
         small = omega (arith, laid.small, long, long_unused);
         empty = λ k d lk. ap (list_of heaps) (sym (ap (λ l. get_or l k d) is ∙ get_or_append_left left (h ∷ []) d k lk)) ∙ laid.empty k d (omega (arith, lk, long_unused));
-        counted = All-append (λ (x : Entry). x.count ≡ fin.len (list_of heaps x.heap)) (take at es) (e ∷ drop at es)
-            (All-take (λ (x : Entry). x.count ≡ fin.len (list_of heaps x.heap)) at es laid.counted)
-            (All-cons (λ (x : Entry). x.count ≡ fin.len (list_of heaps x.heap)) e (drop at es) (sym (ap fin.len empty_at ∙ len-empty key_cmp))
-            (All-drop (λ (x : Entry). x.count ≡ fin.len (list_of heaps x.heap)) at es laid.counted));
+        counted = All-append (λ (x : WaitingList). x.count ≡ fin.len (list_of heaps x.heap)) (take at es) (e ∷ drop at es)
+            (All-take (λ (x : WaitingList). x.count ≡ fin.len (list_of heaps x.heap)) at es laid.counted)
+            (All-cons (λ (x : WaitingList). x.count ≡ fin.len (list_of heaps x.heap)) e (drop at es) (sym (ap fin.len empty_at ∙ len-empty key_cmp))
+            (All-drop (λ (x : WaitingList). x.count ≡ fin.len (list_of heaps x.heap)) at es laid.counted));
         apart = laid.apart;
         held_is = omega (arith, laid.held_is, sums);
         within = laid.within;

@@ -11,7 +11,7 @@ use Rattle.std.specs.FinSet as fin
 use Rattle.std.specs.FinMap as finmap
 use Rattle.std.specs.FinMap.Entries.{is_sorted}
 use Rattle.pf_heap.specs.Keys.{Keys, Heaps, list_of}
-use Rattle.pf_calendar.specs.declared.entry.Entry.{Entry}
+use Rattle.pf_calendar.specs.declared.waiting_list.WaitingList.{WaitingList}
 use Rattle.pf_calendar.specs.Invariant.{lists_in, waiting_in, names_of, name_count, IsLaidOut, IsCalendar}
 use Rattle.pf_calendar.specs.Steps.{AddsHeaps}
 use Rattle.pf_calendar.proofs.Naming.{no_entry, name_count-cons, name_count-append, name_count-nil, lists_same}
@@ -40,7 +40,7 @@ name_count-range h a zero b e = omega (arith, name_count-nil h, ap (λ m. cond {
 name_count-range h a (suc n) b e =
     omega (arith, name_count-cons h a (range_with_len (a + 1) n), below_or_at h a, name_count-range h (a + 1) n b (omega arith))
 
-module _ {heaps : Heaps} {ready : ℕ} {es : List Entry} {unused : List ℕ} {held limit room unused_room : ℕ} (laid : IsLaidOut heaps ready es unused held limit room unused_room)
+module _ {heaps : Heaps} {ready : ℕ} {es : List WaitingList} {unused : List ℕ} {held limit room unused_room : ℕ} (laid : IsLaidOut heaps ready es unused held limit room unused_room)
     (heaps' : Heaps) (n : ℕ) (lists : heaps'.lists ≡ heaps.lists ++ replicate n fin.empty) where
   pub list_kept : (i : ℕ) → list_of heaps' i ≡ list_of heaps i
   list_kept i = ap (λ l. get_or l i fin.empty) lists ∙ list_grown heaps.lists n i
@@ -96,17 +96,17 @@ module _ {heaps : Heaps} {ready : ℕ} {es : List Entry} {unused : List ℕ} {he
         past (x ∷ l) (suc i) le = past l i (omega (arith, le))
 
 -- what is kept by the growths of a reservation
-pub reserved_seen : {heaps : Heaps} {ready : ℕ} {es : List Entry} {unused : List ℕ} {held limit room unused_room : ℕ} → IsLaidOut heaps ready es unused held limit room unused_room →
-    (heaps' : Heaps) (es' : List Entry) (n m : ℕ) → heaps'.lists ≡ heaps.lists ++ replicate n fin.empty → heaps'.tasks ≡ heaps.tasks → es' ≡ es →
+pub reserved_seen : {heaps : Heaps} {ready : ℕ} {es : List WaitingList} {unused : List ℕ} {held limit room unused_room : ℕ} → IsLaidOut heaps ready es unused held limit room unused_room →
+    (heaps' : Heaps) (es' : List WaitingList) (n m : ℕ) → heaps'.lists ≡ heaps.lists ++ replicate n fin.empty → heaps'.tasks ≡ heaps.tasks → es' ≡ es →
     seen heaps' ready es' m ≡ seen heaps ready es m
 reserved_seen {heaps} {ready} {es} laid heaps' es' n m lists tasks same = ap (λ l. seen heaps' ready l m) same ∙ seen_kept laid heaps' n lists m tasks
 
-pub reserved : {heaps : Heaps} {ready : ℕ} {es : List Entry} {unused : List ℕ} {held limit room unused_room : ℕ} → IsCalendar heaps ready es unused held limit room unused_room →
-    (mid heaps' : Heaps) (es' : List Entry) (unused2 unused' : List ℕ) (n limit' room' unused_room' : ℕ) → mid.lists ≡ heaps.lists → es' ≡ es → unused2 ≡ unused → AddsHeaps mid heaps' unused2 unused' n →
+pub reserved : {heaps : Heaps} {ready : ℕ} {es : List WaitingList} {unused : List ℕ} {held limit room unused_room : ℕ} → IsCalendar heaps ready es unused held limit room unused_room →
+    (mid heaps' : Heaps) (es' : List WaitingList) (unused2 unused' : List ℕ) (n limit' room' unused_room' : ℕ) → mid.lists ≡ heaps.lists → es' ≡ es → unused2 ≡ unused → AddsHeaps mid heaps' unused2 unused' n →
     held ≤ limit' → limit' ≤ length es + length unused + n → limit' ≤ held + mid.spare → length es + length unused + n ≤ 2 ^ 32 - 3 →
     length es + length unused + n ≤ room' → length es + length unused + n ≤ unused_room' → IsCalendar heaps' ready es' unused' held limit' room' unused_room'
 reserved {heaps} {ready} {es} {unused} {held} cal mid heaps' es' unused2 unused' n limit' room' unused_room' mid_is same same_unused adds within enough spare small in_room in_unused =
-    subst (λ (l : List Entry). IsCalendar heaps' ready l unused' held limit' room' unused_room') (sym same)
+    subst (λ (l : List WaitingList). IsCalendar heaps' ready l unused' held limit' room' unused_room') (sym same)
     (record {
       laid = grown cal.laid heaps' n (adds.lists ∙ ap (λ l. l ++ replicate n fin.empty) mid_is) unused' limit' room' unused_room'
           (adds.noted ∙ (λ i. same_unused i ++ range_with_len (length (mid_is i)) n)) within enough (omega (arith, spare, adds.spare)) small in_room in_unused;

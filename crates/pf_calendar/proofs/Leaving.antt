@@ -19,7 +19,7 @@ use Rattle.pf_order.specs.Priority.{Priority, key_cmp}
 use Rattle.pf_order.proofs.Order.{key_cmp_total, only_equal_keys_tie}
 use Rattle.pf_heap.specs.Keys as keys
 use Rattle.pf_heap.specs.Keys.{Keys, Heaps, list_of, other_keys, HasNone, EachTaskOnce}
-use Rattle.pf_calendar.specs.declared.entry.Entry.{Entry}
+use Rattle.pf_calendar.specs.declared.waiting_list.WaitingList.{WaitingList}
 use Rattle.pf_calendar.specs.Queues.{list_at, with_waiting_list, IsQueued, TakesOut}
 use Rattle.pf_calendar.specs.Invariant.{lists_in, waiting_in, names_of, IsLaidOut, IsCalendar}
 use Rattle.pf_calendar.specs.Steps.{RemovesAt, Discounts}
@@ -28,18 +28,45 @@ use Rattle.pf_heap.proofs.Sets.{key_alike, tied_keys}
 use Rattle.pf_calendar.proofs.Sets.{some_has, remove_in, len-remove_one}
 use Rattle.pf_calendar.proofs.Apart.{Has}
 use Rattle.pf_calendar.proofs.Slots.{eq_by-same, eq_by-other, rises, find_at, where_but}
-use Rattle.pf_calendar.proofs.Maps.{in_order, set_in, get_in, list_found, retained_in, waits_at}
+use Rattle.pf_calendar.proofs.Maps.{in_order, set_in, get_in, list_found, retained_in}
 use Rattle.pf_calendar.proofs.Arranged.{entry_listed, entry_apart, entries_apart, entry_changed}
 use Rattle.pf_calendar.proofs.Whole.{seen, waiting_is, apart_part}
 
 -- ---- a copy
 
-pub copied_seen : (heaps heaps' : Heaps) (ready : ℕ) (es es' : List Entry) (m n : ℕ) → heaps' ≡ record heaps { spare = 0 } → es' ≡ es → n ≡ 0 →
+pub copied_seen : (heaps heaps' : Heaps) (ready : ℕ) (es es' : List WaitingList) (m n : ℕ) → heaps' ≡ record heaps { spare = 0 } → es' ≡ es → n ≡ 0 →
     seen heaps' ready es' n ≡ record (seen heaps ready es m) { spare = 0 }
 copied_seen heaps heaps' ready es es' m n is same none =
     let waits : waiting_in heaps' es' ≡ waiting_in heaps es =
     ap (waiting_in heaps') same ∙ ap (λ h. waiting_in h es) is ∙ waiting_is (record heaps { spare = 0 }) es ∙ sym (waiting_is heaps es) in
     λ i. record { ready = list_of (is i) ready; waiting = waits i; spare = none i; tasks = (is i).tasks }
+
+pub copied : {heaps : Heaps} {ready : ℕ} {es : List WaitingList} {unused : List ℕ} {held limit room unused_room : ℕ} → IsCalendar heaps ready es unused held limit room unused_room →
+    (heaps' : Heaps) (es' : List WaitingList) (unused' : List ℕ) (room' unused_room' : ℕ) → heaps' ≡ record heaps { spare = 0 } → es' ≡ es → unused' ≡ unused →
+    length es + length unused ≤ room' → length es + length unused ≤ unused_room' → IsCalendar heaps' ready es' unused' held held room' unused_room'
+copied {heaps} {ready} {es} {unused} {held} cal heaps' es' unused' room' unused_room' is same same_unused in_room in_unused =
+    let laid = cal.laid in
+    subst (λ (h : Heaps). IsCalendar h ready es' unused' held held room' unused_room') (sym is)
+    (subst (λ (l : List WaitingList). IsCalendar (record heaps { spare = 0 }) ready l unused' held held room' unused_room') (sym same)
+    (subst (λ (l : List ℕ). IsCalendar (record heaps { spare = 0 }) ready es l held held room' unused_room') (sym same_unused)
+    (record {
+      laid = record {
+        rise = laid.rise;
+        named = laid.named;
+        many = laid.many;
+        small = laid.small;
+        empty = laid.empty;
+        counted = laid.counted;
+        apart = laid.apart;
+        held_is = laid.held_is;
+        within = omega arith;
+        enough = omega (arith, laid.within, laid.enough);
+        spare = omega arith;
+        room_is = in_room;
+        unused_room_is = in_unused;
+      };
+      some = cal.some;
+    })))
 
 -- ---- one key of a task
 
@@ -89,10 +116,10 @@ remove_in_map es at s ok lt is =
           (λ ne. ap (λ b. cond (not b) o None) (eq_by-other s q (λ e. ne (sym e))) ∙ sym (ap (λ b. cond b None o) (eq_by-other q s ne)))
           (cases_eq q s)
 
-remove-set : (es : List Entry) (at : ℕ) (e : Entry) → remove (set es at e) at ≡ remove es at
+remove-set : (es : List WaitingList) (at : ℕ) (e : WaitingList) → remove (set es at e) at ≡ remove es at
 remove-set es at e = λ i. take-set es at e i ++ drop-set-lt (suc at) es at e (omega arith) i
 
-module _ {heaps : Heaps} {ready : ℕ} {es : List Entry} {unused : List ℕ} {held limit room unused_room : ℕ} (laid : IsLaidOut heaps ready es unused held limit room unused_room) where
+module _ {heaps : Heaps} {ready : ℕ} {es : List WaitingList} {unused : List ℕ} {held limit room unused_room : ℕ} (laid : IsLaidOut heaps ready es unused held limit room unused_room) where
   -- an entry that counts no key goes
   pub entry_closed : (at : ℕ) → at < length es → (get_or es at no_entry).count ≡ 0 →
       IsLaidOut heaps ready (remove es at) (unused ++ (get_or es at no_entry).heap ∷ []) held limit room unused_room
@@ -119,11 +146,11 @@ module _ {heaps : Heaps} {ready : ℕ} {es : List Entry} {unused : List ℕ} {he
         many = omega (arith, laid.many, long, long_unused);
         small = omega (arith, laid.small, long, long_unused);
         empty = All-push (λ h. list_of heaps h ≡ fin.empty) unused e.heap laid.empty gone;
-        counted = All-append (λ (x : Entry). x.count ≡ fin.len (list_of heaps x.heap)) (take at es) (drop (suc at) es)
-            (All-take (λ (x : Entry). x.count ≡ fin.len (list_of heaps x.heap)) at es laid.counted)
-            (All-drop (λ (x : Entry). x.count ≡ fin.len (list_of heaps x.heap)) (suc at) es laid.counted);
+        counted = All-append (λ (x : WaitingList). x.count ≡ fin.len (list_of heaps x.heap)) (take at es) (drop (suc at) es)
+            (All-take (λ (x : WaitingList). x.count ≡ fin.len (list_of heaps x.heap)) at es laid.counted)
+            (All-drop (λ (x : WaitingList). x.count ≡ fin.len (list_of heaps x.heap)) (suc at) es laid.counted);
         apart = laid.apart;
-        held_is = omega (arith, laid.held_is, sum_by-remove (λ (x : Entry). x.count) es at no_entry lt);
+        held_is = omega (arith, laid.held_is, sum_by-remove (λ (x : WaitingList). x.count) es at no_entry lt);
         within = laid.within;
         enough = omega (arith, laid.enough, long, long_unused);
         spare = laid.spare;
@@ -131,20 +158,15 @@ module _ {heaps : Heaps} {ready : ℕ} {es : List Entry} {unused : List ℕ} {he
         unused_room_is = omega (arith, laid.unused_room_is, long, long_unused);
       }
 
-module _ {heaps : Heaps} {ready : ℕ} {es : List Entry} {unused : List ℕ} {held limit room unused_room : ℕ} (laid : IsLaidOut heaps ready es unused held limit room unused_room) where
+module _ {heaps : Heaps} {ready : ℕ} {es : List WaitingList} {unused : List ℕ} {held limit room unused_room : ℕ} (laid : IsLaidOut heaps ready es unused held limit room unused_room) where
   only_key : (i : ℕ) (task : ℕ) (k : Priority) → k.task ≡ task → Has heaps.lists i k → (q : Priority) → fin.contains (list_of heaps i) q ≡ true → q.task ≡ task → q ≡ k
   only_key i task k of_task has q h same = (laid.apart i i q k h has (same ∙ sym of_task)).1
 
   -- a task that no list has isn't held
-  pub not_held : (n task : ℕ) → HasNone (list_of heaps ready) task → All (λ e. HasNone (list_of heaps e.heap) task) es → ¬ (IsQueued (seen heaps ready es n) task)
+  pub not_held : (n task : ℕ) → HasNone (list_of heaps ready) task →
+      ((s : ℕ) (q : Priority) → fin.contains (list_at (waiting_in heaps es) s) q ≡ true → q.task ≢ task) → ¬ (IsQueued (seen heaps ready es n) task)
   not_held n task none_ready none_waiting w =
-      ⊎_elim
-      (λ h. none_ready w.key h w.of_task)
-      (λ m.
-      let at = waits_at (lists_in heaps es) m.0 w.key laid.rise (sym (ap (λ x. fin.contains (list_at x m.0) w.key) (waiting_is heaps es)) ∙ m.1) in
-      let lt : at.0 < length es = omega (arith, at.1, length-lists heaps es) in
-      none_waiting at.0 no_entry lt w.key (sym (ap (λ l. fin.contains l w.key) (list_at_place heaps es at.0 fin.empty lt)) ∙ at.3) w.of_task)
-      w.has
+      ⊎_elim (λ h. none_ready w.key h w.of_task) (λ m. none_waiting m.0 w.key m.1 w.of_task) w.has
 
   -- from the ready list
   pub ready_removed : (heaps' : Heaps) (task : ℕ) (k : Priority) → k.task ≡ task → fin.contains (list_of heaps ready) k ≡ true →
@@ -156,13 +178,13 @@ module _ {heaps : Heaps} {ready : ℕ} {es : List Entry} {unused : List ℕ} {he
   -- ---- from the list of an entry
 
   module _ (heaps' : Heaps) (task at : ℕ) (k : Priority) (removes : RemovesAt heaps heaps' es task at k) where
-    abbrev e : Entry
+    abbrev e : WaitingList
     e = get_or es at no_entry
 
     abbrev left : Keys
     left = fin.remove (list_of heaps e.heap) k
 
-    abbrev less : Entry
+    abbrev less : WaitingList
     less = record e { count = e.count - 1 }
 
     left_is : heaps' ≡ record (keys.with_list heaps e.heap left) { spare = heaps.spare + 1 }
@@ -178,7 +200,7 @@ module _ {heaps : Heaps} {ready : ℕ} {es : List Entry} {unused : List ℕ} {he
     size_left = omega (arith, len-remove_one (list_of heaps e.heap) k (removes.has no_entry), laid.counted at no_entry removes.within)
 
     pub some_held : 1 ≤ held
-    some_held = omega (arith, some_there, get_or-le-sum_by (λ (x : Entry). x.count) es at no_entry removes.within, laid.held_is)
+    some_held = omega (arith, some_there, get_or-le-sum_by (λ (x : WaitingList). x.count) es at no_entry removes.within, laid.held_is)
 
     taken_laid : IsLaidOut heaps' ready (set es at less) unused (held - 1) limit room unused_room
     taken_laid =
@@ -186,28 +208,28 @@ module _ {heaps : Heaps} {ready : ℕ} {es : List Entry} {unused : List ℕ} {he
         (subst EachTaskOnce (sym (ap (λ h. h.lists) left_is)) (apart_part heaps.lists e.heap left (λ p h. remove_in (list_of heaps e.heap) k p h) laid.apart))
         (omega (arith, some_there, some_held)) (omega (arith, laid.within)) (omega (arith, some_held, laid.spare, ap (λ h. h.spare) left_is))
 
-    pub discounted_calendar : (es' : List Entry) (unused' : List ℕ) → All (λ x. 1 ≤ x.count) es → Discounts es es' unused unused' at →
+    pub discounted_calendar : (es' : List WaitingList) (unused' : List ℕ) → All (λ x. 1 ≤ x.count) es → Discounts es es' unused unused' at →
         IsCalendar heaps' ready es' unused' (held - 1) limit room unused_room
     discounted_calendar es' unused' some ways =
         ⊎_elim
         (λ w.
         let less_at : get_or (set es at less) at no_entry ≡ less = get_or-set_same es at less no_entry removes.within in
         let closed : IsLaidOut heaps' ready (remove es at) (unused ++ e.heap ∷ []) (held - 1) limit room unused_room =
-        subst (λ (l : List Entry). IsLaidOut heaps' ready l (unused ++ e.heap ∷ []) (held - 1) limit room unused_room) (remove-set es at less)
-        (subst (λ (x : Entry). IsLaidOut heaps' ready (remove (set es at less) at) (unused ++ x.heap ∷ []) (held - 1) limit room unused_room) less_at
-        (entry_closed taken_laid at (omega (arith, removes.within, length-set es at less)) (ap (λ (x : Entry). x.count) less_at ∙ omega (arith, w.0)))) in
-        subst (λ (l : List Entry). IsCalendar heaps' ready l unused' (held - 1) limit room unused_room) (sym w.1)
+        subst (λ (l : List WaitingList). IsLaidOut heaps' ready l (unused ++ e.heap ∷ []) (held - 1) limit room unused_room) (remove-set es at less)
+        (subst (λ (x : WaitingList). IsLaidOut heaps' ready (remove (set es at less) at) (unused ++ x.heap ∷ []) (held - 1) limit room unused_room) less_at
+        (entry_closed taken_laid at (omega (arith, removes.within, length-set es at less)) (ap (λ (x : WaitingList). x.count) less_at ∙ omega (arith, w.0)))) in
+        subst (λ (l : List WaitingList). IsCalendar heaps' ready l unused' (held - 1) limit room unused_room) (sym w.1)
         (subst (λ (l : List ℕ). IsCalendar heaps' ready (remove es at) l (held - 1) limit room unused_room) (sym w.2)
         (record {
           laid = closed;
-          some = All-append (λ (x : Entry). 1 ≤ x.count) (take at es) (drop (suc at) es) (All-take (λ (x : Entry). 1 ≤ x.count) at es some) (All-drop (λ (x : Entry). 1 ≤ x.count) (suc at) es some);
+          some = All-append (λ (x : WaitingList). 1 ≤ x.count) (take at es) (drop (suc at) es) (All-take (λ (x : WaitingList). 1 ≤ x.count) at es some) (All-drop (λ (x : WaitingList). 1 ≤ x.count) (suc at) es some);
         })))
         (λ w.
-        subst (λ (l : List Entry). IsCalendar heaps' ready l unused' (held - 1) limit room unused_room) (sym w.1)
+        subst (λ (l : List WaitingList). IsCalendar heaps' ready l unused' (held - 1) limit room unused_room) (sym w.1)
         (subst (λ (l : List ℕ). IsCalendar heaps' ready (set es at less) l (held - 1) limit room unused_room) (sym w.2)
         (record {
           laid = taken_laid;
-          some = All-set (λ (x : Entry). 1 ≤ x.count) es at less (omega (arith, some_there, w.0)) some;
+          some = All-set (λ (x : WaitingList). 1 ≤ x.count) es at less (omega (arith, some_there, w.0)) some;
         })))
         (ways no_entry)
 
@@ -252,11 +274,11 @@ module _ {heaps : Heaps} {ready : ℕ} {es : List Entry} {unused : List ℕ} {he
         ∙ ap (λ x. finmap.insert x e.slot left) (sym (waiting_is heaps es))
         ∙ sym (ap (λ b. cond b (finmap.remove (waiting_in heaps es) e.slot) (finmap.insert (waiting_in heaps es) e.slot left)) (ne_eqb (fin.len left) 0 (λ z. omega (arith, size_left, some_there, more, z))))
 
-    pub discounted_waits : (es' : List Entry) (unused' : List ℕ) → Discounts es es' unused unused' at → waiting_in heaps' es' ≡ with_waiting_list (waiting_in heaps es) e.slot left
+    pub discounted_waits : (es' : List WaitingList) (unused' : List ℕ) → Discounts es es' unused unused' at → waiting_in heaps' es' ≡ with_waiting_list (waiting_in heaps es) e.slot left
     discounted_waits es' unused' ways =
         ⊎_elim (λ w. ap (waiting_in heaps') w.1 ∙ waits_gone w.0) (λ w. ap (waiting_in heaps') w.1 ∙ waits_less w.0) (ways no_entry)
 
-    pub takes_out : (es' : List Entry) (unused' : List ℕ) → Discounts es es' unused unused' at →
+    pub takes_out : (es' : List WaitingList) (unused' : List ℕ) → Discounts es es' unused unused' at →
         TakesOut (seen heaps ready es (limit - held)) (seen heaps' ready es' (limit - (held - 1))) k
     takes_out es' unused' ways =
         let here : list_of heaps' ready ≡ list_of heaps ready =

@@ -6,6 +6,7 @@ pub mod Merging
 pub mod Maps
 pub mod Arranged
 pub mod Whole
+pub mod Notes
 pub mod Growing
 pub mod Advancing
 pub mod Leaving

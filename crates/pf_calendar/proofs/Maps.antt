@@ -12,7 +12,7 @@ use Rattle.std.specs.FinMap.Entries.{put, where_key, find, is_sorted, find-where
 use Rattle.pf_order.specs.Priority.{Priority}
 use Rattle.std.proofs.lemmas.List.Sums.{sum_by-cons}
 use Rattle.pf_heap.specs.Keys.{Keys, Heaps, list_of}
-use Rattle.pf_calendar.specs.declared.entry.Entry.{Entry}
+use Rattle.pf_calendar.specs.declared.waiting_list.WaitingList.{WaitingList}
 use Rattle.pf_calendar.specs.Queues.{Waiting, list_at}
 use Rattle.pf_calendar.specs.Invariant.{lists_in, waiting_in}
 use Rattle.pf_calendar.proofs.Slots.{find_at, find_place, put-at, put-between, rises}
@@ -105,11 +105,11 @@ waits_from es k q ok lt h =
     ap (λ l. fin_set.contains l q) (list_found es (get_or es k (0, fin_set.empty)).0 (Some (get_or es k (0, fin_set.empty)).1) ok (find_at es k (0, fin_set.empty) ok lt)) ∙ h
 
 -- how many keys wait
-pub sum_in : (heaps : Heaps) (es : List Entry) → in_order (lists_in heaps es) ≡ true →
+pub sum_in : (heaps : Heaps) (es : List WaitingList) → in_order (lists_in heaps es) ≡ true →
     sum_by fin_set.len (fin.values (waiting_in heaps es)) ≡ sum_by (λ e. fin_set.len (list_of heaps e.heap)) es
 unfolding waiting_in
 sum_in heaps es ok = ap (λ l. sum_by fin_set.len (map (λ e. e.1) l)) (entries_in (lists_in heaps es) ok) ∙ sum_lists heaps es where
-  sum_lists : (heaps : Heaps) (es : List Entry) → sum_by fin_set.len (map (λ e. e.1) (lists_in heaps es)) ≡ sum_by (λ e. fin_set.len (list_of heaps e.heap)) es
+  sum_lists : (heaps : Heaps) (es : List WaitingList) → sum_by fin_set.len (map (λ e. e.1) (lists_in heaps es)) ≡ sum_by (λ e. fin_set.len (list_of heaps e.heap)) es
   sum_lists heaps [] = refl
   sum_lists heaps (e ∷ es) =
       sum_by-cons fin_set.len (list_of heaps e.heap) (map (λ e. e.1) (lists_in heaps es))

@@ -7,7 +7,7 @@ use Rattle.std.proofs.lemmas.List.{length-set, get_or-set_same, get_or-set_other
 use Rattle.std.proofs.lemmas.List.Sums.{sum_by-drop_more}
 use Rattle.std.specs.FinSet as fin
 use Rattle.pf_heap.specs.Keys.{Keys, Heaps, list_of, with_list}
-use Rattle.pf_calendar.specs.declared.entry.Entry.{Entry}
+use Rattle.pf_calendar.specs.declared.waiting_list.WaitingList.{WaitingList}
 use Rattle.pf_calendar.specs.Queues.{all_of}
 use Rattle.pf_calendar.specs.Invariant.{name_count, names_of}
 use Rattle.pf_calendar.specs.Steps.{AddsHeaps, MergesAll}
@@ -96,15 +96,15 @@ merges_more old mid new into x names m in_into in_x differ apart fresh is =
     }
 
 -- the entries name heaps, each once, and not this one
-abbrev pub CanMergeAll : Heaps → ℕ → List Entry → Type 0
+abbrev pub CanMergeAll : Heaps → ℕ → List WaitingList → Type 0
 CanMergeAll heaps into es =
     (into < length heaps.lists) × All (λ e. (e.heap < length heaps.lists) × (e.heap ≢ into)) es × ((h : ℕ) → name_count h (names_of es) ≤ 1)
 
-pub names_more : (es : List Entry) (k : ℕ) (e : Entry) → k < length es → e ≡ get_or es k e → names_of (take (k + 1) es) ≡ names_of (take k es) ++ e.heap ∷ []
+pub names_more : (es : List WaitingList) (k : ℕ) (e : WaitingList) → k < length es → e ≡ get_or es k e → names_of (take (k + 1) es) ≡ names_of (take k es) ++ e.heap ∷ []
 names_more es k e lt is =
     ap names_of (take_more es k e lt) ∙ map_push (λ d. d.heap) (take k es) (get_or es k e) ∙ ap (λ d. names_of (take k es) ++ d.heap ∷ []) (sym is)
 
-fresh_at : (es : List Entry) (k : ℕ) (e : Entry) → ((h : ℕ) → name_count h (names_of es) ≤ 1) → k < length es → e ≡ get_or es k e → name_count e.heap (names_of (take k es)) ≡ 0
+fresh_at : (es : List WaitingList) (k : ℕ) (e : WaitingList) → ((h : ℕ) → name_count h (names_of es) ≤ 1) → k < length es → e ≡ get_or es k e → name_count e.heap (names_of (take k es)) ≡ 0
 fresh_at es k e once lt is =
     let front : names_of (take k es) ≡ take k (names_of es) = sym (take-map (λ d. d.heap) k es) in
     let at : get_or (names_of es) k 0 ≡ e.heap = name_at es k ∙ ap (λ d. d.heap) (get_or_default es k no_entry e lt ∙ sym is) in
@@ -112,28 +112,28 @@ fresh_at es k e once lt is =
     drop_more (names_of es) k 0 (omega (arith, lt, length-names es)) ∙ ap (λ n. n ∷ drop (k + 1) (names_of es)) at in
     omega (arith, once e.heap, ap (name_count e.heap) front, name_count-take-drop e.heap (names_of es) k, ap (name_count e.heap) more, name_count-self e.heap e.heap (drop (k + 1) (names_of es)) refl)
 
-pub merges_step : (old mid new : Heaps) (into : ℕ) (es : List Entry) (k : ℕ) (e : Entry) → CanMergeAll old into es →
+pub merges_step : (old mid new : Heaps) (into : ℕ) (es : List WaitingList) (k : ℕ) (e : WaitingList) → CanMergeAll old into es →
     MergesAll old mid into (names_of (take k es)) → k < length es → e ≡ get_or es k e →
     new ≡ with_list (with_list mid e.heap fin.empty) into (fin.union (list_of mid into) (list_of mid e.heap)) → MergesAll old new into (names_of (take (k + 1) es))
 merges_step old mid new into es k e can m lt is melded =
     let ok : (e.heap < length old.lists) × (e.heap ≢ into) =
-    subst (λ (d : Entry). (d.heap < length old.lists) × (d.heap ≢ into)) (sym is) (can.1 k e lt) in
+    subst (λ (d : WaitingList). (d.heap < length old.lists) × (d.heap ≢ into)) (sym is) (can.1 k e lt) in
     let apart : (j : ℕ) → j < length (names_of (take k es)) → get_or (names_of (take k es)) j 0 ≢ into = λ j h i.
     let short : j < k = omega (arith, h, length-names (take k es), length-take-le k es (omega (arith, lt))) in
-    (can.1 j no_entry (omega (arith, short, lt))).1 (sym (ap (λ (d : Entry). d.heap) (get_or-take k es j no_entry short)) ∙ sym (name_at (take k es) j) ∙ i) in
+    (can.1 j no_entry (omega (arith, short, lt))).1 (sym (ap (λ (d : WaitingList). d.heap) (get_or-take k es j no_entry short)) ∙ sym (name_at (take k es) j) ∙ i) in
     subst (MergesAll old new into) (sym (names_more es k e lt is))
     (merges_more old mid new into e.heap (names_of (take k es)) m can.0 ok.0 (λ i. ok.1 (sym i)) apart (fresh_at es k e can.2 lt is) melded)
 
 -- the list is as it was before
-pub not_yet : (old mid : Heaps) (into : ℕ) (es : List Entry) (k : ℕ) (e : Entry) → CanMergeAll old into es →
+pub not_yet : (old mid : Heaps) (into : ℕ) (es : List WaitingList) (k : ℕ) (e : WaitingList) → CanMergeAll old into es →
     MergesAll old mid into (names_of (take k es)) → k < length es → e ≡ get_or es k e → list_of mid e.heap ≡ list_of old e.heap
 not_yet old mid into es k e can m lt is =
     let ok : (e.heap < length old.lists) × (e.heap ≢ into) =
-    subst (λ (d : Entry). (d.heap < length old.lists) × (d.heap ≢ into)) (sym is) (can.1 k e lt) in
+    subst (λ (d : WaitingList). (d.heap < length old.lists) × (d.heap ≢ into)) (sym is) (can.1 k e lt) in
     m.others e.heap ok.1 (fresh_at es k e can.2 lt is)
 
 -- what is to be merged, with what is merged already, is no more than it was
-pub shrinks_step : (old mid new : Heaps) (into : ℕ) (es : List Entry) (k : ℕ) (e : Entry) (total : ℕ) → CanMergeAll old into es →
+pub shrinks_step : (old mid new : Heaps) (into : ℕ) (es : List WaitingList) (k : ℕ) (e : WaitingList) (total : ℕ) → CanMergeAll old into es →
     MergesAll old mid into (names_of (take k es)) → k < length es → e ≡ get_or es k e →
     new ≡ with_list (with_list mid e.heap fin.empty) into (fin.union (list_of mid into) (list_of mid e.heap)) →
     fin.len (list_of mid into) + sum_by (λ d. fin.len (list_of old d.heap)) (drop k es) ≤ total →
@@ -147,7 +147,7 @@ shrinks_step old mid new into es k e total can m lt is melded le =
     (omega (arith, length-set mid.lists e.heap fin.empty, m.long, can.0)) in
     let first : sum_by (λ d. fin.len (list_of old d.heap)) (drop k es) ≡ fin.len (list_of old e.heap) + sum_by (λ d. fin.len (list_of old d.heap)) (drop (k + 1) es) =
     sum_by-drop_more (λ d. fin.len (list_of old d.heap)) es k e lt
-    ∙ ap (λ (d : Entry). fin.len (list_of old d.heap) + sum_by (λ d. fin.len (list_of old d.heap)) (drop (k + 1) es)) (sym is) in (
+    ∙ ap (λ (d : WaitingList). fin.len (list_of old d.heap) + sum_by (λ d. fin.len (list_of old d.heap)) (drop (k + 1) es)) (sym is) in (
       omega (arith, le, first, ap fin.len was),
       omega (arith, le, first, ap fin.len was, ap fin.len now, len-union-le (list_of mid into) (list_of mid e.heap)),
     )

@@ -17,7 +17,7 @@ use Rattle.pf_heap.specs.Keys as keys
 use Rattle.pf_heap.specs.Keys.{Keys, Heaps, list_of, with_list, EachTaskOnce}
 use Rattle.pf_heap.specs.Digits.{digits}
 use Rattle.pf_heap.proofs.Digits.{digits-mono}
-use Rattle.pf_calendar.specs.declared.entry.Entry.{Entry}
+use Rattle.pf_calendar.specs.declared.waiting_list.WaitingList.{WaitingList}
 use Rattle.pf_calendar.specs.Queues.{Queues, list_at, list_in, key_count, IsQueued, NoneEmpty}
 use Rattle.pf_calendar.specs.Queues as queues
 use Rattle.pf_calendar.specs.Invariant.{lists_in, waiting_in, IsLaidOut, IsCalendar}
@@ -30,23 +30,23 @@ use Rattle.pf_calendar.proofs.Maps.{set_in, list_found, none_found, waits_at, wa
 use Rattle.pf_calendar.proofs.Arranged.{ready_listed, entry_listed, entry_apart, entries_apart, list_cases, entry_changed, ready_changed, entry_opened, opened_lists}
 
 -- what contracts see
-abbrev pub seen : Heaps → ℕ → List Entry → ℕ → Queues
+abbrev pub seen : Heaps → ℕ → List WaitingList → ℕ → Queues
 seen heaps ready es n = record { ready = list_of heaps ready; waiting = waiting_in heaps es; spare = n; tasks = heaps.tasks }
 
-pub waiting_is : (heaps : Heaps) (es : List Entry) → waiting_in heaps es ≡ finmap.from_sorted (lists_in heaps es)
+pub waiting_is : (heaps : Heaps) (es : List WaitingList) → waiting_in heaps es ≡ finmap.from_sorted (lists_in heaps es)
 unfolding waiting_in
 waiting_is heaps es = refl
 
 -- after a call: a calendar that stands for these queues
-pub record IsCalendarAfter (heaps : Heaps) (ready : ℕ) (entries : List Entry) (unused : List ℕ) (held limit room unused_room : ℕ) (queues : Queues) : Type 0 where
+pub record IsCalendarAfter (heaps : Heaps) (ready : ℕ) (entries : List WaitingList) (unused : List ℕ) (held limit room unused_room : ℕ) (queues : Queues) : Type 0 where
   pub calendar : IsCalendar heaps ready entries unused held limit room unused_room
   pub view : seen heaps ready entries (limit - held) ≡ queues
 
 -- the same, as the code has the entries
-pub entries_as : {heaps : Heaps} {ready : ℕ} {es es' : List Entry} {unused : List ℕ} {held limit room unused_room : ℕ} {queues : Queues} → es' ≡ es →
+pub entries_as : {heaps : Heaps} {ready : ℕ} {es es' : List WaitingList} {unused : List ℕ} {held limit room unused_room : ℕ} {queues : Queues} → es' ≡ es →
     IsCalendarAfter heaps ready es unused held limit room unused_room queues → IsCalendarAfter heaps ready es' unused held limit room unused_room queues
 entries_as {heaps} {ready} {es} {es'} {unused} {held} {limit} {room} {unused_room} {queues} e cal =
-    subst (λ (l : List Entry). IsCalendarAfter heaps ready l unused held limit room unused_room queues) (sym e) cal
+    subst (λ (l : List WaitingList). IsCalendarAfter heaps ready l unused held limit room unused_room queues) (sym e) cal
 
 -- ---- no task has two keys, after a change of one list
 
@@ -81,20 +81,20 @@ apart_part lists at new part apart =
     (has_set lists at new i p h))
     apart
 
-module _ {heaps : Heaps} {ready : ℕ} {es : List Entry} {unused : List ℕ} {held limit room unused_room : ℕ} (laid : IsLaidOut heaps ready es unused held limit room unused_room) where
+module _ {heaps : Heaps} {ready : ℕ} {es : List WaitingList} {unused : List ℕ} {held limit room unused_room : ℕ} (laid : IsLaidOut heaps ready es unused held limit room unused_room) where
   -- how many keys are held
-  pub sum_counts : (l : List Entry) → All (λ e. e.count ≡ fin.len (list_of heaps e.heap)) l → sum_by (λ (e : Entry). fin.len (list_of heaps e.heap)) l ≡ sum_by (λ (e : Entry). e.count) l
+  pub sum_counts : (l : List WaitingList) → All (λ e. e.count ≡ fin.len (list_of heaps e.heap)) l → sum_by (λ (e : WaitingList). fin.len (list_of heaps e.heap)) l ≡ sum_by (λ (e : WaitingList). e.count) l
   sum_counts [] h = refl
   sum_counts (e ∷ l) h =
       omega (
         arith,
-        sum_by-cons (λ (x : Entry). fin.len (list_of heaps x.heap)) e l,
-        sum_by-cons (λ (x : Entry). x.count) e l,
+        sum_by-cons (λ (x : WaitingList). fin.len (list_of heaps x.heap)) e l,
+        sum_by-cons (λ (x : WaitingList). x.count) e l,
         h 0 no_entry (omega arith),
         sum_counts l (λ k d lt. h (suc k) d (omega (arith, lt))),
       )
 
-  pub count_is : (n : ℕ) → key_count (seen heaps ready es n) ≡ fin.len (list_of heaps ready) + sum_by (λ (e : Entry). e.count) es
+  pub count_is : (n : ℕ) → key_count (seen heaps ready es n) ≡ fin.len (list_of heaps ready) + sum_by (λ (e : WaitingList). e.count) es
   count_is n = ap (λ m. fin.len (list_of heaps ready) + m) (sum_in heaps es laid.rise ∙ sum_counts es laid.counted)
 
   -- a task that isn't held has no key in a heap
@@ -124,7 +124,7 @@ module _ {heaps : Heaps} {ready : ℕ} {es : List Entry} {unused : List ℕ} {he
     pub ready_digits : digits (fin.len (list_of heaps ready)) ≤ digits (key_count now)
     ready_digits = digits-mono (fin.len (list_of heaps ready)) (key_count now) (omega (arith, ap key_count view, count_is n))
 
-    pub waiting_within : sum_by (λ (e : Entry). fin.len (list_of heaps e.heap)) es ≤ key_count now
+    pub waiting_within : sum_by (λ (e : WaitingList). fin.len (list_of heaps e.heap)) es ≤ key_count now
     waiting_within = omega (arith, ap key_count view, count_is n, sum_counts es laid.counted)
 
   pub some_free : {now : Queues} → seen heaps ready es (limit - held) ≡ now → 1 ≤ now.spare → held < limit
@@ -157,7 +157,7 @@ module _ {heaps : Heaps} {ready : ℕ} {es : List Entry} {unused : List ℕ} {he
       let places : limit - (held - 1) ≡ (limit - held) + 1 = omega (arith, some_has (list_of heaps ready) key has, laid.held_is, laid.within) in
       λ i. record { ready = here i; waiting = waits i; spare = places i; tasks = (is i).tasks }
 
-pub popped : {heaps heaps' : Heaps} {ready : ℕ} {es : List Entry} {unused : List ℕ} {held limit room unused_room : ℕ} {now : Queues} →
+pub popped : {heaps heaps' : Heaps} {ready : ℕ} {es : List WaitingList} {unused : List ℕ} {held limit room unused_room : ℕ} {now : Queues} →
     IsCalendar heaps ready es unused held limit room unused_room → seen heaps ready es (limit - held) ≡ now → (key : Priority) → fin.contains (list_of heaps ready) key ≡ true →
     heaps' ≡ record (with_list heaps ready (fin.remove (list_of heaps ready) key)) { spare = heaps.spare + 1 } →
     (1 ≤ held) × IsCalendarAfter heaps' ready es unused (held - 1) limit room unused_room (record now { ready = fin.remove now.ready key; spare = now.spare + 1 })
@@ -172,11 +172,11 @@ popped {heaps' = heaps'} cal view key has is =
 
 -- ---- a calendar that holds nothing
 
-pub new_calendar : (heaps : Heaps) (ready : ℕ) (es : List Entry) (unused : List ℕ) (room unused_room : ℕ) → heaps.lists ≡ fin.empty ∷ [] → ready ≡ 0 → es ≡ [] → unused ≡ [] →
+pub new_calendar : (heaps : Heaps) (ready : ℕ) (es : List WaitingList) (unused : List ℕ) (room unused_room : ℕ) → heaps.lists ≡ fin.empty ∷ [] → ready ≡ 0 → es ≡ [] → unused ≡ [] →
     IsCalendar heaps ready es unused 0 0 room unused_room
 new_calendar heaps ready es unused room unused_room lists first no_entries no_names =
     subst (λ (r : ℕ). IsCalendar heaps r es unused 0 0 room unused_room) (sym first)
-    (subst (λ (l : List Entry). IsCalendar heaps 0 l unused 0 0 room unused_room) (sym no_entries)
+    (subst (λ (l : List WaitingList). IsCalendar heaps 0 l unused 0 0 room unused_room) (sym no_entries)
     (subst (λ (l : List ℕ). IsCalendar heaps 0 [] l 0 0 room unused_room) (sym no_names)
     (record {
       laid = record {
@@ -203,7 +203,7 @@ new_calendar heaps ready es unused room unused_room lists first no_entries no_na
       all_empty zero = refl
       all_empty (suc i) = refl
 
-pub new_seen : (heaps : Heaps) (ready : ℕ) (es : List Entry) → heaps.lists ≡ fin.empty ∷ [] → heaps.tasks ≡ 0 → ready ≡ 0 → es ≡ [] →
+pub new_seen : (heaps : Heaps) (ready : ℕ) (es : List WaitingList) → heaps.lists ≡ fin.empty ∷ [] → heaps.tasks ≡ 0 → ready ≡ 0 → es ≡ [] →
     seen heaps ready es 0 ≡ record { ready = fin.empty; waiting = finmap.empty; spare = 0; tasks = 0 }
 new_seen heaps ready es lists no_tasks first no_entries =
     let here : list_of heaps ready ≡ fin.empty = ap (list_of heaps) first ∙ ap (λ l. get_or l 0 fin.empty) lists in
@@ -214,7 +214,7 @@ new_seen heaps ready es lists no_tasks first no_entries =
 -- ---- a key is put
 
 -- the entry as the code writes it
-entry_written : (es : List Entry) (at : ℕ) (e f : Entry) → at < length es → e ≡ get_or es at e → f ≡ get_or es at f → (n : ℕ → ℕ) →
+entry_written : (es : List WaitingList) (at : ℕ) (e f : WaitingList) → at < length es → e ≡ get_or es at e → f ≡ get_or es at f → (n : ℕ → ℕ) →
     set es at (record { slot = f.slot; heap = f.heap; count = n e.count }) ≡ set es at (record (get_or es at no_entry) { count = n (get_or es at no_entry).count })
 entry_written es at e f lt read_e read_f n =
     let p : e ≡ get_or es at no_entry = get_or_read es at e lt read_e no_entry in
@@ -222,21 +222,21 @@ entry_written es at e f lt read_e read_f n =
     λ i. set es at (record { slot = (q i).slot; heap = (q i).heap; count = n (p i).count })
 
 -- what an insert says, at the entry as it is read
-put_into : (heaps heaps' : Heaps) (es : List Entry) (at : ℕ) (e : Entry) (key : Priority) → at < length es → e ≡ get_or es at e →
+put_into : (heaps heaps' : Heaps) (es : List WaitingList) (at : ℕ) (e : WaitingList) (key : Priority) → at < length es → e ≡ get_or es at e →
     heaps' ≡ record (with_list heaps e.heap (fin.insert (list_of heaps e.heap) key)) { spare = heaps.spare - 1 } →
     heaps' ≡ record (with_list heaps (get_or es at no_entry).heap (fin.insert (list_of heaps (get_or es at no_entry).heap) key)) { spare = heaps.spare - 1 }
 put_into heaps heaps' es at e key lt read is =
     let p : e ≡ get_or es at no_entry = get_or_read es at e lt read no_entry in
     is ∙ (λ i. record (with_list heaps (p i).heap (fin.insert (list_of heaps (p i).heap) key)) { spare = heaps.spare - 1 })
 
-module _ {heaps : Heaps} {ready : ℕ} {es : List Entry} {unused : List ℕ} {held limit room unused_room : ℕ} (laid : IsLaidOut heaps ready es unused held limit room unused_room)
-    {es1 : List Entry} {left : List ℕ} {slot at : ℕ} (opens : Opens es es1 unused left slot at) where
+module _ {heaps : Heaps} {ready : ℕ} {es : List WaitingList} {unused : List ℕ} {held limit room unused_room : ℕ} (laid : IsLaidOut heaps ready es unused held limit room unused_room)
+    {es1 : List WaitingList} {left : List ℕ} {slot at : ℕ} (opens : Opens es es1 unused left slot at) where
   pub opened : IsLaidOut heaps ready es1 left held limit room unused_room
   opened =
       ⊎_elim
-      (λ w. subst (λ (l : List Entry). IsLaidOut heaps ready l left held limit room unused_room) (sym w.1)
+      (λ w. subst (λ (l : List WaitingList). IsLaidOut heaps ready l left held limit room unused_room) (sym w.1)
       (subst (λ (l : List ℕ). IsLaidOut heaps ready es l held limit room unused_room) (sym w.2) laid))
-      (λ w. subst (λ (l : List Entry). IsLaidOut heaps ready l left held limit room unused_room) (sym w.3) (entry_opened laid left w.0 slot at w.2 opens.place w.1))
+      (λ w. subst (λ (l : List WaitingList). IsLaidOut heaps ready l left held limit room unused_room) (sym w.3) (entry_opened laid left w.0 slot at w.2 opens.place w.1))
       opens.ways
 
   pub opened_within : at < length es1
@@ -250,7 +250,7 @@ module _ {heaps : Heaps} {ready : ℕ} {es : List Entry} {unused : List ℕ} {he
 
   pub opened_slot : (get_or es1 at no_entry).slot ≡ slot
   opened_slot =
-      ⊎_elim (λ w. ap (λ l. (get_or l at no_entry).slot) w.1 ∙ w.0.1 no_entry) (λ w. ap (λ (e : Entry). e.slot) (entry_is w.0 w.3)) opens.ways
+      ⊎_elim (λ w. ap (λ l. (get_or l at no_entry).slot) w.1 ∙ w.0.1 no_entry) (λ w. ap (λ (e : WaitingList). e.slot) (entry_is w.0 w.3)) opens.ways
 
   fresh_empty : (h : ℕ) → unused ≡ left ++ h ∷ [] → list_of heaps h ≡ fin.empty
   fresh_empty h is =
@@ -274,7 +274,7 @@ module _ {heaps : Heaps} {ready : ℕ} {es : List Entry} {unused : List ℕ} {he
         omega (arith, le, le2, lk),
         λ d.
             ap (λ j. (get_or es j d).slot) (let s : at ≡ k = omega (arith, le, le2) in s)
-            ∙ ap (λ (x : Entry). x.slot) (get_or_default es k d no_entry lk) ∙ sym (slot_at heaps es k fin.empty lk) ∙ e,
+            ∙ ap (λ (x : WaitingList). x.slot) (get_or_default es k d no_entry lk) ∙ sym (slot_at heaps es k fin.empty lk) ∙ e,
       ))
       (cases_lt at k))
       (cases_lt k at)
@@ -290,7 +290,7 @@ module _ {heaps : Heaps} {ready : ℕ} {es : List Entry} {unused : List ℕ} {he
       (find_at (lists_in heaps es) at (0, fin.empty) laid.rise lt))
       ∙ ap (list_at (finmap.from_sorted (lists_in heaps es))) (slot_at heaps es at fin.empty w.0.0 ∙ w.0.1 no_entry)
       ∙ ap (λ x. list_at x slot) (sym (waiting_is heaps es)))
-      (λ w. ap (λ (e : Entry). list_of heaps e.heap) (entry_is w.0 w.3) ∙ fresh_empty w.0 w.2
+      (λ w. ap (λ (e : WaitingList). list_of heaps e.heap) (entry_is w.0 w.3) ∙ fresh_empty w.0 w.2
       ∙ sym (list_found (lists_in heaps es) slot None laid.rise (none_found (lists_in heaps es) slot (slots_differ w.1)))
       ∙ ap (λ x. list_at x slot) (sym (waiting_is heaps es)))
       opens.ways
@@ -310,26 +310,26 @@ module _ {heaps : Heaps} {ready : ℕ} {es : List Entry} {unused : List ℕ} {he
       ∙ ap (λ x. finmap.insert x slot new) (sym (waiting_is heaps es)))
       opens.ways
 
-  pub opened_size : fin.len (list_of heaps (get_or es1 at no_entry).heap) ≤ sum_by (λ (e : Entry). e.count) es
+  pub opened_size : fin.len (list_of heaps (get_or es1 at no_entry).heap) ≤ sum_by (λ (e : WaitingList). e.count) es
   opened_size =
       ⊎_elim
       (λ w. omega (
         arith,
         ap (λ l. fin.len (list_of heaps (get_or l at no_entry).heap)) w.1,
         laid.counted at no_entry w.0.0,
-        get_or-le-sum_by (λ (e : Entry). e.count) es at no_entry w.0.0,
+        get_or-le-sum_by (λ (e : WaitingList). e.count) es at no_entry w.0.0,
       ))
-      (λ w. omega (arith, ap (λ (e : Entry). fin.len (list_of heaps e.heap)) (entry_is w.0 w.3), ap fin.len (fresh_empty w.0 w.2), len-empty key_cmp))
+      (λ w. omega (arith, ap (λ (e : WaitingList). fin.len (list_of heaps e.heap)) (entry_is w.0 w.3), ap fin.len (fresh_empty w.0 w.2), len-empty key_cmp))
       opens.ways
 
-  opened_some : (e : Entry) → 1 ≤ e.count → All (λ e. 1 ≤ e.count) es → All (λ e. 1 ≤ e.count) (set es1 at e)
+  opened_some : (e : WaitingList) → 1 ≤ e.count → All (λ e. 1 ≤ e.count) es → All (λ e. 1 ≤ e.count) (set es1 at e)
   opened_some e some all =
       ⊎_elim
-      (λ w. subst (λ (l : List Entry). All (λ e. 1 ≤ e.count) (set l at e)) (sym w.1) (All-set (λ (e : Entry). 1 ≤ e.count) es at e some all))
-      (λ w. subst (All (λ (e : Entry). 1 ≤ e.count))
+      (λ w. subst (λ (l : List WaitingList). All (λ e. 1 ≤ e.count) (set l at e)) (sym w.1) (All-set (λ (e : WaitingList). 1 ≤ e.count) es at e some all))
+      (λ w. subst (All (λ (e : WaitingList). 1 ≤ e.count))
       (sym (ap (λ l. set l at e) w.3 ∙ set_at (take at es) (record { slot = slot; heap = w.0; count = 0 }) (drop at es) e at (length-take-le at es opens.place.within)))
-      (All-append (λ (e : Entry). 1 ≤ e.count) (take at es) (e ∷ drop at es) (All-take (λ (e : Entry). 1 ≤ e.count) at es all)
-      (All-cons (λ (e : Entry). 1 ≤ e.count) e (drop at es) some (All-drop (λ (e : Entry). 1 ≤ e.count) at es all))))
+      (All-append (λ (e : WaitingList). 1 ≤ e.count) (take at es) (e ∷ drop at es) (All-take (λ (e : WaitingList). 1 ≤ e.count) at es all)
+      (All-cons (λ (e : WaitingList). 1 ≤ e.count) e (drop at es) some (All-drop (λ (e : WaitingList). 1 ≤ e.count) at es all))))
       opens.ways
 
   abbrev pub PutInto : Heaps → Priority → Type 0
@@ -358,7 +358,7 @@ module _ {heaps : Heaps} {ready : ℕ} {es : List Entry} {unused : List ℕ} {he
   put_seen heaps' key absent free is =
       let e = get_or es1 at no_entry in
       let new = fin.insert (list_of heaps e.heap) key in
-      let e' : Entry = record e { count = e.count + 1 } in
+      let e' : WaitingList = record e { count = e.count + 1 } in
       let h_in : e.heap < length heaps.lists = entry_listed opened at opened_within in
       let here : list_of heaps' ready ≡ list_of heaps ready =
       ap (λ h. list_of h ready) is ∙ get_or-set_other heaps.lists e.heap ready new fin.empty (λ i. entry_apart opened at opened_within (sym i)) in
@@ -375,7 +375,7 @@ module _ {heaps : Heaps} {ready : ℕ} {es : List Entry} {unused : List ℕ} {he
 
   -- the calendar after the put, as the code reads and writes the entry
   pub put_done : {now : Queues} → seen heaps ready es (limit - held) ≡ now → 1 ≤ now.spare → (key : Priority) → ¬ (IsQueued now key.task) →
-      {heaps' : Heaps} {e f : Entry} → e ≡ get_or es1 at e → f ≡ get_or es1 at f →
+      {heaps' : Heaps} {e f : WaitingList} → e ≡ get_or es1 at e → f ≡ get_or es1 at f →
       heaps' ≡ record (with_list heaps e.heap (fin.insert (list_of heaps e.heap) key)) { spare = heaps.spare - 1 } → All (λ x. 1 ≤ x.count) es →
       IsCalendarAfter heaps' ready (set es1 at (record { slot = f.slot; heap = f.heap; count = e.count + 1 })) left (held + 1) limit room unused_room
       (record now { waiting = finmap.insert now.waiting slot (fin.insert (list_at now.waiting slot) key); spare = now.spare - 1 })
@@ -392,29 +392,29 @@ module _ {heaps : Heaps} {ready : ℕ} {es : List Entry} {unused : List ℕ} {he
             ∙ ap (λ (q : Queues). record q { waiting = finmap.insert q.waiting slot (fin.insert (list_at q.waiting slot) key); spare = q.spare - 1 }) view;
       })
 
-each_one : (es : List Entry) → All (λ e. 1 ≤ e.count) es → length es ≤ sum_by (λ (e : Entry). e.count) es
+each_one : (es : List WaitingList) → All (λ e. 1 ≤ e.count) es → length es ≤ sum_by (λ (e : WaitingList). e.count) es
 each_one [] h = omega arith
 each_one (e ∷ es) h =
-    omega (arith, sum_by-cons (λ (x : Entry). x.count) e es, h 0 no_entry (omega arith), each_one es (λ k d lt. h (suc k) d (omega (arith, lt))))
+    omega (arith, sum_by-cons (λ (x : WaitingList). x.count) e es, h 0 no_entry (omega arith), each_one es (λ k d lt. h (suc k) d (omega (arith, lt))))
 
 -- where a key can be put there is an unused heap
-pub has_unused : {heaps : Heaps} {ready : ℕ} {es : List Entry} {unused : List ℕ} {held limit room unused_room : ℕ} → IsCalendar heaps ready es unused held limit room unused_room →
+pub has_unused : {heaps : Heaps} {ready : ℕ} {es : List WaitingList} {unused : List ℕ} {held limit room unused_room : ℕ} → IsCalendar heaps ready es unused held limit room unused_room →
     held < limit → 1 ≤ length unused
 has_unused {es = es} cal free = omega (arith, free, each_one es cal.some, cal.laid.held_is, cal.laid.enough)
 
-pub slots_rise : {heaps : Heaps} {ready : ℕ} {es : List Entry} {unused : List ℕ} {held limit room unused_room : ℕ} → IsLaidOut heaps ready es unused held limit room unused_room →
-    IsNonDecreasingBy (λ (e : Entry). e.slot) es
+pub slots_rise : {heaps : Heaps} {ready : ℕ} {es : List WaitingList} {unused : List ℕ} {held limit room unused_room : ℕ} → IsLaidOut heaps ready es unused held limit room unused_room →
+    IsNonDecreasingBy (λ (e : WaitingList). e.slot) es
 slots_rise {heaps} {es = es} laid i j d le lt =
     let li : i < length es = omega (arith, le, lt) in
-    let here : (get_or es i d).slot ≡ (get_or (lists_in heaps es) i (0, fin.empty)).0 = ap (λ (x : Entry). x.slot) (get_or_default es i d no_entry li) ∙ sym (slot_at heaps es i fin.empty li) in
-    let there : (get_or es j d).slot ≡ (get_or (lists_in heaps es) j (0, fin.empty)).0 = ap (λ (x : Entry). x.slot) (get_or_default es j d no_entry lt) ∙ sym (slot_at heaps es j fin.empty lt) in
+    let here : (get_or es i d).slot ≡ (get_or (lists_in heaps es) i (0, fin.empty)).0 = ap (λ (x : WaitingList). x.slot) (get_or_default es i d no_entry li) ∙ sym (slot_at heaps es i fin.empty li) in
+    let there : (get_or es j d).slot ≡ (get_or (lists_in heaps es) j (0, fin.empty)).0 = ap (λ (x : WaitingList). x.slot) (get_or_default es j d no_entry lt) ∙ sym (slot_at heaps es j fin.empty lt) in
     ⊎_elim
     (λ below. omega (arith, here, there, rises (lists_in heaps es) i j (0, fin.empty) laid.rise below (omega (arith, lt, length-lists heaps es))))
     (λ ge. omega (arith, ap (λ k. (get_or es k d).slot) (let s : i ≡ j = omega (arith, le, ge) in s)))
     (cases_lt i j)
 
 -- under the room that its Vecs have now
-pub with_room : {heaps : Heaps} {ready : ℕ} {es : List Entry} {unused : List ℕ} {held limit : ℕ} (room unused_room room' unused_room' : ℕ) → room' ≡ room → unused_room' ≡ unused_room →
+pub with_room : {heaps : Heaps} {ready : ℕ} {es : List WaitingList} {unused : List ℕ} {held limit : ℕ} (room unused_room room' unused_room' : ℕ) → room' ≡ room → unused_room' ≡ unused_room →
     IsCalendar heaps ready es unused held limit room unused_room → IsCalendar heaps ready es unused held limit room' unused_room'
 with_room {heaps} {ready} {es} {unused} {held} {limit} room unused_room room' unused_room' e f cal =
     subst (λ (n : ℕ). IsCalendar heaps ready es unused held limit n unused_room') (sym e)
@@ -422,7 +422,7 @@ with_room {heaps} {ready} {es} {unused} {held} {limit} room unused_room room' un
 
 -- ---- places for more tasks
 
-pub tasks_seen : (heaps heaps' : Heaps) (ready : ℕ) (es : List Entry) (m n : ℕ) → heaps' ≡ record heaps { tasks = n } →
+pub tasks_seen : (heaps heaps' : Heaps) (ready : ℕ) (es : List WaitingList) (m n : ℕ) → heaps' ≡ record heaps { tasks = n } →
     seen heaps' ready es m ≡ record (seen heaps ready es m) { tasks = n }
 tasks_seen heaps heaps' ready es m n is =
     let waits : waiting_in heaps' es ≡ waiting_in heaps es =
@@ -431,14 +431,14 @@ tasks_seen heaps heaps' ready es m n is =
 
 -- ---- what contracts say of every calendar
 
-counted_some : (heaps : Heaps) (es : List Entry) → All (λ e. e.count ≡ fin.len (list_of heaps e.heap)) es → All (λ e. 1 ≤ e.count) es →
+counted_some : (heaps : Heaps) (es : List WaitingList) → All (λ e. e.count ≡ fin.len (list_of heaps e.heap)) es → All (λ e. 1 ≤ e.count) es →
     All (λ keys. 1 ≤ fin.len keys) (map (λ (e : ℕ × Keys). e.1) (lists_in heaps es))
 counted_some heaps [] counted some k d lt = absurd (omega (arith, lt))
 counted_some heaps (e ∷ es) counted some zero d lt = omega (arith, counted 0 no_entry (omega arith), some 0 no_entry (omega arith))
 counted_some heaps (e ∷ es) counted some (suc k) d lt =
     counted_some heaps es (λ j x h. counted (suc j) x (omega (arith, h))) (λ j x h. some (suc j) x (omega (arith, h))) k d (omega (arith, lt))
 
-module _ {heaps : Heaps} {ready : ℕ} {es : List Entry} {unused : List ℕ} {held limit room unused_room : ℕ} (cal : IsCalendar heaps ready es unused held limit room unused_room) where
+module _ {heaps : Heaps} {ready : ℕ} {es : List WaitingList} {unused : List ℕ} {held limit room unused_room : ℕ} (cal : IsCalendar heaps ready es unused held limit room unused_room) where
   pub none_empty : NoneEmpty (waiting_in heaps es)
   none_empty =
       subst (λ (l : List (ℕ × Keys)). All (λ keys. 1 ≤ fin.len keys) (map (λ (e : ℕ × Keys). e.1) l))

@@ -4,19 +4,21 @@ use Rattle.std.specs.Ordering.{nat_cmp}
 use Rattle.std.specs.FinSet as set
 use Rattle.std.specs.FinMap as fin
 use Rattle.pf_heap.specs.Keys.{Keys, Heaps, list_of, EachTaskOnce}
-use Rattle.pf_calendar.specs.declared.entry.Entry.{Entry}
-use Rattle.pf_calendar.specs.Queues.{Waiting}
+use Rattle.pf_calendar.specs.declared.waiting_list.WaitingList.{WaitingList}
+use Rattle.pf_calendar.specs.Queues.{Waiting, list_at}
+use Rattle.pf_table.specs.Grown.{Grown, value_of, size_of}
+use Rattle.pf_order.specs.Priority.{Priority}
 
 -- the lists of the entries, with their slots
-abbrev pub lists_in : Heaps → List Entry → List (ℕ × Keys)
+abbrev pub lists_in : Heaps → List WaitingList → List (ℕ × Keys)
 lists_in heaps entries = map (λ e. (e.slot, list_of heaps e.heap)) entries
 
 -- the entries as a map from slot to list
-unfoldable pub waiting_in : Heaps → List Entry → Waiting
+unfoldable pub waiting_in : Heaps → List WaitingList → Waiting
 waiting_in heaps entries = fin.from_sorted (lists_in heaps entries)
 
 -- the heaps that the entries name
-abbrev pub names_of : List Entry → List ℕ
+abbrev pub names_of : List WaitingList → List ℕ
 names_of entries = map (λ e. e.heap) entries
 
 -- how often a heap is named
@@ -25,7 +27,7 @@ name_count h names = count_by (λ n. n == h) names
 
 -- each heap has one name: it is the ready one, or an entry's, or it is unused and then empty; the slots of the entries
 -- rise; each entry counts its keys; and there are heaps, and room for their names, for the keys held and the spare ones
-pub record IsLaidOut (heaps : Heaps) (ready : ℕ) (entries : List Entry) (unused : List ℕ) (held limit room unused_room : ℕ) : Type 0 where
+pub record IsLaidOut (heaps : Heaps) (ready : ℕ) (entries : List WaitingList) (unused : List ℕ) (held limit room unused_room : ℕ) : Type 0 where
   pub rise : fin.is_sorted nat_cmp (lists_in heaps entries) ≡ true
   pub named : (h : ℕ) → name_count h (ready ∷ (names_of entries ++ unused)) ≡ (if nat_lt h (length heaps.lists) then 1 else 0)
   pub many : length heaps.lists ≡ length entries + length unused + 1
@@ -41,6 +43,11 @@ pub record IsLaidOut (heaps : Heaps) (ready : ℕ) (entries : List Entry) (unuse
   pub unused_room_is : length entries + length unused ≤ unused_room
 
 -- and no entry's list is empty
-pub record IsCalendar (heaps : Heaps) (ready : ℕ) (entries : List Entry) (unused : List ℕ) (held limit room unused_room : ℕ) : Type 0 where
+pub record IsCalendar (heaps : Heaps) (ready : ℕ) (entries : List WaitingList) (unused : List ℕ) (held limit room unused_room : ℕ) : Type 0 where
   pub laid : IsLaidOut heaps ready entries unused held limit room unused_room
   pub some : All (λ e. 1 ≤ e.count) entries
+
+-- each key that waits, waits for the slot that is noted of its task; and there is room for the notes of these tasks
+pub record NotesSlots (slots : Grown ℕ) (tasks : ℕ) (waiting : Waiting) : Type 0 where
+  pub slot_is : (s : ℕ) (q : Priority) → set.contains (list_at waiting s) q ≡ true → value_of slots q.task ≡ s
+  pub room : tasks ≤ size_of slots

@@ -4,8 +4,8 @@ use Rattle.std.specs.List.{range_with_len}
 use Rattle.std.specs.FinSet as set
 use Rattle.pf_order.specs.Priority.{Priority}
 use Rattle.pf_heap.specs.Keys as heaps
-use Rattle.pf_heap.specs.Keys.{Keys, Heaps, list_of, other_keys}
-use Rattle.pf_calendar.specs.declared.entry.Entry.{Entry}
+use Rattle.pf_heap.specs.Keys.{Keys, Heaps, list_of, HasNone, other_keys}
+use Rattle.pf_calendar.specs.declared.waiting_list.WaitingList.{WaitingList}
 use Rattle.pf_calendar.specs.Queues.{all_of}
 use Rattle.pf_calendar.specs.Invariant.{name_count}
 
@@ -26,32 +26,38 @@ pub record MergesAll (old new : Heaps) (into : ℕ) (names : List ℕ) : Type 0 
   pub others : (h : ℕ) → h ≢ into → name_count h names ≡ 0 → list_of new h ≡ list_of old h
 
 -- the entries before place `at` are for slots below this one, and the others aren't
-pub record IsSlotPlace (entries : List Entry) (slot at : ℕ) : Type 0 where
+pub record IsSlotPlace (entries : List WaitingList) (slot at : ℕ) : Type 0 where
   pub within : at ≤ length entries
-  pub before : (k : ℕ) (d : Entry) → k < at → (slice_index_or entries k d).slot < slot
-  pub after : (k : ℕ) (d : Entry) → at ≤ k → k < length entries → slot ≤ (slice_index_or entries k d).slot
+  pub before : (k : ℕ) (d : WaitingList) → k < at → (slice_index_or entries k d).slot < slot
+  pub after : (k : ℕ) (d : WaitingList) → at ≤ k → k < length entries → slot ≤ (slice_index_or entries k d).slot
 
 -- the slot has an entry at this place
-abbrev pub HasEntry : List Entry → ℕ → ℕ → Type 0
-HasEntry entries slot at = (at < length entries) × ((d : Entry) → (slice_index_or entries at d).slot ≡ slot)
+abbrev pub HasEntry : List WaitingList → ℕ → ℕ → Type 0
+HasEntry entries slot at = (at < length entries) × ((d : WaitingList) → (slice_index_or entries at d).slot ≡ slot)
 
 -- the slot has an entry: either it had one, or it got one that counts no key and has the last unused name
-pub record Opens (old new : List Entry) (unused left : List ℕ) (slot at : ℕ) : Type 0 where
+pub record Opens (old new : List WaitingList) (unused left : List ℕ) (slot at : ℕ) : Type 0 where
   pub place : IsSlotPlace old slot at
   pub ways : ((HasEntry old slot at) × (new ≡ old) × (left ≡ unused))
       ⊎ ((h : ℕ) × (¬ (HasEntry old slot at)) × (unused ≡ left ++ h ∷ []) × (new ≡ insert old at (record { slot = slot; heap = h; count = 0 })))
 
+-- the entry for the slot, if there is one, has no key of the task
+pub record HasNoneFor (heaps : Heaps) (entries : List WaitingList) (slot task : ℕ) : Type 0 where
+  pub at : ℕ
+  pub place : IsSlotPlace entries slot at
+  pub none : HasEntry entries slot at → (d : WaitingList) → HasNone (list_of heaps (slice_index_or entries at d).heap) task
+
 -- a key was taken out of the list of the entry at this place, and of no other
-pub record RemovesAt (old new : Heaps) (entries : List Entry) (task at : ℕ) (key : Priority) : Type 0 where
+pub record RemovesAt (old new : Heaps) (entries : List WaitingList) (task at : ℕ) (key : Priority) : Type 0 where
   pub within : at < length entries
   pub of_task : key.task ≡ task
-  pub has : (d : Entry) → set.contains (list_of old (slice_index_or entries at d).heap) key ≡ true
-  pub removed : (d : Entry) → new ≡ record (heaps.with_list old (slice_index_or entries at d).heap
+  pub has : (d : WaitingList) → set.contains (list_of old (slice_index_or entries at d).heap) key ≡ true
+  pub removed : (d : WaitingList) → new ≡ record (heaps.with_list old (slice_index_or entries at d).heap
       (other_keys (list_of old (slice_index_or entries at d).heap) task)) { spare = old.spare + 1 }
 
 -- the entry at this place counts one key less: where none is left it is gone, and its heap is unused
-abbrev pub Discounts : List Entry → List Entry → List ℕ → List ℕ → ℕ → Type 0
-Discounts old new unused unused_new at = (d : Entry) →
+abbrev pub Discounts : List WaitingList → List WaitingList → List ℕ → List ℕ → ℕ → Type 0
+Discounts old new unused unused_new at = (d : WaitingList) →
     (((slice_index_or old at d).count ≡ 1) × (new ≡ remove old at) × (unused_new ≡ unused ++ (slice_index_or old at d).heap ∷ []))
     ⊎ (((slice_index_or old at d).count ≢ 1)
     × (new ≡ slice_set old at (record (slice_index_or old at d) { count = (slice_index_or old at d).count - 1 })) × (unused_new ≡ unused))

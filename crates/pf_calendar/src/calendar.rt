@@ -8,13 +8,14 @@ ghost use Rattle.pf_heap.specs.Keys.{IsFirst};
 ghost use Rattle.pf_heap.specs.Digits.{digits};
 ghost use Rattle.pf_calendar.specs.Queues.{list_at, until, later, due, key_count, IsQueued, TakesOut, EachTaskOnce, NoneEmpty};
 
-use crate::entry::Entry;
 use crate::merge::merge_all;
 use crate::names::{add_heaps, open};
 use crate::taking::{discount, remove_waiting};
+use crate::waiting_list::WaitingList;
 use pf_heap::arena::{Arena, HeapId};
 use pf_order::key::Key;
 use pf_order::meter::Meter;
+use pf_table::table::Table;
 use std::alloc::{AllocError, Global};
 use std::marker::Model;
 
@@ -24,9 +25,11 @@ pub struct Calendar {
     heaps: Arena,
     ready: HeapId,
     /// By rising slots.
-    waiting: Vec<Entry>,
+    waiting: Vec<WaitingList>,
     /// Empty heaps.
     unused: Vec<HeapId>,
+    /// The slot that each task's key was put for.
+    slots: Table<u64>,
     /// How many keys are held.
     held: usize,
     /// So many keys can be held before memory is wanted.
@@ -43,11 +46,12 @@ impl Model for Calendar {
     ghost coded = { queues_code };
 
     ghost use Rattle.pf_heap.specs.Keys.{list_of};
-    ghost use Rattle.pf_calendar.specs.Invariant.{waiting_in, IsCalendar};
+    ghost use Rattle.pf_calendar.specs.Invariant.{waiting_in, IsCalendar, NotesSlots};
 
     ghost view = { λ c. record { ready = list_of c.heaps c.ready; waiting = waiting_in c.heaps c.waiting.items; spare = c.limit - c.held; tasks = c.heaps.tasks } };
 
-    ghost invariant = { λ c. IsCalendar c.heaps c.ready c.waiting.items c.unused.items c.held c.limit (vec_capacity c.waiting) (vec_capacity c.unused) };
+    ghost invariant = { λ c. IsCalendar c.heaps c.ready c.waiting.items c.unused.items c.held c.limit (vec_capacity c.waiting) (vec_capacity c.unused)
+        × NotesSlots c.slots c.heaps.tasks (waiting_in c.heaps c.waiting.items) };
 }
 
 impl Calendar {
@@ -66,6 +70,7 @@ impl Calendar {
             ready,
             waiting: Vec::new(alloc),
             unused: Vec::new(alloc),
+            slots: Table::new(alloc, 0),
             held: 0,
             limit: 0,
         })
@@ -115,6 +120,7 @@ impl Calendar {
         ensures ok { OnOk result (self.new ≡ record self.old { tasks = max self.old.tasks (task + 1) }) }
         ensures err { OnErr result (self.new ≡ self.old) }
     {
+        self.slots.reserve(task)?;
         self.heaps.reserve_task(task)?;
         Ok(())
     }
@@ -133,6 +139,7 @@ impl Calendar {
     {
         let at = open(&mut self.waiting, &mut self.unused, slot);
         let entry = self.waiting[at];
+        self.slots.set(key.task(), slot);
         self.heaps.insert(meter, entry.heap, key);
         self.waiting[at].count = entry.count + 1;
         self.held += 1;
@@ -163,6 +170,7 @@ impl Calendar {
         ensures popped { MatchOption result ((self.old.ready ≡ set.empty) × (self.new ≡ self.old))
             (λ k. IsFirst self.old.ready k
             × (self.new ≡ record self.old { ready = set.remove self.old.ready k; spare = self.old.spare + 1 })) }
+        ensures once { EachTaskOnce self.old }
         ensures some { NoneEmpty self.new.waiting }
         ensures comparisons { Compares (2 * digits (key_count self.old)) meter.old meter.new }
     {
@@ -179,15 +187,14 @@ impl Calendar {
         ensures some { NoneEmpty self.new.waiting }
         ensures comparisons { Compares (2 * digits (key_count self.old)) meter.old meter.new }
     {
-        if let Some(key) = self.heaps.remove(meter, self.ready, task) {
+        let slot = self.slots.get(task);
+        if let Some(found) = remove_waiting(&mut self.heaps, meter, &self.waiting, slot, task) {
+            let (at, key) = found;
+            discount(&mut self.waiting, &mut self.unused, at);
             self.held -= 1;
             return Some(key);
         }
-        let Some(found) = remove_waiting(&mut self.heaps, meter, &self.waiting, task) else {
-            return None;
-        };
-        let (at, key) = found;
-        discount(&mut self.waiting, &mut self.unused, at);
+        let key = self.heaps.remove(meter, self.ready, task)?;
         self.held -= 1;
         Some(key)
     }
@@ -204,6 +211,7 @@ impl Calendar {
         let heaps = self.heaps.copy()?;
         let mut waiting = Vec::from_slice(alloc, &self.waiting)?;
         let mut unused = Vec::from_slice(alloc, &self.unused)?;
+        let slots = self.slots.copy()?;
         waiting.reserve(self.unused.len())?;
         unused.reserve(self.waiting.len())?;
         Ok(Self {
@@ -211,6 +219,7 @@ impl Calendar {
             ready: self.ready,
             waiting,
             unused,
+            slots,
             held: self.held,
             limit: self.held,
         })

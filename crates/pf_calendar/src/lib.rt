@@ -3,7 +3,7 @@
 #![tactic(auto)]
 
 pub mod calendar;
-mod entry;
 mod merge;
 mod names;
 mod taking;
+mod waiting_list;

@@ -7,7 +7,7 @@ ghost use Rattle.pf_heap.specs.Digits.{digits};
 ghost use Rattle.pf_calendar.specs.Invariant.{names_of, name_count};
 ghost use Rattle.pf_calendar.specs.Steps.{MergesAll};
 
-use crate::entry::Entry;
+use crate::waiting_list::WaitingList;
 use pf_heap::arena::{Arena, HeapId};
 use pf_order::meter::Meter;
 
@@ -16,7 +16,7 @@ pub(crate) fn merge_all(
     heaps: &mut Arena,
     meter: &mut Meter,
     into: HeapId,
-    entries: &[Entry],
+    entries: &[WaitingList],
     aside: &mut Vec<HeapId>,
 )
     requires into { into < length heaps.old.lists }

@@ -1,9 +1,9 @@
 ghost use Rattle.std.specs.Prelude.{◌≡◌, ℕ, ◌+◌, ◌<◌, ◌≤◌, ◌^◌, length, OnOk, vec_len};
 ghost use Rattle.std.specs.Vec.{vec_capacity};
 ghost use Rattle.std.specs.List.Sorted.{IsNonDecreasingBy};
-ghost use Rattle.pf_calendar.specs.Steps.{AddsHeaps, Opens};
+ghost use Rattle.pf_calendar.specs.Steps.{AddsHeaps, IsSlotPlace, Opens};
 
-use crate::entry::Entry;
+use crate::waiting_list::WaitingList;
 use pf_heap::arena::{Arena, HeapId};
 use std::alloc::AllocError;
 
@@ -25,8 +25,16 @@ pub(crate) fn add_heaps(
     Ok(())
 }
 
+/// How many entries are for slots before this one.
+pub(crate) fn place_of(entries: &[WaitingList], slot: u64) -> usize
+    requires { IsNonDecreasingBy (λ e. e.slot) entries.now }
+    ensures { IsSlotPlace entries.now slot result }
+{
+    entries.partition_point(|entry| entry.slot < slot)
+}
+
 /// The place of the slot's entry. Where it has none it gets one, which counts no key and has the last unused name.
-pub(crate) fn open(entries: &mut Vec<Entry>, unused: &mut Vec<HeapId>, slot: u64) -> usize
+pub(crate) fn open(entries: &mut Vec<WaitingList>, unused: &mut Vec<HeapId>, slot: u64) -> usize
     requires rise { IsNonDecreasingBy (λ e. e.slot) entries.old.items }
     requires room { vec_len entries.old < vec_capacity entries.old }
     requires some { 1 ≤ vec_len unused.old }
@@ -34,14 +42,14 @@ pub(crate) fn open(entries: &mut Vec<Entry>, unused: &mut Vec<HeapId>, slot: u64
     ensures capacity { vec_capacity entries.new ≡ vec_capacity entries.old }
     ensures unused_capacity { vec_capacity unused.new ≡ vec_capacity unused.old }
 {
-    let at = entries.partition_point(|entry| entry.slot < slot);
+    let at = place_of(entries, slot);
     if at < entries.len() && entries[at].slot == slot {
         return at;
     }
     let Some(heap) = unused.pop() else {
         unreachable!()
     };
-    let entry = Entry {
+    let entry = WaitingList {
         slot,
         heap,
         count: 0,

@@ -7,9 +7,9 @@ use Rattle.std.specs.FinSet as fin
 use Rattle.pf_order.specs.Priority.{Priority}
 use Rattle.pf_order.specs.Counts.{Counts}
 use Rattle.pf_heap.specs.declared.node.Node.{Node}
-use Rattle.pf_heap.specs.Forest.{Forest, none, tree, nowhere, head, forest_weight, same, one_each, at_place, of_task, size}
+use Rattle.pf_heap.specs.Forest.{Forest, none, tree, single, nowhere, head, forest_weight, same, one_each, at_place, of_task, size}
 use Rattle.pf_heap.specs.Memory.{no_node, node_at, Stands, Part, root, weigh_all, Parts}
-use Rattle.pf_heap.specs.Steps.{HasTwoHeaps, IsMerged}
+use Rattle.pf_heap.specs.Steps.{HasTwoHeaps, IsMerged, HasNodeAndHeap}
 use Rattle.pf_heap.specs.Pops.{AreChildless}
 use Rattle.pf_heap.specs.Keys.{Heaps, list_of, with_list, IsHeld}
 use Rattle.pf_heap.specs.View.{keys, lists_at}
@@ -25,10 +25,6 @@ use Rattle.pf_heap.proofs.Lists.{weigh_all-set, stands_in, stand_all-put, rises_
 use Rattle.pf_heap.proofs.Whole.{lists_are, now_lists, now_spare, now_tasks, list_is, len_is, held_from_weigh, small_lent, parts_lent, heap_in, link_is, IsArenaAfter}
 
 -- ---- a node for a new key
-
--- a tree of one key
-abbrev pub single : ℕ → Priority → Forest
-single at key = tree at key 0 none none
 
 abbrev pub fresh : Priority → Node
 fresh key = record { key = key; parent = nowhere; child = nowhere; sibling = nowhere; rank = 0 }
@@ -221,15 +217,13 @@ module _ {nodes : List Node} {heads places : List ℕ} {free room capacity : ℕ
       pub h_in : h < length a.heaps
       h_in = heap_in a seen is within read
 
-      abbrev pub insert_heaps : {lent : List Node} → lent ≡ mid → HasTwoHeaps lent at link
+      abbrev pub insert_heaps : {lent : List Node} → lent ≡ mid → HasNodeAndHeap lent at link
       insert_heaps {lent} e = record {
-        first = single at key;
-        second = get_or a.heaps h none;
+        key = key;
+        heap = get_or a.heaps h none;
         others = root s.left ∷ all_roots (set a.heaps h none);
-        first_is = refl;
-        second_is = link_is a seen is within read;
-        first_rises = (omega arith, refl, tt);
-        second_rises = rises_in a.heaps h a.rise;
+        heap_is = link_is a seen is within read;
+        rises = rises_in a.heaps h a.rise;
         small = omega (arith, ap length e, s.small);
         parts = let p : Parts lent (root (single at key) ∷ root s.left ∷ all_roots a.heaps) = subst (λ ns. Parts ns (root (single at key) ∷ root s.left ∷ all_roots a.heaps)) (sym e) s.parts in record {
           stand = (
@@ -241,7 +235,7 @@ module _ {nodes : List Node} {heads places : List ℕ} {free room capacity : ℕ
       }
 
       module _ {lent new : List Node} {result : ℕ} {before after : Counts} (e : lent ≡ mid)
-          (merges : (can : HasTwoHeaps lent at link) → IsMerged new can.first can.second can.others result before after) (long : length new ≡ length mid) where
+          (merges : (can : HasNodeAndHeap lent at link) → IsMerged new (single at can.key) can.heap can.others result before after) (long : length new ≡ length mid) where
         abbrev insert_merge : IsMerged new (single at key) (get_or a.heaps h none) (root s.left ∷ all_roots (set a.heaps h none)) result before after
         insert_merge = merges (insert_heaps e)
 

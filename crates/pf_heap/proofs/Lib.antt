@@ -4,7 +4,9 @@ pub mod Steps
 pub mod Weights
 pub mod Digits
 pub mod Sums
+pub mod Carries
 pub mod Pops
+pub mod Parting
 pub mod Views
 pub mod Sets
 pub mod Lists

@@ -1,5 +1,5 @@
 -- Taking a root out of a heap.
-use Rattle.std.proofs.Common.{◌≡◌, ◌≢◌, ℕ, zero, suc, ◌+◌, ◌-◌, ◌^◌, ◌<◌, ◌≤◌, ◌⊎◌, inl, inr, List, ◌∷◌, length, get_or, refl, sym, ap, ◌∙◌, subst, arith, get_or-set_same, ⊎_elim}
+use Rattle.std.proofs.Common.{◌≡◌, ◌≢◌, ℕ, zero, suc, ◌+◌, ◌-◌, ◌^◌, ◌<◌, ◌≤◌, inl, inr, List, ◌∷◌, length, get_or, refl, sym, ap, ◌∙◌, subst, arith, get_or-set_same, ⊎_elim}
 use Rattle.std.proofs.Math.ListN.{length-set}
 use Rattle.std.proofs.Math.Pow.{pow_mono}
 use Rattle.std.proofs.lemmas.Nat.{pow_pos}
@@ -9,13 +9,12 @@ use Rattle.pf_order.specs.Priority.{Priority, precedes}
 use Rattle.pf_order.specs.Counts.{Counts, Compares}
 use Rattle.pf_heap.specs.declared.node.Node.{Node}
 use Rattle.pf_heap.specs.Forest.{Forest, none, tree, nowhere, head, forest_weight, same, one_each, at_place, size, IsBelow, AllBelow, Falls, Rises, Sinks, HasRoot}
-use Rattle.pf_heap.specs.Memory.{no_node, node_at, Stands, Part, root, Parts, nodes_with_sibling}
+use Rattle.pf_heap.specs.Memory.{no_node, node_at, Stands, Part, root, Parts}
 use Rattle.pf_heap.specs.Steps.{CanTurn, IsTurned, HasTwoHeaps, IsMerged}
-use Rattle.pf_heap.specs.Pops.{roots, IsEarlier, IsSeeking, IsLeastRoot, HasHeapAndRoot, IsParting, IsParted, nodes_with_free, CanPop, IsPopped}
+use Rattle.pf_heap.specs.Pops.{roots, IsEarlier, IsSeeking, IsLeastRoot, HasHeapAndRoot, IsParted, nodes_with_free, CanPop, IsPopped}
 use Rattle.pf_order.proofs.Comparing.{compares_none, compares_both}
 use Rattle.pf_heap.proofs.Forests.{same-self, double, size_from_falls, size_from_rises, below-trans, below-itself, below_from_precedes, all_below-trans, all_below_from_falls}
-use Rattle.pf_heap.proofs.Standing.{head_within, stands-set, stand_all-set, turn_parts, cut_parts}
-use Rattle.pf_heap.proofs.Steps.{sinks_more}
+use Rattle.pf_heap.proofs.Standing.{head_within, stands-set, stand_all-set}
 use Rattle.pf_heap.proofs.Weights.{sizes-le-length}
 use Rattle.pf_heap.proofs.Sums.{none_from_link, rises_less}
 
@@ -184,142 +183,13 @@ module _ {nodes : List Node} {heap : Forest} {best rest_link steps : ℕ} {befor
       found_by
       (⊎_elim (λ h. h) (λ h. absurd (omega (arith, h, pow_mono all, t.smaller, sizes-le-length nodes (root heap ∷ others) parts))) (size_from_rises steps t.rest t.rises))
 
--- ---- cutting a root out
-
--- the first tree of a list goes in front of another list
-push_on_second : (nodes : List Node) (at : ℕ) (key : Priority) (rank : ℕ) (kids rest front : Forest) (ps : List Part) →
-    Parts nodes (root (tree at key rank kids rest) ∷ root front ∷ ps) →
-    Parts (nodes_with_sibling nodes at (head front)) (root rest ∷ root (tree at key rank kids front) ∷ ps)
-push_on_second nodes at key rank kids rest front ps parts = turn_parts nodes nowhere at key rank kids rest front ps parts
-
--- the first tree of a list stands alone
-cut_to_third : (nodes : List Node) (at : ℕ) (key : Priority) (rank : ℕ) (kids rest stay : Forest) (ps : List Part) →
-    Parts nodes (root (tree at key rank kids rest) ∷ root stay ∷ root none ∷ ps) →
-    Parts (nodes_with_sibling nodes at nowhere) (root rest ∷ root stay ∷ root (tree at key rank kids none) ∷ ps)
-cut_to_third nodes at key rank kids rest stay ps parts =
-    let p = cut_parts nodes nowhere at key rank kids rest (root stay ∷ root none ∷ ps) parts in
-    let s = p.stand in
-    record { stand = (s.1.0, (s.1.1.0, (s.0, s.1.1.1.1))); once = λ i. omega (arith, p.once i) }
-
-pub part_begun : (nodes : List Node) (link at : ℕ) (can : HasHeapAndRoot nodes link at) → IsParting nodes can.heap can.others at can.key can.rank can.kids link nowhere 0
-part_begun nodes link at can = record {
-  rest = can.heap;
-  stay = none;
-  alone = none;
-  rest_is = can.heap_is;
-  stay_is = refl;
-  alone_is = inl (refl, can.has);
-  bound = 0;
-  low = omega arith;
-  rises = can.rises;
-  sinks = tt;
-  parts = record { stand = (can.parts.stand.0, (tt, (tt, can.parts.stand.1))); once = λ i. omega (arith, can.parts.once i) };
-  kept = λ w. omega arith;
-}
-
-module _ (old new : List Node) (heap : Forest) (others : List Part) (at : ℕ) (key : Priority) (rank : ℕ) (kids : Forest) (link next stay_link result steps : ℕ)
-    (somewhere : link ≢ nowhere) (next_is : next ≡ (node_at old link).sibling)
-    (is_alone : link ≡ at → (new ≡ nodes_with_sibling old link nowhere) × (result ≡ stay_link))
-    (is_staying : link ≢ at → (new ≡ nodes_with_sibling old link stay_link) × (result ≡ link)) where
-  part_by : (rest stay alone : Forest) (bound : ℕ) → link ≡ head rest → stay_link ≡ head stay →
-      ((alone ≡ none) × HasRoot at key rank kids rest) ⊎ (alone ≡ tree at key rank kids none) →
-      steps ≤ bound → Rises bound rest → Sinks bound stay →
-      Parts old (root rest ∷ root stay ∷ root alone ∷ others) →
-      ((w : ℕ → Priority → ℕ) → forest_weight w rest + (forest_weight w stay + forest_weight w alone) ≡ forest_weight w heap) →
-      IsParting new heap others at key rank kids next result (steps + 1)
-  part_by none stay alone bound rest_is stay_is alone_is low rises sinks parts kept = absurd (somewhere rest_is)
-  part_by (tree i k r f rest) stay alone bound rest_is stay_is alone_is low rises sinks parts kept =
-      let s = parts.stand.0 in
-      let next_at : next ≡ head rest = next_is ∙ ap (λ z. (node_at old z).sibling) rest_is ∙ ap (λ (n : Node). n.sibling) s.1 in
-      let stays : link ≢ at → ((alone ≡ none) × HasRoot at key rank kids rest) ⊎ (alone ≡ tree at key rank kids none) →
-      IsParting new heap others at key rank kids next result (steps + 1) =
-      λ differ alone_now.
-      let w = is_staying differ in
-      record {
-        rest = rest;
-        stay = tree i k r f stay;
-        alone = alone;
-        rest_is = next_at;
-        stay_is = w.1 ∙ rest_is;
-        alone_is = alone_now;
-        bound = r + 1;
-        low = omega (arith, rises.0);
-        rises = rises.2;
-        sinks = (omega arith, rises.1, sinks_more bound r stay rises.0 sinks);
-        parts = subst (λ ns. Parts ns (root rest ∷ root (tree i k r f stay) ∷ root alone ∷ others)) (sym (w.0 ∙ (λ j. nodes_with_sibling old (rest_is j) (stay_is j))))
-            (push_on_second old i k r f rest stay (root alone ∷ others) parts);
-        kept = λ w. omega (arith, kept w);
-      } in
-      let stands_alone : link ≡ at → alone ≡ none → k ≡ key → r ≡ rank → f ≡ kids → IsParting new heap others at key rank kids next result (steps + 1) =
-      λ here nothing k_is r_is f_is.
-      let w = is_alone here in
-      let i_at : i ≡ at = sym rest_is ∙ here in
-      let p : Parts (nodes_with_sibling old i nowhere) (root rest ∷ root stay ∷ root (tree i k r f none) ∷ others) =
-      cut_to_third old i k r f rest stay others (subst (λ g. Parts old (root (tree i k r f rest) ∷ root stay ∷ root g ∷ others)) nothing parts) in
-      record {
-        rest = rest;
-        stay = stay;
-        alone = tree i k r f none;
-        rest_is = next_at;
-        stay_is = w.1 ∙ stay_is;
-        alone_is = inr (λ j. tree (i_at j) (k_is j) (r_is j) (f_is j) none);
-        bound = r + 1;
-        low = omega (arith, rises.0);
-        rises = rises.2;
-        sinks = sinks_more bound (r + 1) stay (omega (arith, rises.0)) sinks;
-        parts = subst (λ ns. Parts ns (root rest ∷ root stay ∷ root (tree i k r f none) ∷ others)) (sym (w.0 ∙ ap (λ z. nodes_with_sibling old z nowhere) rest_is)) p;
-        kept = λ w. omega (arith, kept w, ap (λ g. forest_weight w g) nothing);
-      } in
-      ⊎_elim
-      (λ h. ⊎_elim
-      (λ e. stands_alone (rest_is ∙ e.0) h.0 e.1 e.2 e.3)
-      (λ m. stays (λ e. absurd (omega (arith, parts.once i, same-self i, root_used at key rank kids rest m, ap (λ x. forest_weight (at_place x) rest) (sym rest_is ∙ e)))) (inl (h.0, m)))
-      h.1)
-      (λ h. stays (λ e. absurd (omega (arith, parts.once i, same-self i, ap (λ g. forest_weight (at_place i) g) h, ap (λ x. same i x) (sym rest_is ∙ e)))) (inr h))
-      alone_is
-
-  pub part_step : IsParting old heap others at key rank kids link stay_link steps → IsParting new heap others at key rank kids next result (steps + 1)
-  part_step t = part_by t.rest t.stay t.alone t.bound t.rest_is t.stay_is t.alone_is t.low t.rises t.sinks t.parts t.kept
+-- ---- a root is out of its heap and free
 
 -- ranks are below 32
 sinks_bounded : (bound : ℕ) (f : Forest) → Sinks bound f → size f < 2 ^ 32 → Sinks 32 f
 sinks_bounded bound none h le = tt
 sinks_bounded bound (tree at key rank kids rest) h le =
     (⊎_elim (λ lt. lt) (λ ge. absurd (omega (arith, pow_mono ge, le, size_from_falls key rank kids h.1))) (cases_lt rank 32), h.1, h.2)
-
-module _ {nodes : List Node} {heap : Forest} {others : List Part} {at : ℕ} {key : Priority} {rank : ℕ} {kids : Forest} {rest_link stay_link steps : ℕ}
-    (t : IsParting nodes heap others at key rank kids rest_link stay_link steps) where
-  pub parting_within : rest_link ≢ nowhere → rest_link < length nodes
-  parting_within some = head_within nodes nowhere t.rest rest_link t.parts.stand.0 t.rest_is some
-
-  parted_by : length nodes < 2 ^ 32 → t.rest ≡ none → IsParted nodes heap others at key rank kids stay_link
-  parted_by small done =
-      let all = sizes-le-length nodes (root t.rest ∷ root t.stay ∷ root t.alone ∷ others) t.parts in
-      let p : Parts nodes (root none ∷ root t.stay ∷ root t.alone ∷ others) = subst (λ f. Parts nodes (root f ∷ root t.stay ∷ root t.alone ∷ others)) done t.parts in
-      let no_root : (f : Forest) → f ≡ none → HasRoot at key rank kids f → t.alone ≡ tree at key rank kids none =
-      λ f e h. absurd (omega (arith, root_used at key rank kids f h, ap (λ g. forest_weight (at_place at) g) e)) in
-      let alone : t.alone ≡ tree at key rank kids none = ⊎_elim (λ h. no_root t.rest done h.1) (λ h. h) t.alone_is in
-      let q : Parts nodes (root none ∷ root t.stay ∷ root (tree at key rank kids none) ∷ others) = subst (λ f. Parts nodes (root none ∷ root t.stay ∷ root f ∷ others)) alone p in
-      record {
-        stay = t.stay;
-        stay_is = t.stay_is;
-        sinks = sinks_bounded t.bound t.stay t.sinks (omega (arith, all));
-        parts = record { stand = q.stand.1; once = λ i. omega (arith, q.once i) };
-        kept = λ w. omega (arith, t.kept w, ap (λ f. forest_weight w f) done, ap (λ f. forest_weight w f) alone);
-      }
-
-  -- at the end of the roots, and after as many steps as there are ranks
-  pub parted_out : length nodes < 2 ^ 32 → rest_link ≡ nowhere → IsParted nodes heap others at key rank kids stay_link
-  parted_out small out = parted_by small (none_from_link nodes nowhere rest_link t.rest small t.parts.stand.0 t.rest_is out)
-
-  pub parted_all : 32 ≤ steps → length nodes < 2 ^ 32 → IsParted nodes heap others at key rank kids stay_link
-  parted_all all small =
-      let le : 32 ≤ t.bound = omega (arith, t.low, all) in
-      parted_by small
-      (⊎_elim (λ h. h) (λ h. absurd (omega (arith, h, pow_mono le, sizes-le-length nodes (root t.rest ∷ root t.stay ∷ root t.alone ∷ others) t.parts)))
-      (size_from_rises t.bound t.rest t.rises))
-
--- ---- a root is out of its heap and free
 
 pub root_falls : (r i : ℕ) (k : Priority) (rk : ℕ) (g f : Forest) → Rises r f → HasRoot i k rk g f → Falls k rk g
 root_falls r i k rk g none rises h = absurd h
@@ -400,61 +270,52 @@ module _ {old mid : List Node} {link at free stay : ℕ} (can : CanPop old link 
         (sym (written ∙ ap (λ z. nodes_with_free mid at z) can.free_is))
         (release_parts mid at can.key can.rank can.kids parted.stay can.spares can.others parted.parts)
 
-    abbrev pub stay_turns : CanTurn freed stay
-    stay_turns = record {
-      up = nowhere;
-      list = parted.stay;
-      others = (at, can.kids) ∷ root (tree at can.key 0 none can.spares) ∷ can.others;
-      link_is = parted.stay_is;
-      sinks = parted.sinks;
-      small = freed_small;
-      parts = freed_parts;
-    }
-
-    module _ {next : List Node} {heap : ℕ} (turns : (c : CanTurn freed stay) → IsTurned next c.list c.others heap) (node : Node) (next_small : length next < 2 ^ 32) where
-      abbrev turned : IsTurned next parted.stay ((at, can.kids) ∷ root (tree at can.key 0 none can.spares) ∷ can.others) heap
-      turned = turns stay_turns
-
+    module _ (node : Node) where
       pub child_is : (get_or mid at node).child ≡ head can.kids
       child_is = ap (λ (n : Node). n.child) (get_or_default mid at node no_node alone_node.within) ∙ alone_node.child_is
 
-      abbrev pub kids_turn : CanTurn next (get_or mid at node).child
+      abbrev pub kids_turn : CanTurn freed (get_or mid at node).child nowhere
       kids_turn = record {
         up = at;
         list = can.kids;
-        others = root turned.heap ∷ root (tree at can.key 0 none can.spares) ∷ can.others;
+        last = none;
+        others = root parted.stay ∷ root (tree at can.key 0 none can.spares) ∷ can.others;
         link_is = child_is;
+        behind_is = refl;
+        bound = 32;
+        low = omega arith;
         sinks = kids_sink mid_small;
-        small = next_small;
-        parts = let s = turned.parts.stand in record { stand = (s.1.0, (s.0, s.1.1)); once = λ i. omega (arith, turned.parts.once i) };
+        rises = tt;
+        small = freed_small;
+        parts = let s = freed_parts.stand in record { stand = (s.1.0, (tt, (s.0, s.1.1))); once = λ i. omega (arith, freed_parts.once i) };
       }
 
-      module _ {last : List Node} {kids : ℕ} (turns_kids : (c : CanTurn next (get_or mid at node).child) → IsTurned last c.list c.others kids) (last_small : length last < 2 ^ 32) where
-        abbrev kids_turned : IsTurned last can.kids (root turned.heap ∷ root (tree at can.key 0 none can.spares) ∷ can.others) kids
+      module _ {last : List Node} {kids : ℕ} (turns_kids : (c : CanTurn freed (get_or mid at node).child nowhere) → IsTurned last c.list c.last c.others kids) (last_small : length last < 2 ^ 32) where
+        abbrev kids_turned : IsTurned last can.kids none (root parted.stay ∷ root (tree at can.key 0 none can.spares) ∷ can.others) kids
         kids_turned = turns_kids kids_turn
 
-        abbrev pub two_heaps : HasTwoHeaps last heap kids
+        abbrev pub two_heaps : HasTwoHeaps last stay kids
         two_heaps = record {
-          first = turned.heap;
+          first = parted.stay;
           second = kids_turned.heap;
           others = root (tree at can.key 0 none can.spares) ∷ can.others;
-          first_is = turned.heap_is;
+          first_is = parted.stay_is;
           second_is = kids_turned.heap_is;
-          first_rises = turned.rises;
+          first_rises = parted.rises;
           second_rises = kids_turned.rises;
           small = last_small;
           parts = let s = kids_turned.parts.stand in record { stand = (s.1.0, (s.0, s.1.1)); once = λ i. omega (arith, kids_turned.parts.once i) };
         }
 
         pub popped : {new : List Node} {result : ℕ} {before after : Counts} →
-            ((c : HasTwoHeaps last heap kids) → IsMerged new c.first c.second c.others result before after) → IsPopped new can.heap can.spares can.others at can.key result before after
+            ((c : HasTwoHeaps last stay kids) → IsMerged new c.first c.second c.others result before after) → IsPopped new can.heap can.spares can.others at can.key result before after
         popped merges = let m = merges two_heaps in record {
           heap = m.heap;
           heap_is = m.heap_is;
           rises = m.rises;
           parts = m.parts;
-          kept = λ w. omega (arith, m.kept w, turned.kept w, kids_turned.kept w, parted.kept w);
+          kept = λ w. omega (arith, m.kept w, kids_turned.kept w, parted.kept w);
           made = m.made;
-          made_paid = ⊎_elim (λ h. inl h) (λ h. inr (omega (arith, turned.kept one_each, kids_turned.kept one_each, parted.kept one_each))) m.made_paid;
+          made_paid = ⊎_elim (λ h. inl h) (λ h. inr (omega (arith, kids_turned.kept one_each, parted.kept one_each))) m.made_paid;
           counted = m.counted;
         }

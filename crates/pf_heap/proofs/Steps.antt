@@ -21,12 +21,13 @@ link_parts nodes a b ka kb ra rb fa fb ps parts =
     let sb = parts.stand.1.0 in
     let differ : a ≢ b = elsewhere a b 0 (omega (arith, parts.once b, same-self b)) in
     let v : Node = record (node_at nodes b) { parent = a; sibling = (node_at nodes a).child } in
-    let w : Node = record (node_at nodes a) { child = b; rank = (node_at nodes a).rank + 1 } in
+    let w : Node = record (node_at (set nodes b v) a) { child = b; rank = (node_at (set nodes b v) a).rank + 1 } in
+    let untouched : node_at (set nodes b v) a ≡ node_at nodes a = get_or-set_other nodes b a v no_node differ in
     let la : length (set nodes b v) ≡ length nodes = length-set nodes b v in
     let lb : length (set (set nodes b v) a w) ≡ length (set nodes b v) = length-set (set nodes b v) a w in
     let va : Node = record { key = ka; parent = nowhere; child = b; sibling = nowhere; rank = ra + 1 } in
     let vb : Node = record { key = kb; parent = a; child = head fb; sibling = head fa; rank = rb } in
-    let is_w : w ≡ va = ap (λ (n : Node). record n { child = b; rank = n.rank + 1 }) sa.1 in
+    let is_w : w ≡ va = ap (λ (n : Node). record n { child = b; rank = n.rank + 1 }) (untouched ∙ sa.1) in
     let is_v : v ≡ vb = λ i. record (sb.1 i) { parent = a; sibling = (sa.1 i).child } in
     let both : (up : ℕ) (f : Forest) → forest_weight (at_place a) f ≡ 0 → forest_weight (at_place b) f ≡ 0 → Stands nodes up f → Stands (set (set nodes b v) a w) up f =
     λ up f not_a not_b s. stands-set (set nodes b v) a w up f not_a (stands-set nodes b v up f not_b s) in

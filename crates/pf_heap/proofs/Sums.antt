@@ -8,7 +8,7 @@ use Rattle.pf_heap.specs.declared.node.Node.{Node}
 use Rattle.pf_heap.specs.declared.adding.Sum.{Sum}
 use Rattle.pf_heap.specs.Forest.{Forest, none, tree, nowhere, head, forest_weight, one_each, size, some, Rises, Sinks, IsTreeOrNone}
 use Rattle.pf_heap.specs.Memory.{node_at, Stands, Part, root, Parts, nodes_with_sibling}
-use Rattle.pf_heap.specs.Steps.{HasRoots, HasTwo, HasTwoTrees, HasThreeTrees, IsCut, IsAdded, IsPushed, IsMerging, CanAddRank, HasTwoHeaps, IsMerged, CanTurn, IsTurning, IsTurned}
+use Rattle.pf_heap.specs.Steps.{HasRoots, HasTwo, HasTwoTrees, HasThreeTrees, IsCut, IsAdded, IsPushed, IsMerging, CanAddRank, IsRest, HasTwoHeaps, IsMerged, CanTurn, IsTurning, IsTurned}
 use Rattle.pf_order.proofs.Comparing.{compares_none, compares_within, compares_both}
 use Rattle.pf_heap.proofs.Forests.{double, size_from_tree, size_from_rises}
 use Rattle.pf_heap.proofs.Standing.{turn_parts, head_within}
@@ -95,7 +95,7 @@ module _ {mid new : List Node} {rank part first_carry sum second_carry : ℕ} {b
 
 -- ---- one rank of two lists
 
-some-le : (f : Forest) → some f ≤ 1
+pub some-le : (f : Forest) → some f ≤ 1
 some-le none = omega arith
 some-le (tree at key rank kids rest) = omega arith
 
@@ -224,25 +224,25 @@ pub rises_less : (r s : ℕ) (f : Forest) → s ≤ r → Rises r f → Rises s 
 rises_less r s none le h = tt
 rises_less r s (tree at key rank kids rest) le h = (omega (arith, h.0), h.1, h.2)
 
-pub turn_begun : (nodes : List Node) (link : ℕ) (can : CanTurn nodes link) → IsTurning nodes can.up can.list can.others link nowhere 0
-turn_begun nodes link can = record {
+pub turn_begun : (nodes : List Node) (link behind : ℕ) (can : CanTurn nodes link behind) → IsTurning nodes can.up can.list can.last can.others link behind 0
+turn_begun nodes link behind can = record {
   rest = can.list;
-  turned = none;
+  turned = can.last;
   rest_is = can.link_is;
-  turned_is = refl;
-  bound = 32;
-  low = omega arith;
+  turned_is = can.behind_is;
+  bound = can.bound;
+  low = omega (arith, can.low);
   sinks = can.sinks;
-  rises = tt;
-  parts = record { stand = (can.parts.stand.0, (tt, can.parts.stand.1)); once = λ i. omega (arith, can.parts.once i) };
-  kept = λ w. omega arith;
+  rises = can.rises;
+  parts = can.parts;
+  kept = λ w. refl;
 }
 
-module _ (old new : List Node) (up : ℕ) (list : Forest) (others : List Part) (link next turned_link steps : ℕ)
+module _ (old new : List Node) (up : ℕ) (list last : Forest) (others : List Part) (link next turned_link steps : ℕ)
     (written : new ≡ nodes_with_sibling old link turned_link) (next_is : next ≡ (node_at old link).sibling) (somewhere : link ≢ nowhere) where
   turn_by : (rest turned : Forest) (bound : ℕ) → link ≡ head rest → turned_link ≡ head turned → bound + steps ≤ 32 → Sinks bound rest → Rises bound turned →
-      Parts old ((up, rest) ∷ root turned ∷ others) → ((w : ℕ → Priority → ℕ) → forest_weight w rest + forest_weight w turned ≡ forest_weight w list) →
-      IsTurning new up list others next link (steps + 1)
+      Parts old ((up, rest) ∷ root turned ∷ others) → ((w : ℕ → Priority → ℕ) → forest_weight w rest + forest_weight w turned ≡ forest_weight w list + forest_weight w last) →
+      IsTurning new up list last others next link (steps + 1)
   turn_by none turned bound rest_is turned_is low sinks rises parts kept = absurd (somewhere rest_is)
   turn_by (tree at key rank kids rest) turned bound rest_is turned_is low sinks rises parts kept = record {
     rest = rest;
@@ -258,18 +258,18 @@ module _ (old new : List Node) (up : ℕ) (list : Forest) (others : List Part) (
     kept = λ w. omega (arith, kept w);
   }
 
-  pub turn_step : IsTurning old up list others link turned_link steps → IsTurning new up list others next link (steps + 1)
+  pub turn_step : IsTurning old up list last others link turned_link steps → IsTurning new up list last others next link (steps + 1)
   turn_step t = turn_by t.rest t.turned t.bound t.rest_is t.turned_is t.low t.sinks t.rises t.parts t.kept
 
 pub sunk : (f : Forest) → Sinks 0 f → f ≡ none
 sunk none h = refl
 sunk (tree at key rank kids rest) h = absurd (omega (arith, h.0))
 
-module _ {nodes : List Node} {up : ℕ} {list : Forest} {others : List Part} {rest_link turned_link steps : ℕ} (t : IsTurning nodes up list others rest_link turned_link steps) where
+module _ {nodes : List Node} {up : ℕ} {list last : Forest} {others : List Part} {rest_link turned_link steps : ℕ} (t : IsTurning nodes up list last others rest_link turned_link steps) where
   pub turning_within : rest_link ≢ nowhere → rest_link < length nodes
   turning_within some = head_within nodes up t.rest rest_link t.parts.stand.0 t.rest_is some
 
-  turned_by : t.rest ≡ none → IsTurned nodes list others turned_link
+  turned_by : t.rest ≡ none → IsTurned nodes list last others turned_link
   turned_by done = record {
     heap = t.turned;
     heap_is = t.turned_is;
@@ -279,10 +279,10 @@ module _ {nodes : List Node} {up : ℕ} {list : Forest} {others : List Part} {re
   }
 
   -- at the end of the list, and after as many steps as there are ranks
-  pub turned_out : length nodes < 2 ^ 32 → rest_link ≡ nowhere → IsTurned nodes list others turned_link
+  pub turned_out : length nodes < 2 ^ 32 → rest_link ≡ nowhere → IsTurned nodes list last others turned_link
   turned_out small out = turned_by (none_from_link nodes up rest_link t.rest small t.parts.stand.0 t.rest_is out)
 
-  pub turned_all : 32 ≤ steps → IsTurned nodes list others turned_link
+  pub turned_all : 32 ≤ steps → IsTurned nodes list last others turned_link
   turned_all all =
       let zero_bound : t.bound ≡ 0 = omega (arith, t.low, all) in
       turned_by (sunk t.rest (subst (λ b. Sinks b t.rest) zero_bound t.sinks))
@@ -317,42 +317,102 @@ abbrev pub still_merging : {nodes : List Node} {x y : Forest} {others : List Par
     IsMerging nodes rank x y others links before after → CanAddRank nodes rank links after
 still_merging {x = x} {y = y} {others = others} {before = before} m = record { x = x; y = y; others = others; before = before; now = m }
 
-module _ {nodes : List Node} {x y : Forest} {others : List Part} {links : Sum} {rank : ℕ} {before after : Counts} (m : IsMerging nodes rank x y others links before after) (all : rank ≡ 32) where
-  bounded : size m.left + (size m.right + (size m.carry + size m.done)) < 2 ^ 32
-  bounded = omega (arith, sizes-le-length nodes _ m.parts, m.small)
-
-  left_empty : m.left ≡ none
-  left_empty = ⊎_elim (λ h. h) (λ h. absurd (omega (arith, bounded, ap (λ r. 2 ^ r) all))) (size_from_rises rank m.left m.left_rises)
-
-  right_empty : m.right ≡ none
-  right_empty = ⊎_elim (λ h. h) (λ h. absurd (omega (arith, bounded, ap (λ r. 2 ^ r) all))) (size_from_rises rank m.right m.right_rises)
-
-  carry_empty : m.carry ≡ none
-  carry_empty = ⊎_elim (λ h. h) (λ h. absurd (omega (arith, bounded, ap (λ r. 2 ^ r) all))) (size_from_tree rank m.carry m.carry_tree)
-
-  abbrev pub can_turn : CanTurn nodes links.done
-  can_turn = record {
+-- no tree is carried, and what isn't yet added up is one list, which goes behind the sum
+module _ {nodes : List Node} {x y : Forest} {others : List Part} {links : Sum} {rank : ℕ} {before after : Counts} (m : IsMerging nodes rank x y others links before after)
+    (low : rank ≤ 32) (carry_empty : m.carry ≡ none) (behind : ℕ) (last : Forest) (behind_is : behind ≡ head last) (rises : Rises rank last)
+    (parts : Parts nodes (root m.done ∷ root last ∷ others)) (whole : (w : ℕ → Priority → ℕ) → forest_weight w m.done + forest_weight w last ≡ forest_weight w x + forest_weight w y) where
+  abbrev pub done_turns : CanTurn nodes links.done behind
+  done_turns = record {
     up = nowhere;
     list = m.done;
+    last = last;
     others = others;
     link_is = m.done_is;
-    sinks = subst (λ r. Sinks r m.done) all m.done_sinks;
+    behind_is = behind_is;
+    bound = rank;
+    low = low;
+    sinks = m.done_sinks;
+    rises = rises;
     small = m.small;
-    parts = record { stand = let s = m.parts.stand in (s.1.1.1.0, s.1.1.1.1); once = λ i. omega (arith, m.parts.once i) };
+    parts = parts;
   }
 
-  pub merged : {new : List Node} {link : ℕ} → ((c : CanTurn nodes links.done) → IsTurned new c.list c.others link) → IsMerged new x y others link before after
-  merged turns =
-      let t = turns can_turn in
-      let only_done : (w : ℕ → Priority → ℕ) → forest_weight w m.done ≡ forest_weight w x + forest_weight w y =
-      λ w. omega (arith, m.kept w, ap (λ f. forest_weight w f) left_empty, ap (λ f. forest_weight w f) right_empty, ap (λ f. forest_weight w f) carry_empty) in
+  merged_by : {new : List Node} {link : ℕ} → ((c : CanTurn nodes links.done behind) → IsTurned new c.list c.last c.others link) → IsMerged new x y others link before after
+  merged_by turns =
+      let t = turns done_turns in
       record {
         heap = t.heap;
         heap_is = t.heap_is;
         rises = t.rises;
         parts = t.parts;
-        kept = λ w. t.kept w ∙ only_done w;
+        kept = λ w. t.kept w ∙ whole w;
         made = m.made;
-        made_paid = ⊎_elim (λ h. inl h) (λ h. inr (omega (arith, only_done one_each, ap size carry_empty))) m.made_paid;
+        made_paid = ⊎_elim (λ h. inl h) (λ h. inr (omega (arith, whole one_each, ap size carry_empty))) m.made_paid;
         counted = m.counted;
       }
+
+module _ {nodes : List Node} {x y : Forest} {others : List Part} {links : Sum} {rank : ℕ} {before after : Counts} (m : IsMerging nodes rank x y others links before after) where
+  -- one list is spent
+
+  module _ {rest : ℕ} (low : rank ≤ 32) (is_rest : IsRest links rest) where
+    carry_out : m.carry ≡ none
+    carry_out = none_from_link nodes nowhere links.carry m.carry m.small m.parts.stand.1.1.0 m.carry_is is_rest.0
+
+    left_out : links.left ≡ nowhere → m.left ≡ none
+    left_out out = none_from_link nodes nowhere links.left m.left m.small m.parts.stand.0 m.left_is out
+
+    right_out : links.right ≡ nowhere → m.right ≡ none
+    right_out out = none_from_link nodes nowhere links.right m.right m.small m.parts.stand.1.0 m.right_is out
+
+    done_and_right : Parts nodes (root m.done ∷ root m.right ∷ others)
+    done_and_right = let s = m.parts.stand in record { stand = (s.1.1.1.0, (s.1.0, s.1.1.1.1)); once = λ i. omega (arith, m.parts.once i) }
+
+    done_and_left : Parts nodes (root m.done ∷ root m.left ∷ others)
+    done_and_left = let s = m.parts.stand in record { stand = (s.1.1.1.0, (s.0, s.1.1.1.1)); once = λ i. omega (arith, m.parts.once i) }
+
+    right_whole : m.left ≡ none → (w : ℕ → Priority → ℕ) → forest_weight w m.done + forest_weight w m.right ≡ forest_weight w x + forest_weight w y
+    right_whole out w = omega (arith, m.kept w, ap (λ f. forest_weight w f) out, ap (λ f. forest_weight w f) carry_out)
+
+    left_whole : m.right ≡ none → (w : ℕ → Priority → ℕ) → forest_weight w m.done + forest_weight w m.left ≡ forest_weight w x + forest_weight w y
+    left_whole out w = omega (arith, m.kept w, ap (λ f. forest_weight w f) out, ap (λ f. forest_weight w f) carry_out)
+
+    pub rest_turns : CanTurn nodes links.done rest
+    rest_turns =
+        ⊎_elim
+        (λ h. done_turns m low carry_out rest m.right (h.1 ∙ m.right_is) m.right_rises done_and_right (right_whole (left_out h.0)))
+        (λ h. done_turns m low carry_out rest m.left (h.1 ∙ m.left_is) m.left_rises done_and_left (left_whole (right_out h.0)))
+        is_rest.1
+
+    pub merged_early : {new : List Node} {link : ℕ} → ((c : CanTurn nodes links.done rest) → IsTurned new c.list c.last c.others link) → IsMerged new x y others link before after
+    merged_early turns =
+        ⊎_elim
+        (λ h. merged_by m low carry_out rest m.right (h.1 ∙ m.right_is) m.right_rises done_and_right (right_whole (left_out h.0)) turns)
+        (λ h. merged_by m low carry_out rest m.left (h.1 ∙ m.left_is) m.left_rises done_and_left (left_whole (right_out h.0)) turns)
+        is_rest.1
+
+  -- all ranks are added
+
+  module _ (all : rank ≡ 32) where
+    bounded : size m.left + (size m.right + (size m.carry + size m.done)) < 2 ^ 32
+    bounded = omega (arith, sizes-le-length nodes _ m.parts, m.small)
+
+    left_empty : m.left ≡ none
+    left_empty = ⊎_elim (λ h. h) (λ h. absurd (omega (arith, bounded, ap (λ r. 2 ^ r) all))) (size_from_rises rank m.left m.left_rises)
+
+    right_empty : m.right ≡ none
+    right_empty = ⊎_elim (λ h. h) (λ h. absurd (omega (arith, bounded, ap (λ r. 2 ^ r) all))) (size_from_rises rank m.right m.right_rises)
+
+    carry_empty : m.carry ≡ none
+    carry_empty = ⊎_elim (λ h. h) (λ h. absurd (omega (arith, bounded, ap (λ r. 2 ^ r) all))) (size_from_tree rank m.carry m.carry_tree)
+
+    done_alone : Parts nodes (root m.done ∷ root none ∷ others)
+    done_alone = let s = m.parts.stand in record { stand = (s.1.1.1.0, (tt, s.1.1.1.1)); once = λ i. omega (arith, m.parts.once i) }
+
+    done_whole : (w : ℕ → Priority → ℕ) → forest_weight w m.done + forest_weight w none ≡ forest_weight w x + forest_weight w y
+    done_whole w = omega (arith, m.kept w, ap (λ f. forest_weight w f) left_empty, ap (λ f. forest_weight w f) right_empty, ap (λ f. forest_weight w f) carry_empty)
+
+    pub all_turn : CanTurn nodes links.done nowhere
+    all_turn = done_turns m (omega (arith, all)) carry_empty nowhere none refl tt done_alone done_whole
+
+    pub merged : {new : List Node} {link : ℕ} → ((c : CanTurn nodes links.done nowhere) → IsTurned new c.list c.last c.others link) → IsMerged new x y others link before after
+    merged turns = merged_by m (omega (arith, all)) carry_empty nowhere none refl tt done_alone done_whole turns

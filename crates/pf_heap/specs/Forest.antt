@@ -8,6 +8,10 @@ pub data Forest : Type 0 where
   none : Forest
   tree : (at : ℕ) (key : Priority) (rank : ℕ) (kids : Forest) (rest : Forest) → Forest
 
+-- one node with this key
+abbrev pub single : ℕ → Priority → Forest
+single at key = tree at key 0 none none
+
 -- the link that stands for no node
 abbrev pub nowhere : ℕ
 nowhere = 2 ^ 32 - 1

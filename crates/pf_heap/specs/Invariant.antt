@@ -1,5 +1,6 @@
 -- What holds of every arena.
 use Rattle.std.specs.Prelude.{◌≡◌, ℕ, ◌+◌, ◌-◌, ◌<◌, ◌≤◌, ◌^◌, List, [], ◌∷◌, map, length, slice_index_or}
+use Rattle.pf_weight.specs.declared.task.TheConstants.{LARGEST_TASK}
 use Rattle.pf_order.specs.Priority.{Priority}
 use Rattle.pf_heap.specs.declared.node.Node.{Node}
 use Rattle.pf_heap.specs.Forest.{Forest, none, tree, nowhere, head, same, size, one_each, of_task, Rises}
@@ -30,7 +31,7 @@ pub record IsArena (nodes : List Node) (heads places : List ℕ) (free room capa
   pub parts : Parts nodes (root spares ∷ all_roots heaps)
   pub filled : size spares + weigh_all one_each (all_roots heaps) ≡ length nodes
   pub fits : weigh_all one_each (all_roots heaps) + room ≤ capacity
-  pub places_few : length places ≤ 4096
+  pub places_few : length places ≤ LARGEST_TASK + 1
   pub placed : weigh_all (misplaced places) (all_roots heaps) ≡ 0
   pub held : (t : ℕ) → weigh_all (of_task t) (all_roots heaps) ≡ 1 - same (slice_index_or places t nowhere) nowhere
 

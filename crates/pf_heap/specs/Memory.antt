@@ -45,13 +45,16 @@ pub record Parts (nodes : List Node) (ps : List Part) : Type 0 where
 abbrev pub nodes_with_sibling : List Node → ℕ → ℕ → List Node
 nodes_with_sibling nodes at to = slice_set nodes at (record (node_at nodes at) { parent = nowhere; sibling = to })
 
+-- the root `below` has the parent `above`, whose children are behind it
+abbrev pub lowered_root : List Node → ℕ → ℕ → List Node
+lowered_root nodes above below =
+    slice_set nodes below (record (node_at nodes below) { parent = above; sibling = (node_at nodes above).child })
+
 -- the root `below` is the first child of the root `above`, whose rank is one greater
 abbrev pub nodes_with_child : List Node → ℕ → ℕ → List Node
 nodes_with_child nodes above below =
-    slice_set
-    (slice_set nodes below (record (node_at nodes below) { parent = above; sibling = (node_at nodes above).child }))
-    above
-    (record (node_at nodes above) { child = below; rank = (node_at nodes above).rank + 1 })
+    slice_set (lowered_root nodes above below) above
+    (record (node_at (lowered_root nodes above below) above) { child = below; rank = (node_at (lowered_root nodes above below) above).rank + 1 })
 
 -- the root with the first of the two keys has the other as its first child; in a tie x stays above
 abbrev pub AreJoined : List Node → List Node → ℕ → ℕ → ℕ → Type 0

@@ -1,9 +1,9 @@
 -- What it takes to take a root out of a heap, and to get a node for a new key.
-use Rattle.std.specs.Prelude.{◌≡◌, ℕ, ◌+◌, ◌<◌, ◌≤◌, ◌^◌, ◌⊎◌, true, false, List, ◌∷◌, length, slice_set}
+use Rattle.std.specs.Prelude.{◌≡◌, ◌≢◌, ℕ, ◌+◌, ◌<◌, ◌≤◌, ◌^◌, ◌⊎◌, true, false, List, ◌∷◌, length, slice_set}
 use Rattle.pf_order.specs.Priority.{Priority, precedes}
 use Rattle.pf_order.specs.Counts.{Counts, Compares}
 use Rattle.pf_heap.specs.declared.node.Node.{Node}
-use Rattle.pf_heap.specs.Forest.{Forest, none, tree, nowhere, head, forest_weight, size, AllBelow, IsBelow, Rises, Sinks, HasRoot}
+use Rattle.pf_heap.specs.Forest.{Forest, none, tree, nowhere, head, forest_weight, size, AllBelow, IsBelow, Rises, HasRoot}
 use Rattle.pf_heap.specs.Memory.{node_at, Stands, Part, root, Parts}
 
 -- the number of roots
@@ -67,26 +67,27 @@ pub record HasHeapAndRoot (nodes : List Node) (link at : ℕ) : Type 0 where
   pub small : length nodes < 2 ^ 32
   pub parts : Parts nodes (root heap ∷ others)
 
--- a heap's roots are being parted: those that are left, those that stay, and the one that stands alone
-pub record IsParting (nodes : List Node) (heap : Forest) (others : List Part) (at : ℕ) (key : Priority) (rank : ℕ) (kids : Forest) (rest_link stay_link steps : ℕ) : Type 0 where
-  pub rest : Forest
-  pub stay : Forest
-  pub alone : Forest
-  pub rest_is : rest_link ≡ head rest
-  pub stay_is : stay_link ≡ head stay
-  pub alone_is : ((alone ≡ none) × HasRoot at key rank kids rest) ⊎ (alone ≡ tree at key rank kids none)
-  pub bound : ℕ
-  pub low : steps ≤ bound
-  pub rises : Rises bound rest
-  pub sinks : Sinks bound stay
-  pub parts : Parts nodes (root rest ∷ root stay ∷ root alone ∷ others)
-  pub kept : (w : ℕ → Priority → ℕ) → forest_weight w rest + (forest_weight w stay + forest_weight w alone) ≡ forest_weight w heap
+-- root p stands right before root i
+abbrev pub IsRightBefore : ℕ → ℕ → Forest → Type 0
+IsRightBefore p i none = ⊥
+IsRightBefore p i (tree at key rank kids rest) = ((p ≡ at) × (i ≡ head rest)) ⊎ IsRightBefore p i rest
 
--- the roots that stay, of falling ranks, beside the one that stands alone
+-- a heap's roots are being passed, as far as root `now`: a later one is at `at`
+pub record IsPassing (nodes : List Node) (heap : Forest) (at : ℕ) (key : Priority) (rank : ℕ) (kids : Forest) (now steps : ℕ) : Type 0 where
+  pub rest : Forest
+  pub rest_is : now ≡ head rest
+  pub has : HasRoot at key rank kids rest
+  pub differ : now ≢ at
+  pub stands : Stands nodes nowhere rest
+  pub rises : Rises steps rest
+  pub smaller : size rest ≤ size heap
+  pub into : (p : ℕ) → IsRightBefore p at rest → IsRightBefore p at heap
+
+-- the heap that stays, beside the root that stands alone
 pub record IsParted (nodes : List Node) (heap : Forest) (others : List Part) (at : ℕ) (key : Priority) (rank : ℕ) (kids : Forest) (link : ℕ) : Type 0 where
   pub stay : Forest
   pub stay_is : link ≡ head stay
-  pub sinks : Sinks 32 stay
+  pub rises : Rises 0 stay
   pub parts : Parts nodes (root stay ∷ root (tree at key rank kids none) ∷ others)
   pub kept : (w : ℕ → Priority → ℕ) → forest_weight w stay + forest_weight w (tree at key rank kids none) ≡ forest_weight w heap
 

@@ -4,7 +4,7 @@ use Rattle.pf_order.specs.Priority.{Priority}
 use Rattle.pf_order.specs.Counts.{Counts, Compares}
 use Rattle.pf_heap.specs.declared.node.Node.{Node}
 use Rattle.pf_heap.specs.declared.adding.Sum.{Sum}
-use Rattle.pf_heap.specs.Forest.{Forest, head, forest_weight, size, some, Rises, Sinks, IsTreeOrNone}
+use Rattle.pf_heap.specs.Forest.{Forest, single, nowhere, head, forest_weight, size, some, Rises, Sinks, IsTreeOrNone}
 use Rattle.pf_heap.specs.Memory.{Part, root, weigh_all, Parts}
 
 -- the link is a list's, under the parent `up`
@@ -122,6 +122,11 @@ pub record CanAddRank (nodes : List Node) (rank : ℕ) (links : Sum) (after : Co
   pub before : Counts
   pub now : IsMerging nodes rank x y others links before after
 
+-- no tree is carried and one list is spent: the other one is left
+abbrev pub IsRest : Sum → ℕ → Type 0
+IsRest links rest =
+    (links.carry ≡ nowhere) × (((links.left ≡ nowhere) × (rest ≡ links.right)) ⊎ ((links.right ≡ nowhere) × (rest ≡ links.left)))
+
 -- two links of two heaps
 pub record HasTwoHeaps (nodes : List Node) (x y : ℕ) : Type 0 where
   pub first : Forest
@@ -145,18 +150,47 @@ pub record IsMerged (nodes : List Node) (first second : Forest) (others : List P
   pub made_paid : (made ≡ 0) ⊎ (2 ^ made ≤ size first + size second)
   pub counted : Compares made before after
 
--- the link is a list's of falling ranks, under the parent `up`
-pub record CanTurn (nodes : List Node) (link : ℕ) : Type 0 where
+-- a node with no children, and a heap
+pub record HasNodeAndHeap (nodes : List Node) (at link : ℕ) : Type 0 where
+  pub key : Priority
+  pub heap : Forest
+  pub others : List Part
+  pub heap_is : link ≡ head heap
+  pub rises : Rises 0 heap
+  pub small : length nodes < 2 ^ 32
+  pub parts : Parts nodes (root (single at key) ∷ root heap ∷ others)
+
+-- x is carried into y: each rank so far has cost a comparison, and y is left from this rank on
+pub record IsCarrying (nodes : List Node) (rank : ℕ) (x y : Forest) (others : List Part) (carry_link rest_link : ℕ) (before after : Counts) : Type 0 where
+  pub carry : Forest
+  pub rest : Forest
+  pub carry_is : carry_link ≡ head carry
+  pub rest_is : rest_link ≡ head rest
+  pub carry_tree : IsTreeOrNone rank carry
+  pub full : size carry ≡ 2 ^ rank
+  pub rises : Rises rank rest
+  pub small : length nodes < 2 ^ 32
+  pub parts : Parts nodes (root carry ∷ root rest ∷ others)
+  pub kept : (w : ℕ → Priority → ℕ) → forest_weight w carry + forest_weight w rest ≡ forest_weight w x + forest_weight w y
+  pub counted : Compares rank before after
+
+-- the links are a list's of falling ranks, under the parent `up`, and one's of rising ranks from where those end
+pub record CanTurn (nodes : List Node) (link behind : ℕ) : Type 0 where
   pub up : ℕ
   pub list : Forest
+  pub last : Forest
   pub others : List Part
   pub link_is : link ≡ head list
-  pub sinks : Sinks 32 list
+  pub behind_is : behind ≡ head last
+  pub bound : ℕ
+  pub low : bound ≤ 32
+  pub sinks : Sinks bound list
+  pub rises : Rises bound last
   pub small : length nodes < 2 ^ 32
-  pub parts : Parts nodes ((up, list) ∷ others)
+  pub parts : Parts nodes ((up, list) ∷ root last ∷ others)
 
 -- a list is being turned round: what is left of it, below `bound`, and the turned list, from `bound` on
-pub record IsTurning (nodes : List Node) (up : ℕ) (list : Forest) (others : List Part) (rest_link turned_link steps : ℕ) : Type 0 where
+pub record IsTurning (nodes : List Node) (up : ℕ) (list last : Forest) (others : List Part) (rest_link turned_link steps : ℕ) : Type 0 where
   pub rest : Forest
   pub turned : Forest
   pub rest_is : rest_link ≡ head rest
@@ -166,12 +200,12 @@ pub record IsTurning (nodes : List Node) (up : ℕ) (list : Forest) (others : Li
   pub sinks : Sinks bound rest
   pub rises : Rises bound turned
   pub parts : Parts nodes ((up, rest) ∷ root turned ∷ others)
-  pub kept : (w : ℕ → Priority → ℕ) → forest_weight w rest + forest_weight w turned ≡ forest_weight w list
+  pub kept : (w : ℕ → Priority → ℕ) → forest_weight w rest + forest_weight w turned ≡ forest_weight w list + forest_weight w last
 
--- a list is turned round: a heap
-pub record IsTurned (nodes : List Node) (list : Forest) (others : List Part) (link : ℕ) : Type 0 where
+-- a list is turned round in front of the last one: a heap
+pub record IsTurned (nodes : List Node) (list last : Forest) (others : List Part) (link : ℕ) : Type 0 where
   pub heap : Forest
   pub heap_is : link ≡ head heap
   pub rises : Rises 0 heap
   pub parts : Parts nodes (root heap ∷ others)
-  pub kept : (w : ℕ → Priority → ℕ) → forest_weight w heap ≡ forest_weight w list
+  pub kept : (w : ℕ → Priority → ℕ) → forest_weight w heap ≡ forest_weight w list + forest_weight w last

@@ -1,10 +1,10 @@
-ghost use Rattle.std.specs.Prelude.{◌≡◌, ℕ, ◌+◌, ◌<◌, List, [], ◌∷◌};
+ghost use Rattle.std.specs.Prelude.{◌≡◌, ℕ, ◌+◌, ◌<◌, List, [], ◌∷◌, IfSome};
 ghost use Rattle.pf_order.specs.Counts.{Counts};
-ghost use Rattle.pf_heap.specs.Forest.{Forest};
+ghost use Rattle.pf_heap.specs.Forest.{Forest, single};
 ghost use Rattle.pf_heap.specs.Memory.{Part, root};
-ghost use Rattle.pf_heap.specs.Steps.{HasTwoTrees, HasThreeTrees, IsAdded, IsMerging, CanAddRank, HasTwoHeaps, IsMerged};
+ghost use Rattle.pf_heap.specs.Steps.{HasTwoTrees, HasThreeTrees, IsAdded, IsMerging, CanAddRank, IsRest, HasTwoHeaps, IsMerged, HasNodeAndHeap};
 
-use crate::links::join;
+use crate::links::{join, relink};
 use crate::node::{NOWHERE, Node};
 use crate::roots::{RANKS, cut, push, turn};
 use pf_order::meter::Meter;
@@ -16,6 +16,23 @@ pub(crate) struct Sum {
     right: u32,
     carry: u32,
     done: u32,
+}
+
+impl Sum {
+    /// The list that is left, where nothing is to be added to it.
+    fn rest(self) -> Option<u32>
+        ensures { IfSome result (IsRest self) }
+    {
+        if self.carry != NOWHERE {
+            None
+        } else if self.left == NOWHERE {
+            Some(self.right)
+        } else if self.right == NOWHERE {
+            Some(self.left)
+        } else {
+            None
+        }
+    }
 }
 
 /// Adds two trees of this rank, each of which may be missing: what stays at the rank, and what goes to the next.
@@ -84,7 +101,31 @@ pub(crate) fn merge(nodes: &mut [Node], meter: &mut Meter, x: u32, y: u32) -> u3
         done: NOWHERE,
     };
     for rank in 0..RANKS {
+        if let Some(rest) = links.rest() {
+            return turn(nodes, links.done, rest);
+        }
         links = add_rank(nodes, meter, rank, links);
     }
-    turn(nodes, links.done)
+    // there is no further rank, so nothing is left
+    turn(nodes, links.done, NOWHERE)
+}
+
+/// Adds a node with no children to a heap: it is carried through the ranks that the heap has without a gap.
+pub(crate) fn add(nodes: &mut [Node], meter: &mut Meter, at: u32, link: u32) -> u32
+    requires can { HasNodeAndHeap nodes.old at link }
+    ensures { (can : HasNodeAndHeap nodes.old at link)
+        → IsMerged nodes.new (single at can.key) can.heap can.others result meter.old meter.new }
+{
+    let mut carry = at;
+    let mut rest = link;
+    for rank in 0..RANKS {
+        let (tree, left) = cut(nodes, rest, rank);
+        if tree == NOWHERE {
+            relink(nodes, carry, left);
+            return carry;
+        }
+        carry = join(nodes, meter, carry, tree);
+        rest = left;
+    }
+    carry
 }

@@ -1,13 +1,14 @@
 ghost use Rattle.std.specs.Prelude.{◌≡◌, ◌≢◌, ◌↔◌, IsTrue, true, ℕ, ◌+◌, ◌-◌, ◌*◌, ◌<◌, ◌≤◌, ◌^◌, [], ◌∷◌, ◌++◌, length, max, IfNone, IfOk, OnOk, OnErr, MatchOption, vec_len};
 ghost use Rattle.std.specs.Vec.{vec_capacity};
 ghost use Rattle.std.specs.FinSet as set;
+ghost use Rattle.pf_weight.specs.declared.task.TheConstants.{LARGEST_TASK};
 ghost use Rattle.pf_order.specs.Priority.{IsPriority};
 ghost use Rattle.pf_order.specs.Counts.{Compares};
 ghost use Rattle.pf_heap.specs.Keys.{list_of, with_list, IsHeld, IsFirst, HasNone, EachTaskOnce, other_keys};
 ghost use Rattle.pf_heap.specs.Digits.{digits};
 ghost use Rattle.pf_heap.specs.Invariant.{HasSpares, IsSettled};
 
-use crate::adding::merge;
+use crate::adding::{add, merge};
 use crate::hoisting::{cut_node, has_root, top};
 use crate::node::{NOWHERE, Node};
 use crate::popping::{least_root, pop_root};
@@ -150,7 +151,7 @@ impl Arena {
     ///
     /// Where memory is refused: all is as before.
     pub fn reserve_task(&mut self, task: u32) -> Result<(), AllocError>
-        requires { task ≤ 4095 }
+        requires { task ≤ LARGEST_TASK }
         ensures ok { OnOk result (self.new ≡ record self.old { tasks = max self.old.tasks (task + 1) }) }
         ensures err { OnErr result (self.new ≡ self.old) }
     {
@@ -200,7 +201,7 @@ impl Arena {
         let index = h.index as usize;
         let (at, free) = settle(&mut self.nodes, self.free, key);
         self.free = free;
-        let heap = merge(&mut self.nodes, meter, at, self.heads[index]);
+        let heap = add(&mut self.nodes, meter, at, self.heads[index]);
         self.heads[index] = heap;
         self.places.set(task, at);
         self.room -= 1;

@@ -56,8 +56,7 @@ fn lower(nodes: &mut [Node], places: &mut Table<u32>, hole: u32, parent: u32)
     ensures places { places.new ≡ with_value places.old (node_at nodes.old parent).key.task hole }
 {
     let key = nodes[parent as usize].key;
-    let node = nodes[hole as usize];
-    nodes[hole as usize] = Node { key, ..node };
+    nodes[hole as usize].key = key;
     places.set(key.task(), hole);
 }
 

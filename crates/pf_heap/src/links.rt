@@ -11,12 +11,9 @@ pub(crate) fn relink(nodes: &mut [Node], at: u32, sibling: u32)
     requires { at < length nodes.old }
     ensures { nodes.new ≡ nodes_with_sibling nodes.old at sibling }
 {
-    let node = nodes[at as usize];
-    nodes[at as usize] = Node {
-        parent: NOWHERE,
-        sibling,
-        ..node
-    };
+    let node = &mut nodes[at as usize];
+    node.parent = NOWHERE;
+    node.sibling = sibling;
 }
 
 /// Makes the root `below` the first child of the root `above`.
@@ -26,18 +23,13 @@ fn link(nodes: &mut [Node], above: u32, below: u32)
     requires rank { (node_at nodes.old above).rank < 2 ^ 32 - 1 }
     ensures { nodes.new ≡ nodes_with_child nodes.old above below }
 {
-    let upper = nodes[above as usize];
-    let lower = nodes[below as usize];
-    nodes[below as usize] = Node {
-        parent: above,
-        sibling: upper.child,
-        ..lower
-    };
-    nodes[above as usize] = Node {
-        child: below,
-        rank: upper.rank + 1,
-        ..upper
-    };
+    let child = nodes[above as usize].child;
+    let lower = &mut nodes[below as usize];
+    lower.parent = above;
+    lower.sibling = child;
+    let upper = &mut nodes[above as usize];
+    upper.child = below;
+    upper.rank += 1;
 }
 
 /// Makes one tree of two roots, and returns its root. One comparison.
@@ -49,9 +41,8 @@ pub(crate) fn join(nodes: &mut [Node], meter: &mut Meter, x: u32, y: u32) -> u32
     ensures joined { AreJoined nodes.old nodes.new x y result }
     ensures counted { Compares 1 meter.old meter.new }
 {
-    let first = nodes[x as usize].key;
-    let second = nodes[y as usize].key;
-    if meter.before(&second, &first) {
+    let read = &nodes[..];
+    if meter.before(&read[y as usize].key, &read[x as usize].key) {
         link(nodes, y, x);
         y
     } else {
@@ -67,9 +58,11 @@ pub(crate) fn earlier(nodes: &[Node], meter: &mut Meter, x: u32, y: u32) -> u32
     ensures earlier { IsEarlier nodes.now x y result }
     ensures counted { Compares 1 meter.old meter.new }
 {
-    let first = nodes[x as usize].key;
-    let second = nodes[y as usize].key;
-    if meter.before(&second, &first) { y } else { x }
+    if meter.before(&nodes[y as usize].key, &nodes[x as usize].key) {
+        y
+    } else {
+        x
+    }
 }
 
 /// Puts a node that stands alone in front of the free ones.
@@ -77,12 +70,9 @@ pub(crate) fn release(nodes: &mut [Node], at: u32, free: u32)
     requires { at < length nodes.old }
     ensures { nodes.new ≡ nodes_with_free nodes.old at free }
 {
-    let node = nodes[at as usize];
-    nodes[at as usize] = Node {
-        parent: NOWHERE,
-        child: NOWHERE,
-        sibling: free,
-        rank: 0,
-        ..node
-    };
+    let node = &mut nodes[at as usize];
+    node.parent = NOWHERE;
+    node.child = NOWHERE;
+    node.sibling = free;
+    node.rank = 0;
 }

@@ -1,6 +1,5 @@
 ghost use Rattle.std.specs.Prelude.{◌≡◌, ◌≢◌, ℕ, ◌+◌, ◌<◌, length};
-ghost use Rattle.pf_heap.specs.Memory.{nodes_with_sibling};
-ghost use Rattle.pf_heap.specs.Pops.{HasHeap, IsLeastRoot, HasHeapAndRoot, IsParted, CanPop, IsPopped};
+ghost use Rattle.pf_heap.specs.Pops.{HasHeap, IsLeastRoot, HasHeapAndRoot, IsRightBefore, IsParted, CanPop, IsPopped};
 
 use crate::adding::merge;
 use crate::links::{earlier, release, relink};
@@ -26,37 +25,38 @@ pub(crate) fn least_root(nodes: &[Node], meter: &mut Meter, link: u32) -> u32
     best
 }
 
-/// Puts a root in front of those that stay, but one that stands alone.
-fn keep(nodes: &mut [Node], at: u32, alone: u32, stay: u32) -> u32
-    requires { at < length nodes.old }
-    ensures alone { at ≡ alone → (nodes.new ≡ nodes_with_sibling nodes.old at NOWHERE) × (result ≡ stay) }
-    ensures stays { at ≢ alone → (nodes.new ≡ nodes_with_sibling nodes.old at stay) × (result ≡ at) }
+/// The root right before another one, which isn't the first.
+fn before(nodes: &[Node], link: u32, at: u32) -> u32
+    requires behind { link ≢ at }
+    requires can { HasHeapAndRoot nodes.now link at }
+    ensures { (can : HasHeapAndRoot nodes.now link at) → IsRightBefore result at can.heap }
 {
-    if at == alone {
-        relink(nodes, at, NOWHERE);
-        return stay;
+    let mut now = link;
+    for step in 0..RANKS {
+        let next = nodes[now as usize].sibling;
+        if next == at {
+            return now;
+        }
+        now = next;
     }
-    relink(nodes, at, stay);
-    at
+    now
 }
 
-/// Cuts this root out of its heap: the roots that stay, of falling ranks.
-fn part(nodes: &mut [Node], link: u32, alone: u32) -> u32
-    requires can { HasHeapAndRoot nodes.old link alone }
-    ensures { (can : HasHeapAndRoot nodes.old link alone)
-        → IsParted nodes.new can.heap can.others alone can.key can.rank can.kids result }
+/// Cuts this root out of its heap: the heap that stays.
+fn part(nodes: &mut [Node], link: u32, at: u32) -> u32
+    requires can { HasHeapAndRoot nodes.old link at }
+    ensures { (can : HasHeapAndRoot nodes.old link at)
+        → IsParted nodes.new can.heap can.others at can.key can.rank can.kids result }
 {
-    let mut rest = link;
-    let mut stay = NOWHERE;
-    for step in 0..RANKS {
-        if rest == NOWHERE {
-            return stay;
-        }
-        let next = nodes[rest as usize].sibling;
-        stay = keep(nodes, rest, alone, stay);
-        rest = next;
+    let next = nodes[at as usize].sibling;
+    if link == at {
+        relink(nodes, at, NOWHERE);
+        return next;
     }
-    stay
+    let last = before(nodes, link, at);
+    relink(nodes, at, NOWHERE);
+    relink(nodes, last, next);
+    link
 }
 
 /// Takes this root out of its heap and makes its node free: its children are merged with the roots that stay.
@@ -65,10 +65,9 @@ pub(crate) fn pop_root(nodes: &mut [Node], meter: &mut Meter, link: u32, at: u32
     ensures { (can : CanPop nodes.old link at free)
         → IsPopped nodes.new can.heap can.spares can.others at can.key result meter.old meter.new }
 {
-    let stay = part(nodes, link, at);
+    let heap = part(nodes, link, at);
     let child = nodes[at as usize].child;
     release(nodes, at, free);
-    let heap = turn(nodes, stay);
-    let kids = turn(nodes, child);
+    let kids = turn(nodes, child, NOWHERE);
     merge(nodes, meter, heap, kids)
 }

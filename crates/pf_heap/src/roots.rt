@@ -38,13 +38,13 @@ pub(crate) fn push(nodes: &mut [Node], tree: u32, list: u32) -> u32
     tree
 }
 
-/// Turns a list of falling ranks round, and makes its trees roots.
-pub(crate) fn turn(nodes: &mut [Node], link: u32) -> u32
-    requires can { CanTurn nodes.old link }
-    ensures { (can : CanTurn nodes.old link) → IsTurned nodes.new can.list can.others result }
+/// Turns a list of falling ranks round in front of a list of roots, and makes its trees roots.
+pub(crate) fn turn(nodes: &mut [Node], link: u32, behind: u32) -> u32
+    requires can { CanTurn nodes.old link behind }
+    ensures { (can : CanTurn nodes.old link behind) → IsTurned nodes.new can.list can.last can.others result }
 {
     let mut rest = link;
-    let mut turned = NOWHERE;
+    let mut turned = behind;
     for step in 0..RANKS {
         if rest == NOWHERE {
             return turned;

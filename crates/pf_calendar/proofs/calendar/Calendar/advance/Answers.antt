@@ -12,15 +12,16 @@ use Rattle.pf_calendar.specs.Steps.{MergesAll}
 use Rattle.pf_calendar.proofs.Merging.{CanMergeAll}
 use Rattle.pf_calendar.proofs.Arranged.{ready_listed}
 use Rattle.pf_heap.specs.Digits.{digits}
-use Rattle.pf_calendar.specs.declared.entry.Entry.{Entry}
-use Rattle.pf_calendar.specs.Queues.{later, due}
+use Rattle.pf_calendar.specs.declared.waiting_list.WaitingList.{WaitingList}
+use Rattle.pf_calendar.specs.Queues.{Queues, later, due}
 use Rattle.pf_calendar.specs.Invariant.{names_of}
 use Rattle.pf_calendar.proofs.Whole.{none_empty, IsCalendarAfter, slots_rise, with_room}
+use Rattle.pf_calendar.proofs.Notes.{notes_after, waited_later}
 use Rattle.pf_calendar.proofs.Advancing.{AreDue, can_merge, merges_cost, advanced}
 use Rattle.pf_calendar.proofs.calendar.Calendar.advance.Goals.{After-partition_point-due, After-deref-2, After-drop}
 use Rattle.pf_calendar.proofs.calendar.Calendar.advance.Goals as goal
 
-due_from : (es : List Entry) (t n : ℕ) → n ≤ length es → IsPartitionPoint (λ e. leb e.slot t ≡ true) (λ e. leb e.slot t ≡ false) es n → AreDue es t n
+due_from : (es : List WaitingList) (t n : ℕ) → n ≤ length es → IsPartitionPoint (λ e. leb e.slot t ≡ true) (λ e. leb e.slot t ≡ false) es n → AreDue es t n
 due_from es t n le p = record {
   within = le;
   front = λ k d lt. leb-true (get_or es k d).slot t (p.0 k d (omega arith) lt);
@@ -31,18 +32,18 @@ due_from es t n le p = record {
 are_due : (c : After-partition_point-due) → AreDue c.self.inside.waiting.items c.args.t c.partition_point-due.result
 are_due c =
     let n = c.partition_point-due.result in
-    let rise = subst (λ l. IsNonDecreasingBy (λ (e : Entry). e.slot) l) (sym c.deref.ensures.value) (slots_rise c.self.invariant.laid) in
-    let p = IsPartitionPoint-from_clause (λ (e : Entry). leb e.slot c.args.t) c.deref.result.now n c.partition_point-due.ensures.partitioned
-    (IsPartitionedBy-leb (λ (e : Entry). e.slot) c.deref.result.now c.args.t rise) (λ a r g h. search rules) in
+    let rise = subst (λ l. IsNonDecreasingBy (λ (e : WaitingList). e.slot) l) (sym c.deref.ensures.value) (slots_rise c.self.invariant.0.laid) in
+    let p = IsPartitionPoint-from_clause (λ (e : WaitingList). leb e.slot c.args.t) c.deref.result.now n c.partition_point-due.ensures.partitioned
+    (IsPartitionedBy-leb (λ (e : WaitingList). e.slot) c.deref.result.now c.args.t rise) (λ a r g h. search rules) in
     subst (λ l. AreDue l c.args.t n) c.deref.ensures.value (due_from c.deref.result.now c.args.t n c.partition_point-due.ensures.bound p)
 
 -- and can be merged, as the slice has them
 can : (c : After-deref-2) → AreDue c.self.inside.waiting.items c.args.t c.partition_point-due.result →
     CanMergeAll c.self.inside.heaps c.self.inside.ready (take c.partition_point-due.result c.deref-2.result.now)
-can c due = subst (λ l. CanMergeAll c.self.inside.heaps c.self.inside.ready (take c.partition_point-due.result l)) (sym c.deref-2.ensures.value) (can_merge c.self.invariant.laid due)
+can c due = subst (λ l. CanMergeAll c.self.inside.heaps c.self.inside.ready (take c.partition_point-due.result l)) (sym c.deref-2.ensures.value) (can_merge c.self.invariant.0.laid due)
 
 pub merge_all-requires-clause-into : goal.merge_all-requires-clause-into
-merge_all-requires-clause-into c = ready_listed c.self.invariant.laid
+merge_all-requires-clause-into c = ready_listed c.self.invariant.0.laid
 
 pub merge_all-requires-clause-heaps : goal.merge_all-requires-clause-heaps
 merge_all-requires-clause-heaps c = let g = goal.at.merge_all-requires-clause-heaps c in (can g.After-deref-2 (are_due g.After-partition_point-due)).1
@@ -58,13 +59,17 @@ done : (c : After-drop) → AreDue c.self.inside.waiting.items c.args.t c.partit
 done c due =
     let n = c.partition_point-due.result in
     let merges = subst (λ l. MergesAll c.self.inside.heaps c.merge_all.new.heaps c.self.inside.ready (names_of (take n l))) c.deref-2.ensures.value c.merge_all.ensures.merged in
-    advanced c.self.invariant.laid due c.merge_all.new.heaps merges c.self.view_is (c.drop.ensures.items ∙ c.drain.ensures.kept)
-    (c.merge_all.ensures.aside ∙ ap (λ l. c.self.inside.unused.items ++ names_of (take n l)) c.deref-2.ensures.value) c.self.invariant.some
+    advanced c.self.invariant.0.laid due c.merge_all.new.heaps merges c.self.view_is (c.drop.ensures.items ∙ c.drain.ensures.kept)
+    (c.merge_all.ensures.aside ∙ ap (λ l. c.self.inside.unused.items ++ names_of (take n l)) c.deref-2.ensures.value) c.self.invariant.0.some
 
 pub invariant_of-self : goal.invariant_of-self
 invariant_of-self c =
     let g = goal.at.invariant_of-self c in
-    with_room _ _ _ _ (c.drop.ensures.capacity ∙ c.drain.ensures.capacity) c.merge_all.ensures.capacity (done g.After-drop (are_due g.After-partition_point-due)).calendar
+    let d = done g.After-drop (are_due g.After-partition_point-due) in (
+      with_room _ _ _ _ (c.drop.ensures.capacity ∙ c.drain.ensures.capacity) c.merge_all.ensures.capacity d.calendar,
+      notes_after (ap (λ (q : Queues). q.waiting) c.self.view_is) (ap (λ (q : Queues). q.waiting) d.view) c.merge_all.ensures.merged.tasks
+          (waited_later c.args.self.now.waiting c.args.t) c.self.invariant.1,
+    )
 
 pub returns-clause-advanced : goal.returns-clause-advanced
 returns-clause-advanced c = let g = goal.at.returns-clause-advanced c in (done g.After-drop (are_due g.After-partition_point-due)).view
@@ -72,10 +77,10 @@ returns-clause-advanced c = let g = goal.at.returns-clause-advanced c in (done g
 pub returns-clause-comparisons : goal.returns-clause-comparisons
 returns-clause-comparisons c =
     let heaps = c.self.inside.heaps in
-    let cost = merges_cost c.self.invariant.laid (are_due (goal.at.returns-clause-comparisons c).After-partition_point-due) c.self.view_is in
+    let cost = merges_cost c.self.invariant.0.laid (are_due (goal.at.returns-clause-comparisons c).After-partition_point-due) c.self.view_is in
     compares_within cost
-    (subst (λ (l : List Entry). Compares (length (take c.partition_point-due.result l) * digits (set.len (list_of heaps c.self.inside.ready)
-    + sum_by (λ (e : Entry). set.len (list_of heaps e.heap)) (take c.partition_point-due.result l))) c.args.meter.now c.merge_all.new.meter)
+    (subst (λ (l : List WaitingList). Compares (length (take c.partition_point-due.result l) * digits (set.len (list_of heaps c.self.inside.ready)
+    + sum_by (λ (e : WaitingList). set.len (list_of heaps e.heap)) (take c.partition_point-due.result l))) c.args.meter.now c.merge_all.new.meter)
     c.deref-2.ensures.value c.merge_all.ensures.comparisons)
 
 pub returns-clause-some : goal.returns-clause-some

@@ -1,148 +1,182 @@
-use Rattle.std.proofs.Common.{◌≡◌, ℕ, ◌+◌, ◌-◌, ◌*◌, ◌<◌, ◌≤◌, List, length, get_or, inl, sym, ap, ◌∙◌, subst, arith}
-use Rattle.std.specs.Prelude.{All, sum_by}
+use Rattle.std.proofs.Common.{◌≡◌, ℕ, ◌+◌, ◌-◌, ◌*◌, ◌<◌, ◌≤◌, true, Option, None, List, length, get_or, inl, refl, sym, ap, ◌∙◌, subst, arith}
+use Rattle.std.specs.Prelude.{sum_by, MatchOption}
 use Rattle.std.specs.FinSet as set
 use Rattle.std.specs.Vec.{vec_capacity}
+use Rattle.std.specs.List.Sorted.{IsNonDecreasingBy}
 use Rattle.std.proofs.lemmas.List.{get_or_default}
 use Rattle.pf_order.specs.Counts.{Counts, Compares}
-use Rattle.pf_order.proofs.Comparing.{compares_within}
-use Rattle.pf_heap.specs.Keys.{Heaps, list_of, HasNone}
+use Rattle.pf_order.proofs.Comparing.{compares_none, compares_within}
+use Rattle.pf_heap.specs.Keys.{Heaps, list_of, with_list, other_keys, HasNone}
+use Rattle.pf_table.specs.Grown.{value_of}
 use Rattle.pf_heap.specs.Digits.{digits}
 use Rattle.pf_heap.proofs.Digits.{digits-mono}
 use Rattle.pf_calendar.specs.Invariant.{waiting_in}
-use Rattle.pf_calendar.specs.declared.entry.Entry.{Entry}
+use Rattle.pf_calendar.specs.declared.waiting_list.WaitingList.{WaitingList}
 use Rattle.pf_calendar.specs.Queues.{Queues, key_count, IsQueued, TakesOut, EachTaskOnce, NoneEmpty}
-use Rattle.pf_calendar.specs.Steps.{RemovesAt}
+use Rattle.pf_calendar.specs.Steps.{HasNoneFor, RemovesAt}
 use Rattle.pf_calendar.proofs.Naming.{no_entry}
 use Rattle.pf_calendar.proofs.Arranged.{ready_listed, entry_listed}
-use Rattle.pf_calendar.proofs.Whole.{none_empty, each_task_once, IsCalendarAfter, ready_digits, waiting_within, popped, seen, with_room}
+use Rattle.pf_calendar.proofs.Whole.{none_empty, each_task_once, IsCalendarAfter, ready_digits, waiting_within, slots_rise, popped, seen, with_room}
+use Rattle.pf_calendar.proofs.Notes.{notes_after, waited_taken, none_waits}
 use Rattle.pf_calendar.proofs.Leaving.{ready_removed, not_held, some_held, discounted_calendar, takes_out}
-use Rattle.pf_calendar.proofs.calendar.Calendar.take_out.Goals.{In-Some, In-Some-remove_waiting}
+use Rattle.pf_calendar.proofs.calendar.Calendar.take_out.Goals.{In-Some, In_ok-key, In_err-key}
 use Rattle.pf_calendar.proofs.calendar.Calendar.take_out.Goals as goal
 
--- the first look compared nothing, and changed no list
-waiting_made : (first second third : Counts) (heaps same : Heaps) (es lent : List Entry) (k : ℕ) → second ≡ first → same ≡ heaps → lent ≡ es →
-    sum_by (λ (e : Entry). set.len (list_of heaps e.heap)) es ≤ k →
-    Compares (2 * digits (sum_by (λ (e : Entry). set.len (list_of same e.heap)) lent)) second third → Compares (2 * digits k) first third
-waiting_made first second third heaps same es lent k idle lists value le made =
-    let size = sum_by (λ (e : Entry). set.len (list_of heaps e.heap)) es in
-    compares_within (omega (arith, digits-mono size k le))
-    (subst (λ (a : Counts × (Heaps × List Entry)). Compares (2 * digits (sum_by (λ (e : Entry). set.len (list_of a.1.0 e.heap)) a.1.1)) a.0 third)
-    (λ i. (idle i, (lists i, value i))) made)
+pub remove_waiting-requires-clause-rise : goal.remove_waiting-requires-clause-rise
+remove_waiting-requires-clause-rise c =
+    subst (λ l. IsNonDecreasingBy (λ (e : WaitingList). e.slot) l) (sym c.deref.ensures.value) (slots_rise c.self.invariant.0.laid)
 
-pub remove-requires : goal.remove-requires
-remove-requires c = ready_listed c.self.invariant.laid
-
--- the calendar after a removal from the ready list
-from_ready : (c : In-Some) → (1 ≤ c.self.inside.held) × IsCalendarAfter c.remove.new.self c.self.inside.ready c.self.inside.waiting.items c.self.inside.unused.items
-    (c.self.inside.held - 1) c.self.inside.limit (vec_capacity c.self.inside.waiting) (vec_capacity c.self.inside.unused)
-    (record c.args.self.now { ready = set.remove c.args.self.now.ready c.in-Some.key; spare = c.args.self.now.spare + 1 })
-from_ready c =
-    let r = c.in-Some.ensures.removed in
-    popped c.self.invariant c.self.view_is c.in-Some.key r.0 (ready_removed c.self.invariant.laid c.remove.new.self c.args.task c.in-Some.key r.1 r.0 r.2)
-
-pub overflow_sub-self : goal.overflow_sub-self
-overflow_sub-self c = (from_ready (goal.at.overflow_sub-self c).In-Some).0
-
-pub invariant_of-self : goal.invariant_of-self
-invariant_of-self c = (from_ready (goal.at.invariant_of-self c).In-Some).1.calendar
-
-pub returns-in-Some-clause-taken : goal.returns-in-Some-clause-taken
-returns-in-Some-clause-taken c =
-    let r = c.in-Some.ensures.removed in (
-      r.1,
-      inl (
-        ap (λ (q : Queues). set.contains q.ready c.in-Some.key) (sym c.self.view_is) ∙ r.0,
-        (from_ready (goal.at.returns-in-Some-clause-taken c).In-Some).1.view,
-      ),
-    )
-
-pub returns-in-Some-clause-comparisons : goal.returns-in-Some-clause-comparisons
-returns-in-Some-clause-comparisons c = compares_within (omega (arith, ready_digits c.self.invariant.laid c.self.view_is)) c.in-Some.ensures.comparisons
-
-pub remove_waiting-requires : goal.remove_waiting-requires
-remove_waiting-requires c = λ k d lt.
+pub remove_waiting-requires-clause-heaps : goal.remove_waiting-requires-clause-heaps
+remove_waiting-requires-clause-heaps c = λ k d lt.
     let within : k < length c.self.inside.waiting.items = omega (arith, lt, ap length c.deref.ensures.value) in
     let is : get_or c.deref.result.now k d ≡ get_or c.self.inside.waiting.items k no_entry =
     ap (λ l. get_or l k d) c.deref.ensures.value ∙ get_or_default c.self.inside.waiting.items k d no_entry within in
-    subst (λ (h : Heaps). (get_or c.deref.result.now k d).heap < length h.lists) (sym c.in_default.ensures.removed.1)
-    (subst (λ (e : Entry). e.heap < length c.self.inside.heaps.lists) (sym is) (entry_listed c.self.invariant.laid k within))
+    subst (λ (e : WaitingList). e.heap < length c.self.inside.heaps.lists) (sym is) (entry_listed c.self.invariant.0.laid k within)
 
-pub returns-in_default-remove_waiting-clause-taken : goal.returns-in_default-remove_waiting-clause-taken
-returns-in_default-remove_waiting-clause-taken c =
-    let heaps = c.self.inside.heaps in
-    let es = c.self.inside.waiting.items in
-    let same : c.remove_waiting.new.heaps ≡ heaps = c.in_default-remove_waiting.ensures.removed.0 ∙ c.in_default.ensures.removed.1 in
-    let none : All (λ (e : Entry). HasNone (list_of heaps e.heap) c.args.task) es =
-    subst (λ (h : Heaps). All (λ (e : Entry). HasNone (list_of h e.heap) c.args.task) es) c.in_default.ensures.removed.1
-    (subst (λ (l : List Entry). All (λ (e : Entry). HasNone (list_of c.remove.new.self e.heap) c.args.task) l) c.deref.ensures.value c.in_default-remove_waiting.ensures.removed.1) in (
-      subst (λ (q : Queues). ¬ (IsQueued q c.args.task)) c.self.view_is
-          (not_held c.self.invariant.laid (c.self.inside.limit - c.self.inside.held) c.args.task c.in_default.ensures.removed.0 none),
-      ap (λ h. seen h c.self.inside.ready es (c.self.inside.limit - c.self.inside.held)) same ∙ c.self.view_is,
+match_none : {T : Type 0} (o : Option T) (P : Type 0) (Q : T → Type 0) → o ≡ None → P → MatchOption o P Q
+match_none o P Q e p = subst (λ x. MatchOption x P Q) (sym e) p
+
+-- what the look into one list made
+waiting_made : (first second : Counts) (heaps : Heaps) (es lent : List WaitingList) (k : ℕ) → lent ≡ es → sum_by (λ (e : WaitingList). set.len (list_of heaps e.heap)) es ≤ k →
+    Compares (2 * digits (sum_by (λ (e : WaitingList). set.len (list_of heaps e.heap)) lent)) first second → Compares (2 * digits k) first second
+waiting_made first second heaps es lent k value le made =
+    let size : List WaitingList → ℕ = λ l. sum_by (λ (e : WaitingList). set.len (list_of heaps e.heap)) l in
+    compares_within (omega (arith, digits-mono (size es) k le)) (subst (λ l. Compares (2 * digits (size l)) first second) value made)
+
+-- ---- the key was waiting
+
+removes : (c : In-Some) → RemovesAt c.self.inside.heaps c.remove_waiting.new.heaps c.self.inside.waiting.items c.args.task c.in-Some.found.0 c.in-Some.found.1
+removes c =
+    let found = c.in-Some.found in
+    subst (λ (l : List WaitingList). RemovesAt c.self.inside.heaps c.remove_waiting.new.heaps l c.args.task found.0 found.1) c.deref.ensures.value
+    c.in-Some.ensures.removed
+
+pub overflow_sub-self : goal.overflow_sub-self
+overflow_sub-self c =
+    some_held c.self.invariant.0.laid c.remove_waiting.new.heaps c.args.task c.in-Some.found.0 c.in-Some.found.1 (removes (goal.at.overflow_sub-self c).In-Some)
+
+pub invariant_of-self : goal.invariant_of-self
+invariant_of-self c =
+    let laid = c.self.invariant.0.laid in
+    let r = removes (goal.at.invariant_of-self c).In-Some in
+    let t = takes_out laid c.remove_waiting.new.heaps c.args.task c.in-Some.found.0 c.in-Some.found.1 r c.discount.new.entries.items c.discount.new.unused.items
+    c.discount.ensures.discounted in (
+      with_room _ _ _ _ c.discount.ensures.capacity c.discount.ensures.unused_capacity
+          (discounted_calendar laid c.remove_waiting.new.heaps c.args.task c.in-Some.found.0 c.in-Some.found.1 r c.discount.new.entries.items
+          c.discount.new.unused.items c.self.invariant.0.some c.discount.ensures.discounted),
+      notes_after refl refl (ap (λ (h : Heaps). h.tasks) (r.removed no_entry)) (waited_taken _ _ c.in-Some.found.1 t) c.self.invariant.1,
     )
 
-pub returns-in_default-remove_waiting-clause-comparisons : goal.returns-in_default-remove_waiting-clause-comparisons
-returns-in_default-remove_waiting-clause-comparisons c =
-    waiting_made _ c.remove.new.meter c.remove_waiting.new.meter _ c.remove.new.self _ c.deref.result.now (key_count c.args.self.now) c.in_default.ensures.unfound c.in_default.ensures.removed.1 c.deref.ensures.value
-    (waiting_within c.self.invariant.laid c.self.view_is)
-    c.in_default-remove_waiting.ensures.comparisons
-
--- the key is out of an entry's list
-removes : (c : In-Some-remove_waiting) →
-    RemovesAt c.self.inside.heaps c.remove_waiting.new.heaps c.self.inside.waiting.items c.args.task c.in-Some-remove_waiting.found.0 c.in-Some-remove_waiting.found.1
-removes c =
-    let found = c.in-Some-remove_waiting.found in
-    subst (λ (h : Heaps). RemovesAt h c.remove_waiting.new.heaps c.self.inside.waiting.items c.args.task found.0 found.1) c.in_default.ensures.removed.1
-    (subst (λ (l : List Entry). RemovesAt c.remove.new.self c.remove_waiting.new.heaps l c.args.task found.0 found.1) c.deref.ensures.value
-    c.in-Some-remove_waiting.ensures.removed)
-
-pub overflow_sub-self-2 : goal.overflow_sub-self-2
-overflow_sub-self-2 c =
-    some_held c.self.invariant.laid c.remove_waiting.new.heaps c.args.task c.in-Some-remove_waiting.found.0 c.in-Some-remove_waiting.found.1
-    (removes (goal.at.overflow_sub-self-2 c).In-Some-remove_waiting)
-
-pub invariant_of-self-2 : goal.invariant_of-self-2
-invariant_of-self-2 c =
-    with_room _ _ _ _ c.discount.ensures.capacity c.discount.ensures.unused_capacity
-    (discounted_calendar c.self.invariant.laid c.remove_waiting.new.heaps c.args.task c.in-Some-remove_waiting.found.0 c.in-Some-remove_waiting.found.1
-    (removes (goal.at.invariant_of-self-2 c).In-Some-remove_waiting) c.discount.new.entries.items c.discount.new.unused.items c.self.invariant.some
-    c.discount.ensures.discounted)
-
-pub returns-clause-taken : goal.returns-clause-taken
-returns-clause-taken c =
-    let r = removes (goal.at.returns-clause-taken c).In-Some-remove_waiting in (
+pub returns-in-Some-clause-taken : goal.returns-in-Some-clause-taken
+returns-in-Some-clause-taken c =
+    let r = removes (goal.at.returns-in-Some-clause-taken c).In-Some in (
       r.of_task,
       subst (λ (q : Queues). TakesOut q (seen c.remove_waiting.new.heaps c.self.inside.ready c.discount.new.entries.items (c.self.inside.limit - (c.self.inside.held - 1)))
-          c.in-Some-remove_waiting.found.1) c.self.view_is
-          (takes_out c.self.invariant.laid c.remove_waiting.new.heaps c.args.task c.in-Some-remove_waiting.found.0 c.in-Some-remove_waiting.found.1 r
+          c.in-Some.found.1) c.self.view_is
+          (takes_out c.self.invariant.0.laid c.remove_waiting.new.heaps c.args.task c.in-Some.found.0 c.in-Some.found.1 r
           c.discount.new.entries.items c.discount.new.unused.items c.discount.ensures.discounted),
     )
 
-pub returns-clause-comparisons : goal.returns-clause-comparisons
-returns-clause-comparisons c =
-    waiting_made _ c.remove.new.meter c.remove_waiting.new.meter _ c.remove.new.self _ c.deref.result.now (key_count c.args.self.now) c.in_default.ensures.unfound c.in_default.ensures.removed.1 c.deref.ensures.value
-    (waiting_within c.self.invariant.laid c.self.view_is)
-    c.in-Some-remove_waiting.ensures.comparisons
+pub returns-in-Some-clause-comparisons : goal.returns-in-Some-clause-comparisons
+returns-in-Some-clause-comparisons c =
+    waiting_made _ c.remove_waiting.new.meter c.self.inside.heaps c.self.inside.waiting.items c.deref.result.now (key_count c.args.self.now) c.deref.ensures.value
+    (waiting_within c.self.invariant.0.laid c.self.view_is) c.in-Some.ensures.comparisons
 
 pub returns-in-Some-clause-some : goal.returns-in-Some-clause-some
-returns-in-Some-clause-some c = none_empty (from_ready (goal.at.returns-in-Some-clause-some c).In-Some).1.calendar
-
-pub returns-in_default-remove_waiting-clause-some : goal.returns-in_default-remove_waiting-clause-some
-returns-in_default-remove_waiting-clause-some c =
-    subst (λ (h : Heaps). NoneEmpty (waiting_in h c.self.inside.waiting.items))
-    (sym (c.in_default-remove_waiting.ensures.removed.0 ∙ c.in_default.ensures.removed.1)) (none_empty c.self.invariant)
-
-pub returns-clause-some : goal.returns-clause-some
-returns-clause-some c =
+returns-in-Some-clause-some c =
     none_empty
-    (discounted_calendar c.self.invariant.laid c.remove_waiting.new.heaps c.args.task c.in-Some-remove_waiting.found.0 c.in-Some-remove_waiting.found.1
-    (removes (goal.at.returns-clause-some c).In-Some-remove_waiting) c.discount.new.entries.items c.discount.new.unused.items c.self.invariant.some
+    (discounted_calendar c.self.invariant.0.laid c.remove_waiting.new.heaps c.args.task c.in-Some.found.0 c.in-Some.found.1
+    (removes (goal.at.returns-in-Some-clause-some c).In-Some) c.discount.new.entries.items c.discount.new.unused.items c.self.invariant.0.some
     c.discount.ensures.discounted)
 
 pub returns-in-Some-clause-once : goal.returns-in-Some-clause-once
-returns-in-Some-clause-once c = subst EachTaskOnce c.self.view_is (each_task_once c.self.invariant (c.self.inside.limit - c.self.inside.held))
+returns-in-Some-clause-once c = subst EachTaskOnce c.self.view_is (each_task_once c.self.invariant.0 (c.self.inside.limit - c.self.inside.held))
 
-pub returns-in_default-remove_waiting-clause-once : goal.returns-in_default-remove_waiting-clause-once
-returns-in_default-remove_waiting-clause-once c = subst EachTaskOnce c.self.view_is (each_task_once c.self.invariant (c.self.inside.limit - c.self.inside.held))
+-- ---- the key was ready, or is not held
+
+pub remove-requires : goal.remove-requires
+remove-requires c =
+    subst (λ (h : Heaps). c.self.inside.ready < length h.lists) (sym c.in_default.ensures.removed.0) (ready_listed c.self.invariant.0.laid)
+
+-- no list has the task
+none_held : (c : In_err-key) → ¬ (IsQueued c.args.self.now c.args.task)
+none_held c =
+    let laid = c.self.invariant.0.laid in
+    let heaps = c.self.inside.heaps in
+    let es = c.self.inside.waiting.items in
+    let none_for : HasNoneFor heaps es (value_of c.self.inside.slots c.args.task) c.args.task =
+    subst (λ (n : ℕ). HasNoneFor heaps es n c.args.task) c.get-slot.ensures
+    (subst (λ (l : List WaitingList). HasNoneFor heaps l c.get-slot.result c.args.task) c.deref.ensures.value c.in_default.ensures.removed.1) in
+    let none_ready : HasNone (list_of heaps c.self.inside.ready) c.args.task =
+    subst (λ (h : Heaps). HasNone (list_of h c.self.inside.ready) c.args.task) c.in_default.ensures.removed.0 c.in_err-key.ensures.removed.0 in
+    subst (λ (q : Queues). ¬ (IsQueued q c.args.task)) c.self.view_is
+    (not_held laid (c.self.inside.limit - c.self.inside.held) c.args.task none_ready (none_waits laid c.self.invariant.1 c.args.task none_for))
+
+-- nothing changed
+all_same : (c : In_err-key) → c.remove.new.self ≡ c.self.inside.heaps
+all_same c = c.in_err-key.ensures.removed.1 ∙ c.in_default.ensures.removed.0
+
+pub returns-in_err-key-clause-taken : goal.returns-in_err-key-clause-taken
+returns-in_err-key-clause-taken c =
+    let g = (goal.at.returns-in_err-key-clause-taken c).In_err-key in
+    match_none c.from_residual.result _ _ c.from_residual.ensures
+    (none_held g, ap (λ h. seen h c.self.inside.ready c.self.inside.waiting.items (c.self.inside.limit - c.self.inside.held)) (all_same g) ∙ c.self.view_is)
+
+pub returns-in_err-key-clause-comparisons : goal.returns-in_err-key-clause-comparisons
+returns-in_err-key-clause-comparisons c =
+    subst (λ (m : Counts). Compares (2 * digits (key_count c.args.self.now)) c.args.meter.now m) (sym (c.in_err-key.ensures.unfound ∙ c.in_default.ensures.unfound))
+    (compares_within (omega arith) (compares_none c.args.meter.now))
+
+pub returns-in_err-key-clause-some : goal.returns-in_err-key-clause-some
+returns-in_err-key-clause-some c =
+    subst (λ (h : Heaps). NoneEmpty (waiting_in h c.self.inside.waiting.items)) (sym (all_same (goal.at.returns-in_err-key-clause-some c).In_err-key)) (none_empty c.self.invariant.0)
+
+pub returns-in_err-key-clause-once : goal.returns-in_err-key-clause-once
+returns-in_err-key-clause-once c = subst EachTaskOnce c.self.view_is (each_task_once c.self.invariant.0 (c.self.inside.limit - c.self.inside.held))
+
+-- what was removed from the ready list
+removed_ready : (c : In_ok-key) → (set.contains (list_of c.self.inside.heaps c.self.inside.ready) c.in_ok-key.key ≡ true) × (c.in_ok-key.key.task ≡ c.args.task)
+    × (c.remove.new.self ≡ record (with_list c.self.inside.heaps c.self.inside.ready (other_keys (list_of c.self.inside.heaps c.self.inside.ready) c.args.task)) { spare = c.self.inside.heaps.spare + 1 })
+removed_ready c =
+    subst (λ (h : Heaps). (set.contains (list_of h c.self.inside.ready) c.in_ok-key.key ≡ true) × (c.in_ok-key.key.task ≡ c.args.task)
+    × (c.remove.new.self ≡ record (with_list h c.self.inside.ready (other_keys (list_of h c.self.inside.ready) c.args.task)) { spare = h.spare + 1 }))
+    c.in_default.ensures.removed.0 c.in_ok-key.ensures.removed
+
+-- the calendar after a removal from the ready list
+from_ready : (c : In_ok-key) → (1 ≤ c.self.inside.held) × IsCalendarAfter c.remove.new.self c.self.inside.ready c.self.inside.waiting.items c.self.inside.unused.items
+    (c.self.inside.held - 1) c.self.inside.limit (vec_capacity c.self.inside.waiting) (vec_capacity c.self.inside.unused)
+    (record c.args.self.now { ready = set.remove c.args.self.now.ready c.in_ok-key.key; spare = c.args.self.now.spare + 1 })
+from_ready c =
+    let r = removed_ready c in
+    popped c.self.invariant.0 c.self.view_is c.in_ok-key.key r.0 (ready_removed c.self.invariant.0.laid c.remove.new.self c.args.task c.in_ok-key.key r.1 r.0 r.2)
+
+pub overflow_sub-self-2 : goal.overflow_sub-self-2
+overflow_sub-self-2 c = (from_ready (goal.at.overflow_sub-self-2 c).In_ok-key).0
+
+pub invariant_of-self-2 : goal.invariant_of-self-2
+invariant_of-self-2 c =
+    let g = (goal.at.invariant_of-self-2 c).In_ok-key in
+    let d = (from_ready g).1 in (
+      d.calendar,
+      notes_after (ap (λ (q : Queues). q.waiting) c.self.view_is) (ap (λ (q : Queues). q.waiting) d.view) (ap (λ (h : Heaps). h.tasks) (removed_ready g).2)
+          (λ s q h. h) c.self.invariant.1,
+    )
+
+pub returns-clause-taken : goal.returns-clause-taken
+returns-clause-taken c =
+    let g = (goal.at.returns-clause-taken c).In_ok-key in
+    let r = removed_ready g in
+    (r.1, inl (ap (λ (q : Queues). set.contains q.ready c.in_ok-key.key) (sym c.self.view_is) ∙ r.0, (from_ready g).1.view))
 
 pub returns-clause-once : goal.returns-clause-once
-returns-clause-once c = subst EachTaskOnce c.self.view_is (each_task_once c.self.invariant (c.self.inside.limit - c.self.inside.held))
+returns-clause-once c = subst EachTaskOnce c.self.view_is (each_task_once c.self.invariant.0 (c.self.inside.limit - c.self.inside.held))
+
+pub returns-clause-some : goal.returns-clause-some
+returns-clause-some c = none_empty (from_ready (goal.at.returns-clause-some c).In_ok-key).1.calendar
+
+pub returns-clause-comparisons : goal.returns-clause-comparisons
+returns-clause-comparisons c =
+    let start : Compares (2 * digits (set.len (list_of c.self.inside.heaps c.self.inside.ready))) c.args.meter.now c.remove.new.meter =
+    subst (λ (a : Counts × Heaps). Compares (2 * digits (set.len (list_of a.1 c.self.inside.ready))) a.0 c.remove.new.meter)
+    (λ i. (c.in_default.ensures.unfound i, c.in_default.ensures.removed.0 i)) c.in_ok-key.ensures.comparisons in
+    compares_within (omega (arith, ready_digits c.self.invariant.0.laid c.self.view_is)) start

@@ -29,8 +29,8 @@ index-requires c = name_within c.self.invariant.0 c.self.view_is c.h.view_is c.s
 pub index_mut-requires : goal.index_mut-requires
 index_mut-requires c = name_within c.self.invariant.0 c.self.view_is c.h.view_is c.self.inside.heads.ok.0 c.requires.heap
 
-pub merge-heap-requires : goal.merge-heap-requires
-merge-heap-requires c = record {
+pub add-heap-requires : goal.add-heap-requires
+add-heap-requires c = record {
   can = insert_heaps c.self.invariant.0 c.self.view_is c.h.view_is c.requires.heap c.index.ensures c.requires.placed c.requires.absent
       c.requires.room c.settle-at.ensures.settled c.deref_mut.ensures.value;
 }
@@ -40,17 +40,17 @@ set-requires c = omega (arith, now_tasks c.self.invariant.0 c.self.view_is, c.re
 
 -- the arena after the insert
 done : (c : After-set) →
-    IsArenaAfter (take c.settle-at.new.nodes.len (c.merge-heap.new.nodes ++ drop (length c.merge-heap.new.nodes) c.settle-at.new.nodes.items))
-    (set c.self.inside.heads.items c.h.inside.index c.merge-heap.result) c.set.new.self.0
+    IsArenaAfter (take c.settle-at.new.nodes.len (c.add-heap.new.nodes ++ drop (length c.add-heap.new.nodes) c.settle-at.new.nodes.items))
+    (set c.self.inside.heads.items c.h.inside.index c.add-heap.result) c.set.new.self.0
     c.settle-at.result.1 (c.self.inside.room - 1) (vec_capacity c.settle-at.new.nodes)
     (record (with_list c.args.self.now c.args.h (fin.insert (list_of c.args.self.now c.args.h) c.args.key)) { spare = c.args.self.now.spare - 1 })
-    (digits (fin.len (list_of c.args.self.now c.args.h) + 1)) c.args.meter.now c.merge-heap.new.meter
+    (digits (fin.len (list_of c.args.self.now c.args.h) + 1)) c.args.meter.now c.add-heap.new.meter
 done c =
-    let long : length c.merge-heap.new.nodes ≡ length c.settle-at.new.nodes.items = omega (arith, ap length c.deref_mut.ensures.value) in
-    arena_as (written_back c.merge-heap.new.nodes c.settle-at.new.nodes.items c.settle-at.new.nodes.len long (omega (arith, c.settle-at.new.nodes.ok.0)))
-    (ap (λ x. set c.self.inside.heads.items x c.merge-heap.result) c.h.view_is) (ap (λ (p : Grown ℕ). p.0) c.set.ensures ∙ ap (λ x. set c.self.inside.places.0 x c.settle-at.result.0) c.task-task.ensures.value)
+    let long : length c.add-heap.new.nodes ≡ length c.settle-at.new.nodes.items = omega (arith, ap length c.deref_mut.ensures.value) in
+    arena_as (written_back c.add-heap.new.nodes c.settle-at.new.nodes.items c.settle-at.new.nodes.len long (omega (arith, c.settle-at.new.nodes.ok.0)))
+    (ap (λ x. set c.self.inside.heads.items x c.add-heap.result) c.h.view_is) (ap (λ (p : Grown ℕ). p.0) c.set.ensures ∙ ap (λ x. set c.self.inside.places.0 x c.settle-at.result.0) c.task-task.ensures.value)
     (inserted c.self.invariant.0 c.self.view_is c.h.view_is c.requires.heap c.index.ensures c.requires.placed c.requires.absent
-    c.requires.room c.settle-at.ensures.settled c.deref_mut.ensures.value c.merge-heap.ensures long c.settle-at.ensures.capacity)
+    c.requires.room c.settle-at.ensures.settled c.deref_mut.ensures.value c.add-heap.ensures long c.settle-at.ensures.capacity)
 
 pub invariant_of-self : goal.invariant_of-self
 invariant_of-self c = ((done (goal.at.invariant_of-self c).After-set).arena, ap (λ (p : Grown ℕ). p.1) c.set.ensures ∙ c.self.invariant.1)
