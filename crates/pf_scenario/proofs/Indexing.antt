@@ -1,29 +1,27 @@
--- What an index keeps when an event is put among its own or taken out.
-use Rattle.std.proofs.Common.{◌≡◌, ◌≢◌, ℕ, suc, ◌+◌, ◌<◌, ◌≤◌, Bool, true, false, not, cond, ◌&&◌, ◌||◌, List, [], ◌∷◌, ◌++◌, length, take, drop, get_or, refl, sym, ap, ◌∙◌, subst, arith, inl, inr, ◌⊎◌}
+-- What the tables by task tell, and what is noted there when an event is put among others or taken out.
+use Rattle.std.proofs.Common.{◌≡◌, ◌≢◌, ℕ, ◌+◌, ◌≤◌, Bool, true, false, not, cond, ◌&&◌, ◌||◌, List, [], ◌∷◌, ◌++◌, length, get_or, refl, sym, ap, ◌∙◌, arith, inl, inr, ◌⊎◌}
 use Rattle.std.specs.Prelude.{◌==◌, slice_index}
-use Rattle.std.specs.List.{All, list_any, remove, insert}
+use Rattle.std.specs.List.{All, list_any}
 use Rattle.std.specs.Option.{unwrap_or}
 use Rattle.std.specs.Cmp.{IsTotalOrder, nat_cmp_total}
 use Rattle.std.specs.declared.cmp.Ordering.TheVariants.{Equal}
-use Rattle.std.specs.Ordering.{is_lt}
-use Rattle.std.proofs.Math.Seq.{split_at}
 use Rattle.std.proofs.lemmas.Cmp.{then_total, on_total, nat_eq_equiv}
 use Rattle.std.proofs.lemmas.Bool.{cases_Bool, cases_lt, cond-true, cond-false, false≢true, eq-eqb, ne_eqb}
 use Rattle.std.proofs.lemmas.Bool.Decides.{nat_tests}
-use Rattle.std.proofs.lemmas.List.{take-append-drop, get_or_past}
+use Rattle.std.proofs.lemmas.List.{get_or_past}
 use Rattle.std.proofs.lemmas.List.Elements.{All-head, All-tail, All-weaker, All-filter, All-append}
 use Rattle.std.proofs.lemmas.List.Folds.{list_any_none}
-use Rattle.pf_scenario.proofs.Lists.{Pairs, Pairs-from_all, AllPairs-from_pairs, Pairs_middle, Pairs_without, Pairs_before, Pairs_after, All_left, All_right, All_middle, All_without, All_at}
+use Rattle.pf_scenario.proofs.Lists.{Pairs, Pairs-from_all, Pairs_before, Pairs_after, All_left, All_at}
 use Rattle.pf_scenario.proofs.Scenarios.{join_alike_back, leave_alike_back}
-use Rattle.pf_scenario.proofs.Sorting.{IsInOrder, IsInOrder-put}
 use Rattle.pf_scenario.specs.Event.{slot_of, kind_of, task_of, run_cmp, is_join_of, is_leave_of}
 use Rattle.pf_scenario.specs.Scenario.{events_without}
 use Rattle.pf_scenario.specs.Edit.{join_alike, leave_alike}
-use Rattle.pf_scenario.specs.TimeOrder.{time_cmp, put_in_time}
-use Rattle.pf_scenario.specs.Index.{first_number_of, AreDistinctEvents, IsInTime, IsIndexed, IsNewEvent, HasTaskRoom, Notes}
+use Rattle.pf_scenario.specs.TimeOrder.{time_cmp}
+use Rattle.pf_scenario.specs.Index.{first_number_of, AreDistinctEvents, IsIndexed, HasTaskRoom, Notes}
 use Rattle.pf_scenario.specs.declared.event.Event.{Event}
 use Rattle.pf_scenario.specs.declared.event.Event.TheVariants.{Join, Leave, Delay, Limit}
 use Rattle.pf_scenario.specs.declared.event.Numbered.{Numbered}
+use Rattle.pf_scenario.specs.declared.place.Place.{Place}
 
 -- the order in time is an order, and ties only equal numbers
 pub run_cmp_total : IsTotalOrder run_cmp
@@ -137,7 +135,7 @@ leaves_alike slot task (x ∷ xs) =
     one (Limit a b) = refl
 
 -- a table after a note of an event that is put amid others, and after it is taken out
-put_note : (p : ℕ → Event → Bool) (old new : List ℕ) (front : List Numbered) (x : Numbered) (back : List Numbered) → ((t : ℕ) (y : Numbered) → AreDistinctEvents y x → Excludes (p t) x y) → All (λ y. AreDistinctEvents y x) (front ++ back) → ((t : ℕ) → slice_index old t ≡ first_number_of (p t) (front ++ back)) → Notes p old new x.event x.id → (t : ℕ) → slice_index new t ≡ first_number_of (p t) (front ++ x ∷ back)
+pub put_note : (p : ℕ → Event → Bool) (old new : List ℕ) (front : List Numbered) (x : Numbered) (back : List Numbered) → ((t : ℕ) (y : Numbered) → AreDistinctEvents y x → Excludes (p t) x y) → All (λ y. AreDistinctEvents y x) (front ++ back) → ((t : ℕ) → slice_index old t ≡ first_number_of (p t) (front ++ back)) → Notes p old new x.event x.id → (t : ℕ) → slice_index new t ≡ first_number_of (p t) (front ++ x ∷ back)
 put_note p old new front x back excludes apart was notes t =
     notes t ∙ elim (cases_Bool (p t x.event)) [
       | inl here ↦
@@ -146,7 +144,7 @@ put_note p old new front x back excludes apart was notes t =
       | inr not_here ↦ cond-false (p t x.event) _ _ not_here ∙ was t ∙ sym (first_number_of-other (p t) front x back not_here)
     ]
 
-take_note : (p : ℕ → Event → Bool) (old new : List ℕ) (front : List Numbered) (x : Numbered) (back : List Numbered) → ((t : ℕ) (y : Numbered) → AreDistinctEvents y x → Excludes (p t) x y) → All (λ y. AreDistinctEvents y x) (front ++ back) → ((t : ℕ) → slice_index old t ≡ first_number_of (p t) (front ++ x ∷ back)) → Notes p old new x.event 0 → (t : ℕ) → slice_index new t ≡ first_number_of (p t) (front ++ back)
+pub take_note : (p : ℕ → Event → Bool) (old new : List ℕ) (front : List Numbered) (x : Numbered) (back : List Numbered) → ((t : ℕ) (y : Numbered) → AreDistinctEvents y x → Excludes (p t) x y) → All (λ y. AreDistinctEvents y x) (front ++ back) → ((t : ℕ) → slice_index old t ≡ first_number_of (p t) (front ++ x ∷ back)) → Notes p old new x.event 0 → (t : ℕ) → slice_index new t ≡ first_number_of (p t) (front ++ back)
 take_note p old new front x back excludes apart was notes t =
     notes t ∙ elim (cases_Bool (p t x.event)) [
       | inl here ↦
@@ -155,63 +153,31 @@ take_note p old new front x back excludes apart was notes t =
       | inr not_here ↦ cond-false (p t x.event) _ _ not_here ∙ was t ∙ first_number_of-other (p t) front x back not_here
     ]
 
-pub in_order : (xs : List Numbered) → IsInTime xs → IsInOrder time_cmp xs
-in_order xs h = Pairs-from_all (λ x y. is_lt (time_cmp y x) ≡ false) xs h
-
-pub in_time : (xs : List Numbered) → IsInOrder time_cmp xs → IsInTime xs
-in_time xs h = AllPairs-from_pairs (λ x y. is_lt (time_cmp y x) ≡ false) xs h
-
 -- all the events about one are apart from it
 pub around_apart : (front : List Numbered) (x : Numbered) (back : List Numbered) → Pairs AreDistinctEvents (front ++ x ∷ back) → All (λ y. AreDistinctEvents y x) (front ++ back)
 around_apart front x back h =
     All-append (λ y. AreDistinctEvents y x) front back (Pairs_before AreDistinctEvents front x back h) (All-weaker (AreDistinctEvents x) (λ y. AreDistinctEvents y x) (λ y a. apart_back x y a) back (Pairs_after AreDistinctEvents front x back h))
 
--- the index with an event put at i
-pub indexed_put : (order : List Numbered) (joins leaves joins' leaves' : List ℕ) (x : Numbered) (i : ℕ) → IsIndexed order joins leaves → IsNewEvent x order → insert order i x ≡ put_in_time x order → Notes is_join_of joins joins' x.event x.id → Notes is_leave_of leaves leaves' x.event x.id → IsIndexed (insert order i x) joins' leaves'
-indexed_put order joins leaves joins' leaves' x i h new e note_join note_leave =
-    let whole = take-append-drop i order in
-    let apart' = subst (All (λ y. AreDistinctEvents y x)) (sym whole) new.apart in
-    record {
-      in_time = rw e (in_time (put_in_time x order) (IsInOrder-put time_cmp_total x order (in_order order h.in_time)));
-      apart = AllPairs-from_pairs AreDistinctEvents _ (Pairs_middle AreDistinctEvents (take i order) x (drop i order) (subst (Pairs AreDistinctEvents) (sym whole) (Pairs-from_all AreDistinctEvents order h.apart)) (All_left (λ y. AreDistinctEvents y x) (take i order) (drop i order) apart') (All-weaker (λ y. AreDistinctEvents y x) (AreDistinctEvents x) (λ y a. apart_back y x a) (drop i order) (All_right (λ y. AreDistinctEvents y x) (take i order) (drop i order) apart')));
-      given = All_middle (λ y. 1 ≤ y.id) (take i order) x (drop i order) (subst (All (λ y. 1 ≤ y.id)) (sym whole) h.given) new.given;
-      joined = put_note is_join_of joins joins' (take i order) x (drop i order) (λ t y a. join_excludes t x y (apart_back y x a)) apart' (λ t. h.joined t ∙ ap (first_number_of (is_join_of t)) (sym whole)) note_join;
-      left = put_note is_leave_of leaves leaves' (take i order) x (drop i order) (λ t y a. leave_excludes t x y (apart_back y x a)) apart' (λ t. h.left t ∙ ap (first_number_of (is_leave_of t)) (sym whole)) note_leave;
-    }
-
--- the index events_without the event at i
-pub indexed_taken : (order : List Numbered) (joins leaves joins' leaves' : List ℕ) (x : Numbered) (i : ℕ) → IsIndexed order joins leaves → order ≡ take i order ++ x ∷ drop (suc i) order → Notes is_join_of joins joins' x.event 0 → Notes is_leave_of leaves leaves' x.event 0 → IsIndexed (remove order i) joins' leaves'
-indexed_taken order joins leaves joins' leaves' x i h e note_join note_leave =
-    let all = subst (Pairs AreDistinctEvents) e (Pairs-from_all AreDistinctEvents order h.apart) in
-    let apart' = around_apart (take i order) x (drop (suc i) order) all in
-    record {
-      in_time = in_time _ (Pairs_without (λ x y. is_lt (time_cmp y x) ≡ false) (take i order) x (drop (suc i) order) (subst (IsInOrder time_cmp) e (in_order order h.in_time)));
-      apart = AllPairs-from_pairs AreDistinctEvents _ (Pairs_without AreDistinctEvents (take i order) x (drop (suc i) order) all);
-      given = All_without (λ y. 1 ≤ y.id) (take i order) x (drop (suc i) order) (subst (All (λ y. 1 ≤ y.id)) e h.given);
-      joined = take_note is_join_of joins joins' (take i order) x (drop (suc i) order) (λ t y a. join_excludes t x y (apart_back y x a)) apart' (λ t. h.joined t ∙ ap (first_number_of (is_join_of t)) e) note_join;
-      left = take_note is_leave_of leaves leaves' (take i order) x (drop (suc i) order) (λ t y a. leave_excludes t x y (apart_back y x a)) apart' (λ t. h.left t ∙ ap (first_number_of (is_leave_of t)) e) note_leave;
-    }
-
 -- tables with more places
-pub indexed_grown : (order : List Numbered) (joins leaves joins' leaves' : List ℕ) → IsIndexed order joins leaves → ((t : ℕ) → slice_index joins' t ≡ slice_index joins t) → ((t : ℕ) → slice_index leaves' t ≡ slice_index leaves t) → IsIndexed order joins' leaves'
-indexed_grown order joins leaves joins' leaves' h same_joins same_leaves = record {
-  in_time = h.in_time;
+pub indexed_grown : (events : List Numbered) (places : List Place) (joins leaves joins' leaves' : List ℕ) → IsIndexed events places joins leaves → ((t : ℕ) → slice_index joins' t ≡ slice_index joins t) → ((t : ℕ) → slice_index leaves' t ≡ slice_index leaves t) → IsIndexed events places joins' leaves'
+indexed_grown events places joins leaves joins' leaves' h same_joins same_leaves = record {
+  rising = h.rising;
   apart = h.apart;
   given = h.given;
+  placeable = h.placeable;
+  placed = h.placed;
   joined = λ t. same_joins t ∙ h.joined t;
   left = λ t. same_leaves t ∙ h.left t;
 }
 
 -- the tables have a place for the task of an event that is held
-pub room_held : (order : List Numbered) (joins leaves : List ℕ) (x : Numbered) (i : ℕ) → IsIndexed order joins leaves → order ≡ take i order ++ x ∷ drop (suc i) order → HasTaskRoom joins leaves x.event
-room_held order joins leaves x i h e =
-    let all = subst (Pairs AreDistinctEvents) e (Pairs-from_all AreDistinctEvents order h.apart) in
-    let before = Pairs_before AreDistinctEvents (take i order) x (drop (suc i) order) all in
-    let some = All_at (λ y. 1 ≤ y.id) (take i order) x (drop (suc i) order) (subst (All (λ y. 1 ≤ y.id)) e h.given) in
-    let number : (p : Event → Bool) → ((x y : Numbered) → AreDistinctEvents x y → Excludes p x y) → p x.event ≡ true → first_number_of p order ≡ x.id
+pub room_held : (front : List Numbered) (x : Numbered) (back : List Numbered) (places : List Place) (joins leaves : List ℕ) → IsIndexed (front ++ x ∷ back) places joins leaves → HasTaskRoom joins leaves x.event
+room_held front x back places joins leaves h =
+    let before = Pairs_before AreDistinctEvents front x back (Pairs-from_all AreDistinctEvents (front ++ x ∷ back) h.apart) in
+    let some = All_at (λ y. 1 ≤ y.id) front x back h.given in
+    let number : (p : Event → Bool) → ((x y : Numbered) → AreDistinctEvents x y → Excludes p x y) → p x.event ≡ true → first_number_of p (front ++ x ∷ back) ≡ x.id
     = λ p excludes here.
-    let none = All-weaker (λ y. AreDistinctEvents y x) (λ y. p y.event ≡ false) (λ y a. excludes x y (apart_back y x a) here) (take i order) before in
-    ap (first_number_of p) e ∙ first_number_of-here p (take i order) x (drop (suc i) order) here none in
+    first_number_of-here p front x back here (All-weaker (λ y. AreDistinctEvents y x) (λ y. p y.event ≡ false) (λ y a. excludes x y (apart_back y x a) here) front before) in
     record {
       join_place = λ t here. within joins t x.id (h.joined t ∙ number (is_join_of t) (join_excludes t) here) some;
       leave_place = λ t here. within leaves t x.id (h.left t ∙ number (is_leave_of t) (leave_excludes t) here) some;
@@ -229,16 +195,16 @@ all_exclude : (p : Event → Bool) → ((x y : Numbered) → AreDistinctEvents x
 all_exclude p excludes [] h = tt
 all_exclude p excludes (x ∷ xs) h = (All-weaker (AreDistinctEvents x) (Excludes p x) (excludes x) xs h.0, all_exclude p excludes xs h.1)
 
-pub joins_beside : (order : List Numbered) (joins leaves : List ℕ) (id slot task cost period early n : ℕ) → IsIndexed order joins leaves → n ≡ slice_index joins task → list_any (λ x. join_alike x.event (Join slot task cost period early)) (events_without id order) ≡ (not (n == 0) && not (n == id))
-joins_beside order joins leaves id slot task cost period early n h e =
-    joins_alike slot task cost period early (events_without id order)
-    ∙ beside (is_join_of task) id order h.given (all_exclude (is_join_of task) (join_excludes task) order (Pairs-from_all AreDistinctEvents order h.apart))
+pub joins_beside : (events : List Numbered) (places : List Place) (joins leaves : List ℕ) (id slot task cost period early n : ℕ) → IsIndexed events places joins leaves → n ≡ slice_index joins task → list_any (λ x. join_alike x.event (Join slot task cost period early)) (events_without id events) ≡ (not (n == 0) && not (n == id))
+joins_beside events places joins leaves id slot task cost period early n h e =
+    joins_alike slot task cost period early (events_without id events)
+    ∙ beside (is_join_of task) id events h.given (all_exclude (is_join_of task) (join_excludes task) events (Pairs-from_all AreDistinctEvents events h.apart))
     ∙ ap (λ n. not (n == 0) && not (n == id)) (sym (e ∙ h.joined task))
 
-pub leaves_beside : (order : List Numbered) (joins leaves : List ℕ) (id slot task n : ℕ) → IsIndexed order joins leaves → n ≡ slice_index leaves task → list_any (λ x. leave_alike x.event (Leave slot task)) (events_without id order) ≡ (not (n == 0) && not (n == id))
-leaves_beside order joins leaves id slot task n h e =
-    leaves_alike slot task (events_without id order)
-    ∙ beside (is_leave_of task) id order h.given (all_exclude (is_leave_of task) (leave_excludes task) order (Pairs-from_all AreDistinctEvents order h.apart))
+pub leaves_beside : (events : List Numbered) (places : List Place) (joins leaves : List ℕ) (id slot task n : ℕ) → IsIndexed events places joins leaves → n ≡ slice_index leaves task → list_any (λ x. leave_alike x.event (Leave slot task)) (events_without id events) ≡ (not (n == 0) && not (n == id))
+leaves_beside events places joins leaves id slot task n h e =
+    leaves_alike slot task (events_without id events)
+    ∙ beside (is_leave_of task) id events h.given (all_exclude (is_leave_of task) (leave_excludes task) events (Pairs-from_all AreDistinctEvents events h.apart))
     ∙ ap (λ n. not (n == 0) && not (n == id)) (sym (e ∙ h.left task))
 
 -- no event is alike to one of another kind
@@ -276,7 +242,3 @@ pub is_no_leave : (event : Event) (t : ℕ) → ((slot : ℕ) × (task : ℕ) ×
 is_no_leave event t (inl (slot, task, cost, period, early, e)) = ap (is_leave_of t) e
 is_no_leave event t (inr (inl (slot, task, by, e))) = ap (is_leave_of t) e
 is_no_leave event t (inr (inr (slot, count, e))) = ap (is_leave_of t) e
-
--- a list about its element at i
-pub split_here : (order : List Numbered) (i : ℕ) (x : Numbered) → i < length order → get_or order i x ≡ x → order ≡ take i order ++ x ∷ drop (suc i) order
-split_here order i x low here = split_at order i x low ∙ ap (λ z. take i order ++ z ∷ drop (suc i) order) here

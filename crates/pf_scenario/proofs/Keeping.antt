@@ -1,38 +1,41 @@
--- What a scenario's representation keeps at each change.
-use Rattle.std.proofs.Common.{◌≡◌, ℕ, suc, ◌<◌, ◌≤◌, Option, Some, None, true, List, [], ◌∷◌, ◌++◌, length, take, drop, set, get_or, refl, sym, ap, ◌∙◌, subst, arith, IfSome, inl, inr}
-use Rattle.std.specs.List.{All, AllPairs, Contains, remove, list_any, filter}
-use Rattle.std.specs.declared.cmp.Ordering.{Ordering}
-use Rattle.std.specs.Ordering.{is_lt}
-use Rattle.std.proofs.lemmas.Bool.{cases_Bool, ne_eqb, leb-true, and_parts}
-use Rattle.std.proofs.lemmas.List.{append-nil, set_split}
-use Rattle.std.specs.Option.{option_map_or}
+-- What a scenario's representation is asked for at each change.
+use Rattle.std.proofs.Common.{◌≡◌, ℕ, ◌<◌, ◌≤◌, Option, Some, None, true, not, List, [], ◌∷◌, ◌++◌, refl, sym, ap, ◌∙◌, subst, arith, IfSome, inl, inr}
+use Rattle.std.specs.Prelude.{◌==◌}
+use Rattle.std.specs.List.{All, AllPairs, find}
+use Rattle.std.specs.Option.{option_map, option_map_or}
+use Rattle.std.proofs.lemmas.Bool.{cases_Bool, ne_eqb, leb-true, ltb-true, and_parts}
+use Rattle.std.proofs.lemmas.List.{append-nil}
+use Rattle.std.proofs.lemmas.List.Elements.{All-weaker}
 use Rattle.pf_weight.specs.declared.task.TheConstants.{LARGEST_TASK}
-use Rattle.pf_scenario.proofs.Lists.{Pairs, Pairs-from_all, Pairs_before, All_at}
-use Rattle.pf_scenario.proofs.Scenarios.{or_else_none, unless_none, without_held, changes_keep_scenarios}
-use Rattle.pf_scenario.proofs.Places.{replaced_at, without_at}
-use Rattle.pf_scenario.proofs.Sorting.{put_low, put_high, All-sorted_by}
-use Rattle.pf_scenario.proofs.Indexing.{around_apart, split_here}
-use Rattle.pf_scenario.proofs.Timeline.{in_time_middle, in_time_without, beside_in_time, events_of-in_time}
-use Rattle.pf_scenario.specs.System.{System}
-use Rattle.pf_scenario.specs.Event.{task_of, is_of_slot}
-use Rattle.pf_scenario.specs.Scenario.{Plan, with_number, events_without, plan_after, events_of}
-use Rattle.pf_scenario.specs.Edit.{IsScenario, IsEvent, is_within, edit_fault, join_alike, leave_alike}
-use Rattle.pf_scenario.specs.Sorted.{put_in_order}
-use Rattle.pf_scenario.specs.TimeOrder.{time_cmp, put_in_time, in_time_order}
-use Rattle.pf_scenario.specs.Index.{AreDistinctEvents, IsNewEvent}
-use Rattle.pf_scenario.specs.Kept.{IsEventPlace, IsIndexedPlan}
+use Rattle.pf_scenario.proofs.Lists.{Pairs, Pairs-from_all, All_at, find_none, filter_all}
+use Rattle.std.proofs.lemmas.Bool.{not_from_false}
+use Rattle.pf_scenario.proofs.Scenarios.{or_else_none, unless_none, without_held, replaced_held, held, changes_keep_scenarios}
+use Rattle.pf_scenario.proofs.Indexing.{around_apart}
+use Rattle.pf_scenario.specs.System.{System, IsSystem, wide_horizon}
+use Rattle.pf_scenario.specs.Event.{slot_of, task_of}
+use Rattle.pf_scenario.specs.Scenario.{Plan, with_number, is_held, events_without, plan_after, held_slot}
+use Rattle.pf_scenario.specs.Edit.{IsScenario, IsEvent, is_within, edit_fault}
+use Rattle.pf_scenario.specs.Index.{AreDistinctEvents, IsNewEvent, event_at}
 use Rattle.pf_scenario.specs.declared.event.Event.{Event}
 use Rattle.pf_scenario.specs.declared.event.Numbered.{Numbered}
 use Rattle.pf_scenario.specs.declared.change.Change.{Change}
 use Rattle.pf_scenario.specs.declared.change.Change.TheVariants.{Insert, Alter, Strike}
 
--- the task of an event within its limits is not above the greatest
+-- the task of an event within its limits is not above the greatest, and its slot is below each horizon
 task_within : (settings : System) (event : Event) → IsEvent settings event → IfSome (task_of event) (λ task. task ≤ LARGEST_TASK)
 task_within settings event h = within (task_of event) (unless_none _ _ ((or_else_none _ _ ((or_else_none _ _ h).1)).0))
   where
     within : (o : Option ℕ) → option_map_or (λ task. is_within LARGEST_TASK task) o true ≡ true → IfSome o (λ task. task ≤ LARGEST_TASK)
     within (Some task) h = leb-true _ _ ((and_parts _ _ h).1)
     within None h = tt
+
+slot_within : (settings : System) (event : Event) → IsSystem settings → IsEvent settings event → slot_of event < wide_horizon
+slot_within settings event system h =
+    let below : slot_of event < settings.horizon = ltb-true _ _ (unless_none _ _ ((or_else_none _ _ h).0)) in
+    elim (system.horizon) [
+      | inl near ↦ omega arith
+      | inr wide ↦ omega arith
+    ]
 
 -- the events of a scenario are apart
 events_apart : (s : Plan) → IsScenario s → AllPairs AreDistinctEvents s.events
@@ -42,108 +45,73 @@ events_apart s h i j d below low = record {
   leaves = h.leaves_once i j d below low;
 }
 
-Contains-put : {X : Type 0} (R : X → X → Ordering) (x : X) (ys : List X) → Contains (put_in_order R x ys) x
-Contains-put R x [] = (0, omega arith, refl)
-Contains-put {X} R x (y ∷ ys) =
-    let P : List X → Type 0 = λ zs. Contains zs x in
-    elim (cases_Bool (is_lt (R x y))) [
-      | inl low ↦ subst P (sym (put_low R x y ys low)) (0, omega arith, refl)
-      | inr high ↦ let rest = Contains-put R x ys in subst P (sym (put_high R x y ys high)) (suc rest.0, omega arith, rest.2)
-    ]
-
--- one event of a scenario amid the others
-pub record IsAmid (front : List Numbered) (x : Numbered) (back : List Numbered) : Type 0 where
-  pub in_time : in_time_order (front ++ x ∷ back) ≡ put_in_time x (in_time_order (front ++ back))
-  pub held : Contains (in_time_order (front ++ x ∷ back)) x
-  pub new : IsNewEvent x (in_time_order (front ++ back))
-
-pub amid : (s : Plan) (front : List Numbered) (x : Numbered) (back : List Numbered) → s.events ≡ front ++ x ∷ back → IsScenario s → IsAmid front x back
-amid s front x back e h =
+-- one event of a scenario beside the others
+pub amid_new : (s : Plan) (front : List Numbered) (x : Numbered) (back : List Numbered) → s.events ≡ front ++ x ∷ back → IsScenario s → IsNewEvent x (front ++ back)
+amid_new s front x back e h =
     let all = subst (Pairs AreDistinctEvents) e (Pairs-from_all AreDistinctEvents s.events (events_apart s h)) in
-    let put_is = in_time_middle front x back (Pairs_before AreDistinctEvents front x back all) in
-    let some = All_at (λ y. (1 ≤ y.id) × (y.id < s.next)) front x back (subst (All (λ y. (1 ≤ y.id) × (y.id < s.next))) e h.given) in
+    let given = All_at (λ y. (1 ≤ y.id) × (y.id < s.next)) front x back (subst (All (λ y. (1 ≤ y.id) × (y.id < s.next))) e h.given) in
     let limits = All_at (λ y. IsEvent s.settings y.event) front x back (subst (All (λ y. IsEvent s.settings y.event)) e h.limits) in
+    let last = h.next_within in
     record {
-      in_time = put_is;
-      held = subst (λ zs. Contains zs x) (sym put_is) (Contains-put time_cmp x (in_time_order (front ++ back)));
-      new = record {
-        given = some.0;
+      given = given.0;
+      placeable = record {
+        slot = slot_within s.settings x.event h.settings limits;
         task = task_within s.settings x.event limits;
-        apart = All-sorted_by (λ y. AreDistinctEvents y x) time_cmp (front ++ back) (around_apart front x back all);
+        number = omega arith;
       };
+      apart = around_apart front x back all;
     }
 
 -- what a change that is not refused leaves is a scenario
-changed_scenario : (s v : Plan) (index : List Numbered) (c : Change) → s ≡ v → IsIndexedPlan s index → edit_fault v c ≡ None → IsScenario (plan_after s c)
-changed_scenario s v index c e h none = changes_keep_scenarios s c h.scenario (rw e none)
+pub changed_scenario : (s v : Plan) (c : Change) → s ≡ v → IsScenario s → edit_fault v c ≡ None → IsScenario (plan_after s c)
+changed_scenario s v c e h none = changes_keep_scenarios s c h (rw e none)
 
--- an insert: its event is new to the index, and is put_in_order there
-pub insert_new : (s v : Plan) (index : List Numbered) (event : Event) → s ≡ v → IsIndexedPlan s index → edit_fault v (Insert event) ≡ None → IsNewEvent (with_number s.next event) index
-insert_new s v index event e h none =
-    let here = amid (plan_after s (Insert event)) s.events (with_number s.next event) [] refl (changed_scenario s v index (Insert event) e h none) in
-    subst (IsNewEvent (with_number s.next event)) (ap in_time_order (append-nil s.events) ∙ sym h.indexed) here.new
+-- an insert: its event is new, and the last
+pub insert_new : (s v : Plan) (event : Event) → s ≡ v → IsScenario s → edit_fault v (Insert event) ≡ None → IsNewEvent (with_number s.next event) s.events
+insert_new s v event e h none =
+    subst (IsNewEvent (with_number s.next event)) (append-nil s.events) (amid_new (plan_after s (Insert event)) s.events (with_number s.next event) [] refl (changed_scenario s v (Insert event) e h none))
 
-pub insert_kept : (s v : Plan) (index : List Numbered) (event : Event) → s ≡ v → IsIndexedPlan s index → edit_fault v (Insert event) ≡ None → IsIndexedPlan (plan_after s (Insert event)) (put_in_time (with_number s.next event) index)
-insert_kept s v index event e h none =
-    let kept = changed_scenario s v index (Insert event) e h none in
-    let here = amid (plan_after s (Insert event)) s.events (with_number s.next event) [] refl kept in
-    record {
-      scenario = kept;
-      indexed = rw (h.indexed, here.in_time, append-nil s.events) refl;
-    }
+pub insert_last : (s : Plan) → IsScenario s → All (λ x. x.id < s.next) s.events
+insert_last s h = All-weaker (λ x. (1 ≤ x.id) × (x.id < s.next)) (λ x. x.id < s.next) (λ x g. g.1) s.events h.given
 
--- the event at a place is held by the index; events_without it the index is of the events around that place
-pub held_there : (s : Plan) (index : List Numbered) (i : ℕ) (x : Numbered) → IsIndexedPlan s index → i < length s.events → get_or s.events i x ≡ x → Contains index x
-held_there s index i x h low is =
-    let e = split_here s.events i x low is in
-    subst (λ zs. Contains zs x) (ap in_time_order (sym e) ∙ sym h.indexed) (amid s (take i s.events) x (drop (suc i) s.events) e h.scenario).held
+-- an alter: its number is held, and the event is new beside the others
+pub alter_held : (s v : Plan) (id : ℕ) (event : Event) → s ≡ v → edit_fault v (Alter id event) ≡ None → is_held s.events id ≡ true
+alter_held s v id event e none = unless_none _ _ ((or_else_none _ _ (rw (← e) at none)).0)
 
-index_without : (s : Plan) (index : List Numbered) (i : ℕ) (x : Numbered) → IsIndexedPlan s index → i < length s.events → get_or s.events i x ≡ x → events_without x.id index ≡ in_time_order (take i s.events ++ drop (suc i) s.events)
-index_without s index i x h low is =
-    rw (h.indexed, in_time_without x.id s.events)
-    (ap in_time_order (without_held s.events (take i s.events) x (drop (suc i) s.events) x.id h.scenario.rising (split_here s.events i x low is) refl))
+pub alter_new : (s v : Plan) (id : ℕ) (event : Event) → s ≡ v → IsScenario s → edit_fault v (Alter id event) ≡ None → IsNewEvent (with_number id event) (events_without id s.events)
+alter_new s v id event e h none =
+    let at = held s id (alter_held s v id event e none) in
+    let split = replaced_held s.events at.front at.at at.back id event h.rising at.is at.number in
+    let new = amid_new (plan_after s (Alter id event)) at.front (with_number id event) at.back split (changed_scenario s v (Alter id event) e h none) in
+    subst (IsNewEvent (with_number id event)) (sym (without_held s.events at.front at.at at.back id h.rising at.is at.number)) new
 
--- an alter: the event takes the place of the old one
-altered_events : (s : Plan) (index : List Numbered) (id i : ℕ) (event : Event) → IsIndexedPlan s index → IsEventPlace s.events id i → (plan_after s (Alter id event)).events ≡ take i s.events ++ with_number id event ∷ drop (suc i) s.events
-altered_events s index id i event h place =
-    replaced_at s.events id i event h.scenario.rising place ∙ set_split s.events i (with_number id event) place.within
+-- a strike: its number is held
+pub strike_held : (s v : Plan) (id : ℕ) → s ≡ v → edit_fault v (Strike id) ≡ None → is_held s.events id ≡ true
+strike_held s v id e none = unless_none _ _ (rw (← e) at none)
 
-pub alter_new : (s v : Plan) (index : List Numbered) (id i : ℕ) (event : Event) (x : Numbered) → s ≡ v → IsIndexedPlan s index → edit_fault v (Alter id event) ≡ None → IsEventPlace s.events id i → get_or s.events i x ≡ x → IsNewEvent (with_number id event) (events_without x.id index)
-alter_new s v index id i event x e h none place is =
-    let here = amid (plan_after s (Alter id event)) (take i s.events) (with_number id event) (drop (suc i) s.events) (altered_events s index id i event h place) (changed_scenario s v index (Alter id event) e h none) in
-    subst (IsNewEvent (with_number id event)) (sym (index_without s index i x h place.within is)) here.new
+-- what a search by number tells
+pub held_some : (events : List Numbered) (id : ℕ) (event : Event) → event_at events id ≡ Some event → is_held events id ≡ true
+held_some events id event h =
+    elim (cases_Bool (is_held events id)) [
+      | inl held ↦ held
+      | inr none ↦ let nothing = sym (ap (λ o. option_map (λ x. x.event) o) (find_none (λ x. x.id == id) events none)) ∙ h in absurd (cc)
+    ]
 
-pub alter_kept : (s v : Plan) (index : List Numbered) (id i : ℕ) (event : Event) (x : Numbered) → s ≡ v → IsIndexedPlan s index → edit_fault v (Alter id event) ≡ None → IsEventPlace s.events id i → get_or s.events i x ≡ x → IsIndexedPlan (record s { events = set s.events i (with_number id event) }) (put_in_time (with_number id event) (events_without x.id index))
-alter_kept s v index id i event x e h none place is =
-    let kept = changed_scenario s v index (Alter id event) e h none in
-    let split = altered_events s index id i event h place in
-    let here = amid (plan_after s (Alter id event)) (take i s.events) (with_number id event) (drop (suc i) s.events) split kept in
-    record {
-      scenario = subst (λ events. IsScenario (record s { events = events })) (replaced_at s.events id i event h.scenario.rising place) kept;
-      indexed = ap (put_in_time (with_number id event)) (index_without s index i x h place.within is) ∙ sym here.in_time ∙ ap in_time_order (sym (set_split s.events i (with_number id event) place.within));
-    }
+pub slot_some : (events : List Numbered) (id : ℕ) (event : Event) → event_at events id ≡ Some event → held_slot events id ≡ Some (slot_of event)
+slot_some events id event h = by (find (λ x. x.id == id) events) h
+  where
+    by : (o : Option Numbered) → option_map (λ x. x.event) o ≡ Some event → option_map (λ x. slot_of x.event) o ≡ Some (slot_of event)
+    by (Some x) h = cc
+    by None h = absurd (cc)
 
-pub alter_is : (s v : Plan) (index : List Numbered) (id i : ℕ) (event : Event) → s ≡ v → IsIndexedPlan s index → IsEventPlace s.events id i → record s { events = set s.events i (with_number id event) } ≡ plan_after v (Alter id event)
-alter_is s v index id i event e h place =
-    ap (λ events. record s { events = events }) (sym (replaced_at s.events id i event h.scenario.rising place)) ∙ ap (λ s. plan_after s (Alter id event)) e
+pub slot_none : (events : List Numbered) (id : ℕ) → event_at events id ≡ None → held_slot events id ≡ None
+slot_none events id h = by (find (λ x. x.id == id) events) h
+  where
+    by : (o : Option Numbered) → option_map (λ x. x.event) o ≡ None → option_map (λ x. slot_of x.event) o ≡ None
+    by (Some x) h = absurd (cc)
+    by None h = refl
 
--- a strike: the event is taken out
-pub strike_kept : (s v : Plan) (index : List Numbered) (id i : ℕ) (x : Numbered) → s ≡ v → IsIndexedPlan s index → edit_fault v (Strike id) ≡ None → IsEventPlace s.events id i → get_or s.events i x ≡ x → IsIndexedPlan (record s { events = remove s.events i }) (events_without x.id index)
-strike_kept s v index id i x e h none place is = record {
-  scenario = subst (λ events. IsScenario (record s { events = events })) (without_at s.events id i h.scenario.rising place) (changed_scenario s v index (Strike id) e h none);
-  indexed = index_without s index i x h place.within is;
-}
-
-pub strike_is : (s v : Plan) (index : List Numbered) (id i : ℕ) → s ≡ v → IsIndexedPlan s index → IsEventPlace s.events id i → record s { events = remove s.events i } ≡ plan_after v (Strike id)
-strike_is s v index id i e h place =
-    ap (λ events. record s { events = events }) (sym (without_at s.events id i h.scenario.rising place)) ∙ ap (λ s. plan_after s (Strike id)) e
-
--- what the index tells of the scenario
-pub joins_told : (s : Plan) (index : List Numbered) (id : ℕ) (event : Event) → IsIndexedPlan s index → list_any (λ x. join_alike x.event event) (events_without id index) ≡ list_any (λ x. join_alike x.event event) (events_without id s.events)
-joins_told s index id event h = rw h.indexed (beside_in_time (λ x. join_alike x.event event) id s.events)
-
-pub leaves_told : (s : Plan) (index : List Numbered) (id : ℕ) (event : Event) → IsIndexedPlan s index → list_any (λ x. leave_alike x.event event) (events_without id index) ≡ list_any (λ x. leave_alike x.event event) (events_without id s.events)
-leaves_told s index id event h = rw h.indexed (beside_in_time (λ x. leave_alike x.event event) id s.events)
-
-pub slot_told : (s : Plan) (index : List Numbered) (t : ℕ) → IsIndexedPlan s index → filter (is_of_slot t) index ≡ events_of s t
-slot_told s index t h = rw h.indexed (events_of-in_time s t)
+-- events_without the number that no event has
+pub without_nothing : (events : List Numbered) (next : ℕ) → All (λ x. (1 ≤ x.id) × (x.id < next)) events → events_without 0 events ≡ events
+without_nothing events next given =
+    filter_all (λ x. not (x.id == 0)) events (All-weaker (λ x. (1 ≤ x.id) × (x.id < next)) (λ x. not (x.id == 0) ≡ true) (λ x g. not_from_false _ (ne_eqb _ _ (λ e. omega arith))) events given)

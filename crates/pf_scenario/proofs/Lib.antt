@@ -1,8 +1,10 @@
 pub mod Lists
 pub mod Scenarios
-pub mod Places
 pub mod Sorting
+pub mod Numbering
 pub mod Indexing
-pub mod TimePlaces
 pub mod Timeline
+pub mod Placing
+pub mod Moving
+pub mod Slots
 pub mod Keeping

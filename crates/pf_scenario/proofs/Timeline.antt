@@ -12,7 +12,7 @@ use Rattle.pf_scenario.proofs.Sorting.{All-sorted_by, list_any-sorted_by, sorted
 use Rattle.pf_scenario.proofs.Indexing.{time_cmp_total, time_differs, apart_back}
 use Rattle.pf_scenario.specs.Sorted.{put_in_order}
 use Rattle.pf_scenario.specs.Event.{slot_of, is_of_slot, run_cmp, in_run_order}
-use Rattle.pf_scenario.specs.Scenario.{Plan, events_without, events_of}
+use Rattle.pf_scenario.specs.Scenario.{events_without}
 use Rattle.pf_scenario.specs.TimeOrder.{time_cmp, put_in_time, in_time_order}
 use Rattle.pf_scenario.specs.Index.{AreDistinctEvents}
 use Rattle.pf_scenario.specs.declared.event.Numbered.{Numbered}
@@ -46,6 +46,5 @@ slot_order t (x ∷ xs) h =
     ∙ ap (put_in_order run_cmp x) (slot_order t xs later)
 
 -- the events of a slot, cut out of all events in time order
-pub events_of-in_time : (s : Plan) (t : ℕ) → filter (is_of_slot t) (in_time_order s.events) ≡ events_of s t
-unfolding events_of
-events_of-in_time s t = filter-sorted_by (is_of_slot t) time_cmp_total s.events ∙ slot_order t (filter (is_of_slot t) s.events) (filter_passes (is_of_slot t) s.events)
+pub slot_in_time : (events : List Numbered) (t : ℕ) → filter (is_of_slot t) (in_time_order events) ≡ in_run_order (filter (is_of_slot t) events)
+slot_in_time events t = filter-sorted_by (is_of_slot t) time_cmp_total events ∙ slot_order t (filter (is_of_slot t) events) (filter_passes (is_of_slot t) events)

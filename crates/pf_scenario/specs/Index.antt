@@ -1,13 +1,14 @@
--- What an index of events keeps: their order in time, and the numbers of the joins and leaves of each task.
-use Rattle.std.specs.Prelude.{◌≡◌, ℕ, ◌+◌, ◌≤◌, Bool, true, false, ◌==◌, if◌then◌else◌, List, [], ◌∷◌, length, slice_index, IfSome, All, AllPairs}
-use Rattle.std.specs.Ordering.{is_lt}
-use Rattle.pf_weight.specs.declared.task.TheConstants.{LARGEST_TASK}
-use Rattle.pf_scenario.specs.Event.{task_of}
+-- What an agenda keeps beside its events: their places in time, and the numbers of the joins and leaves of each task.
+use Rattle.std.specs.Prelude.{◌≡◌, ℕ, ◌+◌, ◌≤◌, Bool, true, false, ◌==◌, ◌<◌, if◌then◌else◌, Option, List, [], ◌∷◌, length, map, find, slice_index, All, AllPairs}
+use Rattle.std.specs.Option.{option_map}
 pub use Rattle.pf_scenario.specs.Event.{is_join_of, is_leave_of}
-use Rattle.pf_scenario.specs.TimeOrder.{time_cmp}
+use Rattle.pf_scenario.specs.Scenario.{with_number}
+use Rattle.pf_scenario.specs.TimeOrder.{in_time_order}
 use Rattle.pf_scenario.specs.Edit.{join_alike, leave_alike}
+use Rattle.pf_scenario.specs.Place.{place_of, IsPlaceable}
 use Rattle.pf_scenario.specs.declared.event.Event.{Event}
 use Rattle.pf_scenario.specs.declared.event.Numbered.{Numbered}
+use Rattle.pf_scenario.specs.declared.place.Place.{Place}
 
 -- the number of the first event that passes a test, or 0
 abbrev pub first_number_of : (Event → Bool) → List Numbered → ℕ
@@ -20,22 +21,32 @@ pub record AreDistinctEvents (x y : Numbered) : Type 0 where
   pub joins : join_alike x.event y.event ≡ false
   pub leaves : leave_alike x.event y.event ≡ false
 
--- no later event stands before an earlier one
-abbrev pub IsInTime : List Numbered → Type 0
-IsInTime = AllPairs (λ x y. is_lt (time_cmp y x) ≡ false)
+-- the events of a map by number
+abbrev pub listed : List (ℕ × Event) → List Numbered
+listed entries = map (λ e. with_number e.0 e.1) entries
 
--- the events in time order, and by task the numbers of the joins and of the leaves; 0 where there is none
-pub record IsIndexed (order : List Numbered) (joins leaves : List ℕ) : Type 0 where
-  pub in_time : IsInTime order
-  pub apart : AllPairs AreDistinctEvents order
-  pub given : All (λ x. 1 ≤ x.id) order
-  pub joined : (t : ℕ) → slice_index joins t ≡ first_number_of (is_join_of t) order
-  pub left : (t : ℕ) → slice_index leaves t ≡ first_number_of (is_leave_of t) order
+-- the event of this number, where it is held
+abbrev pub event_at : List Numbered → ℕ → Option Event
+event_at events id = option_map (λ x. x.event) (find (λ x. x.id == id) events)
 
--- the event can be put among these
+-- the events with this event under this number
+abbrev pub with_event : ℕ → Event → List Numbered → List Numbered
+with_event id event events = map (λ x. if x.id == id then with_number id event else x) events
+
+-- the places of the events in time order, and by task the numbers of the joins and of the leaves; 0 where there is none
+pub record IsIndexed (events : List Numbered) (places : List Place) (joins leaves : List ℕ) : Type 0 where
+  pub rising : AllPairs (λ x y. x.id < y.id) events
+  pub apart : AllPairs AreDistinctEvents events
+  pub given : All (λ x. 1 ≤ x.id) events
+  pub placeable : All IsPlaceable events
+  pub placed : places ≡ map place_of (in_time_order events)
+  pub joined : (t : ℕ) → slice_index joins t ≡ first_number_of (is_join_of t) events
+  pub left : (t : ℕ) → slice_index leaves t ≡ first_number_of (is_leave_of t) events
+
+-- the event can be held beside these
 pub record IsNewEvent (x : Numbered) (events : List Numbered) : Type 0 where
   pub given : 1 ≤ x.id
-  pub task : IfSome (task_of x.event) (λ task. task ≤ LARGEST_TASK)
+  pub placeable : IsPlaceable x
   pub apart : All (λ y. AreDistinctEvents y x) events
 
 -- the table has a place for the task of the event

@@ -7,5 +7,5 @@ pub mod Edit
 pub mod Refusals
 pub mod Laws
 pub mod TimeOrder
+pub mod Place
 pub mod Index
-pub mod Kept

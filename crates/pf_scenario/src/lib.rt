@@ -2,15 +2,16 @@
 //! events, and a refused one leaves it.
 #![tactic(auto)]
 
+mod agenda;
 pub mod apply_fault;
+mod by_number;
 pub mod change;
 pub mod event;
+pub mod events;
 pub mod fault;
-mod index;
 pub mod laws;
 mod limits;
-mod numbers;
-mod order;
+mod place;
 pub mod scenario;
 pub mod settings;
 mod tables;

@@ -8,13 +8,13 @@ ghost use Rattle.pf_scenario.specs.declared.fault.EditFault.TheVariants.{EventNo
 ghost use Rattle.pf_scenario.specs.declared.change.Change.TheVariants.{Insert, Alter, Strike};
 ghost use Rattle.pf_scenario.specs.declared.apply_fault.ApplyFault.TheVariants.{Refused};
 
+use crate::agenda::Agenda;
 use crate::apply_fault::ApplyFault;
 use crate::change::Change;
 use crate::event::{Event, Numbered};
+use crate::events::Events;
 use crate::fault::EditFault;
-use crate::index::Index;
 use crate::limits::check_limits;
-use crate::numbers::place_of;
 use crate::settings::Settings;
 use std::alloc::{AllocError, Global};
 use std::marker::Model;
@@ -29,20 +29,19 @@ pub const LAST_NUMBER: u64 = 1_048_575;
 #[derive(Debug, Drop)]
 pub struct Scenario {
     settings: Settings,
-    events: Vec<Numbered>,
-    index: Index,
+    events: Agenda,
     next: u64,
 }
 
 impl Model for Scenario {
     ghost use Rattle.pf_scenario.specs.Scenario.{Plan};
-    ghost use Rattle.pf_scenario.specs.Kept.{IsIndexedPlan};
+    ghost use Rattle.pf_scenario.specs.Edit.{IsScenario};
 
     ghost Value = { Plan };
 
-    ghost view = { λ s. record { settings = s.settings; events = s.events.items; next = s.next } };
+    ghost view = { λ s. record { settings = s.settings; events = s.events; next = s.next } };
 
-    ghost invariant = { λ s. IsIndexedPlan (record { settings = s.settings; events = s.events.items; next = s.next }) s.index };
+    ghost invariant = { λ s. IsScenario (record { settings = s.settings; events = s.events; next = s.next }) };
 }
 
 impl Scenario {
@@ -55,8 +54,7 @@ impl Scenario {
         let _ = settings.horizon();
         Scenario {
             settings,
-            events: Vec::new(alloc),
-            index: Index::new(alloc),
+            events: Agenda::new(alloc),
             next: 1,
         }
     }
@@ -93,7 +91,7 @@ impl Scenario {
     fn check_held(&self, id: u64) -> Result<(), EditFault>
         ensures { result_err result ≡ unless (is_held self.now.events id) EventNotFound }
     {
-        match place_of(&self.events, id) {
+        match self.events.get(id) {
             Some(_) => Ok(()),
             None => Err(EditFault::EventNotFound),
         }
@@ -126,14 +124,14 @@ impl Scenario {
     fn joins_beside(&self, id: u64, event: &Event) -> bool
         ensures { result ≡ list_any (λ x. join_alike x.event event.now) (events_without id self.now.events) }
     {
-        self.index.joins_beside(id, event)
+        self.events.joins_beside(id, event)
     }
 
     /// Whether an event of another number than this one leaves the task that the event leaves.
     fn leaves_beside(&self, id: u64, event: &Event) -> bool
         ensures { result ≡ list_any (λ x. leave_alike x.event event.now) (events_without id self.now.events) }
     {
-        self.index.leaves_beside(id, event)
+        self.events.leaves_beside(id, event)
     }
 
     /// Makes the change and gives the number of the event that it concerns.
@@ -187,18 +185,10 @@ impl Scenario {
         ensures err { OnErr result (self.new ≡ self.old) }
         ensures scenario { IsScenario self.new }
     {
-        let x = Numbered {
-            id: self.next,
-            event,
-        };
-        self.events.reserve(1)?;
-        self.index.put(x)?;
-        match self.events.push(x) {
-            Ok(()) => {}
-            Err(_) => unreachable!(),
-        }
+        let id = self.next;
+        self.events.push(Numbered { id, event })?;
         self.next += 1;
-        Ok(x.id)
+        Ok(id)
     }
 
     /// Puts the event in place of the one of this number.
@@ -208,13 +198,7 @@ impl Scenario {
         ensures err { OnErr result (self.new ≡ self.old) }
         ensures scenario { IsScenario self.new }
     {
-        let Some(i) = place_of(&self.events, id) else {
-            unreachable!()
-        };
-        let x = Numbered { id, event };
-        let was = self.events[i];
-        self.index.replace(was, x)?;
-        self.events[i] = x;
+        self.events.replace(id, event)?;
         Ok(())
     }
 
@@ -224,11 +208,7 @@ impl Scenario {
         ensures value { self.new ≡ plan_after self.old (Strike id) }
         ensures scenario { IsScenario self.new }
     {
-        let Some(i) = place_of(&self.events, id) else {
-            unreachable!()
-        };
-        let was = self.events.remove(i);
-        self.index.take_out(was);
+        self.events.take_out(id);
     }
 
     /// The least slot that the change touches: for an alter the lower of the old slot and the new. `None` where no
@@ -250,16 +230,16 @@ impl Scenario {
     fn held_slot(&self, id: u64) -> Option<u64>
         ensures { result ≡ held_slot self.now.events id }
     {
-        let i = place_of(&self.events, id)?;
-        Some(self.events[i].event.slot())
+        let event = self.events.get(id)?;
+        Some(event.slot())
     }
 
-    /// The events, by number.
-    pub fn events(&self) -> &[Numbered]
-        ensures value { result.now ≡ self.now.events }
+    /// The events, in rising order of their numbers.
+    pub fn events(&self) -> Events<'_>
+        ensures value { result ≡ self.now.events }
         ensures scenario { IsScenario self.now }
     {
-        self.events.as_slice()
+        self.events.iter()
     }
 
     /// The events of slot t, in the order in which a run takes them; none where t is not below the horizon.
@@ -271,7 +251,7 @@ impl Scenario {
         ensures value { IfOk result (λ v. v.items ≡ events_of self.now t) }
         ensures scenario { IsScenario self.now }
     {
-        self.index.of_slot(t)
+        self.events.of_slot(t)
     }
 
     /// The number that the next new event gets, 1 to 1,048,576; the last is never given.
@@ -300,12 +280,10 @@ impl Scenario {
         ensures value { IfOk result (λ s. s ≡ self.now) }
         ensures scenario { IsScenario self.now }
     {
-        let events = Vec::from_slice(*self.events.allocator(), &self.events)?;
-        let index = self.index.copy()?;
+        let events = self.events.copy()?;
         Ok(Scenario {
             settings: self.settings,
             events,
-            index,
             next: self.next,
         })
     }

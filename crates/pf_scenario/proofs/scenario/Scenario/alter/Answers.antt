@@ -1,29 +1,15 @@
-use Rattle.std.proofs.Common.{sym}
-use Rattle.pf_scenario.proofs.Keeping.{held_there, alter_new, alter_kept, alter_is}
+use Rattle.pf_scenario.specs.declared.change.Change.TheVariants.{Alter}
+use Rattle.pf_scenario.proofs.Keeping.{alter_held, alter_new, changed_scenario}
 use Rattle.pf_scenario.proofs.scenario.Scenario.alter.Goals as goal
 
-pub place_of-requires : goal.place_of-requires
-place_of-requires c = rw c.deref.ensures.value c.self.invariant.scenario.rising
-
 pub replace-requires-clause-held : goal.replace-requires-clause-held
-replace-requires-clause-held c =
-    let place = rw c.deref.ensures.value at c.in-Some.ensures in
-    held_there _ _ _ c.index-was.result.now c.self.invariant place.within (sym c.index-was.ensures)
+replace-requires-clause-held c = alter_held _ _ c.args.id c.args.event c.self.view_is c.requires
 
 pub replace-requires-clause-new : goal.replace-requires-clause-new
-replace-requires-clause-new c =
-    let place = rw c.deref.ensures.value at c.in-Some.ensures in
-    alter_new _ _ _ c.args.id _ c.args.event c.index-was.result.now c.self.view_is c.self.invariant c.requires place (sym c.index-was.ensures)
+replace-requires-clause-new c = alter_new _ _ c.args.id c.args.event c.self.view_is c.self.invariant c.requires
 
 pub invariant_of-self-2 : goal.invariant_of-self-2
-invariant_of-self-2 c =
-    let place = rw c.deref.ensures.value at c.in-Some.ensures in
-    rw c.in_ok-replace.ensures.ok (alter_kept _ _ _ c.args.id _ c.args.event c.index-was.result.now c.self.view_is c.self.invariant c.requires place (sym c.index-was.ensures))
-
-pub returns-clause-ok : goal.returns-clause-ok
-returns-clause-ok c =
-    let place = rw c.deref.ensures.value at c.in-Some.ensures in
-    alter_is _ _ _ c.args.id _ c.args.event c.self.view_is c.self.invariant place
+invariant_of-self-2 c = rw c.in_ok-replace.ensures.ok (changed_scenario _ _ (Alter c.args.id c.args.event) c.self.view_is c.self.invariant c.requires)
 
 pub returns-clause-scenario : goal.returns-clause-scenario
-returns-clause-scenario c = (invariant_of-self-2 c).scenario
+returns-clause-scenario c = invariant_of-self-2 c

@@ -1,24 +1,12 @@
-use Rattle.std.proofs.Common.{sym}
-use Rattle.pf_scenario.proofs.Keeping.{held_there, strike_kept, strike_is}
+use Rattle.pf_scenario.specs.declared.change.Change.TheVariants.{Strike}
+use Rattle.pf_scenario.proofs.Keeping.{strike_held, changed_scenario}
 use Rattle.pf_scenario.proofs.scenario.Scenario.strike.Goals as goal
 
-pub place_of-requires : goal.place_of-requires
-place_of-requires c = rw c.deref.ensures.value c.self.invariant.scenario.rising
-
 pub take_out-requires : goal.take_out-requires
-take_out-requires c =
-    let place = rw c.deref.ensures.value at c.in-Some.ensures in
-    held_there _ _ _ c.remove-was.result c.self.invariant place.within (sym c.remove-was.ensures.value)
+take_out-requires c = strike_held _ _ c.args.id c.self.view_is c.requires
 
 pub invariant_of-self : goal.invariant_of-self
-invariant_of-self c =
-    let place = rw c.deref.ensures.value at c.in-Some.ensures in
-    rw (c.remove-was.ensures.items, c.take_out.ensures) (strike_kept _ _ _ c.args.id _ c.remove-was.result c.self.view_is c.self.invariant c.requires place (sym c.remove-was.ensures.value))
-
-pub returns-clause-value : goal.returns-clause-value
-returns-clause-value c =
-    let place = rw c.deref.ensures.value at c.in-Some.ensures in
-    rw c.remove-was.ensures.items (strike_is _ _ _ c.args.id _ c.self.view_is c.self.invariant place)
+invariant_of-self c = rw c.take_out.ensures (changed_scenario _ _ (Strike c.args.id) c.self.view_is c.self.invariant c.requires)
 
 pub returns-clause-scenario : goal.returns-clause-scenario
-returns-clause-scenario c = (invariant_of-self c).scenario
+returns-clause-scenario c = invariant_of-self c

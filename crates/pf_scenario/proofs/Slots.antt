@@ -1,0 +1,112 @@
+-- The events of a slot, found by their places.
+use Rattle.std.proofs.Common.{◌≡◌, ℕ, ◌+◌, ◌<◌, ◌≤◌, Some, None, List, [], ◌∷◌, ◌++◌, map, get_or, refl, sym, ap, ◌∙◌, subst, arith, inl, inr}
+use Rattle.std.specs.Prelude.{nat_le}
+use Rattle.std.specs.List.{All, AllPairs, filter}
+use Rattle.std.specs.declared.ops.Bound.TheVariants.{Included, Excluded}
+use Rattle.std.specs.Ordering.{is_le}
+use Rattle.std.specs.Option.{unwrap_or}
+use Rattle.std.specs.BTreeMap.Range.{range_contains}
+use Rattle.std.proofs.lemmas.Bool.{cases_Bool, cond-false, eq-eqb, ne_eqb}
+use Rattle.std.proofs.lemmas.Bool.Decides.{nat_tests}
+use Rattle.std.proofs.lemmas.List.{append_assoc, append-nil}
+use Rattle.std.proofs.lemmas.List.Elements.{All-nil, All-cons, All-head, All-tail, All-filter}
+use Rattle.pf_scenario.proofs.Lists.{Pairs, Pairs-from_all, All_at}
+use Rattle.pf_scenario.proofs.Sorting.{All-sorted_by}
+use Rattle.pf_scenario.proofs.Placing.{places_of}
+use Rattle.pf_scenario.proofs.Timeline.{slot_in_time}
+use Rattle.pf_scenario.specs.System.{wide_horizon}
+use Rattle.pf_scenario.specs.Scenario.{with_number}
+use Rattle.pf_scenario.specs.Event.{slot_of, is_of_slot, run_cmp, in_run_order}
+use Rattle.pf_scenario.specs.TimeOrder.{in_time_order}
+use Rattle.pf_scenario.specs.Place.{place_of, place_cmp, first_of, IsPlaceable}
+use Rattle.pf_scenario.specs.Index.{event_at}
+use Rattle.pf_scenario.specs.declared.event.Event.{Event}
+use Rattle.pf_scenario.specs.declared.event.Numbered.{Numbered}
+use Rattle.pf_scenario.specs.declared.place.Place.{Place}
+
+-- no event is of a slot past the farthest horizon
+none_of : (t : ℕ) (xs : List Numbered) → wide_horizon ≤ t → All IsPlaceable xs → filter (is_of_slot t) xs ≡ []
+none_of t [] far h = refl
+none_of t (x ∷ xs) far h =
+    let here = (All-head IsPlaceable x xs h).slot in
+    cond-false (is_of_slot t x) _ _ (ne_eqb (slot_of x.event) t (λ e. omega arith)) ∙ none_of t xs far (All-tail IsPlaceable x xs h)
+
+pub far_slot : (t : ℕ) (events : List Numbered) → wide_horizon ≤ t → All IsPlaceable events → in_run_order (filter (is_of_slot t) events) ≡ []
+far_slot t events far h = ap in_run_order (none_of t events far h)
+
+-- the place before a slot is not after a place just where the slot is not
+from_first : (t : ℕ) (q : Place) → is_le (place_cmp (first_of t) q) ≡ nat_le t q.slot
+from_first t q = grind (arith, nat_tests)
+
+-- the places from one slot to the next are those of its events
+in_between : (t : ℕ) (x : Numbered) → range_contains place_cmp (Included (first_of t)) (Excluded (first_of (t + 1))) (place_of x) ≡ is_of_slot t x
+in_between t x = rw (from_first t (place_of x), from_first (t + 1) (place_of x)) (grind (arith, nat_tests))
+
+filter_places : (t : ℕ) (xs : List Numbered) → filter (range_contains place_cmp (Included (first_of t)) (Excluded (first_of (t + 1)))) (map place_of xs) ≡ map place_of (filter (is_of_slot t) xs)
+filter_places t [] = refl
+filter_places t (x ∷ xs) =
+    elim (cases_Bool (is_of_slot t x)) [
+      | inl of ↦ rw (in_between t x, of) (ap (λ zs. place_of x ∷ zs) (filter_places t xs))
+      | inr other ↦ rw (in_between t x, other) (filter_places t xs)
+    ]
+
+pub slot_places : (t : ℕ) (events : List Numbered) → filter (range_contains place_cmp (Included (first_of t)) (Excluded (first_of (t + 1)))) (places_of events) ≡ map place_of (in_run_order (filter (is_of_slot t) events))
+slot_places t events = filter_places t (in_time_order events) ∙ ap (map place_of) (slot_in_time events t)
+
+-- each event is found by its number
+own_events : (events : List Numbered) → Pairs (λ x y. x.id < y.id) events → All (λ y. event_at events y.id ≡ Some y.event) events
+own_events [] up = All-nil (λ y. event_at [] y.id ≡ Some y.event)
+own_events (x ∷ xs) up =
+    let here = eq-eqb x.id x.id refl in
+    let rest = own_events xs up.1 in
+    All-cons (λ y. event_at (x ∷ xs) y.id ≡ Some y.event) x xs (rw here refl) (later x xs up.0 rest)
+  where
+    later : (x : Numbered) (xs : List Numbered) → All (λ y. x.id < y.id) xs → All (λ y. event_at xs y.id ≡ Some y.event) xs → All (λ y. event_at (x ∷ xs) y.id ≡ Some y.event) xs
+    later x xs above rest k d low =
+        let high = above k d low in
+        let found = rest k d low in
+        rw (ne_eqb x.id (get_or xs k d).id (λ e. omega arith)) found
+
+-- what was read of a slot's events and the places that are left
+pub record IsRead (events : List Numbered) (t : ℕ) (read : List Numbered) (left : List Place) : Type 0 where
+  pub rest : List Numbered
+  pub whole : read ++ rest ≡ in_run_order (filter (is_of_slot t) events)
+  pub places : left ≡ map place_of rest
+
+-- the next place is that of an event that is held
+pub record IsNext (events : List Numbered) (t : ℕ) (read : List Numbered) (place : Place) (left : List Place) : Type 0 where
+  pub at : Numbered
+  pub is : place ≡ place_of at
+  pub held : event_at events at.id ≡ Some at.event
+  pub then : IsRead events t (read ++ at ∷ []) left
+
+pub next_event : (events : List Numbered) (t : ℕ) (read : List Numbered) (place : Place) (left : List Place) → AllPairs (λ x y. x.id < y.id) events → IsRead events t read (place ∷ left) → IsNext events t read place left
+next_event events t read place left up h = by h.rest h.whole h.places
+  where
+    by : (rest : List Numbered) → read ++ rest ≡ in_run_order (filter (is_of_slot t) events) → place ∷ left ≡ map place_of rest → IsNext events t read place left
+    by [] whole places = absurd (cc)
+    by (y ∷ ys) whole places =
+        let P : Numbered → Type 0 = λ y. event_at events y.id ≡ Some y.event in
+        let own = All-sorted_by P run_cmp (filter (is_of_slot t) events) (All-filter (is_of_slot t) P events (own_events events (Pairs-from_all (λ x y. x.id < y.id) events up))) in
+        record {
+          at = y;
+          is = cc;
+          held = All_at P read y ys (subst (All P) (sym whole) own);
+          then = record { rest = ys; whole = append_assoc read (y ∷ []) ys ∙ whole; places = cc };
+        }
+
+-- with no place left all is read
+pub all_read : (events : List Numbered) (t : ℕ) (read : List Numbered) → IsRead events t read [] → read ≡ in_run_order (filter (is_of_slot t) events)
+all_read events t read h = by h.rest h.whole h.places
+  where
+    by : (rest : List Numbered) → read ++ rest ≡ in_run_order (filter (is_of_slot t) events) → [] ≡ map place_of rest → read ≡ in_run_order (filter (is_of_slot t) events)
+    by [] whole places = sym (append-nil read) ∙ whole
+    by (y ∷ ys) whole places = absurd (cc)
+
+-- an event that was found by its number is that event
+pub found_same : (id : ℕ) (event : Event) (x : Numbered) → id ≡ x.id → Some event ≡ Some x.event → with_number id event ≡ x
+found_same id event x number found =
+    ap (λ k. with_number k event) number ∙ ap (λ o. with_number x.id (unwrap_or o event)) found
+
+pub none_some : {X : Type 0} (x : X) → None ≡ Some x → ⊥
+none_some x h = cc

@@ -1,0 +1,202 @@
+ghost use Rattle.std.specs.Prelude.{◌≡◌, ◌<◌, true, [], ◌∷◌, ◌++◌, length, filter, All, IfOk, OnOk, OnErr};
+ghost use Rattle.std.specs.List.{list_any};
+ghost use Rattle.pf_scenario.specs.Event.{is_of_slot, in_run_order};
+ghost use Rattle.pf_scenario.specs.Scenario.{with_number, is_held, events_without};
+ghost use Rattle.pf_scenario.specs.Edit.{join_alike, leave_alike};
+ghost use Rattle.pf_scenario.specs.Index.{IsNewEvent, event_at, with_event};
+
+use crate::by_number::ByNumber;
+use crate::event::{Event, Numbered};
+use crate::events::Events;
+use crate::place::{Place, move_place};
+use crate::settings::WIDE_HORIZON;
+use crate::tables::{grow_for, note, notes_other};
+use std::alloc::{AllocError, Global};
+use std::collections::BTreeSet;
+use std::marker::Model;
+
+/// The events held, by number. It knows their order in time, and by task which event joins and which leaves, so that
+/// each question and each change costs the logarithm of their number.
+#[derive(Debug, Drop)]
+pub struct Agenda {
+    events: ByNumber,
+    order: BTreeSet<Place>,
+    joins: Vec<u64>,
+    leaves: Vec<u64>,
+}
+
+impl Model for Agenda {
+    ghost use Rattle.std.specs.Prelude.{List};
+    ghost use Rattle.pf_scenario.specs.declared.event.Numbered.{Numbered};
+    ghost use Rattle.pf_scenario.specs.Index.{IsIndexed};
+
+    ghost Value = { List Numbered };
+
+    ghost view = { λ a. a.events };
+
+    ghost invariant = { λ a. IsIndexed a.events a.order.keys a.joins.items a.leaves.items };
+}
+
+impl Agenda {
+    /// No events.
+    pub fn new(alloc: Global) -> Self
+        ensures { result ≡ [] }
+    {
+        Agenda {
+            events: ByNumber::new(alloc),
+            order: BTreeSet::new(alloc),
+            joins: Vec::new(alloc),
+            leaves: Vec::new(alloc),
+        }
+    }
+
+    /// How many events are held.
+    pub fn len(&self) -> usize
+        ensures { result ≡ length self.now }
+    {
+        self.events.len()
+    }
+
+    /// The event of this number, where it is held.
+    pub fn get(&self, id: u64) -> Option<Event>
+        ensures { result ≡ event_at self.now id }
+    {
+        self.events.get(id)
+    }
+
+    /// Holds an event whose number is above all others.
+    ///
+    /// # Errors
+    ///
+    /// Where memory is refused: the events are as before.
+    pub fn push(&mut self, x: Numbered) -> Result<(), AllocError>
+        requires new { IsNewEvent x self.old }
+        requires last { All (λ y. y.id < x.id) self.old }
+        ensures ok { OnOk result (self.new ≡ self.old ++ x ∷ []) }
+        ensures err { OnErr result (self.new ≡ self.old) }
+    {
+        let place = Place::of(&x);
+        grow_for(&mut self.joins, &mut self.leaves, &x.event)?;
+        self.order.insert(place)?;
+        match self.events.push(x) {
+            Ok(()) => {
+                note(&mut self.joins, &mut self.leaves, &x.event, x.id);
+                Ok(())
+            }
+            Err(refused) => {
+                self.order.remove(&place);
+                Err(refused)
+            }
+        }
+    }
+
+    /// Takes the event of this number out, which is held.
+    pub fn take_out(&mut self, id: u64)
+        requires { is_held self.old id ≡ true }
+        ensures { self.new ≡ events_without id self.old }
+    {
+        let Some(event) = self.events.get(id) else {
+            unreachable!()
+        };
+        self.order.remove(&Place::of(&Numbered { id, event }));
+        self.events.take_out(id);
+        note(&mut self.joins, &mut self.leaves, &event, 0);
+    }
+
+    /// Puts the event in place of the one of this number, which is held.
+    ///
+    /// # Errors
+    ///
+    /// Where memory is refused: the events are as before.
+    pub fn replace(&mut self, id: u64, event: Event) -> Result<(), AllocError>
+        requires held { is_held self.old id ≡ true }
+        requires new { IsNewEvent (with_number id event) (events_without id self.old) }
+        ensures ok { OnOk result (self.new ≡ with_event id event self.old) }
+        ensures err { OnErr result (self.new ≡ self.old) }
+    {
+        let Some(was) = self.events.get(id) else {
+            unreachable!()
+        };
+        grow_for(&mut self.joins, &mut self.leaves, &event)?;
+        let from = Place::of(&Numbered { id, event: was });
+        let to = Place::of(&Numbered { id, event });
+        move_place(&mut self.order, from, to)?;
+        self.events.set(id, event);
+        note(&mut self.joins, &mut self.leaves, &was, 0);
+        note(&mut self.joins, &mut self.leaves, &event, id);
+        Ok(())
+    }
+
+    /// Whether an event of another number than this one joins the task that the event joins.
+    pub fn joins_beside(&self, id: u64, event: &Event) -> bool
+        ensures { result ≡ list_any (λ x. join_alike x.event event.now) (events_without id self.now) }
+    {
+        match *event {
+            Event::Join { task, .. } => notes_other(&self.joins, task, id),
+            Event::Leave { .. } | Event::Delay { .. } | Event::Limit { .. } => false,
+        }
+    }
+
+    /// Whether an event of another number than this one leaves the task that the event leaves.
+    pub fn leaves_beside(&self, id: u64, event: &Event) -> bool
+        ensures { result ≡ list_any (λ x. leave_alike x.event event.now) (events_without id self.now) }
+    {
+        match *event {
+            Event::Leave { task, .. } => notes_other(&self.leaves, task, id),
+            Event::Join { .. } | Event::Delay { .. } | Event::Limit { .. } => false,
+        }
+    }
+
+    /// The events of slot t, in the order of a run.
+    ///
+    /// # Errors
+    ///
+    /// Where memory is refused.
+    pub fn of_slot(&self, t: u64) -> Result<Vec<Numbered>, AllocError>
+        ensures { IfOk result (λ v. v.items ≡ in_run_order (filter (is_of_slot t) self.now)) }
+    {
+        let mut events = Vec::new(*self.joins.allocator());
+        if t >= WIDE_HORIZON {
+            return Ok(events);
+        }
+        let slot = t as u32;
+        for place in self
+            .order
+            .range(Place::first_of(slot)..Place::first_of(slot + 1))
+        {
+            let id = u64::from(place.id);
+            let Some(event) = self.events.get(id) else {
+                unreachable!()
+            };
+            events.push(Numbered { id, event })?;
+        }
+        Ok(events)
+    }
+
+    /// The events.
+    pub fn iter(&self) -> Events<'_>
+        ensures { result ≡ self.now }
+    {
+        self.events.iter()
+    }
+
+    /// The same events.
+    ///
+    /// # Errors
+    ///
+    /// Where memory is refused.
+    pub fn copy(&self) -> Result<Self, AllocError>
+        ensures { IfOk result (λ a. a ≡ self.now) }
+    {
+        let joins = Vec::from_slice(*self.joins.allocator(), &self.joins)?;
+        let leaves = Vec::from_slice(*self.leaves.allocator(), &self.leaves)?;
+        let events = self.events.copy()?;
+        let order = self.order.clone()?;
+        Ok(Agenda {
+            events,
+            order,
+            joins,
+            leaves,
+        })
+    }
+}
