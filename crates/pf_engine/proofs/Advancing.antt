@@ -1,7 +1,12 @@
 -- What a slot asks of its memory and of the choice.
-use Rattle.std.proofs.Common.{◌≡◌, ◌+◌, ◌≤◌, not, ◌==◌, Option, Some, None, List, [], ◌∷◌, length, sym, ap, ◌∙◌, subst, arith}
+use Rattle.std.proofs.Common.{◌≡◌, ℕ, ◌+◌, ◌<◌, ◌≤◌, true, not, ◌==◌, get_or, Option, Some, None, List, [], ◌∷◌, length, sym, ap, ◌∙◌, subst, arith}
+use Rattle.std.proofs.lemmas.Bool.{eqb-true}
 use Rattle.std.proofs.lemmas.List.{length_push, length-map}
 use Rattle.std.proofs.lemmas.List.Sums.{length-filter, count_by-le-length}
+use Rattle.pf_weight.specs.declared.task.TheConstants.{LARGEST_TASK}
+use Rattle.pf_scenario.specs.System.{System}
+use Rattle.pf_scenario.specs.Event.{is_join_of}
+use Rattle.pf_scenario.specs.Edit.{IsEvent}
 use Rattle.pf_scenario.specs.declared.event.Event.{Event}
 use Rattle.pf_scenario.specs.declared.event.Event.TheVariants.{Join, Leave, Delay, Limit}
 use Rattle.pf_scenario.specs.declared.event.Numbered.{Numbered}
@@ -11,9 +16,23 @@ use Rattle.pf_engine.specs.Fits.{KeptTask, Kept, kept_after}
 use Rattle.pf_engine.specs.Kept.{changed_task, member_after_delay, new_task, denial_at, kept_with_event, kept_after_verdict, kept_after_event, kept_after_events, ready_keys}
 use Rattle.pf_engine.specs.Choice.{OneOfEach}
 use Rattle.pf_engine.specs.Points.{IsAt}
+use Rattle.pf_engine.specs.Roll.{AllJoinBelow}
 use Rattle.pf_run.proofs.Keys.{ready_count}
+use Rattle.pf_run.proofs.Limits.{join_task}
 use Rattle.pf_engine.proofs.Events.{kept_taken}
 use Rattle.pf_engine.proofs.Ready.{ready_same}
+
+-- each event joins a task of a number within the limits, or none
+join_below : (s : System) (event : Event) (task : ℕ) → IsEvent s event → is_join_of task event ≡ true → task < LARGEST_TASK + 1
+join_below s (Join slot task' cost period early) task limits joins =
+    omega (arith, (join_task s slot task' cost period early limits).1, eqb-true task' task joins)
+join_below s (Leave slot task') task limits joins = cc
+join_below s (Delay slot task' by) task limits joins = cc
+join_below s (Limit slot count) task limits joins = cc
+
+pub all_join_below : (e : Kept) (events : List Numbered) → IsAt e events → AllJoinBelow (LARGEST_TASK + 1) events
+all_join_below e events at =
+    λ k d within task joins. join_below at.settings (get_or events k d).event task (at.follow.limits_of_events k d within) joins
 
 -- each event brings one task at most
 with_event_few : (e : Kept) (event : Event) → length (kept_with_event e event).tasks ≤ length e.tasks + 1

@@ -1,5 +1,6 @@
 -- What holds of every engine.
 use Rattle.std.specs.Prelude.{◌≡◌, ℕ, ◌^◌, ◌≤◌, ◌==◌, List, sum_by, count_by, All}
+use Rattle.pf_weight.specs.declared.task.TheConstants.{LARGEST_TASK}
 use Rattle.pf_scenario.specs.System.{IsSystem}
 use Rattle.pf_admit.specs.Member.{IsMember}
 use Rattle.pf_engine.specs.Fits.{KeptTask, Kept}
@@ -11,7 +12,7 @@ tasks_of task tasks = count_by (λ k. k.task == task) tasks
 -- a task inside has its numbers within their limits
 pub record IsInside (k : KeptTask) : Type 0 where
   pub task_some : 1 ≤ k.task
-  pub task_within : k.task ≤ 4095
+  pub task_within : k.task ≤ LARGEST_TASK
   pub member : IsMember k.member
 
 -- the invariant of an engine, of what it keeps: its settings are a system, it took no slot beyond the horizon, no two

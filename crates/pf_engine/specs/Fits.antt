@@ -4,15 +4,10 @@ use Rattle.pf_scenario.specs.System.{System}
 use Rattle.pf_scenario.specs.Scenario.{Plan, events_of}
 use Rattle.pf_scenario.specs.Edit.{IsScenario}
 use Rattle.pf_scenario.specs.declared.event.Numbered.{Numbered}
-use Rattle.pf_admit.specs.declared.member.Member.{Member}
 use Rattle.pf_run.specs.Record.{Slot}
 use Rattle.pf_run.specs.Inside.{Joined, inside, load_of, count_of, member_of}
 use Rattle.pf_run.specs.Run.{events_in_force, IsNextSlot, IsRun}
-
--- a task inside, as an engine keeps it
-pub record KeptTask : Type 0 where
-  pub task : ℕ
-  pub member : Member
+pub use Rattle.pf_engine.specs.declared.kept_task.KeptTask.{KeptTask}
 
 -- what an engine keeps: its settings, the number of slots that it took, the tasks inside in the order of their joins,
 -- their load, and how many processors were in use last

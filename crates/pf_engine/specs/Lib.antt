@@ -7,7 +7,7 @@ pub mod Engines
 pub mod Points
 pub mod Taking
 pub mod Roll
-pub mod Entries
+pub mod Places
 pub mod Choice
 pub mod Keeping
 pub mod Rooms

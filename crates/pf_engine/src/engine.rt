@@ -46,7 +46,7 @@ impl Engine {
         ensures fits { IfOk result (λ e. (s : Plan) → s.settings ≡ settings → Fits s [] e) }
     {
         Ok(Engine {
-            state: State::new(alloc, settings)?,
+            state: State::new(alloc, settings),
         })
     }
 
@@ -96,7 +96,7 @@ impl Engine {
         ensures at_most { CountsAtMost 1 meter.old meter.new }
         ensures not_counted { OnErr result (meter.new ≡ meter.old) }
     {
-        let room = self.state.prepare(events.len())?;
+        let room = self.state.prepare(events)?;
         meter.slot();
         Ok(self.state.advance(meter, events, room))
     }

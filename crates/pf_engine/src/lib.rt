@@ -4,7 +4,7 @@
 
 mod choice;
 pub mod engine;
-mod entry;
+mod kept_task;
 pub mod outcome;
 mod room;
 mod roster;

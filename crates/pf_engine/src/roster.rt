@@ -1,50 +1,50 @@
-ghost use Rattle.std.specs.Prelude.{◌≡◌, ◌==◌, ◌+◌, ◌^◌, ◌<◌, ◌≤◌, ◌++◌, ◌∷◌, [], None, Some, IsSome, IfOk, OnOk, OnErr, length, position, slice_get};
+ghost use Rattle.std.specs.Prelude.{◌≡◌, ◌+◌, ◌^◌, ◌<◌, ◌≤◌, ◌++◌, ◌∷◌, [], None, Some, OnOk, IfOk, MatchOption, length, slice_get};
 ghost use Rattle.std.specs.Option.{option_copied, ForSome};
-ghost use Rattle.pf_engine.specs.Entries.{IsListedTo};
+ghost use Rattle.pf_weight.specs.declared.task.TheConstants.{LARGEST_TASK};
+ghost use Rattle.pf_scenario.specs.declared.scenario.TheConstants.{MOST_EVENTS};
+ghost use Rattle.pf_table.specs.Grown.{size_of};
 ghost use Rattle.pf_engine.specs.Kept.{member_in, changed_tasks, other_tasks, member_after_delay, member_after_run};
+ghost use Rattle.pf_engine.specs.Places.{IsListedTo, HasNoTask, IsOnlyAt};
+ghost use Rattle.pf_engine.specs.Roll.{AllJoinBelow};
 
-use crate::entry::Entry;
+use crate::kept_task::KeptTask;
 use pf_admit::member::Member;
+use pf_scenario::event::{Event, Numbered};
+use pf_table::table::Table;
 use std::alloc::{AllocError, Global};
 use std::marker::Model;
-
-/// The places of the table: task numbers are below it.
-const PLACES: usize = 4096;
 
 /// The tasks inside, in the order of their joins. A table by number says where each stands, so that none is searched
 /// for; at the number of a task that is not inside, it holds any place.
 #[derive(Drop)]
 pub(crate) struct Roster {
-    places: Vec<u16>,
-    entries: Vec<Entry>,
+    places: Table<u16>,
+    tasks: Vec<KeptTask>,
 }
 
 impl Model for Roster {
     ghost use Rattle.std.specs.Prelude.{◌-◌, vec_len, vec_capacity};
+    ghost use Rattle.pf_table.specs.Grown.{size_of};
     ghost use Rattle.pf_engine.specs.Roll.{Roll};
 
     ghost Value = { Roll };
 
-    ghost use Rattle.pf_engine.specs.Entries.{tasks_of_entries, IsListed};
+    ghost use Rattle.pf_engine.specs.Places.{IsListed};
 
-    ghost view = { λ r. record { tasks = tasks_of_entries r.entries.items; spare = vec_capacity r.entries - vec_len r.entries } };
+    ghost view = { λ r. record { tasks = r.tasks.items; spare = vec_capacity r.tasks - vec_len r.tasks; numbers = size_of r.places } };
 
-    ghost invariant = { λ r. IsListed r.places.items r.entries.items };
+    ghost invariant = { λ r. IsListed r.places r.tasks.items };
 }
 
 impl Roster {
-    /// No task.
-    ///
-    /// # Errors
-    ///
-    /// Where memory is refused.
-    pub(crate) fn new(alloc: Global) -> Result<Self, AllocError>
-        ensures { IfOk result (λ r. r.tasks ≡ []) }
+    /// No task. Takes no memory.
+    pub(crate) fn new(alloc: Global) -> Self
+        ensures { result.tasks ≡ [] }
     {
-        Ok(Roster {
-            places: vec![in alloc; 0u16; PLACES]?,
-            entries: Vec::new(alloc),
-        })
+        Roster {
+            places: Table::new(alloc, 0),
+            tasks: Vec::new(alloc),
+        }
     }
 
     /// Makes room for this many tasks more.
@@ -54,98 +54,137 @@ impl Roster {
     /// Where memory is refused.
     pub(crate) fn reserve(&mut self, more: usize) -> Result<(), AllocError>
         ensures tasks { self.new.tasks ≡ self.old.tasks }
+        ensures numbers { self.new.numbers ≡ self.old.numbers }
         ensures room { OnOk result (more ≤ self.new.spare) }
     {
-        self.entries.reserve(more)
+        self.tasks.reserve(more)
+    }
+
+    /// Makes room for a task of this number.
+    ///
+    /// # Errors
+    ///
+    /// Where memory is refused.
+    fn reserve_task(&mut self, task: u64) -> Result<(), AllocError>
+        requires { task ≤ LARGEST_TASK }
+        ensures tasks { self.new.tasks ≡ self.old.tasks }
+        ensures spare { self.new.spare ≡ self.old.spare }
+        ensures grows { self.old.numbers ≤ self.new.numbers }
+        ensures room { OnOk result (task < self.new.numbers) }
+    {
+        self.places.reserve(task as u32)
+    }
+
+    /// Makes room for the tasks that join by these events.
+    ///
+    /// # Errors
+    ///
+    /// Where memory is refused.
+    pub(crate) fn reserve_joins(&mut self, events: &[Numbered]) -> Result<(), AllocError>
+        requires { AllJoinBelow (LARGEST_TASK + 1) events.now }
+        ensures tasks { self.new.tasks ≡ self.old.tasks }
+        ensures spare { self.new.spare ≡ self.old.spare }
+        ensures room { OnOk result (AllJoinBelow self.new.numbers events.now) }
+    {
+        for x in events {
+            if let Event::Join { task, .. } = x.event {
+                self.reserve_task(task)?;
+            }
+        }
+        Ok(())
     }
 
     /// How many tasks are inside.
     pub(crate) fn len(&self) -> usize
         ensures { result ≡ length self.now.tasks }
     {
-        self.entries.len()
+        self.tasks.len()
     }
 
     /// The task at this place, counted from 0.
-    pub(crate) fn at(&self, place: usize) -> Entry
+    pub(crate) fn at(&self, place: usize) -> KeptTask
         requires { place < length self.now.tasks }
-        ensures { slice_get self.now.tasks place ≡ Some (record { task = result.task; member = result.member }) }
+        ensures { slice_get self.now.tasks place ≡ Some result }
     {
-        self.entries[place]
+        self.tasks[place]
     }
 
     /// The member of this number.
     pub(crate) fn get(&self, task: u64) -> Option<&Member>
-        requires { task ≤ 4095 }
+        requires { task ≤ LARGEST_TASK }
         ensures { option_copied result ≡ member_in self.now.tasks task }
     {
         let Some(place) = self.place_of(task) else {
             return None;
         };
-        Some(&self.entries[place].member)
+        Some(&self.tasks[place].member)
     }
 
     /// Adds a task, which is not inside yet.
     pub(crate) fn push(&mut self, task: u64, member: Member)
-        requires number { task ≤ 4095 }
+        requires number { task < self.old.numbers }
         requires absent { member_in self.old.tasks task ≡ None }
         requires room { 1 ≤ self.old.spare }
-        requires few { length self.old.tasks < 65535 }
+        requires few { length self.old.tasks < MOST_EVENTS }
         ensures tasks { self.new.tasks ≡ self.old.tasks ++ record { task = task; member = member } ∷ [] }
         ensures spare { self.old.spare ≤ self.new.spare + 1 }
+        ensures numbers { self.new.numbers ≡ self.old.numbers }
     {
-        self.places[task as usize] = self.entries.len() as u16;
-        self.entries.push_reserved(Entry { task, member });
+        self.places.set(task as u32, self.tasks.len() as u16);
+        self.tasks.push_reserved(KeptTask { task, member });
     }
 
     /// Holds back the task's next subtask by this many slots.
     pub(crate) fn delay(&mut self, task: u64, by: u64)
-        requires number { task ≤ 4095 }
+        requires number { task ≤ LARGEST_TASK }
         requires fits { ForSome (member_in self.old.tasks task) (λ m. m.shift + by < 2 ^ 64) }
         ensures tasks { self.new.tasks ≡ changed_tasks task (member_after_delay by) self.old.tasks }
         ensures spare { self.new.spare ≡ self.old.spare }
+        ensures numbers { self.new.numbers ≡ self.old.numbers }
     {
         let Some(place) = self.place_of(task) else {
             return;
         };
-        let entry = &mut self.entries[place];
-        entry.member.shift += by;
+        let kept = &mut self.tasks[place];
+        kept.member.shift += by;
     }
 
     /// Notes that this subtask of the task ran.
     pub(crate) fn run(&mut self, task: u64, sub: u64)
-        requires { task ≤ 4095 }
+        requires { task ≤ LARGEST_TASK }
         ensures tasks { self.new.tasks ≡ changed_tasks task (member_after_run sub) self.old.tasks }
         ensures spare { self.new.spare ≡ self.old.spare }
+        ensures numbers { self.new.numbers ≡ self.old.numbers }
     {
         let Some(place) = self.place_of(task) else {
             return;
         };
-        let entry = &mut self.entries[place];
-        entry.member.done = sub;
-        entry.member.last = entry.member.shift;
+        let kept = &mut self.tasks[place];
+        kept.member.done = sub;
+        kept.member.last = kept.member.shift;
     }
 
     /// Takes the task out.
     pub(crate) fn remove(&mut self, task: u64)
-        requires number { task ≤ 4095 }
-        requires few { length self.old.tasks ≤ 65535 }
+        requires number { task ≤ LARGEST_TASK }
+        requires few { length self.old.tasks ≤ MOST_EVENTS }
         ensures tasks { self.new.tasks ≡ other_tasks task self.old.tasks }
         ensures spare { self.old.spare ≤ self.new.spare }
+        ensures numbers { self.new.numbers ≡ self.old.numbers }
     {
         let Some(place) = self.place_of(task) else {
             return;
         };
-        let _ = self.entries.remove(place);
-        renumber(&mut self.places, &self.entries, place);
+        let _ = self.tasks.remove(place);
+        renumber(&mut self.places, &self.tasks, place);
     }
 
     /// Where its memory comes from.
     pub(crate) fn allocator(&self) -> Global {
-        *self.places.allocator()
+        *self.tasks.allocator()
     }
 
-    /// The same tasks.
+    /// The same tasks, in the memory of as many, and of the numbers up to the greatest for which there was room.
     ///
     /// # Errors
     ///
@@ -154,35 +193,36 @@ impl Roster {
         ensures { IfOk result (λ r. r.tasks ≡ self.now.tasks) }
     {
         Ok(Roster {
-            places: Vec::from_slice(self.allocator(), &self.places)?,
-            entries: Vec::from_slice(self.allocator(), &self.entries)?,
+            places: self.places.copy()?,
+            tasks: Vec::from_slice(self.allocator(), &self.tasks)?,
         })
     }
 
     /// Where the task of this number stands.
     fn place_of(&self, task: u64) -> Option<usize>
-        requires { task ≤ 4095 }
-        ensures { result ≡ position (λ k. k.task == task) self.now.tasks }
+        requires { task ≤ LARGEST_TASK }
+        ensures { MatchOption result (HasNoTask task self.now.tasks) (IsOnlyAt task self.now.tasks) }
     {
-        let place = usize::from(self.places[task as usize]);
-        if place >= self.entries.len() {
+        let place = usize::from(self.places.get(task as u32));
+        if place >= self.tasks.len() {
             return None;
         }
-        if self.entries[place].task != task {
+        if self.tasks[place].task != task {
             return None;
         }
         Some(place)
     }
 }
 
-/// Writes down where each entry from this one on stands.
-fn renumber(places: &mut [u16], entries: &[Entry], from: usize)
-    requires few { length entries.now ≤ 65535 }
-    requires listed { IsListedTo from places.old entries.now }
-    ensures { IsListedTo (length entries.now) places.new entries.now }
+/// Writes down where each task from this place on stands.
+fn renumber(places: &mut Table<u16>, tasks: &[KeptTask], from: usize)
+    requires few { length tasks.now ≤ MOST_EVENTS }
+    requires listed { IsListedTo from places.old tasks.now }
+    ensures listed { IsListedTo (length tasks.now) places.new tasks.now }
+    ensures size { size_of places.new ≡ size_of places.old }
 {
-    for place in from..entries.len() {
-        let entry = entries[place];
-        places[entry.task as usize] = place as u16;
+    for place in from..tasks.len() {
+        let kept = tasks[place];
+        places.set(kept.task as u32, place as u16);
     }
 }

@@ -1,5 +1,6 @@
-ghost use Rattle.std.specs.Prelude.{◌≡◌, ◌+◌, ◌^◌, ◌<◌, ◌≤◌, ◌++◌, [], IfOk, OnOk, All, length, map, vec_len, vec_capacity};
+ghost use Rattle.std.specs.Prelude.{◌≡◌, ◌+◌, ◌<◌, ◌≤◌, ◌++◌, [], IfOk, OnOk, length, map, vec_len, vec_capacity};
 ghost use Rattle.std.specs.Result.{result_err};
+ghost use Rattle.pf_scenario.specs.declared.settings.TheConstants.{WIDE_HORIZON};
 ghost use Rattle.pf_admit.specs.Member.{IsMember};
 ghost use Rattle.pf_run.specs.Inside.{eligible_from};
 ghost use Rattle.pf_run.specs.Run.{pick_of_key};
@@ -7,10 +8,11 @@ ghost use Rattle.pf_engine.specs.Fits.{kept_after};
 ghost use Rattle.pf_engine.specs.Kept.{denial_at, kept_after_event, kept_after_events, denials_of_slot, ready_keys, kept_after_picks};
 ghost use Rattle.pf_engine.specs.Engines.{IsEngine};
 ghost use Rattle.pf_engine.specs.Points.{IsAt};
+ghost use Rattle.pf_engine.specs.Roll.{JoinsBelow, AllJoinBelow};
 ghost use Rattle.pf_engine.specs.Taking.{CanTakeEvent, Advances};
 
 use crate::choice::choose;
-use crate::entry::Entry;
+use crate::kept_task::KeptTask;
 use crate::outcome::Outcome;
 use crate::room::Room;
 use crate::roster::Roster;
@@ -46,23 +48,19 @@ impl State {
     ghost use Rattle.pf_engine.specs.Keeping.{kept_of};
     ghost use Rattle.pf_engine.specs.Rooms.{HasSlotRoom};
 
-    /// Before any slot.
-    ///
-    /// # Errors
-    ///
-    /// Where memory is refused.
+    /// Before any slot. Takes no memory.
     #[tactic(auto, unfolding(crate::specs::Fits::kept_after, pf_run::specs::Inside::inside, pf_run::specs::Inside::load_of, pf_run::specs::Inside::count_of))]
-    pub(crate) fn new(alloc: Global, settings: Settings) -> Result<Self, AllocError>
-        ensures kept { IfOk result (λ s. kept_of s ≡ kept_after settings [] []) }
-        ensures engine { IfOk result (λ s. IsEngine (kept_of s)) }
+    pub(crate) fn new(alloc: Global, settings: Settings) -> Self
+        ensures kept { kept_of result ≡ kept_after settings [] [] }
+        ensures engine { IsEngine (kept_of result) }
     {
-        Ok(State {
+        State {
             settings,
             slots: 0,
-            tasks: Roster::new(alloc)?,
+            tasks: Roster::new(alloc),
             load: 0,
             count: settings.processors(),
-        })
+        }
     }
 
     /// The same state.
@@ -82,21 +80,24 @@ impl State {
         })
     }
 
-    /// Makes room for a slot of this many events. What is kept stays as it was.
+    /// Makes room for a slot of these events. What is kept stays as it was.
     ///
     /// # Errors
     ///
     /// Where memory is refused.
-    pub(crate) fn prepare(&mut self, events: usize) -> Result<Room, AllocError>
-        requires few { length self.old.tasks.tasks + events < 2 ^ 64 }
+    pub(crate) fn prepare(&mut self, events: &[Numbered]) -> Result<Room, AllocError>
+        requires { IsAt (kept_of self.old) events.now }
         ensures same { kept_of self.new ≡ kept_of self.old }
-        ensures spare { OnOk result (events ≤ self.new.tasks.spare) }
-        ensures room { IfOk result (HasSlotRoom events (length self.old.tasks.tasks + events) self.old.settings.processors) }
+        ensures spare { OnOk result (length events.now ≤ self.new.tasks.spare) }
+        ensures numbers { OnOk result (AllJoinBelow self.new.tasks.numbers events.now) }
+        ensures room { IfOk result (HasSlotRoom (length events.now) (length self.old.tasks.tasks + length events.now) self.old.settings.processors) }
     {
-        let keys = self.tasks.len() + events;
+        let more = events.len();
+        let keys = self.tasks.len() + more;
         let picks = self.settings.processors() as usize;
-        let room = Room::new(self.tasks.allocator(), events, keys, picks)?;
-        self.tasks.reserve(events)?;
+        let room = Room::new(self.tasks.allocator(), more, keys, picks)?;
+        self.tasks.reserve(more)?;
+        self.tasks.reserve_joins(events)?;
         Ok(room)
     }
 
@@ -104,6 +105,7 @@ impl State {
     pub(crate) fn advance(&mut self, meter: &mut Meter, events: &[Numbered], room: Room) -> Outcome
         requires at { IsAt (kept_of self.old) events.now }
         requires spare { length events.now ≤ self.old.tasks.spare }
+        requires numbers { AllJoinBelow self.old.tasks.numbers events.now }
         requires room { HasSlotRoom (length events.now) (length self.old.tasks.tasks + length events.now) self.old.settings.processors room }
         ensures advances { Advances (kept_of self.old) events.now result (kept_of self.new) }
         ensures slots { meter.new.slots ≡ meter.old.slots }
@@ -129,9 +131,11 @@ impl State {
     fn take_event(&mut self, event: Event) -> Result<(), Denial>
         requires can { CanTakeEvent (kept_of self.old) event }
         requires room { 1 ≤ self.old.tasks.spare }
+        requires number { JoinsBelow self.old.tasks.numbers event }
         ensures denial { result_err result ≡ denial_at (kept_of self.old) event }
         ensures state { kept_of self.new ≡ kept_after_event (kept_of self.old) event }
         ensures spare { self.old.tasks.spare ≤ self.new.tasks.spare + 1 }
+        ensures numbers { self.new.tasks.numbers ≡ self.old.tasks.numbers }
     {
         match event {
             Event::Join {
@@ -161,9 +165,11 @@ impl State {
     ) -> Result<(), Denial>
         requires can { CanTakeEvent (kept_of self.old) (Event.Join slot task cost period early) }
         requires room { 1 ≤ self.old.tasks.spare }
+        requires number { task < self.old.tasks.numbers }
         ensures denial { result_err result ≡ denial_at (kept_of self.old) (Event.Join slot task cost period early) }
         ensures state { kept_of self.new ≡ kept_after_event (kept_of self.old) (Event.Join slot task cost period early) }
         ensures spare { self.old.tasks.spare ≤ self.new.tasks.spare + 1 }
+        ensures numbers { self.new.tasks.numbers ≡ self.old.tasks.numbers }
     {
         let Ok(weight) = Weight::new(self.settings.base(), cost, period) else {
             unreachable!()
@@ -190,6 +196,7 @@ impl State {
         ensures denial { result_err result ≡ denial_at (kept_of self.old) (Event.Leave slot task) }
         ensures state { kept_of self.new ≡ kept_after_event (kept_of self.old) (Event.Leave slot task) }
         ensures spare { self.old.tasks.spare ≤ self.new.tasks.spare }
+        ensures numbers { self.new.tasks.numbers ≡ self.old.tasks.numbers }
     {
         let member = self.tasks.get(task).copied();
         may_leave(slot, member.as_ref())?;
@@ -206,6 +213,7 @@ impl State {
         ensures denial { result_err result ≡ denial_at (kept_of self.old) (Event.Delay slot task by) }
         ensures state { kept_of self.new ≡ kept_after_event (kept_of self.old) (Event.Delay slot task by) }
         ensures spare { self.old.tasks.spare ≤ self.new.tasks.spare }
+        ensures numbers { self.new.tasks.numbers ≡ self.old.tasks.numbers }
     {
         may_delay(slot, self.tasks.get(task))?;
         self.tasks.delay(task, by);
@@ -216,6 +224,7 @@ impl State {
     fn take_events(&mut self, events: &[Numbered], denials: &mut Vec<Denied>)
         requires at { IsAt (kept_of self.old) events.now }
         requires spare { length events.now ≤ self.old.tasks.spare }
+        requires numbers { AllJoinBelow self.old.tasks.numbers events.now }
         requires room { vec_len denials.old + length events.now ≤ vec_capacity denials.old }
         ensures state { kept_of self.new ≡ kept_after_events (kept_of self.old) events.now }
         ensures denials { denials.new.items ≡ denials.old.items ++ denials_of_slot (kept_of self.old) events.now }
@@ -238,7 +247,7 @@ impl State {
         ensures { keys.new.items ≡ keys.old.items ++ ready_keys (kept_of self.now) }
     {
         for place in 0..self.tasks.len() {
-            let Entry { task, member } = self.tasks.at(place);
+            let KeptTask { task, member } = self.tasks.at(place);
             if eligible_from(&member) <= self.slots {
                 let sub = member.done as u32 + 1;
                 keys.push_reserved(Key::of(member.weight, member.shift, sub, task as u32));
@@ -248,7 +257,7 @@ impl State {
 
     /// Runs these subtasks in the slot, and adds them.
     fn run(&mut self, keys: &[Key], picks: &mut Vec<Pick>)
-        requires below { self.old.slots ≤ 2 ^ 22 }
+        requires below { self.old.slots ≤ WIDE_HORIZON }
         requires room { vec_len picks.old + length keys.now ≤ vec_capacity picks.old }
         ensures state { kept_of self.new ≡ kept_after_picks (kept_of self.old) (map pick_of_key keys.now) }
         ensures picks { picks.new.items ≡ picks.old.items ++ map pick_of_key keys.now }

@@ -3,6 +3,7 @@
 use Rattle.std.specs.Prelude.{◌≡◌, ℕ, ◌<◌, ◌≤◌, ◌^◌, ◌⊎◌, Bool}
 use Rattle.std.specs.declared.cmp.Ordering.{Ordering}
 use Rattle.std.specs.Ordering.{nat_cmp, on, flip_args, then_cmp, is_lt}
+use Rattle.pf_weight.specs.declared.task.TheConstants.{LARGEST_TASK}
 
 -- what the order looks at of a subtask: its deadline, bit and group deadline, shifted, and its task and number
 pub record Priority : Type 0 where
@@ -17,7 +18,7 @@ pub record IsPriority (k : Priority) : Type 0 where
   pub bit : k.bit ≤ 1
   pub group : k.bit ≡ 0 → k.group ≡ 0
   pub task_some : 1 ≤ k.task
-  pub task_within : k.task ≤ 4095
+  pub task_within : k.task ≤ LARGEST_TASK
   pub sub_some : 1 ≤ k.sub
   pub sub_within : k.sub ≤ 2 ^ 24
 

@@ -1,4 +1,5 @@
 ghost use Rattle.std.specs.Prelude.{◌≡◌, ◌<◌, ◌≤◌, ◌^◌};
+ghost use Rattle.pf_weight.specs.declared.task.TheConstants.{LARGEST_TASK};
 ghost use Rattle.pf_order.specs.Priority.{IsPriority};
 ghost use Rattle.pf_order.specs.KeyOf.{key_of};
 
@@ -36,7 +37,7 @@ impl Key {
         requires first { 1 ≤ i }
         requires last { i ≤ 2 ^ 24 }
         requires task_some { 1 ≤ task }
-        requires task_within { task ≤ 4095 }
+        requires task_within { task ≤ LARGEST_TASK }
         requires shift { shift < 2 ^ 40 }
         ensures { result ≡ key_of weight shift i task }
     {

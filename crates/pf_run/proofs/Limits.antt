@@ -7,6 +7,7 @@ use Rattle.std.proofs.lemmas.Bool.Decides.{nat_tests}
 use Rattle.pf_weight.specs.Share.{share_of}
 use Rattle.pf_weight.specs.Weighed.{weight_fault}
 use Rattle.pf_weight.specs.declared.fault.WeightFault.{WeightFault}
+use Rattle.pf_weight.specs.declared.task.TheConstants.{LARGEST_TASK}
 use Rattle.pf_scenario.specs.System.{System}
 use Rattle.pf_scenario.specs.Event.{slot_of}
 use Rattle.pf_scenario.specs.Edit.{IsEvent, or_else, unless, is_within, bad_weight, has_task, has_early, has_delay, has_count, join_alike, leave_alike}
@@ -67,14 +68,14 @@ join_weight s slot task cost period early limits =
     no_fault (weight_fault s.base cost period) (passes_tests s (Join slot task cost period early) limits).weight
 
 pub join_task : (s : System) (slot task cost period early : ℕ) → IsEvent s (Join slot task cost period early) →
-    (1 ≤ task) × (task ≤ 4095)
-join_task s slot task cost period early limits = within_from 4095 task (passes_tests s (Join slot task cost period early) limits).task
+    (1 ≤ task) × (task ≤ LARGEST_TASK)
+join_task s slot task cost period early limits = within_from LARGEST_TASK task (passes_tests s (Join slot task cost period early) limits).task
 
-pub leave_task : (s : System) (slot task : ℕ) → IsEvent s (Leave slot task) → (1 ≤ task) × (task ≤ 4095)
-leave_task s slot task limits = within_from 4095 task (passes_tests s (Leave slot task) limits).task
+pub leave_task : (s : System) (slot task : ℕ) → IsEvent s (Leave slot task) → (1 ≤ task) × (task ≤ LARGEST_TASK)
+leave_task s slot task limits = within_from LARGEST_TASK task (passes_tests s (Leave slot task) limits).task
 
-pub delay_task : (s : System) (slot task by : ℕ) → IsEvent s (Delay slot task by) → (1 ≤ task) × (task ≤ 4095)
-delay_task s slot task by limits = within_from 4095 task (passes_tests s (Delay slot task by) limits).task
+pub delay_task : (s : System) (slot task by : ℕ) → IsEvent s (Delay slot task by) → (1 ≤ task) × (task ≤ LARGEST_TASK)
+delay_task s slot task by limits = within_from LARGEST_TASK task (passes_tests s (Delay slot task by) limits).task
 
 pub delay_by : (s : System) (slot task by : ℕ) → IsEvent s (Delay slot task by) → by ≤ 2 ^ 20
 delay_by s slot task by limits = (within_from (2 ^ 20) by (passes_tests s (Delay slot task by) limits).delay).1

@@ -4,6 +4,8 @@ use Rattle.std.specs.List.{cons_option}
 use Rattle.std.proofs.lemmas.List.Sums.{sum_by-le, length-filter, count_by-le-length}
 use Rattle.std.proofs.lemmas.List.Elements.{All-head, All-tail, All-weaker, All-filter}
 use Rattle.pf_weight.specs.Share.{share_of}
+use Rattle.pf_weight.specs.declared.task.TheConstants.{LARGEST_TASK}
+use Rattle.pf_scenario.specs.declared.settings.TheConstants.{WIDE_HORIZON}
 use Rattle.pf_scenario.specs.System.{System, IsSystem}
 use Rattle.pf_scenario.specs.Scenario.{Plan, past}
 use Rattle.pf_scenario.specs.Edit.{IsScenario, IsEvent}
@@ -18,15 +20,15 @@ use Rattle.pf_run.proofs.Keys.{all_filter_map}
 use Rattle.pf_run.proofs.Plans.{limits_of_past}
 use Rattle.pf_run.proofs.Limits.{passes_tests, join_weight, join_task, delay_by, limit_count, units_within}
 
--- a horizon is at most 2^22
-pub horizon_within : (s : System) → IsSystem s → s.horizon ≤ 2 ^ 22
+-- a horizon is at most that of wide settings
+pub horizon_within : (s : System) → IsSystem s → s.horizon ≤ WIDE_HORIZON
 horizon_within s is = ⊎_elim (λ near. omega (arith, near)) (λ wide. omega (arith, wide)) is.horizon
 
 -- a task that joined has its numbers within the limits
 pub record IsJoined (s : System) (j : Joined) : Type 0 where
   pub slot : j.slot < s.horizon
   pub task_some : 1 ≤ j.task
-  pub task_within : j.task ≤ 4095
+  pub task_within : j.task ≤ LARGEST_TASK
   pub units : j.weight.units ≤ s.base
 
 pub joined_within : (s : System) (event : Event) (j : Joined) → joined_by s.base event ≡ Some j → IsEvent s event → IsJoined s j
@@ -92,7 +94,7 @@ held_within s r task i (Leave slot task') limits = omega arith
 held_within s r task i (Limit slot count) limits = omega arith
 
 pub shift_within : (s : System) (r : List Slot) (xs : List Numbered) (j : Joined) (i : ℕ) → IsSystem s →
-    All (λ x. IsEvent s x.event) xs → IsJoined s j → shift_of r xs j i ≤ 2 ^ 22 + 2 ^ 20 * length xs
+    All (λ x. IsEvent s x.event) xs → IsJoined s j → shift_of r xs j i ≤ WIDE_HORIZON + 2 ^ 20 * length xs
 unfolding shift_of
 shift_within s r xs j i is limits joined =
     omega (

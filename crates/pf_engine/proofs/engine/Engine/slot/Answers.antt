@@ -1,20 +1,13 @@
-use Rattle.std.proofs.Common.{length, sym, ap, ◌∙◌, subst, arith}
-use Rattle.pf_engine.specs.Fits.{Kept}
+use Rattle.std.proofs.Common.{sym, ◌∙◌, subst}
 use Rattle.pf_engine.specs.Points.{IsAt}
 use Rattle.pf_engine.specs.Taking.{Advances}
 use Rattle.pf_engine.specs.Keeping.{kept_of}
-use Rattle.pf_engine.proofs.Bounding.{at_taking, few_at, engine_taken}
+use Rattle.pf_engine.proofs.Bounding.{at_taking, engine_taken}
 use Rattle.pf_engine.proofs.Fitting.{fits_slot}
 use Rattle.pf_engine.proofs.engine.Engine.slot.Goals as goal
 
 pub prepare-requires : goal.prepare-requires
-prepare-requires c = record {
-  few = omega (
-    arith,
-    few_at c.args.self.now c.args.events.now (at_taking c.args.self.now c.args.events.now c.requires),
-    ap (λ (e : Kept). length e.tasks) c.self.view_is,
-  );
-}
+prepare-requires c = subst (λ e. IsAt e c.args.events.now) (sym c.self.view_is) (at_taking c.args.self.now c.args.events.now c.requires)
 
 pub advance-requires-clause-at : goal.advance-requires-clause-at
 advance-requires-clause-at c =

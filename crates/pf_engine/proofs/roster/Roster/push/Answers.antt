@@ -6,7 +6,8 @@ use Rattle.pf_engine.proofs.roster.Roster.push.Goals as goal
 
 pub invariant_of-self : goal.invariant_of-self
 invariant_of-self c =
-    let n : c.len.result ≡ length c.self.inside.entries.items = omega (arith, c.self.inside.entries.ok.0) in
-    rw (c.push_reserved.ensures.items, n)
-    (listed_push c.self.inside.places.items c.self.inside.entries.items _ c.self.invariant c.requires.number
+    let n : c.len.result ≡ length c.self.inside.tasks.items = omega (arith, c.self.inside.tasks.ok.0) in
+    rw (c.push_reserved.ensures.items, c.set.ensures, n)
+    (listed_push c.self.inside.places c.self.inside.tasks.items _ c.self.invariant
+    (omega (arith, c.requires.number, ap (λ (r : Roll). r.numbers) c.self.view_is))
     (ap (λ (r : Roll). member_in r.tasks c.args.task) c.self.view_is ∙ c.requires.absent))

@@ -2,7 +2,7 @@ use Rattle.std.proofs.Common.{◌≡◌, Ok, refl, sym, ap, ◌∙◌}
 use Rattle.std.proofs.lemmas.Bool.{eq-eqb}
 use Rattle.pf_weight.specs.Share.{share_of}
 use Rattle.pf_weight.specs.Weighed.{ok_unless, share_or_fault}
-use Rattle.pf_run.proofs.Limits.{join_task, join_weight}
+use Rattle.pf_run.proofs.Limits.{join_weight}
 use Rattle.pf_engine.proofs.state.State.join.Goals as goal
 
 pub unreachable-requires : goal.unreachable-requires
@@ -13,10 +13,6 @@ unreachable-requires c =
     ap (λ o. ok_unless o (share_of settings.base c.args.cost c.args.period)) fits in
     let two = sym c.in_default.is ∙ c.new.ensures.value ∙ ap (λ base. share_or_fault base c.args.cost c.args.period) c.base.ensures.value ∙ weight in
     cc
-
-pub push-requires-clause-number : goal.push-requires-clause-number
-push-requires-clause-number c =
-    (join_task c.args.self.now.settings c.args.slot c.args.task c.args.cost c.args.period c.args.early c.requires.can.limits).1
 
 pub push-requires-clause-absent : goal.push-requires-clause-absent
 push-requires-clause-absent c = c.requires.can.absent c.args.task (eq-eqb c.args.task c.args.task refl)

@@ -15,6 +15,9 @@ unfolding no_event
 take_event-requires-clause-can c =
     can_take (kept_of c.loop-x.self) c.args.events.now c.loop-x.x-index no_event (omega arith) c.loop-x.invariant.at
 
+pub take_event-requires-clause-number : goal.take_event-requires-clause-number
+take_event-requires-clause-number c = rw c.loop-x.invariant.numbers (c.requires.numbers c.loop-x.x-index _ (omega arith))
+
 pub loop-x-preserved : goal.loop-x-preserved
 unfolding no_event
 loop-x-preserved c =
@@ -28,6 +31,7 @@ loop-x-preserved c =
     let now = same_now e e' events i no_event within after c.loop-x.invariant.at in
     record {
       at = at_next e e' events i no_event within after c.loop-x.invariant.at;
+      numbers = c.take_event.ensures.numbers ∙ c.loop-x.invariant.numbers;
       spare = omega (arith, c.take_event.ensures.spare, c.loop-x.invariant.spare);
       room = elim c.match-take_event.branch [
         | in-Err w ↦ rw w.denials-is (omega (arith, w.push_reserved.ensures.len, w.push_reserved.ensures.capacity, c.loop-x.invariant.room))

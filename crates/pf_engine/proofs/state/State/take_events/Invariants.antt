@@ -7,6 +7,7 @@ use Rattle.pf_engine.proofs.state.State.take_events.Given as goal
 abbrev pub invariant-loop-x : goal.invariant-loop-x
 invariant-loop-x l = record {
   at : IsAt (kept_of l.self) (drop l.x-index l.events);
+  numbers : l.self.tasks.numbers ≡ l.fn.self.tasks.numbers;
   spare : length l.events ≤ l.self.tasks.spare + l.x-index;
   room : vec_len l.denials + length l.events ≤ vec_capacity l.denials + l.x-index;
   state : kept_after_events (kept_of l.self) (drop l.x-index l.events) ≡ kept_after_events (kept_of l.fn.self) l.events;

@@ -1,8 +1,8 @@
 use pf_admit::member::Member;
 
-/// A task inside, with its number.
+/// A task inside, as an engine keeps it.
 #[derive(Clone, Copy)]
-pub(crate) struct Entry {
+pub(crate) struct KeptTask {
     /// 1 to 4,095.
     pub(crate) task: u64,
     /// What is known of it.
