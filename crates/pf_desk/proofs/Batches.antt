@@ -17,6 +17,7 @@ answers_none caller d = record {
   answers = tt;
   entered = sym (append-nil d.history);
   state = refl;
+  every = refl;
 }
 
 -- one more is answered
@@ -35,6 +36,7 @@ answers_more caller commands command reply before between after all one =
       entered = one.entered ∙ ap (λ es. es ++ e ∷ []) all.entered ∙ append_assoc before.history all.entries (e ∷ []);
       state = one.state ∙ ap (λ st. state_after st command reply) all.state
           ∙ sym (behind_append before.state all.entries (e ∷ []));
+      every = one.every ∙ all.every;
     }
 
 -- Use: the turn of a loop over the commands.

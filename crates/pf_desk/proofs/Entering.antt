@@ -33,16 +33,24 @@ opening_kept settings kept stands = record {
   last = ap (λ n. record { plan = opening_plan settings; now = n }) (sym stands.slots);
 }
 
-pub opening_shown : (settings : System) (kept : KeptRun) → StandsFor (opening_plan settings) 0 kept →
-    shown_by (opening_plan settings) kept [] ≡ record { state = opening_state settings; rows = []; denials = []; history = [] }
-opening_shown settings kept stands =
+pub opening_shown : (settings : System) (kept : KeptRun) (every spare : ℕ) → kept.every ≡ every → StandsFor (opening_plan settings) 0 kept →
+    shown_by (opening_plan settings) kept [] spare ≡
+    record { state = opening_state settings; rows = []; denials = []; history = []; every = every; spare = spare }
+opening_shown settings kept every spare same stands =
     let rows = nil_from_length kept.rows (row_each (opening_plan settings) 0 kept.rows kept.denials stands.of_run) in
     let denials = stands.of_run.are_denials ∙ no_denials (opening_plan settings) in
-    λ i. record { state = record { plan = opening_plan settings; now = stands.slots i }; rows = rows i; denials = denials i; history = [] }
+    λ i. record {
+      state = record { plan = opening_plan settings; now = stands.slots i };
+      rows = rows i;
+      denials = denials i;
+      history = [];
+      every = same i;
+      spare = spare;
+    }
 
 -- what is kept makes a desk
-pub is_desk : (plan : Plan) (kept : KeptRun) (es : List Entry) → IsKeptDesk plan kept es → IsDesk (shown_by plan kept es)
-is_desk plan kept es is = record { legal = is.legal; last = is.last; of_run = is.stands.of_run }
+pub is_desk : (plan : Plan) (kept : KeptRun) (es : List Entry) (spare : ℕ) → IsKeptDesk plan kept es → IsDesk (shown_by plan kept es spare)
+is_desk plan kept es spare is = record { legal = is.legal; last = is.last; of_run = is.stands.of_run }
 
 -- one entry more, whose reply is the machine's, where the parts are then where the machine is
 pub record Enters (plan plan' : Plan) (kept kept' : KeptRun) (e : Entry) : Type 0 where
@@ -74,18 +82,19 @@ refused_kept plan kept es caller command fault is answer =
     kept_entered plan plan kept kept es (entry_of caller command (Refused fault)) is
     (record { answer = sym answer; state = refl; stands = is.stands })
 
-pub refused_handles : (plan : Plan) (kept : KeptRun) (es : List Entry) (caller : ℕ) (command : Command) (fault : Fault) →
+pub refused_handles : (plan : Plan) (kept : KeptRun) (es : List Entry) (spare spare' caller : ℕ) (command : Command) (fault : Fault) →
     IsKeptDesk plan kept es → reply_to (state_of plan kept) command ≡ Refused fault →
-    Handles caller command (shown_by plan kept es) (Ok (Refused fault)) (shown_by plan kept (es ++ entry_of caller command (Refused fault) ∷ []))
-refused_handles plan kept es caller command fault is answer = record {
-  ok = record { answer = sym answer; entered = refl; state = refl };
+    Handles caller command (shown_by plan kept es spare) (Ok (Refused fault))
+    (shown_by plan kept (es ++ entry_of caller command (Refused fault) ∷ []) spare')
+refused_handles plan kept es spare spare' caller command fault is answer = record {
+  ok = record { answer = sym answer; entered = refl; state = refl; every = refl };
   err = tt;
-  desk = is_desk _ _ _ (refused_kept plan kept es caller command fault is answer);
+  desk = is_desk _ _ _ _ (refused_kept plan kept es caller command fault is answer);
   refused = refl;
 }
 
 -- the reply to an edit without a fault, by the first denial where it is strict
-edited_reply : (st : State) (change : Change) (strict : Bool) (denials : List Denied) → edit_fault st.plan change ≡ None →
+pub edited_reply : (st : State) (change : Change) (strict : Bool) (denials : List Denied) → edit_fault st.plan change ≡ None →
     denials ≡ denials_in (plan_after st.plan change) st.now → (if strict then slice_get denials 0 else None) ≡ None →
     reply_to st (Edit change strict) ≡ Edited (number_of_change st.plan change)
 edited_reply st change true denials faultless are none =
@@ -109,16 +118,17 @@ pub record Edits (plan plan' : Plan) (kept kept' : KeptRun) (es es' : List Entry
   pub id_is : id ≡ number_of_change plan change
   pub entered : es' ≡ es ++ entry_of caller (Edit change strict) (Edited id) ∷ []
   pub stands : StandsFor plan' kept.now kept'
+  pub every : kept'.every ≡ kept.every
   pub none : (if strict then slice_get kept'.denials 0 else None) ≡ None
 
-made_reply : (plan plan' : Plan) (kept kept' : KeptRun) (es es' : List Entry) (caller : ℕ) (change : Change) (strict : Bool) (id : ℕ) →
+pub made_reply : (plan plan' : Plan) (kept kept' : KeptRun) (es es' : List Entry) (caller : ℕ) (change : Change) (strict : Bool) (id : ℕ) →
     Edits plan plan' kept kept' es es' caller change strict id → Edited id ≡ reply_to (state_of plan kept) (Edit change strict)
 made_reply plan plan' kept kept' es es' caller change strict id edits =
     ap (λ n. Edited n) edits.id_is
     ∙ sym (edited_reply (state_of plan kept) change strict kept'.denials edits.faultless
     (edits.stands.of_run.are_denials ∙ ap (λ s. denials_in s kept.now) edits.plan_is) edits.none)
 
-made_state : (plan plan' : Plan) (kept kept' : KeptRun) (es es' : List Entry) (caller : ℕ) (change : Change) (strict : Bool) (id : ℕ) →
+pub made_state : (plan plan' : Plan) (kept kept' : KeptRun) (es es' : List Entry) (caller : ℕ) (change : Change) (strict : Bool) (id : ℕ) →
     Edits plan plan' kept kept' es es' caller change strict id →
     state_after (state_of plan kept) (Edit change strict) (Edited id) ≡ state_of plan' kept'
 made_state plan plan' kept kept' es es' caller change strict id edits =
@@ -136,29 +146,35 @@ edited_kept plan plan' kept kept' es es' caller change strict id edits =
       stands = stands_now plan' kept.now kept' edits.stands;
     }))
 
-pub edited_handles : (plan plan' : Plan) (kept kept' : KeptRun) (es es' : List Entry) (caller : ℕ) (change : Change) (strict : Bool) (id : ℕ) →
+pub edited_handles : (plan plan' : Plan) (kept kept' : KeptRun) (es es' : List Entry) (spare spare' caller : ℕ) (change : Change) (strict : Bool) (id : ℕ) →
     Edits plan plan' kept kept' es es' caller change strict id →
-    Handles caller (Edit change strict) (shown_by plan kept es) (Ok (Edited id)) (shown_by plan' kept' es')
-edited_handles plan plan' kept kept' es es' caller change strict id edits = record {
+    Handles caller (Edit change strict) (shown_by plan kept es spare) (Ok (Edited id)) (shown_by plan' kept' es' spare')
+edited_handles plan plan' kept kept' es es' spare spare' caller change strict id edits = record {
   ok = record {
     answer = made_reply plan plan' kept kept' es es' caller change strict id edits;
     entered = edits.entered;
     state = sym (made_state plan plan' kept kept' es es' caller change strict id edits);
+    every = edits.every;
   };
   err = tt;
-  desk = is_desk _ _ _ (edited_kept plan plan' kept kept' es es' caller change strict id edits);
+  desk = is_desk _ _ _ _ (edited_kept plan plan' kept kept' es es' caller change strict id edits);
   refused = tt;
 }
 
 -- a change that touches no slot below now leaves what stands
+pub stands_ahead : (plan : Plan) (kept : KeptRun) (change : Change) → StandsFor plan kept.now kept →
+    edit_fault plan change ≡ None → IfSome (slot_touched plan change) (λ t. kept.now ≤ t) →
+    StandsFor (plan_after plan change) kept.now kept
+stands_ahead plan kept change stands faultless ahead =
+    let scenario = stands.of_run.scenario in
+    timelines_rest_on_past plan (plan_after plan change) kept.now kept
+    (changes_keep_scenarios plan change scenario faultless)
+    (past_rest plan change kept.now scenario faultless ahead) stands
+
 pub ahead_stands : (plan : Plan) (kept : KeptRun) (es : List Entry) (change : Change) → IsKeptDesk plan kept es →
     edit_fault plan change ≡ None → IfSome (slot_touched plan change) (λ t. kept.now ≤ t) →
     StandsFor (plan_after plan change) kept.now kept
-ahead_stands plan kept es change is faultless ahead =
-    let scenario = is.stands.of_run.scenario in
-    timelines_rest_on_past plan (plan_after plan change) kept.now kept
-    (changes_keep_scenarios plan change scenario faultless)
-    (past_rest plan change kept.now scenario faultless ahead) is.stands
+ahead_stands plan kept es change is faultless ahead = stands_ahead plan kept change is.stands faultless ahead
 
 -- Use: a strict edit of slots not below now is refused with the first kept denial.
 pub ahead_denied : (plan : Plan) (kept : KeptRun) (es : List Entry) (change : Change) (strict : Bool) (d : Denied) → IsKeptDesk plan kept es →

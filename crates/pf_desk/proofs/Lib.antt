@@ -4,5 +4,6 @@ pub mod Pasts
 pub mod Entering
 pub mod Stepping
 pub mod Batches
+pub mod Readying
 pub mod Metered
 pub mod Horizons

@@ -26,6 +26,7 @@ pub record Steps (plan : Plan) (kept kept' : KeptRun) (es es' : List Entry) (cal
   pub slot_is : slot ≡ kept.now
   pub row_is : row ≡ slice_index_or kept'.rows slot []
   pub entered : es' ≡ es ++ entry_of caller Step (Stepped slot row) ∷ []
+  pub every : kept'.every ≡ kept.every
 
 -- the machine's reply, on either side of the horizon
 pub reply_below : (st : State) → st.now ≢ st.plan.settings.horizon → reply_to st Step ≡ Stepped st.now (row_at st.plan st.now)
@@ -34,14 +35,14 @@ reply_below st below = cond-false (st.now == st.plan.settings.horizon) _ _ (ne_e
 pub reply_at : (st : State) → st.now ≡ st.plan.settings.horizon → reply_to st Step ≡ Refused AtHorizon
 reply_at st at = cond-true (st.now == st.plan.settings.horizon) _ _ (eq-eqb _ _ at)
 
-step_reply_is : (plan : Plan) (kept kept' : KeptRun) (es es' : List Entry) (caller slot : ℕ) (row : List (Option Pick)) →
+pub step_reply_is : (plan : Plan) (kept kept' : KeptRun) (es es' : List Entry) (caller slot : ℕ) (row : List (Option Pick)) →
     Steps plan kept kept' es es' caller slot row → Stepped slot row ≡ reply_to (state_of plan kept) Step
 step_reply_is plan kept kept' es es' caller slot row steps =
     ap₂ (λ t places. Stepped t places) steps.slot_is
     (steps.row_is ∙ ap₂ (λ rows t. slice_index_or rows t []) steps.stands.of_run.are_rows steps.slot_is)
     ∙ sym (reply_below (state_of plan kept) steps.below)
 
-step_state_is : (plan : Plan) (kept kept' : KeptRun) (es es' : List Entry) (caller slot : ℕ) (row : List (Option Pick)) →
+pub step_state_is : (plan : Plan) (kept kept' : KeptRun) (es es' : List Entry) (caller slot : ℕ) (row : List (Option Pick)) →
     Steps plan kept kept' es es' caller slot row → state_after (state_of plan kept) Step (Stepped slot row) ≡ state_of plan kept'
 step_state_is plan kept kept' es es' caller slot row steps =
     ap (λ n. record { plan = plan; now = n }) (sym steps.stands.slots)
@@ -58,17 +59,18 @@ stepped_kept plan kept kept' es es' caller slot row steps =
       stands = stands_now plan (kept.now + 1) kept' steps.stands;
     }))
 
-pub stepped_handles : (plan : Plan) (kept kept' : KeptRun) (es es' : List Entry) (caller slot : ℕ) (row : List (Option Pick)) →
+pub stepped_handles : (plan : Plan) (kept kept' : KeptRun) (es es' : List Entry) (spare spare' caller slot : ℕ) (row : List (Option Pick)) →
     Steps plan kept kept' es es' caller slot row →
-    Handles caller Step (shown_by plan kept es) (Ok (Stepped slot row)) (shown_by plan kept' es')
-stepped_handles plan kept kept' es es' caller slot row steps = record {
+    Handles caller Step (shown_by plan kept es spare) (Ok (Stepped slot row)) (shown_by plan kept' es' spare')
+stepped_handles plan kept kept' es es' spare spare' caller slot row steps = record {
   ok = record {
     answer = step_reply_is plan kept kept' es es' caller slot row steps;
     entered = steps.entered;
     state = sym (step_state_is plan kept kept' es es' caller slot row steps);
+    every = steps.every;
   };
   err = tt;
-  desk = is_desk _ _ _ (stepped_kept plan kept kept' es es' caller slot row steps);
+  desk = is_desk _ _ _ _ (stepped_kept plan kept kept' es es' caller slot row steps);
   refused = tt;
 }
 

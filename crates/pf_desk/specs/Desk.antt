@@ -2,6 +2,7 @@
 use Rattle.std.specs.Prelude.{⊤, ◌≡◌, ◌⊎◌, ◌≤◌, ℕ, Option, IsSome, IfSome, Result, IfOk, OnErr, List, [], ◌∷◌, ◌++◌, length, map, All}
 use Rattle.std.specs.declared.alloc.AllocError.{AllocError}
 use Rattle.pf_order.specs.declared.pick.Pick.{Pick}
+use Rattle.pf_scenario.specs.System.{System}
 use Rattle.pf_scenario.specs.Scenario.{slot_touched}
 use Rattle.pf_scenario.specs.Edit.{edit_fault}
 use Rattle.pf_run.specs.declared.denied.Denied.{Denied}
@@ -14,12 +15,19 @@ use Rattle.pf_desk.specs.declared.entry.Entry.{Entry}
 use Rattle.pf_desk.specs.Machine.{State, reply_to, state_after}
 use Rattle.pf_desk.specs.History.{IsLegalFrom, state_behind, IsLegal, last_state}
 
--- a desk: its state, the rows and denials that it keeps, and its history
+-- a desk: its state, the rows and denials that it keeps, its history, how far its checkpoints lie apart in slots, and
+-- how many entries more it has room for
 pub record Shown : Type 0 where
   pub state : State
   pub rows : List (List (Option Pick))
   pub denials : List Denied
   pub history : List Entry
+  pub every : ℕ
+  pub spare : ℕ
+
+-- the desk is as before, whatever its room for entries
+abbrev pub IsAsBefore : Shown → Shown → Type 0
+IsAsBefore before after = after ≡ record before { spare = after.spare }
 
 -- the desk's promise: its history is legal and ends in its state, and its rows and denials are those of the run of
 -- its scenario from slot zero
@@ -36,6 +44,7 @@ pub record AnswersCaller (caller : ℕ) (command : Command) (before : Shown) (re
   pub answer : reply ≡ reply_to before.state command
   pub entered : after.history ≡ before.history ++ entry_of caller command reply ∷ []
   pub state : after.state ≡ state_after before.state command reply
+  pub every : after.every ≡ before.every
 
 -- the desk answered a caller's commands one after another, each as the machine does, and entered them in order
 pub record AnswersAll (caller : ℕ) (commands : List Command) (before after : Shown) : Type 0 where
@@ -45,17 +54,18 @@ pub record AnswersAll (caller : ℕ) (commands : List Command) (before after : S
   pub answers : IsLegalFrom before.state entries
   pub entered : after.history ≡ before.history ++ entries
   pub state : after.state ≡ state_behind before.state entries
+  pub every : after.every ≡ before.every
 
--- a refused command leaves all but the history
+-- a refused command leaves all but the history, and the room for entries
 abbrev pub LeavesRest : Reply → Shown → Shown → Type 0
-LeavesRest (Refused fault) before after = after ≡ record before { history = after.history }
+LeavesRest (Refused fault) before after = after ≡ record before { history = after.history; spare = after.spare }
 LeavesRest reply before after = ⊤
 
 -- the desk answered a caller's command, and with a refusal it left all but the history; or memory was refused, and the
 -- desk is as before
 pub record Handles (caller : ℕ) (command : Command) (before : Shown) (result : Result Reply AllocError) (after : Shown) : Type 0 where
   pub ok : IfOk result (λ reply. AnswersCaller caller command before reply after)
-  pub err : OnErr result (after ≡ before)
+  pub err : OnErr result (IsAsBefore before after)
   pub desk : IsDesk after
   pub refused : IfOk result (λ reply. LeavesRest reply before after)
 
@@ -83,3 +93,30 @@ pub record StandsForHistory (history : List Entry) (seen : Seen) : Type 0 where
   pub last : last_state seen.state.plan.settings history ≡ seen.state
   pub version : seen.version ≡ length history
   pub of_run : AreOfRun seen.state.plan seen.state.now seen.rows seen.denials
+
+-- what a snapshot of the desk shows
+abbrev pub seen_of : Shown → Seen
+seen_of d = record { version = length d.history; state = d.state; rows = d.rows; denials = d.denials }
+
+-- a command made ready: the settings, the distance of checkpoints and the history of its desk, its entry, and what the
+-- desk would then show
+pub record Ready : Type 0 where
+  pub settings : System
+  pub every : ℕ
+  pub history : List Entry
+  pub entry : Entry
+  pub seen : Seen
+
+-- the desk has the settings, the distance and the history that the command was made ready for
+pub record IsReadyFor (d : Shown) (ready : Ready) : Type 0 where
+  pub settings : ready.settings ≡ d.state.plan.settings
+  pub every : ready.every ≡ d.every
+  pub history : ready.history ≡ d.history
+
+-- a caller's command was made ready for this desk: with the machine's reply, and with a snapshot of the desk as it would
+-- then be
+pub record MakesReady (caller : ℕ) (command : Command) (d : Shown) (ready : Ready) : Type 0 where
+  pub desk : IsReadyFor d ready
+  pub entry : ready.entry ≡ entry_of caller command (reply_to d.state command)
+  pub state : ready.seen.state ≡ state_after d.state command (reply_to d.state command)
+  pub seen : StandsForHistory (d.history ++ ready.entry ∷ []) ready.seen

@@ -18,3 +18,4 @@ pub mod History
 pub mod Desk
 pub mod Kept
 pub mod Horizon
+pub mod Apart

@@ -1,8 +1,9 @@
-ghost use Rattle.std.specs.Prelude.{◌≡◌, ◌<◌, ◌≤◌, None, IfOk};
+ghost use Rattle.std.specs.Prelude.{◌≡◌, ◌<◌, ◌≤◌, None, IfOk, IfSome};
 ghost use Rattle.pf_order.specs.Counted.{CountsAtMost};
-ghost use Rattle.pf_scenario.specs.Scenario.{plan_after, number_of_change, slot_touched};
+ghost use Rattle.pf_scenario.specs.Scenario.{slot_touched};
 ghost use Rattle.pf_scenario.specs.Edit.{edit_fault};
 ghost use Rattle.pf_timeline.specs.Timeline.{StandsFor};
+ghost use Rattle.pf_desk.specs.Apart.{IsCandidate};
 
 use pf_order::meter::Meter;
 use pf_scenario::change::Change;
@@ -39,15 +40,39 @@ impl Candidate {
         requires faultless { edit_fault scenario.now change ≡ None }
         requires touched { slot_touched scenario.now change ≡ Some from }
         requires below { from < timeline.now.now }
-        ensures id { IfOk result (λ c. c.id ≡ number_of_change scenario.now change) }
-        ensures scenario { IfOk result (λ c. c.scenario ≡ plan_after scenario.now change) }
-        ensures stands { IfOk result (λ c. StandsFor c.scenario timeline.now.now c.timeline) }
+        ensures candidate { IfOk result (λ c. IsCandidate scenario.now timeline.now.now timeline.now.every change c) }
         ensures at_most { CountsAtMost timeline.now.now meter.old meter.new }
         ensures compared { meter.old.compared ≤ meter.new.compared }
     {
         let mut changed = scenario.copy()?;
         let id = changed.make(change)?;
         let timeline = timeline.rewritten(meter, from, &changed)?;
+        Ok(Candidate {
+            id,
+            scenario: changed,
+            timeline,
+        })
+    }
+
+    /// The candidate of a change without a fault that touches no slot below now, where the timeline stands for the
+    /// scenario: the run so far stays.
+    ///
+    /// # Errors
+    ///
+    /// Where memory is refused.
+    pub fn ahead(
+        scenario: &Scenario,
+        timeline: &Timeline,
+        change: Change,
+    ) -> Result<Self, AllocError>
+        requires stands { StandsFor scenario.now timeline.now.now timeline.now }
+        requires faultless { edit_fault scenario.now change ≡ None }
+        requires ahead { IfSome (slot_touched scenario.now change) (λ t. timeline.now.now ≤ t) }
+        ensures { IfOk result (λ c. IsCandidate scenario.now timeline.now.now timeline.now.every change c) }
+    {
+        let timeline = timeline.copy(scenario)?;
+        let mut changed = scenario.copy()?;
+        let id = changed.make(change)?;
         Ok(Candidate {
             id,
             scenario: changed,

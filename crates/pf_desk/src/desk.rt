@@ -13,12 +13,15 @@ ghost use Rattle.pf_desk.specs.declared.command.Command.TheVariants.{Edit, Step}
 ghost use Rattle.pf_desk.specs.declared.reply.Reply.TheVariants.{Refused};
 ghost use Rattle.pf_desk.specs.declared.reply.Fault.TheVariants.{WouldDeny};
 ghost use Rattle.pf_desk.specs.Machine.{opening_state, reply_to, IsStepped};
-ghost use Rattle.pf_desk.specs.Desk.{IsDesk, AnswersCaller, AnswersAll, LeavesRest, Handles, IsUncounted, most_slots, StandsForHistory};
+ghost use Rattle.pf_desk.specs.Apart.{IsCandidate, IsOutcome};
+ghost use Rattle.pf_desk.specs.Desk.{IsDesk, IsAsBefore, AnswersCaller, AnswersAll, LeavesRest, Handles, IsUncounted, most_slots, StandsForHistory, seen_of, IsReadyFor, MakesReady};
 
 use crate::candidate::Candidate;
 use crate::command::Command;
 use crate::entry::Entry;
 use crate::fault::OpenFault;
+use crate::outcome::Outcome;
+use crate::prepared::Prepared;
 use crate::reply::{Fault, Reply};
 use crate::snapshot::Snapshot;
 use pf_order::meter::Meter;
@@ -35,6 +38,8 @@ use pf_timeline::fault::NewFault;
 use pf_timeline::timeline::Timeline;
 use std::alloc::{AllocError, Global};
 use std::marker::Model;
+use std::snapshot;
+use std::sync::Arc;
 
 /// The planner's desk: a scenario, its run so far, and the history of all commands.
 #[derive(Drop)]
@@ -45,19 +50,20 @@ pub struct Desk {
 }
 
 impl Model for Desk {
+    ghost use Rattle.std.specs.Prelude.{◌-◌, vec_len, vec_capacity};
     ghost use Rattle.pf_desk.specs.Desk.{Shown};
     ghost use Rattle.pf_desk.specs.Kept.{shown_by, IsKeptDesk};
 
     ghost Value = { Shown };
 
-    ghost view = { λ d. shown_by d.scenario d.timeline d.history.items };
+    ghost view = { λ d. shown_by d.scenario d.timeline d.history.items (vec_capacity d.history - vec_len d.history) };
 
     ghost invariant = { λ d. IsKeptDesk d.scenario d.timeline d.history.items };
 }
 
 impl Desk {
-    /// A desk with these settings, no event, no slot stepped and no history. `every` is the distance of checkpoints in
-    /// slots, 1 to `LARGEST_DISTANCE` of pf_timeline: it is tried, and no checkpoint is kept yet.
+    /// A desk with these settings, no event, no slot stepped and no history, which keeps a checkpoint each `every` slots, 1
+    /// to `LARGEST_DISTANCE` of pf_timeline.
     ///
     /// # Errors
     ///
@@ -65,7 +71,7 @@ impl Desk {
     pub fn open(alloc: Global, settings: Settings, every: u64) -> Result<Self, OpenFault>
         ensures bad_settings { (result ≡ Err BadSettings) ↔ ((every ≡ 0) ⊎ (largest_distance < every)) }
         ensures value { IfOk result
-            (λ d. d ≡ record { state = opening_state settings; rows = []; denials = []; history = [] }) }
+            (λ d. d ≡ record { state = opening_state settings; rows = []; denials = []; history = []; every = every; spare = d.spare }) }
         ensures desk { IfOk result (λ d. IsDesk d) }
     {
         let timeline = match Timeline::new(alloc, settings, every) {
@@ -86,7 +92,7 @@ impl Desk {
     ///
     /// # Errors
     ///
-    /// Where memory is refused: the desk is as before.
+    /// Where memory is refused: the desk is as before, but may have more room for entries.
     pub fn apply(
         &mut self,
         meter: &mut Meter,
@@ -94,7 +100,7 @@ impl Desk {
         command: Command,
     ) -> Result<Reply, AllocError>
         ensures ok { IfOk result (λ reply. AnswersCaller caller command self.old reply self.new) }
-        ensures err { OnErr result (self.new ≡ self.old) }
+        ensures err { OnErr result (IsAsBefore self.old self.new) }
         ensures desk { IsDesk self.new }
         ensures refused { IfOk result (λ reply. LeavesRest reply self.old self.new) }
 
@@ -109,6 +115,209 @@ impl Desk {
             Command::Edit { change, strict } => self.edit(meter, caller, change, strict),
             Command::Step => self.step(meter, caller),
         }
+    }
+
+    /// Makes a caller's command ready for `commit`: the desk is as before, but has room for one entry at least. Counts as
+    /// `apply` does; a step that wants memory may count one slot.
+    ///
+    /// # Errors
+    ///
+    /// Where memory is refused.
+    pub fn prepare(
+        &mut self,
+        meter: &mut Meter,
+        caller: u32,
+        command: Command,
+    ) -> Result<Prepared, AllocError>
+        ensures ok { IfOk result (λ p. MakesReady caller command self.old p) }
+        ensures ready { IfOk result (λ p. IsReadyFor self.new p) }
+        ensures room { OnOk result (1 ≤ self.new.spare) }
+        ensures before { IsAsBefore self.old self.new }
+        ensures desk { IsDesk self.new }
+
+        // A slot that was taken counts one.
+        ensures counted { IfOk result (λ p. IsStepped p.entry.reply → meter.new.slots ≡ one_more meter.old.slots) }
+        ensures at_most { CountsAtMost (most_slots self.old.state command) meter.old meter.new }
+        ensures uncounted { IsUncounted self.old.state command → meter.new ≡ meter.old }
+        ensures compared { meter.old.compared ≤ meter.new.compared }
+    {
+        self.history.reserve(1)?;
+        let outcome = self.outcome(meter, command)?;
+        self.make_ready(caller, command, outcome)
+    }
+
+    /// Makes what was made ready so: answers and leaves what `apply` would have. It takes no memory and counts nothing.
+    ///
+    /// The desk must have the settings, the distance of checkpoints and the history that the command was made ready for,
+    /// and room for an entry.
+    pub fn commit(&mut self, prepared: Prepared) -> Reply
+        requires ready { IsReadyFor self.old prepared }
+        requires room { 1 ≤ self.old.spare }
+        ensures reply { result ≡ prepared.entry.reply }
+        ensures answers { AnswersCaller prepared.entry.caller prepared.entry.command self.old result self.new }
+        ensures shown { prepared.seen ≡ seen_of self.new }
+        ensures desk { IsDesk self.new }
+        ensures refused { LeavesRest result self.old self.new }
+        ensures spare { self.new.spare + 1 ≡ self.old.spare }
+    {
+        let Prepared {
+            scenario,
+            timeline,
+            entry,
+            reply,
+            snapshot: _,
+            history: _,
+        } = prepared;
+        self.scenario = scenario;
+        self.timeline = timeline;
+        self.history.push_reserved(entry);
+        reply
+    }
+
+    /// A caller's command with this outcome, made ready.
+    fn make_ready(
+        &self,
+        caller: u32,
+        command: Command,
+        outcome: Outcome,
+    ) -> Result<Prepared, AllocError>
+        requires { IsOutcome self.now command outcome }
+        ensures ready { IfOk result (λ p. MakesReady caller command self.now p) }
+        ensures reply { IfOk result (λ p. p.entry.reply ≡ outcome.reply) }
+    {
+        let Outcome {
+            scenario,
+            timeline,
+            reply,
+        } = outcome;
+        let alloc = *self.history.allocator();
+        let version = self.history.len() as u64 + 1;
+        let shown = Snapshot::of(
+            alloc,
+            version,
+            &scenario,
+            timeline.rows(),
+            timeline.denials(),
+        )?;
+        let entry = Entry {
+            caller,
+            command,
+            reply: reply.copy()?,
+        };
+        let snapshot = match Arc::new(alloc, shown) {
+            Ok(snapshot) => snapshot,
+            Err(_) => return Err(AllocError),
+        };
+        Ok(Prepared {
+            scenario,
+            timeline,
+            entry,
+            reply,
+            snapshot,
+            history: snapshot::Snapshot::of(&self.history),
+        })
+    }
+
+    /// What a command would make of the desk.
+    fn outcome(&self, meter: &mut Meter, command: Command) -> Result<Outcome, AllocError>
+        ensures outcome { IfOk result (λ o. IsOutcome self.now command o) }
+        ensures counted { IfOk result (λ o. IsStepped o.reply → meter.new.slots ≡ one_more meter.old.slots) }
+        ensures at_most { CountsAtMost (most_slots self.now.state command) meter.old meter.new }
+        ensures uncounted { IsUncounted self.now.state command → meter.new ≡ meter.old }
+        ensures compared { meter.old.compared ≤ meter.new.compared }
+    {
+        match command {
+            Command::Edit { change, strict } => self.edited(meter, change, strict),
+            Command::Step => self.stepped(meter),
+        }
+    }
+
+    /// What a step would make of the desk.
+    fn stepped(&self, meter: &mut Meter) -> Result<Outcome, AllocError>
+        ensures outcome { IfOk result (λ o. IsOutcome self.now Step o) }
+        ensures counted { IfOk result (λ o. IsStepped o.reply → meter.new.slots ≡ one_more meter.old.slots) }
+        ensures at_most { CountsAtMost 1 meter.old meter.new }
+        ensures uncounted { self.now.state.now ≡ self.now.state.plan.settings.horizon → meter.new ≡ meter.old }
+        ensures compared { meter.old.compared ≤ meter.new.compared }
+    {
+        let slot = self.timeline.now();
+        if slot == self.scenario.settings().horizon() {
+            return self.refused(Command::Step, Fault::AtHorizon);
+        }
+        let scenario = self.scenario.copy()?;
+        let mut timeline = self.timeline.copy(&self.scenario)?;
+        let mut row = Row::idle(
+            *self.history.allocator(),
+            self.scenario.settings().processors(),
+        )?;
+        timeline.advance(meter, &self.scenario)?;
+        fill(&mut row, timeline.rows(), slot);
+        Ok(Outcome {
+            scenario,
+            timeline,
+            reply: Reply::Stepped { slot, row },
+        })
+    }
+
+    /// What an edit would make of the desk.
+    fn edited(&self, meter: &mut Meter, change: Change, strict: bool) -> Result<Outcome, AllocError>
+        ensures outcome { IfOk result (λ o. IsOutcome self.now (Edit change strict) o) }
+        ensures edited { IfOk result (λ o. ¬ IsStepped o.reply) }
+        ensures at_most { CountsAtMost self.now.state.now meter.old meter.new }
+        ensures uncounted { IsUncounted self.now.state (Edit change strict) → meter.new ≡ meter.old }
+        ensures compared { meter.old.compared ≤ meter.new.compared }
+    {
+        let command = Command::Edit { change, strict };
+        if let Err(fault) = self.scenario.check(&change) {
+            return self.refused(command, Fault::BadEdit(fault));
+        }
+        let Candidate {
+            id,
+            scenario,
+            timeline,
+        } = self.candidate(meter, change)?;
+        if let Some(denied) = objection(strict, timeline.denials()) {
+            return self.refused(command, would_deny(denied));
+        }
+        Ok(Outcome {
+            scenario,
+            timeline,
+            reply: Reply::Edited { id },
+        })
+    }
+
+    /// The candidate of a change without a fault.
+    fn candidate(&self, meter: &mut Meter, change: Change) -> Result<Candidate, AllocError>
+        requires { edit_fault self.now.state.plan change ≡ None }
+        ensures candidate { IfOk result (λ c. IsCandidate self.now.state.plan self.now.state.now self.now.every change c) }
+        ensures at_most { CountsAtMost self.now.state.now meter.old meter.new }
+        ensures uncounted { IfSome (slot_touched self.now.state.plan change) (λ t. self.now.state.now ≤ t) → meter.new ≡ meter.old }
+        ensures compared { meter.old.compared ≤ meter.new.compared }
+    {
+        match self.scenario.first_slot(&change) {
+            Some(from) if from < self.timeline.now() => Candidate::after(
+                meter,
+                &self.scenario,
+                &self.timeline,
+                from,
+                change,
+            ),
+            _ => Candidate::ahead(&self.scenario, &self.timeline, change),
+        }
+    }
+
+    /// What a command that is refused would make of the desk: nothing changes but the history.
+    fn refused(&self, command: Command, fault: Fault) -> Result<Outcome, AllocError>
+        requires { reply_to self.now.state command ≡ Refused fault }
+        ensures outcome { IfOk result (λ o. IsOutcome self.now command o) }
+        ensures refused { IfOk result (λ o. o.reply ≡ Refused fault) }
+    {
+        let _ = command;
+        Ok(Outcome {
+            scenario: self.scenario.copy()?,
+            timeline: self.timeline.copy(&self.scenario)?,
+            reply: Reply::Refused(fault),
+        })
     }
 
     /// Answers the caller's commands one after another. Counts at most one slot for each command where all are steps,
@@ -350,14 +559,7 @@ impl Desk {
         ensures handles { Handles caller command self.old result self.new }
         ensures unstepped { IfOk result (λ reply. ¬ IsStepped reply) }
     {
-        self.refuse(
-            caller,
-            command,
-            Fault::WouldDeny {
-                id: denied.id,
-                denial: denied.denial,
-            },
-        )
+        self.refuse(caller, command, would_deny(denied))
     }
 
     /// Refuses a command: nothing changes but the history.
@@ -383,6 +585,16 @@ fn objection(strict: bool, denials: &[Denied]) -> Option<Denied>
         denials.first().copied()
     } else {
         None
+    }
+}
+
+/// Why a strict edit is refused after which this event would be the first denied.
+fn would_deny(denied: Denied) -> Fault
+    ensures { result ≡ WouldDeny denied.id denied.denial }
+{
+    Fault::WouldDeny {
+        id: denied.id,
+        denial: denied.denial,
     }
 }
 

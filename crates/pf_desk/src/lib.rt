@@ -8,5 +8,7 @@ pub mod desk;
 pub mod entry;
 pub mod fault;
 pub mod laws;
+mod outcome;
+pub mod prepared;
 pub mod reply;
 pub mod snapshot;

@@ -1,6 +1,9 @@
+ghost use Rattle.std.specs.Prelude.{◌≡◌, IfOk};
+
 use pf_admit::denial::Denial;
 use pf_place::row::Row;
 use pf_scenario::fault::EditFault;
+use std::alloc::AllocError;
 
 /// Why a command was refused.
 #[derive(Clone, Copy, Debug, PartialEq, Eq)]
@@ -35,4 +38,24 @@ pub enum Reply {
     },
     /// Nothing changed but the history.
     Refused(Fault),
+}
+
+impl Reply {
+    /// An equal reply.
+    ///
+    /// # Errors
+    ///
+    /// Where memory is refused.
+    pub fn copy(&self) -> Result<Self, AllocError>
+        ensures { IfOk result (λ reply. reply ≡ self.now) }
+    {
+        Ok(match self {
+            Reply::Edited { id } => Reply::Edited { id: *id },
+            Reply::Stepped { slot, row } => Reply::Stepped {
+                slot: *slot,
+                row: row.copy()?,
+            },
+            Reply::Refused(fault) => Reply::Refused(*fault),
+        })
+    }
 }

@@ -5,16 +5,18 @@ ghost use Rattle.pf_run.specs.Computed.{run_of};
 ghost use Rattle.pf_run.specs.RunRows.{AreOfRun};
 ghost use Rattle.pf_tally.specs.Lags.{lags_of};
 ghost use Rattle.pf_tally.specs.Misses.{misses_of};
+ghost use Rattle.pf_tally.specs.Figures.{figures_of};
 
 use pf_place::row_view::RowView;
 use pf_place::rows::Rows;
 use pf_run::denied::Denied;
-use pf_scenario::event::Numbered;
+use pf_scenario::events::Events;
 use pf_scenario::scenario::Scenario;
 use pf_scenario::settings::Settings;
+use pf_tally::figures::Figures;
 use pf_tally::lag::Lag;
 use pf_tally::miss::Miss;
-use pf_tally::{lags, misses};
+use pf_tally::{lags, misses, task_figures};
 use std::alloc::{AllocError, Global};
 use std::marker::Model;
 
@@ -90,9 +92,9 @@ impl Snapshot {
         self.scenario.settings()
     }
 
-    /// The events held, by number.
-    pub fn events(&self) -> &[Numbered]
-        ensures { result.now ≡ self.now.state.plan.events }
+    /// The events held, in rising order of their numbers.
+    pub fn events(&self) -> Events<'_>
+        ensures { result ≡ self.now.state.plan.events }
     {
         self.scenario.events()
     }
@@ -136,6 +138,21 @@ impl Snapshot {
         ensures { IfOk result (λ v. v.items ≡ misses_of self.now.state.plan (run_of self.now.state.plan self.now.state.now)) }
     {
         misses::misses(
+            *self.denials.allocator(),
+            &self.scenario,
+            &self.rows,
+            &self.denials,
+        )
+    }
+    /// What every simulator tells of each task admitted in a slot below now, by task number.
+    ///
+    /// # Errors
+    ///
+    /// Where memory is refused.
+    pub fn figures(&self) -> Result<Vec<Figures>, AllocError>
+        ensures { IfOk result (λ v. v.items ≡ figures_of self.now.state.plan (run_of self.now.state.plan self.now.state.now) self.now.rows) }
+    {
+        task_figures::task_figures(
             *self.denials.allocator(),
             &self.scenario,
             &self.rows,

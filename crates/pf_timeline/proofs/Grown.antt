@@ -133,8 +133,8 @@ few_fail s r denials before (x ∷ xs) =
       few_fail s r denials (before ++ x ∷ []) xs,
     )
 
--- an engine that fits has taken the slots of its run
-fits_now : (s : Plan) (r : List Slot) (e : Kept) → Fits s r e → e.now ≡ length r
+-- Use: an engine that fits has taken the slots of its run.
+pub fits_now : (s : Plan) (r : List Slot) (e : Kept) → Fits s r e → e.now ≡ length r
 unfolding kept_after
 fits_now s r e fits = ap (λ e. e.now) fits.keeps
 

@@ -1,2 +1,4 @@
 pub mod Grown
 pub mod Past
+pub mod Fronts
+pub mod Points

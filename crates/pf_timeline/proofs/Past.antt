@@ -50,11 +50,13 @@ module _ (s q : Plan) (n : ℕ) (settings : s.settings ≡ q.settings) (same : e
       ap₂ (λ m turns. rows_of m turns) (ap (λ system. system.processors) settings) (same_turns [] (run_of s n) (omega arith))
       ∙ ap (λ r. rows_of q.settings.processors (turns_of q r)) (same_run of_s of_q)
 
-  same_denials : IsScenario s → IsScenario q → denials_in s n ≡ denials_in q n
+  -- Use: the same denials.
+  pub same_denials : IsScenario s → IsScenario q → denials_in s n ≡ denials_in q n
   unfolding denials_in
   same_denials of_s of_q = ap denials_of (same_run of_s of_q)
 
-  same_fit : (e : Kept) → IsScenario s → IsScenario q → Fits s (run_of s n) e → Fits q (run_of q n) e
+  -- Use: an engine fits both runs.
+  pub same_fit : (e : Kept) → IsScenario s → IsScenario q → Fits s (run_of s n) e → Fits q (run_of q n) e
   same_fit e of_s of_q fits =
       let long : length (run_of s n) ≡ n = computed_length s n of_s in
       let alike : run_of s n ≡ run_of q n = same_run of_s of_q in
@@ -75,7 +77,8 @@ module _ (s q : Plan) (n : ℕ) (settings : s.settings ≡ q.settings) (same : e
     are_denials = of_run.are_denials ∙ same_denials of_run.scenario of_q;
   }
 
-  keeps_alike : (rows : List (List (Option Pick))) (denials : List Denied) (e : Kept) → IsScenario q → KeepsRun s n rows denials e → KeepsRun q n rows denials e
+  -- Use: the same is kept of both.
+  pub keeps_alike : (rows : List (List (Option Pick))) (denials : List Denied) (e : Kept) → IsScenario q → KeepsRun s n rows denials e → KeepsRun q n rows denials e
   keeps_alike rows denials e of_q keeps = record {
     of_run = of_run_alike rows denials of_q keeps.of_run;
     engine = same_fit e keeps.of_run.scenario of_q keeps.engine;
@@ -89,10 +92,10 @@ timelines_rest_on_past s q n t of_q same stands = record {
 }
 
 -- Use: what is kept is of each scenario that the timeline stands for.
-pub keeps_standing : (s q : Plan) (n : ℕ) (rows : List (List (Option Pick))) (denials : List Denied) (e : Kept) (t : KeptRun) →
-    KeepsRun q e.now rows denials e → kept_run q rows denials e ≡ t → StandsFor s n t → KeepsRun s n rows denials e
-keeps_standing s q n rows denials e t keeps shows stands =
-    let here : StandsFor s n (kept_run q rows denials e) = subst (StandsFor s n) (sym shows) stands in
+pub keeps_standing : (s q : Plan) (n every : ℕ) (rows : List (List (Option Pick))) (denials : List Denied) (e : Kept) (t : KeptRun) →
+    KeepsRun q e.now rows denials e → kept_run q every rows denials e ≡ t → StandsFor s n t → KeepsRun s n rows denials e
+keeps_standing s q n every rows denials e t keeps shows stands =
+    let here : StandsFor s n (kept_run q every rows denials e) = subst (StandsFor s n) (sym shows) stands in
     let same : past_below n q ≡ past_below n s = ap (λ now. past_below now q) (sym here.slots) ∙ here.past in
     keeps_alike q s n (ap (λ past. past.settings) same) (ap (λ past. past.events) same) rows denials e stands.of_run.scenario
     (subst (λ now. KeepsRun q now rows denials e) here.slots keeps)
@@ -102,19 +105,25 @@ pub stands_now : (s : Plan) (n : ℕ) (t : KeptRun) → StandsFor s n t → Stan
 stands_now s n t stands = subst (λ k. StandsFor s k t) (sym stands.slots) stands
 
 -- Use: what is kept, where the scenario it is of has the same past, stands for this one.
-pub stands_kept : (s q : Plan) (n : ℕ) (rows : List (List (Option Pick))) (denials : List Denied) (e : Kept) → KeepsRun s n rows denials e →
-    past_below n q ≡ past_below n s → StandsFor s n (kept_run q rows denials e)
-stands_kept s q n rows denials e keeps same =
+pub stands_kept : (s q : Plan) (n every : ℕ) (rows : List (List (Option Pick))) (denials : List Denied) (e : Kept) → KeepsRun s n rows denials e →
+    past_below n q ≡ past_below n s → StandsFor s n (kept_run q every rows denials e)
+stands_kept s q n every rows denials e keeps same =
     let now = kept_now s n rows denials e keeps in
     record { slots = now; past = ap (λ now. past_below now q) now ∙ same; of_run = keeps.of_run }
 
--- what is below `from` is the same in the past of more slots
-past_agrees : (from n : ℕ) (xs : List Numbered) → from ≤ n → events_below from (events_below n xs) ≡ events_below from xs
+-- Use: what is below `from` is the same in the past of more slots.
+pub past_agrees : (from n : ℕ) (xs : List Numbered) → from ≤ n → events_below from (events_below n xs) ≡ events_below from xs
 past_agrees from n [] within = refl
 past_agrees from n (x ∷ xs) within =
     narrowed (nat_lt (slot_of x.event) n) (λ y. nat_lt (slot_of y.event) from) x (events_below n xs) xs
     (λ is. lt-ltb (slot_of x.event) n (let below : slot_of x.event < from = ltb-true (slot_of x.event) from is in omega arith))
     (past_agrees from n xs within)
+
+-- Use: the same past of n slots is the same one of fewer.
+pub past_narrowed : (s q : Plan) (t n : ℕ) → t ≤ n → past_below n s ≡ past_below n q → past_below t s ≡ past_below t q
+past_narrowed s q t n within same =
+    let events = sym (past_agrees t n s.events within) ∙ ap (λ past. events_below t past.events) same ∙ past_agrees t n q.events within in
+    λ i. record { settings = (same i).settings; events = events i }
 
 -- Use: a scenario with the same settings and the same events below `from` agrees with a timeline that has so many slots.
 pub agrees_below : (s q : Plan) (from n : ℕ) (t : KeptRun) → from ≤ n → past_below from s ≡ past_below from q → StandsFor s n t →

@@ -17,12 +17,14 @@ pub record Past : Type 0 where
 abbrev pub past_below : ℕ → Plan → Past
 past_below n s = record { settings = s.settings; events = events_below n s.events }
 
--- a timeline: how many slots it has, their rows and their denials, and the past that they rest on
+-- a timeline: how many slots it has, their rows and their denials, the past that they rest on, and how far its
+-- checkpoints lie apart, in slots
 pub record KeptRun : Type 0 where
   pub now : ℕ
   pub rows : List (List (Option Pick))
   pub denials : List Denied
   pub past : Past
+  pub every : ℕ
 
 -- the timeline stands for the scenario and its first n slots
 pub record StandsFor (s : Plan) (n : ℕ) (t : KeptRun) : Type 0 where

@@ -1,4 +1,4 @@
-ghost use Rattle.std.specs.Prelude.{◌≡◌, ◌⊎◌, ◌<◌, ◌≤◌, ◌+◌, ◌++◌, ◌↔◌, length, vec_len, vec_capacity, IfOk, OnOk, OnErr, Err};
+ghost use Rattle.std.specs.Prelude.{◌≡◌, ◌⊎◌, ◌<◌, ◌≤◌, ◌+◌, ◌-◌, ◌++◌, ◌↔◌, length, take, vec_len, vec_capacity, IfOk, OnOk, OnErr, Err};
 ghost use Rattle.pf_order.specs.Counts.{one_more};
 ghost use Rattle.pf_order.specs.Counted.{CountsAtMost};
 ghost use Rattle.pf_scenario.specs.Scenario.{Plan};
@@ -8,6 +8,7 @@ ghost use Rattle.pf_timeline.specs.Timeline.{StandsFor, AgreesBelow};
 ghost use Rattle.pf_timeline.specs.declared.fault.StepFault.TheVariants.{AtHorizon};
 ghost use Rattle.pf_timeline.specs.declared.fault.NewFault.TheVariants.{BadSettings};
 
+use crate::checkpoints::Checkpoints;
 use crate::fault::{NewFault, StepFault};
 use pf_engine::engine::Engine;
 use pf_order::meter::Meter;
@@ -29,24 +30,25 @@ pub struct Timeline {
     denials: Vec<Denied>,
     engine: Engine,
 
+    checkpoints: Checkpoints,
+
     /// The scenario whose run this is, which clauses alone see.
     scenario: Snapshot<Scenario>,
 }
 
 impl Model for Timeline {
     ghost use Rattle.pf_timeline.specs.Timeline.{KeptRun};
-    ghost use Rattle.pf_timeline.specs.Keeping.{kept_run, KeepsRun};
+    ghost use Rattle.pf_timeline.specs.Keeping.{kept_run, KeepsTimeline};
 
     ghost Value = { KeptRun };
 
-    ghost view = { λ t. kept_run t.scenario.value t.rows t.denials.items t.engine };
+    ghost view = { λ t. kept_run t.scenario.value t.checkpoints.every t.rows t.denials.items t.engine };
 
-    ghost invariant = { λ t. KeepsRun t.scenario.value t.engine.now t.rows t.denials.items t.engine };
+    ghost invariant = { λ t. KeepsTimeline t.scenario.value t.engine.now t.rows t.denials.items t.engine t.checkpoints };
 }
 
 impl Timeline {
-    /// A timeline of no slots. `every` is the distance of checkpoints in slots, 1 to `LARGEST_DISTANCE`: it is tried, and
-    /// no checkpoint is kept yet.
+    /// A timeline of no slots, which keeps a checkpoint each `every` slots, 1 to `LARGEST_DISTANCE`.
     ///
     /// # Errors
     ///
@@ -54,17 +56,20 @@ impl Timeline {
     pub fn new(alloc: Global, settings: Settings, every: u64) -> Result<Self, NewFault>
         ensures bad_settings { (result ≡ Err BadSettings) ↔ ((every ≡ 0) ⊎ (largest_distance < every)) }
         ensures stands { IfOk result (λ t. (s : Plan) → s.settings ≡ settings → IsScenario s → StandsFor s 0 t) }
+        ensures every { IfOk result (λ t. t.every ≡ every) }
     {
         if every == 0 || every > LARGEST_DISTANCE {
             return Err(NewFault::BadSettings);
         }
-        let start = Timeline::at_start(alloc, settings)?;
+        let start = Timeline::at_start(alloc, settings, every)?;
         Ok(start)
     }
 
     /// A timeline of no slots in these settings.
-    fn at_start(alloc: Global, settings: Settings) -> Result<Self, AllocError>
-        ensures { IfOk result (λ t. (s : Plan) → s.settings ≡ settings → IsScenario s → StandsFor s 0 t) }
+    fn at_start(alloc: Global, settings: Settings, every: u64) -> Result<Self, AllocError>
+        requires { 1 ≤ every }
+        ensures stands { IfOk result (λ t. (s : Plan) → s.settings ≡ settings → IsScenario s → StandsFor s 0 t) }
+        ensures every { IfOk result (λ t. t.every ≡ every) }
     {
         let engine = Engine::new(alloc, settings)?;
         let opening = Scenario::new(alloc, settings);
@@ -72,6 +77,7 @@ impl Timeline {
             rows: Rows::new(alloc),
             denials: Vec::new(alloc),
             engine,
+            checkpoints: Checkpoints::new(alloc, every),
             scenario: Snapshot::of(&opening),
         })
     }
@@ -84,6 +90,7 @@ impl Timeline {
     pub fn step(&mut self, meter: &mut Meter, scenario: &Scenario) -> Result<(), StepFault>
         requires { StandsFor scenario.now self.old.now self.old }
         ensures ok { OnOk result (StandsFor scenario.now (self.old.now + 1) self.new) }
+        ensures every { self.new.every ≡ self.old.every }
         ensures horizon { (result ≡ Err AtHorizon) ↔ (self.old.now ≡ scenario.now.settings.horizon) }
         ensures err { OnErr result (self.new ≡ self.old) }
         ensures counted { OnOk result (meter.new.slots ≡ one_more meter.old.slots) }
@@ -107,6 +114,7 @@ impl Timeline {
         requires stands { StandsFor scenario.now self.old.now self.old }
         requires below { self.old.now < scenario.now.settings.horizon }
         ensures ok { OnOk result (StandsFor scenario.now (self.old.now + 1) self.new) }
+        ensures every { self.new.every ≡ self.old.every }
         ensures err { OnErr result (self.new ≡ self.old) }
         ensures counted { OnOk result (meter.new.slots ≡ one_more meter.old.slots) }
         ensures uncounted { OnErr result (meter.new ≡ meter.old) }
@@ -115,6 +123,7 @@ impl Timeline {
     {
         let events = scenario.slot_events(self.engine.now())?;
         self.denials.reserve(events.len())?;
+        self.checkpoints.keep(&self.engine, self.denials.len())?;
         self.rows.push_idle(scenario.settings().processors())?;
         let taken = match self.engine.slot(meter, &events) {
             Ok(taken) => taken,
@@ -138,6 +147,7 @@ impl Timeline {
     pub fn stepped(&self, meter: &mut Meter, scenario: &Scenario) -> Result<Self, StepFault>
         requires { StandsFor scenario.now self.now.now self.now }
         ensures ok { IfOk result (λ t. StandsFor scenario.now (self.now.now + 1) t) }
+        ensures every { IfOk result (λ t. t.every ≡ self.now.every) }
         ensures horizon { (result ≡ Err AtHorizon) ↔ (self.now.now ≡ scenario.now.settings.horizon) }
         ensures counted { OnOk result (meter.new.slots ≡ one_more meter.old.slots) }
         ensures uncounted { OnErr result (meter.new ≡ meter.old) }
@@ -153,8 +163,9 @@ impl Timeline {
     }
 
     /// A candidate of as many slots for a scenario with the same settings that differs from that of this timeline on the
-    /// slots from `from` on only, where `from` is below now. It is made apart from this one. Counts at most as many slots
-    /// as this timeline has, with an error too.
+    /// slots from `from` on only, where `from` is below now. It is made apart from this one, from the last checkpoint not
+    /// after `from` on. Counts at most now - `from` slots and the distance of two checkpoints, and at most now, with an
+    /// error too.
     ///
     /// # Errors
     ///
@@ -168,21 +179,47 @@ impl Timeline {
         requires below { from < self.now.now }
         requires agrees { AgreesBelow scenario.now from self.now }
         ensures stands { IfOk result (λ t. StandsFor scenario.now self.now.now t) }
-        ensures at_most { CountsAtMost self.now.now meter.old meter.new }
+        ensures every { IfOk result (λ t. t.every ≡ self.now.every) }
+        ensures at_most { CountsAtMost (self.now.now - from + self.now.every) meter.old meter.new }
+        ensures within { CountsAtMost self.now.now meter.old meter.new }
         ensures compared { meter.old.compared ≤ meter.new.compared }
     {
-        // No engine of an earlier slot is kept to start from, so `from` serves the contract alone.
-        let _ = from;
-        let alloc = *self.denials.allocator();
-        let mut fresh = Timeline::at_start(alloc, scenario.settings())?;
-        for _ in 0..self.engine.now() {
+        let mut fresh = self.front(from, scenario)?;
+        for _ in fresh.now()..self.engine.now() {
             fresh.advance(meter, scenario)?;
         }
         Ok(fresh)
     }
 
+    /// The front of the run up to the last checkpoint not after `from`, for a scenario that agrees with this one's below
+    /// `from`, which is below now.
+    fn front(&self, from: u64, scenario: &Scenario) -> Result<Self, AllocError>
+        requires below { from < self.now.now }
+        requires agrees { AgreesBelow scenario.now from self.now }
+        ensures stands { IfOk result (λ t. StandsFor scenario.now t.now t) }
+        ensures not_behind { IfOk result (λ t. t.now ≤ from) }
+        ensures near { IfOk result (λ t. from < t.now + self.now.every) }
+        ensures every { IfOk result (λ t. t.every ≡ self.now.every) }
+    {
+        // Asked, so that it is known to be a scenario.
+        let _ = scenario.settings();
+        let last = (from / self.checkpoints.every()) as usize;
+        let start = self.checkpoints.get(last);
+        Ok(Timeline {
+            rows: first_rows(&self.rows, start.engine.now())?,
+            denials: Vec::from_slice(*self.denials.allocator(), &self.denials[..start.denials])?,
+            engine: start.engine.copy()?,
+            checkpoints: self.checkpoints.first(last + 1)?,
+            scenario: Snapshot::of(scenario),
+        })
+    }
+
     /// An equal timeline, where this one stands for the scenario.
-    fn copy(&self, scenario: &Scenario) -> Result<Self, AllocError>
+    ///
+    /// # Errors
+    ///
+    /// Where memory is refused.
+    pub fn copy(&self, scenario: &Scenario) -> Result<Self, AllocError>
         requires { StandsFor scenario.now self.now.now self.now }
         ensures { IfOk result (λ t. t ≡ self.now) }
     {
@@ -190,6 +227,7 @@ impl Timeline {
             rows: self.rows.copy()?,
             denials: Vec::from_slice(*self.denials.allocator(), &self.denials)?,
             engine: self.engine.copy()?,
+            checkpoints: self.checkpoints.copy()?,
             scenario: Snapshot::of(scenario),
         })
     }
@@ -214,6 +252,18 @@ impl Timeline {
     {
         self.engine.now()
     }
+}
+
+/// The first rows, as many as `count`.
+fn first_rows(rows: &Rows, count: u64) -> Result<Rows, AllocError>
+    requires { count ≤ length rows.now }
+    ensures { IfOk result (λ first. first ≡ take count rows.now) }
+{
+    let mut first = rows.copy()?;
+    for _ in count..rows.len() as u64 {
+        first.pop();
+    }
+    Ok(first)
 }
 
 /// Appends these denials, for which there is room.

@@ -1,4 +1,4 @@
-use Rattle.std.proofs.Common.{◌∙◌, sym}
+use Rattle.std.proofs.Common.{refl, ◌∙◌, sym}
 use Rattle.pf_desk.proofs.Entering.{Edits, edited_kept, edited_handles, ahead_stands, ahead_denied}
 use Rattle.pf_desk.proofs.desk.Desk.edit_ahead.Goals as goal
 use Rattle.pf_desk.proofs.desk.Desk.edit_ahead.Goals.{After-push_reserved}
@@ -25,6 +25,7 @@ edits c = record {
   stands = rw c.in_ok-id.ensures.ok.1
       (ahead_stands _ _ c.self.inside.history.items _ c.self.invariant
       (rw (← c.self.view_is) at c.requires.faultless) (rw (← c.self.view_is) at c.requires.ahead));
+  every = refl;
   none = rw (← c.denials.ensures) (sym c.objection.ensures ∙ c.in_default.is);
 }
 
@@ -32,4 +33,4 @@ pub invariant_of-self-2 : goal.invariant_of-self-2
 invariant_of-self-2 c = edited_kept _ _ _ _ _ _ _ _ _ _ (edits c)
 
 pub returns-clause-handles : goal.returns-clause-handles
-returns-clause-handles c = rw (← c.self.view_is) (edited_handles _ _ _ _ _ _ _ _ _ _ (edits c))
+returns-clause-handles c = rw (← c.self.view_is) (edited_handles _ _ _ _ _ _ _ _ _ _ _ _ (edits c))

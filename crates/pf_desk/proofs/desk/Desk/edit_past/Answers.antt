@@ -9,10 +9,11 @@ edits : (c : After-push_reserved) →
 edits c = record {
   is = c.self.invariant;
   faultless = rw (← c.self.view_is) at c.requires.faultless;
-  plan_is = c.in_ok-candidate.ensures.scenario;
-  id_is = c.in_ok-candidate.ensures.id;
+  plan_is = c.in_ok-candidate.ensures.candidate.scenario;
+  id_is = c.in_ok-candidate.ensures.candidate.id;
   entered = rw (c.push_reserved.ensures.items, c.in_ok-reserve.ensures.items);
-  stands = c.in_ok-candidate.ensures.stands;
+  stands = c.in_ok-candidate.ensures.candidate.stands;
+  every = c.in_ok-candidate.ensures.candidate.every;
   none = rw (← c.denials.ensures) (sym c.objection.ensures ∙ c.in_default.is);
 }
 
@@ -20,4 +21,4 @@ pub invariant_of-self-2 : goal.invariant_of-self-2
 invariant_of-self-2 c = edited_kept _ _ _ _ _ _ _ _ _ _ (edits c)
 
 pub returns-clause-handles : goal.returns-clause-handles
-returns-clause-handles c = rw (← c.self.view_is) (edited_handles _ _ _ _ _ _ _ _ _ _ (edits c))
+returns-clause-handles c = rw (← c.self.view_is) (edited_handles _ _ _ _ _ _ _ _ _ _ _ _ (edits c))

@@ -10,5 +10,5 @@ invariant_of-self-2 c =
 pub returns-clause-handles : goal.returns-clause-handles
 returns-clause-handles c =
     rw (← c.self.view_is, c.in_ok-push.ensures.items)
-    (refused_handles c.self.inside.scenario c.self.inside.timeline c.self.inside.history.items c.args.caller c.args.command c.args.fault
+    (refused_handles c.self.inside.scenario c.self.inside.timeline c.self.inside.history.items _ _ c.args.caller c.args.command c.args.fault
     c.self.invariant (rw (← c.self.view_is) at c.requires))

@@ -35,6 +35,7 @@ steps c = record {
   is = c.self.invariant;
   below = λ at. c.if-now-horizon.false (c.now.ensures ∙ at ∙ sym (c.horizon.ensures.value ∙ ap (λ s. s.horizon) c.settings.ensures.value));
   stands = c.in_ok-advance.ensures.ok;
+  every = c.advance.ensures.every;
   slot_is = c.now-slot.ensures;
   row_is = c.fill.ensures ∙ ap (λ rows. get_or rows c.now-slot.result []) c.rows.ensures;
   entered =
@@ -47,4 +48,4 @@ pub invariant_of-self-2 : goal.invariant_of-self-2
 invariant_of-self-2 c = stepped_kept _ _ _ _ _ _ _ _ (steps c)
 
 pub returns-clause-handles : goal.returns-clause-handles
-returns-clause-handles c = rw (← c.self.view_is) (stepped_handles _ _ _ _ _ _ _ _ (steps c))
+returns-clause-handles c = rw (← c.self.view_is) (stepped_handles _ _ _ _ _ _ _ _ _ _ (steps c))

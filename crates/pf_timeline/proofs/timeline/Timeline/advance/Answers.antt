@@ -1,36 +1,37 @@
 -- The engine takes the next slot of the run, and its row is placed behind the last.
-use Rattle.std.proofs.Common.{◌+◌, length, ap, ◌∙◌, arith}
+use Rattle.std.proofs.Common.{◌+◌, length, sym, ap, ◌∙◌, arith}
 use Rattle.pf_scenario.specs.Scenario.{events_of}
 use Rattle.pf_timeline.specs.Keeping.{KeepsRun}
 use Rattle.pf_timeline.specs.Timeline.{past_below}
-use Rattle.pf_timeline.proofs.Grown.{keeps_now, keeps_more, takes_next, takes_slot, taken_turn, few_denials, last_stands, idle_width}
+use Rattle.pf_timeline.proofs.Grown.{keeps_now, kept_now, keeps_more, takes_next, takes_slot, taken_turn, few_denials, last_stands, idle_width}
 use Rattle.pf_place.proofs.Blocks.{but_last_behind}
 use Rattle.pf_timeline.proofs.Past.{keeps_standing, stands_kept}
+use Rattle.pf_timeline.proofs.Points.{point_kept, point_now_fits, points_longer, points_standing}
 use Rattle.pf_timeline.proofs.timeline.Timeline.advance.Goals as goal
 use Rattle.pf_timeline.proofs.timeline.Timeline.advance.Goals.{After-drop-events-2}
 
 pub slot-requires : goal.slot-requires
 slot-requires c =
-    let keeps = keeps_standing _ _ _ _ _ _ _ c.self.invariant c.self.view_is c.requires.stands in
+    let keeps = keeps_standing _ _ _ _ _ _ _ _ c.self.invariant.run c.self.view_is c.requires.stands in
     let events = c.deref.ensures.value ∙ c.in_ok-events.ensures.value ∙ ap (events_of c.args.scenario.now) c.now.ensures in
     takes_next _ _ _ _ _ keeps _ events c.requires.below
 
 pub seat_last-requires-clause-turn : goal.seat_last-requires-clause-turn
 seat_last-requires-clause-turn c =
-    let keeps = keeps_standing _ _ _ _ _ _ _ c.self.invariant c.self.view_is c.requires.stands in
+    let keeps = keeps_standing _ _ _ _ _ _ _ _ c.self.invariant.run c.self.view_is c.requires.stands in
     let events = c.deref.ensures.value ∙ c.in_ok-events.ensures.value ∙ ap (events_of c.args.scenario.now) c.now.ensures in
     rw (c.in_ok-push_idle.ensures.ok, idle_width, c.processors.ensures.value, c.settings.ensures.value, c.count.ensures, c.picks.ensures)
     (taken_turn _ _ _ _ _ keeps _ _ (takes_slot _ _ _ _ _ keeps _ events _ _ c.in-Ok.ensures.slot))
 
 pub seat_last-requires-clause-before : goal.seat_last-requires-clause-before
 seat_last-requires-clause-before c =
-    let keeps = keeps_standing _ _ _ _ _ _ _ c.self.invariant c.self.view_is c.requires.stands in
+    let keeps = keeps_standing _ _ _ _ _ _ _ _ c.self.invariant.run c.self.view_is c.requires.stands in
     rw (c.in_ok-push_idle.ensures.ok, but_last_behind, idle_width, c.processors.ensures.value, c.settings.ensures.value)
     (last_stands _ _ _ _ _ keeps)
 
 pub append-requires : goal.append-requires
 append-requires c =
-    let keeps = keeps_standing _ _ _ _ _ _ _ c.self.invariant c.self.view_is c.requires.stands in
+    let keeps = keeps_standing _ _ _ _ _ _ _ _ c.self.invariant.run c.self.view_is c.requires.stands in
     let events = c.deref.ensures.value ∙ c.in_ok-events.ensures.value ∙ ap (events_of c.args.scenario.now) c.now.ensures in
     let few = few_denials _ _ _ _ _ keeps _ events _ (takes_slot _ _ _ _ _ keeps _ events _ _ c.in-Ok.ensures.slot).next in
     omega (arith, few, ap length c.denials.ensures, c.in_ok-reserve.ensures, c.deref.ensures.len, c.len.ensures)
@@ -38,7 +39,7 @@ append-requires c =
 keeps_next : (c : After-drop-events-2) →
     KeepsRun c.args.scenario.now (c.args.self.now.now + 1) c.seat_last.new.self c.append.new.denials.items c.slot.new.self
 keeps_next c =
-    let keeps = keeps_standing _ _ _ _ _ _ _ c.self.invariant c.self.view_is c.requires.stands in
+    let keeps = keeps_standing _ _ _ _ _ _ _ _ c.self.invariant.run c.self.view_is c.requires.stands in
     let events = c.deref.ensures.value ∙ c.in_ok-events.ensures.value ∙ ap (events_of c.args.scenario.now) c.now.ensures in
     keeps_more _ _ _ _ _ keeps _ _ (takes_slot _ _ _ _ _ keeps _ events _ _ c.in-Ok.ensures.slot) _ _ c.requires.below
     (rw (
@@ -53,8 +54,35 @@ keeps_next c =
     ))
     (rw (c.append.ensures, c.in_ok-reserve.ensures.items, c.denials.ensures))
 
+pub invariant_of-self-in_err-push_idle : goal.invariant_of-self-in_err-push_idle
+invariant_of-self-in_err-push_idle c =
+    let long = c.len-2.ensures ∙ c.reserve.new.self.ok.0 ∙ ap length c.in_ok-reserve.ensures.items in
+    rw (c.in_err-push_idle.ensures.err, c.in_ok-reserve.ensures.items) (record {
+      run = c.self.invariant.run;
+      points = (point_kept _ _ _ _ _ c.self.invariant.points (point_now_fits _ _ _ _ _ _ c.self.invariant.run long)
+          c.in_ok-keep.ensures.due c.in_ok-keep.ensures.early).fit;
+    })
+
+pub invariant_of-self-in-Err : goal.invariant_of-self-in-Err
+invariant_of-self-in-Err c =
+    let long = c.len-2.ensures ∙ c.reserve.new.self.ok.0 ∙ ap length c.in_ok-reserve.ensures.items in
+    rw (c.in-Err.ensures.err, c.pop.ensures, c.in_ok-push_idle.ensures.ok, but_last_behind, c.in_ok-reserve.ensures.items) (record {
+      run = c.self.invariant.run;
+      points = (point_kept _ _ _ _ _ c.self.invariant.points (point_now_fits _ _ _ _ _ _ c.self.invariant.run long)
+          c.in_ok-keep.ensures.due c.in_ok-keep.ensures.early).fit;
+    })
+
 pub invariant_of-self-2 : goal.invariant_of-self-2
-invariant_of-self-2 c = rw c.of.ensures (keeps_now _ _ _ _ _ (keeps_next c))
+invariant_of-self-2 c =
+    let long = c.len-2.ensures ∙ c.reserve.new.self.ok.0 ∙ ap length c.in_ok-reserve.ensures.items in
+    let reach = point_kept _ _ _ _ _ (points_standing _ _ _ _ _ _ _ _ _ c.self.invariant c.self.view_is c.requires.stands)
+    (point_now_fits _ _ _ _ _ _ (keeps_now _ _ _ _ _ (keeps_standing _ _ _ _ _ _ _ _ c.self.invariant.run c.self.view_is c.requires.stands)) long)
+    c.in_ok-keep.ensures.due c.in_ok-keep.ensures.early in
+    let now = kept_now _ _ _ _ _ (keeps_next c) ∙ ap (λ t. t.now + 1) (sym c.self.view_is) in
+    rw c.of.ensures (record {
+      run = keeps_now _ _ _ _ _ (keeps_next c);
+      points = rw now (points_longer _ _ _ reach);
+    })
 
 pub returns-clause-ok : goal.returns-clause-ok
-returns-clause-ok c = stands_kept _ c.of.result.value _ _ _ _ (keeps_next c) (ap (past_below (c.args.self.now.now + 1)) c.of.ensures)
+returns-clause-ok c = stands_kept _ c.of.result.value _ _ _ _ _ (keeps_next c) (ap (past_below (c.args.self.now.now + 1)) c.of.ensures)

@@ -1,9 +1,14 @@
 -- What is kept is of the scenario too.
 use Rattle.pf_timeline.proofs.Grown.{keeps_now}
 use Rattle.pf_timeline.proofs.Past.{keeps_standing}
+use Rattle.pf_timeline.proofs.Points.{points_standing}
 use Rattle.pf_timeline.proofs.timeline.Timeline.copy.Goals as goal
 
 pub invariant_of-result : goal.invariant_of-result
 invariant_of-result c =
-    rw (c.of.ensures, c.in_ok-copy.ensures, c.in_ok-from_slice.ensures.items, c.deref.ensures.value, c.in_ok-copy-2.ensures)
-    (keeps_now _ _ _ _ _ (keeps_standing _ _ _ _ _ _ _ c.self.invariant c.self.view_is c.requires))
+    let keeps = keeps_standing _ _ _ _ _ _ _ _ c.self.invariant.run c.self.view_is c.requires in
+    rw (c.of.ensures, c.in_ok-copy.ensures, c.in_ok-from_slice.ensures.items, c.deref.ensures.value, c.in_ok-copy-2.ensures, c.in_ok-copy-3.ensures)
+    (record {
+      run = keeps_now _ _ _ _ _ keeps;
+      points = points_standing _ _ _ _ _ _ _ _ _ c.self.invariant c.self.view_is c.requires;
+    })

@@ -1,4 +1,4 @@
--- The new timeline stands for as many slots as it took and counted, and takes as many as the old one has.
+-- The new timeline stands for as many slots as it took and counted, from the last checkpoint not after the change on.
 use Rattle.std.proofs.Common.{ap, arith}
 use Rattle.pf_timeline.proofs.Past.{stands_now}
 use Rattle.pf_timeline.proofs.timeline.Timeline.rewritten.Goals as goal
@@ -10,8 +10,9 @@ pub advance-requires-clause-below : goal.advance-requires-clause-below
 advance-requires-clause-below c =
     omega (
       arith,
+      c.loop-test.true,
       c.loop.invariant.stands.slots,
-      c.self.invariant.of_run.within,
+      c.self.invariant.run.of_run.within,
       ap (λ t. t.past.settings.horizon) c.self.view_is,
       ap (λ system. system.horizon) c.requires.agrees.settings,
     )
