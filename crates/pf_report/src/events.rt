@@ -90,7 +90,7 @@ pub fn events_csv(alloc: Global, snapshot: &Snapshot) -> Result<Vec<u8>, AllocEr
         "event", "slot", "kind", "task", "cost", "period", "early", "by", "count",
     ])?;
     for numbered in snapshot.events() {
-        push_event(&mut table, *numbered)?;
+        push_event(&mut table, numbered)?;
     }
     table.finish()
 }

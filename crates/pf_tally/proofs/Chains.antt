@@ -129,7 +129,7 @@ part_more n s order = ⊎_elim
     (cases_lt n s.end))
     (cases_lt n s.start)
 
-parts_more : (n from : ℕ) (ss : List Stop) → StopsRise from ss → sum_by (part_of (n + 1)) ss ≡ sum_by (part_of n) ss + cond (is_stopped ss n) 1 0
+pub parts_more : (n from : ℕ) (ss : List Stop) → StopsRise from ss → sum_by (part_of (n + 1)) ss ≡ sum_by (part_of n) ss + cond (is_stopped ss n) 1 0
 parts_more n from [] rise = refl
 parts_more n from (s ∷ ss) rise =
     let rest = parts_more n s.end ss rise.2 in

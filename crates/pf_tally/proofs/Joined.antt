@@ -1,9 +1,10 @@
 -- What is known of the tasks that the events of a log bring.
 use Rattle.std.proofs.Common.{◌≡◌, ℕ, ◌*◌, ◌/◌, ◌%◌, ◌^◌, ◌<◌, ◌≤◌, ◌==◌, None, Some, List, length, get_or, filter_map, All, Contains, refl, ap, subst, arith}
 use Rattle.std.proofs.Math.Nat.{mul-le-mul_right, mul-le-mul_left}
-use Rattle.std.proofs.lemmas.List.Elements.{All-contains, Contains-get_or}
+use Rattle.std.proofs.lemmas.List.Elements.{All-contains}
 use Rattle.pf_weight.specs.Share.{IsShare, IsBase, share_of}
 use Rattle.pf_weight.specs.Weighed.{weight_fault}
+use Rattle.pf_weight.specs.declared.task.TheConstants.{LARGEST_TASK}
 use Rattle.pf_scenario.specs.System.{System, IsSystem}
 use Rattle.pf_scenario.specs.Event.{slot_of}
 use Rattle.pf_scenario.specs.Edit.{IsEvent}
@@ -17,7 +18,7 @@ use Rattle.pf_run.specs.Record.{Slot, runs}
 use Rattle.pf_run.specs.Inside.{Joined, joined_by, join_of, has_left, inside}
 use Rattle.pf_run.proofs.Containing.{from_filter}
 use Rattle.pf_run.proofs.Limits.{join_task, join_weight, delay_by, weight_parts}
-use Rattle.pf_run.proofs.Within.{joined_within, held_cond, horizon_within}
+use Rattle.pf_run.proofs.Within.{held_cond, horizon_within}
 use Rattle.pf_tally.specs.Log.{IsLog}
 use Rattle.pf_tally.specs.Held.{delay_from, CanTally}
 use Rattle.pf_tally.specs.Quanta.{slots_of}
@@ -42,7 +43,7 @@ share_is base cost period of_base is =
 
 -- the parts of a join within its limits
 record IsJoin (base : ℕ) (event : Event) (j : Joined) : Type 0 where
-  pub number : j.task ≤ 4095
+  pub number : j.task ≤ LARGEST_TASK
   pub share : IsShare j.weight
   pub slot : j.slot ≡ slot_of event
 

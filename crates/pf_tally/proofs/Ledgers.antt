@@ -82,13 +82,13 @@ module _ (s : Plan) (n : ℕ) (ledger : Ledger) (known : IsLedger s n ledger) (j
   task_share : IsShare j.weight
   task_share = let can = task_known in can.share
 
-  task_ran : (ran : List ℕ) → ran ≡ noted_of ledger.quanta j.task → ran ≡ slots_of (run_of s n) j.task
+  pub task_ran : (ran : List ℕ) → ran ≡ noted_of ledger.quanta j.task → ran ≡ slots_of (run_of s n) j.task
   task_ran ran of_ran = of_ran ∙ known.quanta j.task
 
-  task_diary : (diary : List Numbered) → diary ≡ noted_of ledger.diaries j.task → diary ≡ events_of_task j.task ledger.events.items
+  pub task_diary : (diary : List Numbered) → diary ≡ noted_of ledger.diaries j.task → diary ≡ events_of_task j.task ledger.events.items
   task_diary diary of_diary = of_diary ∙ known.diaries.each j.task
 
-  task_can : (ran : List ℕ) (diary : List Numbered) → ran ≡ noted_of ledger.quanta j.task → diary ≡ noted_of ledger.diaries j.task → CanTally j ran diary ledger.now
+  pub task_can : (ran : List ℕ) (diary : List Numbered) → ran ≡ noted_of ledger.quanta j.task → diary ≡ noted_of ledger.diaries j.task → CanTally j ran diary ledger.now
   task_can ran diary of_ran of_diary =
       let P : List ℕ → List Numbered → Type 0 = λ ran xs. CanTally j ran xs ledger.now in
       subst₂ P (sym (task_ran ran of_ran)) (sym (task_diary diary of_diary)) (can_own j (slots_of (run_of s n) j.task) ledger.events.items ledger.now task_known)

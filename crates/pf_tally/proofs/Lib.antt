@@ -14,3 +14,7 @@ pub mod Tallies
 pub mod Joined
 pub mod Ledgers
 pub mod Missing
+pub mod Seats
+pub mod Ranges
+pub mod Jobs
+pub mod Figured

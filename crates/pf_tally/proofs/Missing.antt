@@ -115,7 +115,7 @@ module _ (j : Joined) (ran : List ℕ) (held : List Held) (last : ℕ) where
       before ∙ ap (λ ms. start ++ ms) (sym (ap (late_misses j ran held last) (let z : n ≡ i - 1 + (n - (i - 1)) = omega arith in z) ∙ none_later i (n - (i - 1)) share some over))
 
 -- By the definition: the due slots, the slots in which subtasks ran, and the last slot by which a window is missed.
-due_is : (r : List Slot) (xs : List Numbered) (j : Joined) (i : ℕ) → due_of r xs j i ≡ due_at j (held_from (next_at r j) j j.slot xs) i
+pub due_is : (r : List Slot) (xs : List Numbered) (j : Joined) (i : ℕ) → due_of r xs j i ≡ due_at j (held_from (next_at r j) j j.slot xs) i
 unfolding shift_of
 due_is r xs j i = ap (λ n. deadline_of j.weight i + (j.slot + n)) (all_counted r j j.slot i xs)
 

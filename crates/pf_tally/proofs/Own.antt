@@ -1,10 +1,10 @@
 -- Of a task only its events_of_task events count: for its shifts, its clock, its leave and its misses.
-use Rattle.std.proofs.Common.{◌≡◌, ℕ, ◌+◌, ◌-◌, ◌*◌, ◌^◌, ◌<◌, ◌≤◌, Bool, true, false, ◌&&◌, ◌==◌, nat_le, not, cond, Option, None, Some, List, [], ◌∷◌, ◌++◌, length, take, get_or, map, filter, find, count_by, sum_by, All, ⊎_elim, refl, sym, ap, ap₂, ◌∙◌, subst, subst₂, arith}
+use Rattle.std.proofs.Common.{◌≡◌, ℕ, ◌+◌, ◌-◌, ◌*◌, ◌^◌, ◌<◌, ◌≤◌, Bool, true, false, ◌&&◌, ◌==◌, nat_le, not, cond, Option, None, Some, List, [], ◌∷◌, ◌++◌, length, take, get_or, map, filter, find, count_by, sum_by, All, ⊎_elim, refl, sym, ap, ap₂, ◌∙◌, subst, arith}
 use Rattle.std.specs.Prelude.{pos, ◌-ℤ◌}
 use Rattle.std.specs.List.{range_with_len}
 use Rattle.std.specs.Option.{option_map_or}
-use Rattle.std.proofs.lemmas.Bool.{cases_Bool, cases_eq, cond-false, ne_eqb, eq-eqb}
-use Rattle.std.proofs.lemmas.List.{append-nil, length-set, get_or-set_same, get_or-set_other, take_all, take_more}
+use Rattle.std.proofs.lemmas.Bool.{cases_Bool, cond-false}
+use Rattle.std.proofs.lemmas.List.{append-nil, take_all, take_more}
 use Rattle.std.proofs.lemmas.List.Elements.{All-filter, All-head, All-tail, filter-append}
 use Rattle.std.proofs.lemmas.Map.Views.{any-filter_same}
 use Rattle.std.proofs.lemmas.List.Sums.{sum_by-cons, length-filter, count_by-le-length}
@@ -97,7 +97,7 @@ stops_own r j before (x ∷ xs) =
     ∙ ap (λ ss. ss ++ stops_behind r j (before ++ x ∷ []) xs) (sym (stop_of_other r before j x.event other)))
     (cases_Bool (is_own j.task x.event))
 
-clock_own : (r : List Slot) (xs : List Numbered) (j : Joined) (n : ℕ) → clock_of r (events_of_task j.task xs) j n ≡ clock_of r xs j n
+pub clock_own : (r : List Slot) (xs : List Numbered) (j : Joined) (n : ℕ) → clock_of r (events_of_task j.task xs) j n ≡ clock_of r xs j n
 unfolding clock_of
 clock_own r xs j n = ap (λ ss. count_by (λ t. not (is_stopped ss t)) (range_with_len j.slot (n - j.slot))) (stops_own r j [] xs)
 
@@ -134,7 +134,7 @@ staying_own xs table js are =
     filter_agree_on (λ j. not (has_left (noted_of table j.task) j.task)) (λ j. not (has_left xs j.task)) js
     (λ k d within. let task = (get_or js k d).task in ap (λ ys. not (has_left ys task)) (are.each task) ∙ ap not (left_own xs task))
 
-find_own : (xs : List Numbered) (task : ℕ) → find (λ x. is_leave_of task x.event) (events_of_task task xs) ≡ find (λ x. is_leave_of task x.event) xs
+pub find_own : (xs : List Numbered) (task : ℕ) → find (λ x. is_leave_of task x.event) (events_of_task task xs) ≡ find (λ x. is_leave_of task x.event) xs
 find_own [] task = refl
 find_own (x ∷ xs) task =
     let rest = find_own xs task in

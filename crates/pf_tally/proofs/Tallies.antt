@@ -68,7 +68,7 @@ received_is r task ran is =
     ap length (sym is) ∙ length_places (runs task) 0 r ∙ sym (ap (count_by (runs task)) (take_all (length r) r (omega arith)))
 
 -- the tasks by number
-not_tied : (a b : ℕ) → a ≢ b → nat_cmp a b ≢ Equal
+pub not_tied : (a b : ℕ) → a ≢ b → nat_cmp a b ≢ Equal
 not_tied a b differ tie = differ (equal_from_cmp a b tie)
   where
     equal_from_cmp : (a b : ℕ) → nat_cmp a b ≡ Equal → a ≡ b

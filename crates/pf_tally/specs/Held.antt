@@ -2,9 +2,12 @@
 use Rattle.std.specs.Prelude.{◌≡◌, ℕ, ◌+◌, ◌-◌, ◌^◌, min, sum_by, ◌<◌, ◌≤◌, ◌==◌, if◌then◌else◌, List, [], ◌∷◌, ◌++◌, length, All, count_by, nat_lt}
 use Rattle.std.specs.List.Sorted.{IsNonDecreasing}
 use Rattle.pf_weight.specs.Share.{Share, IsShare}
+use Rattle.pf_weight.specs.declared.task.TheConstants.{LARGEST_TASK}
 use Rattle.pf_window.specs.Window.{release_of}
 use Rattle.pf_tally.specs.Clock.{Stop}
 use Rattle.pf_tally.specs.Log.{RiseFrom}
+use Rattle.pf_scenario.specs.declared.scenario.TheConstants.{MOST_EVENTS}
+use Rattle.pf_scenario.specs.declared.settings.TheConstants.{WIDE_HORIZON}
 use Rattle.pf_scenario.specs.declared.event.Event.{Event}
 use Rattle.pf_scenario.specs.declared.event.Event.TheVariants.{Delay}
 use Rattle.pf_scenario.specs.declared.event.Numbered.{Numbered}
@@ -33,9 +36,9 @@ held_from next j shift (x ∷ xs) = held_by next j shift x.event ++ held_from ne
 
 -- the numbers of these events are small enough to be added to the task's join slot
 pub record AreDelays (j : Joined) (xs : List Numbered) : Type 0 where
-  pub joined : j.slot < 2 ^ 22
+  pub joined : j.slot < WIDE_HORIZON
   pub short : All (λ x. delay_from j x.event ≤ 2 ^ 20) xs
-  pub few : length xs ≤ 65535
+  pub few : length xs ≤ MOST_EVENTS
 
 -- each delay finds the shift that the one before it left, and no earlier subtask
 abbrev pub AreSuccessive : ℕ → ℕ → List Held → Type 0
@@ -64,11 +67,11 @@ pub record IsSmall (h : Held) : Type 0 where
 -- what is known of a task that is tallied after n slots: it joined before, it ran in no more slots, and these and its
 -- delays are small enough to be added
 pub record CanTally (j : Joined) (ran : List ℕ) (xs : List Numbered) (n : ℕ) : Type 0 where
-  pub number : j.task ≤ 4095
+  pub number : j.task ≤ LARGEST_TASK
   pub share : IsShare j.weight
   pub joined : j.slot ≤ n
   pub ran_rise : IsNonDecreasing ran
   pub ran_within : length ran ≤ n
-  pub within : n ≤ 2 ^ 22
+  pub within : n ≤ WIDE_HORIZON
   pub rise : RiseFrom 0 xs
   pub delays : AreDelays j xs

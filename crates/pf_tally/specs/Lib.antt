@@ -20,3 +20,6 @@ pub mod Noted
 pub mod Own
 pub mod Ledger
 pub mod Late
+pub mod Figures
+pub mod Told
+pub mod Ranges

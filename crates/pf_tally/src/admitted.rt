@@ -1,6 +1,7 @@
-ghost use Rattle.std.specs.Prelude.{◌≡◌, filter_map, All, IfOk};
-ghost use Rattle.pf_scenario.specs.Edit.{IsEvent};
+ghost use Rattle.std.specs.Prelude.{◌≡◌, false, filter_map, All, AllPairs, IfOk};
+ghost use Rattle.pf_scenario.specs.Edit.{IsEvent, join_alike};
 ghost use Rattle.pf_run.specs.Inside.{joined_by, join_of};
+ghost use Rattle.pf_tally.specs.Lags.{by_task};
 
 use pf_scenario::event::{Event, Numbered};
 use pf_scenario::settings::Settings;
@@ -68,4 +69,19 @@ pub(crate) fn admitted_tasks(
         }
     }
     Ok(admitted)
+}
+
+/// The tasks that these events bring, by number.
+pub(crate) fn admitted_by_number(
+    alloc: Global,
+    settings: Settings,
+    events: &[Numbered],
+) -> Result<Vec<Admitted>, AllocError>
+    requires limits { All (λ x. IsEvent settings x.event) events.now }
+    requires once { AllPairs (λ x y. join_alike x.event y.event ≡ false) events.now }
+    ensures { IfOk result (λ v. v.items ≡ by_task (filter_map (join_of settings.base) events.now)) }
+{
+    let mut tasks = admitted_tasks(alloc, settings, events)?;
+    tasks.sort_unstable_by_key(|task| task.task);
+    Ok(tasks)
 }

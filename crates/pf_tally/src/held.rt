@@ -19,7 +19,7 @@ pub(crate) struct Held {
 }
 
 /// How many of the slots, which rise, are below t.
-fn slots_below(slots: &[u64], t: u64) -> u64
+pub(crate) fn slots_below(slots: &[u64], t: u64) -> u64
     requires { IsNonDecreasing slots.now }
     ensures value { result ≡ count_by (λ q. nat_lt q t) slots.now }
     ensures bound { result ≤ length slots.now }

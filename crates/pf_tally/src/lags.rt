@@ -1,4 +1,6 @@
-ghost use Rattle.std.specs.Prelude.{◌≡◌, ◌^◌, ◌≤◌, pos, ◌*◌, ◌-ℤ◌, length, List, IfOk};
+ghost use Rattle.std.specs.Prelude.{◌≡◌, ◌≤◌, pos, ◌*◌, ◌-ℤ◌, length, List, IfOk};
+ghost use Rattle.pf_weight.specs.declared.task.TheConstants.{LARGEST_TASK};
+ghost use Rattle.pf_scenario.specs.declared.settings.TheConstants.{WIDE_HORIZON};
 ghost use Rattle.pf_run.specs.Record.{Slot};
 ghost use Rattle.pf_run.specs.Computed.{run_of};
 ghost use Rattle.pf_run.specs.RunRows.{AreOfRun};
@@ -20,9 +22,9 @@ use std::alloc::{AllocError, Global};
 
 /// The lag of a task of this clock that received so many quanta.
 fn lag_at(task: Admitted, clock: u64, received: u64) -> Lag
-    requires number { task.task ≤ 4095 }
-    requires clock { clock ≤ 2 ^ 22 }
-    requires received { received ≤ 2 ^ 22 }
+    requires number { task.task ≤ LARGEST_TASK }
+    requires clock { clock ≤ WIDE_HORIZON }
+    requires received { received ≤ WIDE_HORIZON }
     ensures { result ≡ record {
       task = task.task;
       cost = task.weight.cost;

@@ -1,4 +1,5 @@
 ghost use Rattle.std.specs.Prelude.{◌≡◌, ◌++◌, ◌≤◌, length, IfOk, OnOk};
+ghost use Rattle.pf_weight.specs.declared.task.TheConstants.{LARGEST_TASK};
 ghost use Rattle.pf_scenario.specs.Scenario.{Plan};
 ghost use Rattle.pf_scenario.specs.Edit.{IsScenario};
 ghost use Rattle.pf_run.specs.Computed.{run_of};
@@ -22,7 +23,7 @@ use std::alloc::{AllocError, Global};
 /// The miss of subtask i of a task that ran in the slots `ran`, where it is due in the slot `due` and did not run
 /// before.
 fn miss_of(task: Admitted, ran: &[u64], due: u64, i: u32) -> Option<Miss>
-    requires number { task.task ≤ 4095 }
+    requires number { task.task ≤ LARGEST_TASK }
     requires first { 1 ≤ i }
     ensures { result ≡ miss_if task ran.now due i }
 {
@@ -65,7 +66,7 @@ fn note_misses(
 }
 
 /// Appends the misses, after `now` slots, of a task that ran in the slots `ran` and whose own events these are.
-fn note_task(
+pub(crate) fn note_task(
     alloc: Global,
     misses: &mut Vec<Miss>,
     task: Admitted,

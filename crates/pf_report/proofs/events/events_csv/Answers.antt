@@ -6,4 +6,4 @@ pub loop-numbered-init : goal.loop-numbered-init
 unfolding events_text
 loop-numbered-init c =
     let table = c.in_ok-push_texts.ensures in
-    record { whole = rw (table, c.new-table.ensures, c.events-numbered-items.ensures) refl; at_record = rw table refl }
+    record { whole = rw (table, c.new-table.ensures, c.into_iter-numbered-iterator.ensures.into_iter_gives, c.events-numbered-items.ensures) refl; at_record = rw table refl }

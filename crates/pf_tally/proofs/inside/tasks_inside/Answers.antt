@@ -1,4 +1,4 @@
-use Rattle.std.proofs.Common.{◌∙◌, subst, sym, List, All, ◌<◌, rules}
+use Rattle.std.proofs.Common.{◌∙◌, rules}
 use Rattle.std.proofs.lemmas.List.Sorted.{answers_always}
 use Rattle.pf_run.specs.Inside.{Joined}
 use Rattle.pf_tally.proofs.Own.{staying_own}

@@ -1,0 +1,114 @@
+ghost use Rattle.std.specs.Prelude.{◌≡◌, [], IfOk, OnOk};
+ghost use Rattle.pf_report.specs.Page.{with_field, with_record};
+ghost use Rattle.pf_stats.specs.Stats.{figures_record, greatest_field, least_field, stats_text, task_fields, time_fields, work_fields};
+
+use pf_desk::snapshot::Snapshot;
+use pf_report::table::Table;
+use pf_tally::extremes::Extremes;
+use pf_tally::figures::Figures;
+use std::alloc::{AllocError, Global};
+
+/// Adds the field of the least, which is empty where there is none.
+fn show_least(table: &mut Table, extremes: Option<Extremes>) -> Result<(), AllocError>
+    ensures { OnOk result (table.new ≡ with_field table.old (least_field extremes)) }
+{
+    match extremes {
+        Some(extremes) => table.show(extremes.least),
+        None => table.show(""),
+    }
+}
+
+/// Adds the field of the greatest, which is empty where there is none.
+fn show_greatest(table: &mut Table, extremes: Option<Extremes>) -> Result<(), AllocError>
+    ensures { OnOk result (table.new ≡ with_field table.old (greatest_field extremes)) }
+{
+    match extremes {
+        Some(extremes) => table.show(extremes.greatest),
+        None => table.show(""),
+    }
+}
+
+/// Adds the fields of the task and of its quanta.
+fn show_task(table: &mut Table, figures: Figures) -> Result<(), AllocError>
+    requires { table.old.fields ≡ [] }
+    ensures { OnOk result (table.new ≡ record { text = table.old.text; fields = task_fields figures }) }
+{
+    table.show(figures.task)?;
+    table.show(figures.cost)?;
+    table.show(figures.period)?;
+    table.show(figures.quanta)
+}
+
+/// Adds the fields of how it moved, and of its jobs.
+fn show_work(table: &mut Table, figures: Figures) -> Result<(), AllocError>
+    requires { table.old.fields ≡ task_fields figures }
+    ensures { OnOk result (table.new ≡ record { text = table.old.text; fields = work_fields figures }) }
+{
+    table.show(figures.migrations)?;
+    table.show(figures.preemptions)?;
+    table.show(figures.jobs)
+}
+
+/// Adds the fields of how soon its jobs were done, and how late it was.
+fn show_time(table: &mut Table, figures: Figures) -> Result<(), AllocError>
+    requires { table.old.fields ≡ work_fields figures }
+    ensures { OnOk result (table.new ≡ record { text = table.old.text; fields = time_fields figures }) }
+{
+    show_least(table, figures.response)?;
+    show_greatest(table, figures.response)?;
+    table.show(figures.missed)?;
+    table.show(figures.tardiness)
+}
+
+/// Adds the fields of its lag.
+fn show_lag(table: &mut Table, figures: Figures) -> Result<(), AllocError>
+    requires { table.old.fields ≡ time_fields figures }
+    ensures { OnOk result (table.new ≡ record { text = table.old.text; fields = figures_record figures }) }
+{
+    show_least(table, Some(figures.lag))?;
+    show_greatest(table, Some(figures.lag))
+}
+
+/// Adds the record of a task.
+fn push_figures(table: &mut Table, figures: Figures) -> Result<(), AllocError>
+    requires { table.old.fields ≡ [] }
+    ensures { OnOk result (table.new ≡ with_record table.old (figures_record figures)) }
+{
+    show_task(table, figures)?;
+    show_work(table, figures)?;
+    show_time(table, figures)?;
+    show_lag(table, figures)?;
+    table.end_record()
+}
+
+/// What every simulator tells of each task admitted in a slot below now, as a table, by task number: its weight, the
+/// quanta that it received, its migrations and preemptions, the jobs that were done, their least and greatest response,
+/// the missed windows, the greatest tardiness, the least and the greatest lag.
+///
+/// # Errors
+///
+/// Where memory is refused.
+pub fn stats_csv(alloc: Global, snapshot: &Snapshot) -> Result<Vec<u8>, AllocError>
+    ensures { IfOk result (λ text. text.items ≡ stats_text snapshot.now) }
+{
+    let mut table = Table::new(alloc);
+    table.push_texts(&[
+        "task",
+        "cost",
+        "period",
+        "quanta",
+        "migrations",
+        "preemptions",
+        "jobs",
+        "response_min",
+        "response_max",
+        "missed",
+        "tardiness_max",
+        "lag_min",
+        "lag_max",
+    ])?;
+    for figures in &snapshot.figures()? {
+        push_figures(&mut table, *figures)?;
+    }
+    table.finish()
+}
