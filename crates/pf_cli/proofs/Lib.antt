@@ -1,3 +1,4 @@
+pub mod Checking
 pub mod Limits
 pub mod Openings
 pub mod Replying

@@ -1,4 +1,4 @@
--- What the program does for words that run no script.
+-- What the program does for words that read no script.
 use Rattle.std.proofs.Common.{◌≡◌, ◌+◌, ◌⊎◌, ℕ, refl, sym, subst, inl, inr, arith, List, [], Option, Some, None, Err}
 use Rattle.std.specs.Io.KnownBytes.{Appends}
 use Rattle.std.specs.Prelude.{◌==◌, if◌then◌else◌, IfSome}
@@ -6,23 +6,24 @@ use Rattle.std.proofs.KnownBytes.{Keeps-refl, Consumes-nil}
 use Rattle.pf_words.specs.declared.format.Format.{Format}
 use Rattle.pf_words.specs.declared.request.WordsFault.{WordsFault}
 use Rattle.pf_words.specs.declared.request.WordsFault.TheVariants as fault
-use Rattle.pf_words.specs.Asked.{AsksHelp, AsksVersion, IsAsked, IsRefused, NamesNoFormat, format_asked}
+use Rattle.pf_words.specs.Asked.{AsksHelp, AsksVersion, Checks, IsAsked, IsRefused, NamesNoFormat, RunsIn, Task, task_asked}
 use Rattle.pf_words.proofs.Unasked.{untaken_asks_none}
 use Rattle.pf_cli.specs.declared.fault.RunFault.TheVariants.{NoMemory}
 use Rattle.pf_stream.specs.Lines.{TookFront}
 use Rattle.pf_stream.specs.Reading.{longest_script, TakesAtMost}
 use Rattle.pf_cli.specs.Answers.{Answers}
+use Rattle.pf_cli.specs.Checks.{ChecksBytes}
 use Rattle.pf_cli.specs.Meaning.{script_meaning}
 use Rattle.pf_cli.specs.Status.{AnswersAsked, AnswersWords, ReadsNothing, Streams, status_of_words}
 use Rattle.pf_cli.proofs.Sessions.{none_written}
 
--- words that ask for no run have nothing read
-nothing_read : (words : List (List ℕ)) (status : ℕ) (old new : Streams) → format_asked words ≡ None → ReadsNothing words status old new
+-- words that ask for nothing have nothing read
+nothing_read : (words : List (List ℕ)) (status : ℕ) (old new : Streams) → task_asked words ≡ None → ReadsNothing words status old new
     → AnswersWords words status old new
 nothing_read words status old new none reads = rw none reads
 
--- words that ask for a text ask for no run
-pub shown_asks_none : (words : List (List ℕ)) → AsksHelp words ⊎ AsksVersion words → format_asked words ≡ None
+-- words that ask for a text ask for nothing else
+pub shown_asks_none : (words : List (List ℕ)) → AsksHelp words ⊎ AsksVersion words → task_asked words ≡ None
 shown_asks_none words (inl help) = untaken_asks_none words _ help
 shown_asks_none words (inr version) = untaken_asks_none words _ version
 
@@ -42,8 +43,8 @@ text_answers words text status old new asks ended input reads writes whole front
       unwritten = λ other. absurd (omega (arith, ended, other));
     })
 
--- words that ask for nothing, and are not refused for want of memory, ask for no run
-pub refused_asks_none : (words : List (List ℕ)) (why : WordsFault) → IsAsked words (Err why) → (why ≡ fault.NoMemory) ⊎ (format_asked words ≡ None)
+-- words that ask for nothing, and are not refused for want of memory, read nothing
+pub refused_asks_none : (words : List (List ℕ)) (why : WordsFault) → IsAsked words (Err why) → (why ≡ fault.NoMemory) ⊎ (task_asked words ≡ None)
 refused_asks_none words (fault.Refused text) refused = inr (untaken_asks_none words _ refused.2)
 refused_asks_none words fault.UnknownFormat unknown = inr unknown.1
 refused_asks_none words fault.NoMemory any = inl refl
@@ -53,7 +54,7 @@ none_taken : (input : Option (List ℕ)) → TakesAtMost input input (longest_sc
 none_taken input = ([], Consumes-nil input, omega arith)
 
 -- want of memory is an answer to all words
-no_memory : (words : List (List ℕ)) (old : Streams) (asked : Option Format) → AnswersAsked words asked 4 old old
+no_memory : (words : List (List ℕ)) (old : Streams) (asked : Option Task) → AnswersAsked words asked 4 old old
 no_memory words old None = record {
   ended = inr (inr refl);
   input = refl;
@@ -63,7 +64,7 @@ no_memory words old None = record {
   cut = λ failed. absurd (omega (arith, failed));
   unwritten = λ other. Keeps-refl old.output;
 }
-no_memory words old (Some format) = (
+no_memory words old (Some (RunsIn format)) = (
   Err NoMemory,
   refl,
   record {
@@ -78,6 +79,21 @@ no_memory words old (Some format) = (
     none_meant : (format : Format) (input output : Option (List ℕ)) → IfSome input (λ bytes. Answers {A = Unit {0}} (script_meaning format bytes) (Err NoMemory) output output)
     none_meant format None output = tt
     none_meant format (Some bytes) output = none_written output _
+no_memory words old (Some Checks) = (
+  Err NoMemory,
+  refl,
+  record {
+    meaning = none_checked old.input old.output;
+    reads = refl;
+    writes = refl;
+    unwritten = λ failed. Keeps-refl old.output;
+    taken = none_taken old.input;
+  },
+)
+  where
+    none_checked : (input output : Option (List ℕ)) → IfSome input (λ bytes. ChecksBytes bytes (Err NoMemory) output output)
+    none_checked None output = tt
+    none_checked (Some bytes) output = record { text = none_written output _; faults = tt }
 
 -- the words are not the program's
 mistaken : (words : List (List ℕ)) (old : Streams) → IsRefused words ⊎ NamesNoFormat words → ReadsNothing words 2 old old
@@ -96,7 +112,7 @@ untouched : (words : List (List ℕ)) (why : WordsFault) (old : Streams) → IsA
 untouched words (fault.Refused text) old refused =
     nothing_read words 2 old old (untaken_asks_none words _ refused.2) (mistaken words old (inl refused))
 untouched words fault.UnknownFormat old unknown = nothing_read words 2 old old unknown.1 (mistaken words old (inr unknown))
-untouched words fault.NoMemory old any = no_memory words old (format_asked words)
+untouched words fault.NoMemory old any = no_memory words old (task_asked words)
 
 -- words that ask for nothing, and want of memory, leave the streams as they were
 pub refusal_answers : (words : List (List ℕ)) (why : WordsFault) (status : ℕ) (old : Streams) → IsAsked words (Err why)

@@ -8,7 +8,11 @@ pub use Rattle.pf_words.specs.Formats
 pub use Rattle.pf_script.specs.Fields
 pub use Rattle.pf_script.specs.Grammar
 pub use Rattle.pf_script.specs.Script
+pub use Rattle.pf_check.specs.Examined
+pub use Rattle.pf_check.specs.Places
+pub use Rattle.pf_check.specs.Reports
 pub mod Answers
+pub mod Checks
 pub mod Examples
 pub mod Meaning
 pub mod Replies

@@ -11,6 +11,7 @@ use Rattle.pf_report.specs.Tables.{schedule_text, lags_text, misses_text, denial
 use Rattle.pf_report.specs.Events.{events_text}
 use Rattle.pf_report.specs.Json.{json_text}
 use Rattle.pf_stats.specs.Processors.{processors_text}
+use Rattle.pf_stats.specs.Stats.{stats_text}
 use Rattle.pf_script.specs.declared.version.Version.{Version}
 use Rattle.pf_script.specs.declared.version.Version.TheVariants.{First, Second}
 use Rattle.pf_script.specs.declared.line.Line.{Line}
@@ -20,7 +21,7 @@ use Rattle.pf_stream.specs.Reading.{longest_script}
 use Rattle.pf_script.specs.Script.{script_records}
 use Rattle.pf_script.specs.Grammar.{horizon_of, is_heading, opening_of, line_of}
 use Rattle.pf_words.specs.declared.format.Format.{Format}
-use Rattle.pf_words.specs.declared.format.Format.TheVariants.{Schedule, Tables, Json, Report, Replies, Lags, Misses, Denials, Events, Processors}
+use Rattle.pf_words.specs.declared.format.Format.TheVariants.{Schedule, Tables, Json, Report, Replies, Lags, Misses, Denials, Events, Processors, Stats}
 use Rattle.pf_words.specs.Formats.{has_replies}
 use Rattle.pf_cli.specs.Replies.{reply_line, line_end}
 
@@ -101,6 +102,7 @@ report_text Misses seen = misses_text seen
 report_text Denials seen = denials_text seen
 report_text Events seen = events_text seen
 report_text Processors seen = processors_text seen
+report_text Stats seen = stats_text seen
 
 -- the record is this line, or it is bad_record
 abbrev pub line_meaning : Format → ℕ → ScriptCourse → (ScriptCourse → Meaning) → Option Line → Meaning

@@ -6,10 +6,11 @@ use Rattle.pf_cli.specs.declared.fault.RunFault.TheVariants.{BadLine, ReadFault,
 use Rattle.pf_words.specs.declared.format.Format.{Format}
 use Rattle.pf_words.specs.declared.request.WordsFault.{WordsFault}
 use Rattle.pf_words.specs.declared.request.WordsFault.TheVariants as words
-use Rattle.pf_words.specs.Asked.{format_asked, AsksHelp, AsksVersion, IsRefused, NamesNoFormat}
+use Rattle.pf_words.specs.Asked.{Task, RunsIn, Checks, task_asked, AsksHelp, AsksVersion, IsRefused, NamesNoFormat}
 use Rattle.pf_stream.specs.Lines.{TookFront}
 use Rattle.pf_stream.specs.Reading.{longest_script, TakesAtMost}
 use Rattle.pf_cli.specs.Answers.{Answers, CountsReads, CountsWrites}
+use Rattle.pf_cli.specs.Checks.{ChecksBytes}
 use Rattle.pf_cli.specs.Meaning.{script_meaning}
 
 -- 0 done, 1 a script that is bad or too long, 3 a stream that failed, 4 no memory
@@ -20,6 +21,11 @@ status_of (Err ScriptTooLong) = 1
 status_of (Err ReadFault) = 3
 status_of (Err WriteFault) = 3
 status_of (Err NoMemory) = 4
+
+-- the same of a check, and 1 where it found a fault
+abbrev pub status_of_check : Result ℕ RunFault → ℕ
+status_of_check (Ok faults) = if faults == 0 then 0 else 1
+status_of_check (Err fault) = status_of {A = ℕ} (Err fault)
 
 -- 2 words that are refused or name no format, 4 no memory
 abbrev pub status_of_words : WordsFault → ℕ
@@ -54,7 +60,20 @@ abbrev pub RunsScript : Format → ℕ → Streams → Streams → Type 0
 RunsScript format status old new =
     (answer : Result (Unit {0}) RunFault) × (status ≡ status_of answer) × IsAnswer format answer old new
 
--- how the program ends where it runs no script: help or the version was asked for, and was written (0) or could not be
+-- this answer is one to a check of the script, and the streams are as behind a run
+pub record IsCheck (answer : Result ℕ RunFault) (old new : Streams) : Type 0 where
+  pub meaning : IfSome old.input (λ bytes. ChecksBytes bytes answer old.output new.output)
+  pub reads : CountsReads answer old.failed_reads new.failed_reads
+  pub writes : CountsWrites answer old.failed_writes new.failed_writes
+  pub unwritten : answer ≡ Err ReadFault → Keeps old.output new.output
+  pub taken : TakesAtMost old.input new.input (longest_script + 1)
+
+-- a script was checked, and the status is that of the answer
+abbrev pub ChecksScript : ℕ → Streams → Streams → Type 0
+ChecksScript status old new =
+    (answer : Result ℕ RunFault) × (status ≡ status_of_check answer) × IsCheck answer old new
+
+-- how the program ends where it reads no script: help or the version was asked for, and was written (0) or could not be
 -- (3), the words were refused or name no format (2), or memory was refused (4)
 abbrev pub EndsUnread : List (List ℕ) → ℕ → Type 0
 EndsUnread words status =
@@ -73,10 +92,12 @@ pub record ReadsNothing (words : List (List ℕ)) (status : ℕ) (old new : Stre
   pub cut : status ≡ 3 → (text : List ℕ) × TookFront old.output new.output text
   pub unwritten : (status ≡ 2) ⊎ (status ≡ 4) → Keeps old.output new.output
 
--- words that ask for this format have the script run in it; where they ask for none, nothing is read
-abbrev pub AnswersAsked : List (List ℕ) → Option Format → ℕ → Streams → Streams → Type 0
-AnswersAsked words (Some format) status old new = RunsScript format status old new
+-- words that ask for a run in a format have the script run in it, and those that ask for a check have it checked; where
+-- they ask for nothing, nothing is read
+abbrev pub AnswersAsked : List (List ℕ) → Option Task → ℕ → Streams → Streams → Type 0
+AnswersAsked words (Some (RunsIn format)) status old new = RunsScript format status old new
+AnswersAsked words (Some Checks) status old new = ChecksScript status old new
 AnswersAsked words None status old new = ReadsNothing words status old new
 
 abbrev pub AnswersWords : List (List ℕ) → ℕ → Streams → Streams → Type 0
-AnswersWords words status old new = AnswersAsked words (format_asked words) status old new
+AnswersWords words status old new = AnswersAsked words (task_asked words) status old new

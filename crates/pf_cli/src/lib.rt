@@ -2,9 +2,10 @@
 //! each is a line of the script, which a desk answers; replies and reports go to a writer through a small buffer. The
 //! one contract of this crate: what `run` writes, and how it ends, is what the script's bytes mean, or a front of that
 //! text where the writer failed or memory was refused. Words that ask for a run, and no others, have `main_words` run
-//! the script, in the format that they ask for.
+//! the script, in the format that they ask for; words that ask for a check have it check the script.
 #![tactic(auto)]
 
+pub mod check;
 pub mod fault;
 pub mod laws;
 mod output_fault;

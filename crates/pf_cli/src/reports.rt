@@ -11,6 +11,7 @@ use pf_report::lags::lags_csv;
 use pf_report::misses::misses_csv;
 use pf_report::schedule::schedule_csv;
 use pf_stats::processors::processors_csv;
+use pf_stats::stats::stats_csv;
 use pf_words::format::Format;
 use std::alloc::{AllocError, Global};
 
@@ -33,6 +34,7 @@ pub fn report_text(
         Format::Denials => denials_csv(alloc, snapshot),
         Format::Events => events_csv(alloc, snapshot),
         Format::Processors => processors_csv(alloc, snapshot),
+        Format::Stats => stats_csv(alloc, snapshot),
     }
 }
 

@@ -2,9 +2,10 @@ ghost use Rattle.std.specs.Prelude.{None, ◌≡◌, ◌≢◌, ◌^◌, ◌-◌
 ghost use Rattle.std.specs.IoError.{error_kind};
 ghost use Rattle.std.specs.Io.KnownBytes.{Appends, Keeps};
 ghost use Rattle.pf_stream.specs.Lines.{TookFront};
-ghost use Rattle.pf_words.specs.Asked.{format_asked};
-ghost use Rattle.pf_cli.specs.Status.{status_of, status_of_words, seen_streams, RunsScript, AnswersWords};
+ghost use Rattle.pf_words.specs.Asked.{task_asked};
+ghost use Rattle.pf_cli.specs.Status.{status_of, status_of_words, seen_streams, ChecksScript, RunsScript, AnswersWords};
 
+use crate::check::check;
 use crate::fault::RunFault;
 use crate::run::run;
 use pf_stream::lines::write_out;
@@ -23,12 +24,12 @@ use std::io::{ErrorKind, Write};
 const NO_TEXT: &str = "error: invalid UTF-8 was detected in one or more arguments";
 
 /// Does what the program's words say, its own name not among them: runs the script that the reader has and writes its
-/// answer to the writer, or writes help or the version there. Without words the script is run in the format `Tables`. The text of a
-/// fault goes to `faults`, whose own faults are passed over. Answers the status to exit with: 0 where the script was
-/// done or help was shown, 1 where it has a bad record or is too long, 2 where the words are refused or name no
-/// format, 3 where the reader or the writer failed, 4 where memory was refused. Words that ask for a run, and no
-/// others, have the script read, in the format that they ask for; where they ask for none the reader is as before. The counts of failures of reader and writer must be
-/// below `u64::MAX` before the call.
+/// answer to the writer, or checks it and writes what it finds there, or writes help or the version. Without words the
+/// script is run in the format `Tables`. The text of a fault goes to `faults`, whose own faults are passed over. Answers
+/// the status to exit with: 0 where the script was done, a check found no fault, or help was shown, 1 where the script has
+/// a bad record or is too long, 2 where the words are refused or name no format, 3 where the reader or the writer failed,
+/// 4 where memory was refused. Words that ask for a run or a check, and no others, have the script read; where they ask for
+/// neither the reader is as before. The counts of failures of reader and writer must be below `u64::MAX` before the call.
 pub fn main_words<H: AllocGlobal, S: AsStr, R: Source, W: Sink, F: Write>(
     rt: &H,
     words: &[S],
@@ -41,12 +42,13 @@ pub fn main_words<H: AllocGlobal, S: AsStr, R: Source, W: Sink, F: Write>(
     ensures streams { AnswersWords (map S.text words.now) result
         (seen_streams (R.remaining reader.old) (R.failed reader.old) (W.contents writer.old) (W.failed writer.old))
         (seen_streams (R.remaining reader.new) (R.failed reader.new) (W.contents writer.new) (W.failed writer.new)) }
-    ensures unread { format_asked (map S.text words.now) ≡ None → reader.new ≡ reader.old }
+    ensures unread { task_asked (map S.text words.now) ≡ None → reader.new ≡ reader.old }
     ensures quiet { result ≡ 0 → Keeps (F.contents faults.old) (F.contents faults.new) }
 {
     let alloc = rt.alloc();
     match read_words(alloc, words) {
         Ok(Request::Run(format)) => run_told(alloc, format, reader, writer, faults),
+        Ok(Request::Check) => check_told(alloc, reader, writer, faults),
         Ok(Request::Show(text)) => show(text.as_str(), writer, faults),
         Err(fault) => refuse(&fault, faults),
     }
@@ -83,6 +85,27 @@ fn run_told<R: Source, W: Sink, F: Write>(
 {
     let outcome = run(alloc, reader, writer, format);
     tell_outcome(outcome, faults)
+}
+
+/// Checks the script, and answers the status.
+fn check_told<R: Source, W: Sink, F: Write>(
+    alloc: Global,
+    reader: &mut R,
+    writer: &mut W,
+    faults: &mut F,
+) -> u8
+    requires reads { R.failed reader.old < 2 ^ 64 - 1 }
+    requires writes { W.failed writer.old < 2 ^ 64 - 1 }
+    ensures streams { ChecksScript result
+        (seen_streams (R.remaining reader.old) (R.failed reader.old) (W.contents writer.old) (W.failed writer.old))
+        (seen_streams (R.remaining reader.new) (R.failed reader.new) (W.contents writer.new) (W.failed writer.new)) }
+    ensures quiet { result ≡ 0 → Keeps (F.contents faults.old) (F.contents faults.new) }
+{
+    match check(alloc, reader, writer) {
+        Ok(0) => 0,
+        Ok(_) => 1,
+        Err(fault) => tell_outcome(Err(fault), faults),
+    }
 }
 
 /// Writes a text that was asked for, and answers the status.

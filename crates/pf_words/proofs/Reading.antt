@@ -1,15 +1,18 @@
 -- What clap's answer says of the words.
-use Rattle.std.proofs.Common.{◌≡◌, ◌⊎◌, refl, subst, inl, inr, true, option_map, List, [], Option, Some, None, Result, Ok, Err, codes}
+use Rattle.std.proofs.Common.{◌≡◌, ◌⊎◌, refl, sym, ap, subst, inl, inr, Bool, true, false, option_map, List, [], Option, Some, None, Result, Ok, Err, codes}
+use Rattle.std.specs.Prelude.{◌↔◌, if◌then◌else◌}
+use Rattle.std.specs.Bool.{Decides}
+use Rattle.std.proofs.lemmas.Slice.Eq.{bytes_eq-Decides}
 use Rattle.clap.specs.Words.{IsAmong, Row, Text, fault_of, first_of, is_simple, is_simple_and_free, subcommand_of}
 use Rattle.clap.specs.declared.error.kind.ErrorKind.{ErrorKind}
 use Rattle.clap.specs.declared.error.kind.ErrorKind.TheVariants.{OutOfMemory}
 use Rattle.pf_words.specs.declared.format.Format.{Format}
 use Rattle.pf_words.specs.declared.request.Request.{Request}
-use Rattle.pf_words.specs.declared.request.Request.TheVariants.{Run, Show}
+use Rattle.pf_words.specs.declared.request.Request.TheVariants.{Run, Check, Show}
 use Rattle.pf_words.specs.declared.request.WordsFault.{WordsFault}
 use Rattle.pf_words.specs.declared.request.WordsFault.TheVariants.{Refused, UnknownFormat, NoMemory}
-use Rattle.pf_words.specs.CommandLine.{kinds_of, name_behind_run, name_given, program}
-use Rattle.pf_words.specs.Asked.{IsAsked, IsShown, ShowsError, format_asked, format_or_tables, run_in, run_request}
+use Rattle.pf_words.specs.CommandLine.{is_check, kinds_of, name_behind_run, program}
+use Rattle.pf_words.specs.Asked.{Checks, IsAsked, IsShown, RunsIn, ShowsError, format_or_tables, request_of, run_in, task_asked, task_of}
 
 -- one function after another over what may be there
 pub option_map-option_map : {X Y Z : Type 0} (f : Y → Z) (g : X → Y) (o : Option X) → option_map f (option_map g o) ≡ option_map (λ x. f (g x)) o
@@ -29,27 +32,45 @@ behind_run (Some p) rows name here =
 pub program_is_simple : (is_simple program ≡ true) × (is_simple_and_free program ≡ true)
 program_is_simple = (refl, refl)
 
--- words that the grammar takes ask for a run in the format, or name none
-asked_in : (words : List Text) (format : Option Format) → kinds_of words ≡ [] → format_asked words ≡ format → IsAsked words (run_in format)
-asked_in words None taken is = (taken, is)
-asked_in words (Some format) taken is = is
+-- words that the grammar takes ask for a check, for a run in the format, or name none
+asked_in : (words : List Text) (checks : Bool) (format : Option Format) → kinds_of words ≡ []
+    → task_asked words ≡ (if checks then Some Checks else option_map (λ f. RunsIn f) format)
+    → IsAsked words (if checks then Ok Check else run_in format)
+asked_in words true format taken is = is
+asked_in words false None taken is = (taken, is)
+asked_in words false (Some format) taken is = is
 
 -- the kinds of error by their definition
 pub kinds_are : (words : List Text) → fault_of program words ≡ kinds_of words
 unfolding kinds_of
 kinds_are words = refl
 
--- the format that is asked for, by what clap found of a subcommand
-taken_format : (words : List Text) (found : Option (Text × List Row)) → kinds_of words ≡ [] → found ≡ subcommand_of program words
-    → format_asked words ≡ format_or_tables (name_behind_run found)
-unfolding name_given format_asked
-taken_format words found taken is = rw (taken, is) refl
+-- what is asked for, by what clap found of a subcommand
+taken_task : (words : List Text) (found : Option (Text × List Row)) → kinds_of words ≡ [] → found ≡ subcommand_of program words
+    → task_asked words ≡ task_of found
+unfolding task_asked
+taken_task words found taken is = rw (taken, is) refl
 
 -- words that the grammar takes
 pub taken_words : (words : List Text) (found : Option (Text × List Row)) → kinds_of words ≡ [] → found ≡ subcommand_of program words
-    → IsAsked words (run_request (name_behind_run found))
+    → IsAsked words (request_of found)
 taken_words words found taken is =
-    asked_in words (format_or_tables (name_behind_run found)) taken (taken_format words found taken is)
+    asked_in words (is_check found) (format_or_tables (name_behind_run found)) taken (taken_task words found taken is)
+
+-- whether the subcommand is `check`, by its name
+pub check_named : (found : Option (Text × List Row)) (here : Bool) → ((here ≡ true) ↔ (option_map (λ p. p.0) found ≡ Some (codes "check"))) → here ≡ is_check found
+check_named None here named = by here named
+  where
+    by : (b : Bool) → ((b ≡ true) ↔ (option_map (λ (p : Text × List Row). p.0) None ≡ Some (codes "check"))) → b ≡ false
+    by true named = let never : None ≡ Some (codes "check") = named.0 refl in cc
+    by false named = refl
+check_named (Some p) here named = by here (is_check (Some p)) named (bytes_eq-Decides p.0 (codes "check"))
+  where
+    by : (b c : Bool) → ((b ≡ true) ↔ (Some p.0 ≡ Some (codes "check"))) → Decides c (p.0 ≡ codes "check") → b ≡ c
+    by true true named tells = refl
+    by false false named tells = refl
+    by true false named tells = let same : p.0 ≡ codes "check" = let e = named.0 refl in cc in sym (tells.1 same)
+    by false true named tells = named.1 (ap (λ (t : Text). Some t) (tells.0 refl))
 
 -- want of memory shows nothing
 not_shown : (kind : ErrorKind) → kind ≡ OutOfMemory → ¬ IsShown kind
@@ -60,6 +81,7 @@ not_shown kind memory (inr version) = cc
 pub untaken_words : (words : List Text) (kind : ErrorKind) (answer : Result Request WordsFault)
     → (kind ≡ OutOfMemory) ⊎ IsAmong kind (kinds_of words) → ShowsError kind answer → IsAsked words answer
 untaken_words words kind (Ok (Run format)) among shows = absurd shows
+untaken_words words kind (Ok Check) among shows = absurd shows
 untaken_words words kind (Ok (Show text)) among shows = elim among [
   | inl memory ↦ absurd (not_shown kind memory shows)
   | inr here ↦ elim shows [

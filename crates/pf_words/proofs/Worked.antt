@@ -2,12 +2,12 @@
 use Rattle.std.proofs.Common.{refl, inl, inr}
 use Rattle.clap.proofs.OnLiterals.{clap_on_literals}
 use Rattle.clap.specs.declared.error.kind.ErrorKind.TheVariants as kind
-use Rattle.pf_words.specs.CommandLine.{kinds_of, name_given}
-use Rattle.pf_words.specs.Asked.{IsShown, format_asked}
+use Rattle.pf_words.specs.CommandLine.{kinds_of}
+use Rattle.pf_words.specs.Asked.{IsShown, task_asked}
 use Rattle.pf_words.specs.Examples.{Runs, WorkedWords}
 
 runs : Runs
-unfolding clap_on_literals kinds_of name_given format_asked
+unfolding clap_on_literals kinds_of task_asked
 runs = record { none = refl; run = refl; tables = refl; json = refl; schedule = refl; lags = refl }
 
 unknown_is_not_shown : ¬ IsShown kind.UnknownArgument
@@ -15,13 +15,15 @@ unknown_is_not_shown (inl help) = cc
 unknown_is_not_shown (inr version) = cc
 
 pub worked_words : WorkedWords
-unfolding clap_on_literals kinds_of name_given format_asked
+unfolding clap_on_literals kinds_of task_asked
 worked_words = record {
   runs = runs;
+  check = refl;
   unknown = (refl, refl);
   option_alone = (kind.UnknownArgument, unknown_is_not_shown, inl refl);
   drill = (kind.UnknownArgument, unknown_is_not_shown, inl refl);
   twice = (kind.UnknownArgument, unknown_is_not_shown, inl refl);
+  check_format = (kind.UnknownArgument, unknown_is_not_shown, inl refl);
   help = inl refl;
   version = inl refl;
   version_by_letter = inl refl;

@@ -1,27 +1,35 @@
 -- What the words ask for.
-use Rattle.std.specs.Prelude.{◌≡◌, ◌≢◌, ◌⊎◌, if◌then◌else◌, List, [], Option, Some, None, Result, Ok, Err}
+use Rattle.std.specs.Prelude.{◌≡◌, ◌≢◌, ◌⊎◌, if◌then◌else◌, List, [], Option, Some, None, option_map, Result, Ok, Err}
 use Rattle.clap.specs.Walk.{is_empty}
-use Rattle.clap.specs.Words.{IsAmong, Text}
+use Rattle.clap.specs.Words.{IsAmong, Row, Text, subcommand_of}
 use Rattle.clap.specs.declared.error.kind.ErrorKind.{ErrorKind}
 use Rattle.clap.specs.declared.error.kind.ErrorKind.TheVariants.{DisplayHelp, DisplayVersion, OutOfMemory}
 use Rattle.pf_words.specs.declared.format.Format.{Format}
 use Rattle.pf_words.specs.declared.format.Format.TheVariants.{Tables}
 use Rattle.pf_words.specs.declared.request.Request.{Request}
-use Rattle.pf_words.specs.declared.request.Request.TheVariants.{Run, Show}
+use Rattle.pf_words.specs.declared.request.Request.TheVariants.{Run, Check, Show}
 use Rattle.pf_words.specs.declared.request.WordsFault.{WordsFault}
 use Rattle.pf_words.specs.declared.request.WordsFault.TheVariants.{Refused, UnknownFormat, NoMemory}
 use Rattle.pf_words.specs.Formats.{format_named}
-use Rattle.pf_words.specs.CommandLine.{kinds_of, name_given}
+use Rattle.pf_words.specs.CommandLine.{is_check, kinds_of, name_behind_run, program}
 
 -- without a name the format is `tables`
 abbrev pub format_or_tables : Option Text → Option Format
 format_or_tables None = Some Tables
 format_or_tables (Some name) = format_named name
 
--- the format in which the words ask for a run: none where the grammar does not take them, and where the text of
--- `--format` names no format
-unfoldable pub format_asked : List Text → Option Format
-format_asked words = if is_empty (kinds_of words) then format_or_tables (name_given words) else None
+-- what the program can be asked to do with a script: to run it in a format, or to check it
+pub data Task : Type 0 where
+  RunsIn : Format → Task
+  Checks : Task
+
+-- what a subcommand asks for, and none: nothing where the text of `--format` names no format
+abbrev pub task_of : Option (Text × List Row) → Option Task
+task_of found = if is_check found then Some Checks else option_map (λ format. RunsIn format) (format_or_tables (name_behind_run found))
+
+-- what the words ask for: nothing where the grammar does not take them, and where the text of `--format` names no format
+unfoldable pub task_asked : List Text → Option Task
+task_asked words = if is_empty (kinds_of words) then task_of (subcommand_of program words) else None
 
 -- the grammar may answer with help
 abbrev pub AsksHelp : List Text → Type 0
@@ -41,11 +49,12 @@ IsRefused words = (kind : ErrorKind) × ¬ IsShown kind × IsAmong kind (kinds_o
 
 -- the grammar takes the words, and the text of `--format` names no format
 abbrev pub NamesNoFormat : List Text → Type 0
-NamesNoFormat words = (kinds_of words ≡ []) × (format_asked words ≡ None)
+NamesNoFormat words = (kinds_of words ≡ []) × (task_asked words ≡ None)
 
 -- this answer is what the words ask for; want of memory may stand in place of any
 abbrev pub IsAsked : List Text → Result Request WordsFault → Type 0
-IsAsked words (Ok (Run format)) = format_asked words ≡ Some format
+IsAsked words (Ok (Run format)) = task_asked words ≡ Some (RunsIn format)
+IsAsked words (Ok Check) = task_asked words ≡ Some Checks
 IsAsked words (Ok (Show text)) = AsksHelp words ⊎ AsksVersion words
 IsAsked words (Err (Refused text)) = IsRefused words
 IsAsked words (Err UnknownFormat) = NamesNoFormat words
@@ -60,9 +69,14 @@ run_in (Some format) = Ok (Run format)
 abbrev pub run_request : Option Text → Result Request WordsFault
 run_request name = run_in (format_or_tables name)
 
+-- what words ask for that the grammar takes, by what was found of a subcommand
+abbrev pub request_of : Option (Text × List Row) → Result Request WordsFault
+request_of found = if is_check found then Ok Check else run_request (name_behind_run found)
+
 -- what is answered to an error of this kind
 abbrev pub ShowsError : ErrorKind → Result Request WordsFault → Type 0
 ShowsError kind (Ok (Run format)) = ⊥
+ShowsError kind (Ok Check) = ⊥
 ShowsError kind (Ok (Show text)) = IsShown kind
 ShowsError kind (Err (Refused text)) = (kind ≢ OutOfMemory) × ¬ IsShown kind
 ShowsError kind (Err UnknownFormat) = ⊥

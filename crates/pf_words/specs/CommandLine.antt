@@ -1,7 +1,7 @@
 -- The program's command line, as clap's definitions see it.
-use Rattle.std.specs.Prelude.{true, if◌then◌else◌, List, Option, Some, None, codes}
+use Rattle.std.specs.Prelude.{Bool, true, false, if◌then◌else◌, List, Option, Some, None, codes}
 use Rattle.std.specs.Str.{bytes_eq}
-use Rattle.clap.specs.Words.{App, Kinds, Row, Rule, Text, fault_of, first_of, new_app, new_rule, subcommand_of, with_rule, with_subcommand}
+use Rattle.clap.specs.Words.{App, Kinds, Row, Rule, Text, fault_of, first_of, new_app, new_rule, with_rule, with_subcommand}
 use Rattle.clap.specs.Simple.{on_top}
 use Rattle.clap.specs.declared.builder.action.ArgAction.TheVariants.{Set}
 
@@ -18,13 +18,17 @@ format_option = record (new_rule (codes "format")) {
 abbrev pub run_command : App
 run_command = with_rule (new_app (codes "run")) format_option
 
+-- `check`, alone
+abbrev pub check_command : App
+check_command = new_app (codes "check")
+
 -- the program's own name is not among the words, and it tells its version
 abbrev pub as_program : App → App
 as_program = on_top (λ s. record s { no_binary_name = true; has_version = true })
 
--- `pfair`, with the subcommand `run`
+-- `pfair`, with the subcommands `run` and `check`
 abbrev pub program : App
-program = with_subcommand (as_program (new_app (codes "pfair"))) run_command.top
+program = with_subcommand (with_subcommand (as_program (new_app (codes "pfair"))) run_command.top) check_command.top
 
 -- the kinds of error by which the grammar does not take the words; it takes them where there is none
 unfoldable pub kinds_of : List Text → Kinds
@@ -35,6 +39,7 @@ abbrev pub name_behind_run : Option (Text × List Row) → Option Text
 name_behind_run None = None
 name_behind_run (Some found) = if bytes_eq found.0 (codes "run") then first_of (codes "format") found.1 else None
 
--- the text of `--format`, where words that the grammar takes have one
-unfoldable pub name_given : List Text → Option Text
-name_given words = name_behind_run (subcommand_of program words)
+-- whether the subcommand is `check`
+abbrev pub is_check : Option (Text × List Row) → Bool
+is_check None = false
+is_check (Some found) = bytes_eq found.0 (codes "check")

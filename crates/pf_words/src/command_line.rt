@@ -1,7 +1,7 @@
 ghost use Rattle.std.specs.Prelude.{◌≡◌, IfOk, false, codes};
 ghost use Rattle.clap.specs.Words.{app_of, new_app};
 ghost use Rattle.clap.specs.declared.builder.command.Command.TheViews.{out-Command};
-ghost use Rattle.pf_words.specs.CommandLine.{program, as_program, run_command};
+ghost use Rattle.pf_words.specs.CommandLine.{program, as_program, check_command, run_command};
 
 use clap::{Arg, ArgAction, Command};
 use std::alloc::{AllocError, Global};
@@ -47,6 +47,9 @@ Formats:
   denials     the denied events alone
   events      the events held, each with its number
   processors  how many quanta each processor gave, how long it was idle, how often its task changed
+  stats       the figures of each task: how often it ran, moved and was put off, how soon, how late, its lag
+
+`check` tells of each record that the format does not allow, and where and why, and carries nothing out.
 
 Status: 0 done, 1 a bad record or a script that is too long, 2 words that are not understood, 3 a fault of reading or
 writing, 4 out of memory. What is wrong is told on standard error.";
@@ -56,11 +59,12 @@ pub(crate) fn program<'a>(alloc: Global) -> Result<Command<'a>, AllocError>
     ensures { IfOk result (λ c. app_of c ≡ program) }
 {
     let run = run_command(alloc)?;
-    let program = bare_program(alloc)?;
-    program.subcommand(run)
+    let check = check_command(alloc);
+    let program = bare_program(alloc)?.subcommand(run)?;
+    program.subcommand(check)
 }
 
-/// The program without its subcommand.
+/// The program without its subcommands.
 fn bare_program<'a>(alloc: Global) -> Result<Command<'a>, AllocError>
     ensures { IfOk result (λ c. app_of c ≡ as_program (new_app (codes "pfair"))) }
 {
@@ -87,4 +91,14 @@ fn run_command<'a>(alloc: Global) -> Result<Command<'a>, AllocError>
         .about("Runs the script; also without any words")
         .after_help(LESSON)
         .arg(format)
+}
+
+/// `check`, alone.
+fn check_command<'a>(alloc: Global) -> Command<'a>
+    ensures shape { app_of result ≡ check_command }
+    ensures globals { (out-Command result).has_globals ≡ false }
+{
+    Command::new(alloc, "check")
+        .about("Checks the script: a line for each record that is none, and where and why")
+        .after_help(LESSON)
 }

@@ -24,11 +24,13 @@ pub enum Format {
     Events,
     /// How the processors were used, as a table.
     Processors,
+    /// The figures of each task, as a table.
+    Stats,
 }
 
 impl Format {
     /// The format of this name: `schedule`, `tables`, `json`, `report`, `replies`, `lags`, `misses`, `denials`,
-    /// `events` or `processors`. `None` where the text is none of these.
+    /// `events`, `processors` or `stats`. `None` where the text is none of these.
     pub fn named(name: &str) -> Option<Format>
         ensures { result ≡ format_named name.now }
     {
@@ -43,6 +45,7 @@ impl Format {
             "denials" => Some(Format::Denials),
             "events" => Some(Format::Events),
             "processors" => Some(Format::Processors),
+            "stats" => Some(Format::Stats),
             _ => None,
         }
     }

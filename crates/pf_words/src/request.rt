@@ -10,6 +10,8 @@ use thiserror::Error;
 pub enum Request {
     /// To run the script in this format.
     Run(Format),
+    /// To check the script.
+    Check,
     /// To show this text: help, or the version.
     Show(String),
 }

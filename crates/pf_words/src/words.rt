@@ -1,7 +1,7 @@
 ghost use Rattle.std.specs.Prelude.{◌≡◌, map, option_map};
 ghost use Rattle.clap.specs.Words.{kind_of, subcommand_rows_of};
-ghost use Rattle.pf_words.specs.CommandLine.{name_behind_run};
-ghost use Rattle.pf_words.specs.Asked.{IsAsked, ShowsError, run_request};
+ghost use Rattle.pf_words.specs.CommandLine.{is_check, name_behind_run};
+ghost use Rattle.pf_words.specs.Asked.{IsAsked, ShowsError, request_of, run_request};
 
 use crate::command_line::program;
 use crate::format::Format;
@@ -12,7 +12,7 @@ use std::alloc::Global;
 use std::convert::AsStr;
 
 /// What the program's words ask for, its own name not among them. No words ask for a run with tables, and so does
-/// `run` alone; `run --format NAME` asks for one in the format of that name. Answers `Refused` where the words are not
+/// `run` alone; `run --format NAME` asks for one in the format of that name, and `check` for a check. Answers `Refused` where the words are not
 /// the program's, `UnknownFormat` where the text of `--format` names no format, and `NoMemory`, in place of any answer,
 /// where memory was refused.
 pub fn read_words<S: AsStr>(alloc: Global, words: &[S]) -> Result<Request, WordsFault>
@@ -26,6 +26,23 @@ pub fn read_words<S: AsStr>(alloc: Global, words: &[S]) -> Result<Request, Words
 
 /// What words ask for that the grammar takes.
 fn read_matches(matches: &ArgMatches<'_>) -> Result<Request, WordsFault>
+    ensures { result ≡ request_of (subcommand_rows_of matches.now) }
+{
+    if asks_check(matches) {
+        return Ok(Request::Check);
+    }
+    read_run(matches)
+}
+
+/// Whether they ask for a check.
+fn asks_check(matches: &ArgMatches<'_>) -> bool
+    ensures { result ≡ is_check (subcommand_rows_of matches.now) }
+{
+    matches.subcommand_matches("check").is_some()
+}
+
+/// What they ask for where they ask for no check.
+fn read_run(matches: &ArgMatches<'_>) -> Result<Request, WordsFault>
     ensures { result ≡ run_request (name_behind_run (subcommand_rows_of matches.now)) }
 {
     let Some(name) = format_name(matches) else {

@@ -1,0 +1,12 @@
+//! Scripts checked without carrying them out. The one contract of this crate: `write_check` writes a line for each record
+//! that the format does not allow, saying where it begins and why it is none, and then how many records and faults there
+//! are.
+#![tactic(auto)]
+
+pub mod checker;
+pub mod examine;
+pub mod fault;
+mod place;
+mod record_lines;
+mod report;
+pub mod stage;
