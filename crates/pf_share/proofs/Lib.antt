@@ -1,0 +1,5 @@
+mod Adding
+mod Growing
+mod Numbering
+mod Prefixes
+mod Publishing

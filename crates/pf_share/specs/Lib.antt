@@ -1,0 +1,4 @@
+pub mod Histories
+pub mod Locked
+pub mod Reads
+pub mod Stories

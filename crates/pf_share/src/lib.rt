@@ -1,0 +1,18 @@
+//! One desk for many threads: what is shown to viewers, what lies under the lock, and the calls on passes and viewers.
+#![tactic(auto)]
+
+pub mod calls;
+pub mod locked;
+pub mod naming;
+pub mod press;
+mod publisher;
+mod readers_rule;
+pub mod reads;
+pub mod shared;
+pub mod shown;
+pub mod stamp;
+pub mod story;
+mod story_rule;
+pub mod tells;
+pub mod unread;
+pub mod viewer;
