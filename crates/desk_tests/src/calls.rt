@@ -18,6 +18,21 @@ fn checkpoints_are_some_slots_apart(rt: HostRuntime) -> Result<(), Fail> {
     Ok(())
 }
 
+#[test]
+fn texts_of_faults(rt: HostRuntime) -> Result<(), Fail> {
+    for (fault, wanted) in &[
+        (
+            OpenFault::BadSettings,
+            "the checkpoint distance is not 1 to 4096",
+        ),
+        (OpenFault::NoMemory, "memory was refused"),
+    ] {
+        let said = format!(in rt.alloc(); "{fault}")?;
+        assert_eq!(&rt; said.as_str(), *wanted);
+    }
+    Ok(())
+}
+
 /// The reply of the last entry.
 fn last_reply_told(alloc: Global, desk: &Desk) -> Result<String, AllocError> {
     let mut text = String::new(alloc);
@@ -51,7 +66,11 @@ fn a_refused_strict_edit_is_an_entry(rt: HostRuntime) -> Result<(), Fail> {
 /// A line of the snapshot's numbers.
 fn tell_numbers(text: &mut String, snapshot: &Snapshot) -> Result<(), AllocError> {
     let (version, now) = (snapshot.version(), snapshot.now());
-    let (cap, events) = (snapshot.settings().cap(), snapshot.events().len());
+    let cap = snapshot.settings().cap();
+    let mut events = 0u64;
+    for _event in snapshot.events() {
+        events = events.saturating_add(1);
+    }
     writeln!(
         text,
         "version {version}, now {now}, cap {cap}, {events} events"

@@ -1,5 +1,5 @@
 use Rattle.pf_timeline.specs.Timeline.{StandsFor}
-use Rattle.run_tests.proofs.timeline.slots.Given as goal
+use Rattle.timeline_tests.proofs.timeline.slots.Given as goal
 
 abbrev pub invariant-loop : goal.invariant-loop
 invariant-loop l = StandsFor l.scenario l.timeline.now l.timeline

@@ -6,8 +6,8 @@ use Rattle.pf_scenario.specs.System.{near_horizon, wide_horizon}
 use Rattle.pf_scenario.specs.Scenario.{Plan, events_of}
 use Rattle.pf_run.specs.Record.{Slot}
 use Rattle.pf_engine.specs.Fits.{Kept, kept_after, Fits, TakesSlot}
-use Rattle.run_tests.specs.Fitting.{FitsSome}
-use Rattle.run_tests.proofs.engine.next_slot.Goals as goal
+use Rattle.timeline_tests.specs.Fitting.{FitsSome}
+use Rattle.timeline_tests.proofs.engine.next_slot.Goals as goal
 
 early : (t h : ℕ) → t < 2 ^ 20 → (h ≡ near_horizon) ⊎ (h ≡ wide_horizon) → t < h
 early t h below (inl near) = omega (arith, near)

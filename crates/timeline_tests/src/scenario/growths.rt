@@ -1,7 +1,7 @@
 //! What is left after memory was refused. Each test makes a call again that was refused, and says which.
 
 use super::small_events;
-use crate::events::{apply, delay, join, leave, numbered};
+use crate::events::{apply, delay, holds, join, leave, numbered};
 use crate::refused::say;
 use pf_scenario::apply_fault::ApplyFault;
 use pf_scenario::change::Change;
@@ -22,7 +22,7 @@ fn is_refused(s: &mut Scenario, change: Change) -> Result<bool, ApplyFault> {
 }
 
 fn is_as_before(s: &Scenario, events: &[Numbered], next: u64) -> bool {
-    s.events() == events && s.next_number() == next
+    holds(s, events) && s.next_number() == next
 }
 
 /// Makes the change, again where memory is refused; the answer is whether it was refused. It is an error where the
@@ -62,7 +62,7 @@ fn changes_are_made_again(rt: HostRuntime) -> Result<(), Fail> {
         numbered(2, later),
         numbered(3, delay(2, 1, 4)),
     ];
-    assert_eq!(rt; s.events(), after.as_slice());
+    assert!(rt; holds(&s, &after));
     let twice = s.check(&Change::Insert(later));
     assert_eq!(rt; twice, Err(EditFault::JoinTwice));
     Ok(())
@@ -89,7 +89,7 @@ fn events_of_a_slot_are_listed_again(rt: HostRuntime) -> Result<(), Fail> {
     let (events, refused) = slot_again(&s, 9)?;
     say(&rt, "Scenario::slot_events", refused)?;
     assert_eq!(rt; events.as_slice(), [numbered(1, leave(9, 1))].as_slice());
-    assert_eq!(rt; events.as_slice(), s.events());
+    assert!(rt; holds(&s, &events));
     Ok(())
 }
 
@@ -106,8 +106,7 @@ fn a_join_is_copied_again(rt: HostRuntime) -> Result<(), Fail> {
     let s = one_event(rt.alloc(), join(2, 1, 1, 6, 0))?;
     let (copy, refused) = copy_again(&s)?;
     say(&rt, "Scenario::copy", refused)?;
-    assert_eq!(rt; s.events().len(), 1);
-    assert_eq!(rt; copy.events(), s.events());
+    assert!(rt; holds(&copy, &[numbered(1, join(2, 1, 1, 6, 0))]));
     let twice = copy.check(&Change::Insert(join(2, 1, 1, 6, 0)));
     assert_eq!(rt; twice, Err(EditFault::JoinTwice));
     Ok(())
@@ -118,9 +117,34 @@ fn a_leave_is_copied_again(rt: HostRuntime) -> Result<(), Fail> {
     let s = one_event(rt.alloc(), leave(9, 1))?;
     let (copy, refused) = copy_again(&s)?;
     say(&rt, "Scenario::copy", refused)?;
-    assert_eq!(rt; s.events().len(), 1);
-    assert_eq!(rt; copy.events(), s.events());
+    assert!(rt; holds(&copy, &[numbered(1, leave(9, 1))]));
     let twice = copy.check(&Change::Insert(leave(9, 1)));
     assert_eq!(rt; twice, Err(EditFault::LeaveTwice));
+    Ok(())
+}
+
+/// Thirty delays, each of an earlier slot than those before it: more than one node of a tree holds.
+fn many_events() -> [Numbered; 30] {
+    let mut events = [numbered(1, delay(29, 1, 1)); 30];
+    for (i, x) in events.iter_mut().enumerate() {
+        let later = i as u64;
+        *x = numbered(later + 1, delay(29u64.saturating_sub(later), 1, 1));
+    }
+    events
+}
+
+#[test]
+fn many_events_are_held_and_copied_again(rt: HostRuntime) -> Result<(), Fail> {
+    let mut s = Scenario::new(rt.alloc(), Settings::new(1, 6, 6)?);
+    let events = many_events();
+    let held = insert_again(&mut s, &events)?;
+    let later = delay(60, 1, 1);
+    let altered = apply_again(&mut s, Change::Alter(1, later), &events)?;
+    say(&rt, "Scenario::apply", held || altered)?;
+    let (copy, refused) = copy_again(&s)?;
+    say(&rt, "Scenario::copy", refused)?;
+    let mut after = events;
+    after[0] = numbered(1, later);
+    assert!(rt; holds(&s, &after) && holds(&copy, &after));
     Ok(())
 }

@@ -2,7 +2,7 @@ use Rattle.std.proofs.Common.{zero-le, sym}
 use Rattle.std.proofs.lemmas.Result.{IfOk-weaker}
 use Rattle.pf_timeline.specs.Timeline.{StandsFor}
 use Rattle.pf_timeline.proofs.Past.{stands_now, agrees_below, no_past}
-use Rattle.run_tests.proofs.timeline.rewritten.Goals as goal
+use Rattle.timeline_tests.proofs.timeline.rewritten.Goals as goal
 
 pub rewritten-requires-clause-agrees : goal.rewritten-requires-clause-agrees
 rewritten-requires-clause-agrees c =

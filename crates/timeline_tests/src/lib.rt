@@ -18,6 +18,8 @@ mod refused;
 #[cfg(test)]
 mod scenario;
 #[cfg(test)]
+mod texts;
+#[cfg(test)]
 mod timeline;
 #[cfg(test)]
 mod weight;

@@ -2,7 +2,7 @@ use Rattle.std.proofs.Common.{◌+◌}
 use Rattle.std.proofs.lemmas.Result.{IfOk-weaker}
 use Rattle.pf_timeline.specs.Timeline.{StandsFor}
 use Rattle.pf_timeline.proofs.Past.{stands_now}
-use Rattle.run_tests.proofs.timeline.step.Goals as goal
+use Rattle.timeline_tests.proofs.timeline.step.Goals as goal
 
 pub returns : goal.returns
 returns c =

@@ -1,8 +1,8 @@
 use Rattle.std.proofs.Common.{◌≡◌, [], sym, ap}
 use Rattle.std.proofs.lemmas.Result.{IfOk-weaker}
 use Rattle.pf_engine.specs.Fits.{Kept, kept_after}
-use Rattle.run_tests.specs.Fitting.{FitsSome}
-use Rattle.run_tests.proofs.engine.start.Goals as goal
+use Rattle.timeline_tests.specs.Fitting.{FitsSome}
+use Rattle.timeline_tests.proofs.engine.start.Goals as goal
 
 pub returns-clause-now : goal.returns-clause-now
 unfolding kept_after

@@ -1,15 +1,16 @@
 //! The worked examples and the limits.
 
+mod edits;
 mod growths;
 
-use crate::events::{apply, delay, insert_all, join, leave, limit, numbered};
+use crate::events::{apply, delay, holds, insert_all, join, leave, limit, numbered};
 use pf_scenario::apply_fault::ApplyFault;
 use pf_scenario::change::Change;
 use pf_scenario::event::{Event, Numbered};
 use pf_scenario::fault::{BadSettings, EditFault};
 use pf_scenario::scenario::Scenario;
 use pf_scenario::settings::Settings;
-use std::alloc::{AllocError, Global};
+use std::alloc::Global;
 use std::process::Abort;
 use std::test::Fail;
 
@@ -86,7 +87,7 @@ fn events_at_their_limits(rt: HostRuntime) -> Result<(), Fail> {
     let mut s = Scenario::new(rt.alloc(), Settings::new(2, 1, 2)?);
     let last = join(1_048_575, 4095, 1, 1, 1_048_576);
     insert_all(&mut s, &[last, delay(0, 4095, 1_048_576), limit(0, 2)])?;
-    assert_eq!(rt; s.events().len(), 3);
+    assert_eq!(rt; s.events().count(), 3);
     Ok(())
 }
 
@@ -131,15 +132,14 @@ fn check_and_make(s: &mut Scenario, change: Change) -> Result<u64, ApplyFault> {
 #[test]
 fn changes_made_once_checked(rt: HostRuntime) -> Result<(), Fail> {
     let mut s = small(rt.alloc())?;
-    let before = s.copy()?;
     assert_eq!(rt; check_and_make(&mut s, Change::Insert(delay(4, 1, 1)))?, 4);
     assert_eq!(rt;
         check_and_make(&mut s, Change::Alter(4, delay(5, 1, 1)))?,
         4
     );
-    assert!(rt; s.events() != before.events());
+    assert!(rt; !holds(&s, &small_events()));
     assert_eq!(rt; check_and_make(&mut s, Change::Strike(4))?, 4);
-    assert_eq!(rt; s.events(), before.events());
+    assert!(rt; holds(&s, &small_events()));
     Ok(())
 }
 
@@ -170,8 +170,8 @@ fn copies(rt: HostRuntime) -> Result<(), Fail> {
     let mut s = small(rt.alloc())?;
     let copy = s.copy()?;
     apply(&mut s, Change::Strike(1))?;
-    assert_eq!(rt; s.events().len(), 2);
-    assert_eq!(rt; copy.events(), small_events().as_slice());
+    assert_eq!(rt; s.events().count(), 2);
+    assert!(rt; holds(&copy, &small_events()));
     assert_eq!(rt; copy.next_number(), 4);
     assert_eq!(rt; copy.settings(), s.settings());
     Ok(())
@@ -200,7 +200,7 @@ fn fill(s: &mut Scenario) -> Result<(), ApplyFault> {
 
 fn room_for_events(rt: &impl Abort, s: &mut Scenario) -> Result<(), Fail> {
     fill(s)?;
-    assert_eq!(rt; s.events().len(), 65_535);
+    assert_eq!(rt; s.events().count(), 65_535);
     let more = delay(0, 1, 1);
     refusals(rt, s, &[(more, EditFault::TooManyEvents)]);
     apply(s, Change::Strike(7))?;
@@ -271,26 +271,5 @@ fn checks_beside_many_events(rt: HostRuntime) -> Result<(), Fail> {
     delay_much(&mut s)?;
     join_all(&mut s)?;
     assert!(rt; refuses_twice(&s));
-    Ok(())
-}
-
-/// The text of a fault, if there is memory.
-fn text(alloc: Global, fault: ApplyFault) -> Result<String, AllocError> {
-    format!(in alloc; "{fault}")
-}
-
-#[test]
-fn texts_of_faults(rt: HostRuntime) -> Result<(), Fail> {
-    for (fault, wanted) in &[
-        (EditFault::NumbersSpent, "all event numbers are spent"),
-        (EditFault::JoinTwice, "another event joins the task"),
-    ] {
-        let said = text(rt.alloc(), ApplyFault::Refused(*fault))?;
-        assert_eq!(rt; said.as_str(), *wanted);
-    }
-    let said = text(rt.alloc(), ApplyFault::NoMemory)?;
-    assert_eq!(rt; said.as_str(), "memory was refused");
-    let said = format!(in rt.alloc(); "{BadSettings}")?;
-    assert_eq!(rt; said.as_str(), "the settings are out of their limits");
     Ok(())
 }

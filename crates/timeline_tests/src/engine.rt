@@ -1,7 +1,7 @@
 //! Two slots of a scenario, and the second again on a copy.
 
 ghost use Rattle.std.specs.Prelude.{◌≡◌, ◌+◌, ◌^◌, ◌<◌, IfOk, OnOk};
-ghost use Rattle.run_tests.specs.Fitting.{FitsSome};
+ghost use Rattle.timeline_tests.specs.Fitting.{FitsSome};
 
 use crate::events::three_tasks;
 use pf_engine::engine::Engine;

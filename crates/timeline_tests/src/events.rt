@@ -39,6 +39,11 @@ pub(crate) fn apply(scenario: &mut Scenario, change: Change) -> Result<u64, Appl
     scenario.apply(change)
 }
 
+/// Whether the scenario holds just these events.
+pub(crate) fn holds(scenario: &Scenario, events: &[Numbered]) -> bool {
+    scenario.events().eq(events.iter().copied())
+}
+
 /// Inserts the events, one after another.
 pub(crate) fn insert_all(scenario: &mut Scenario, events: &[Event]) -> Result<(), ApplyFault> {
     for event in events {
