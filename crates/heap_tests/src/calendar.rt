@@ -1,5 +1,6 @@
 //! The worked example, many calls beside a plain list, and what is left after memory was refused.
-ghost use Rattle.std.specs.Prelude.{◌+◌, ◌≤◌, OnOk};
+ghost use Rattle.std.specs.Prelude.{◌≡◌, ◌+◌, ◌≤◌, OnOk};
+ghost use Rattle.pf_weight.specs.declared.task.TheConstants.{LARGEST_TASK};
 
 mod twin;
 
@@ -145,15 +146,41 @@ fn reserve_again(
     }
 }
 
+/// Makes room for the task's place, though memory may be refused once: then the calendar holds these tasks as before, and
+/// the call is made again.
+fn task_again(
+    rt: &(impl Abort + Print),
+    calendar: &mut Calendar,
+    tasks: &[u32],
+    task: u32,
+) -> Result<(), Fail>
+    requires { task ≤ LARGEST_TASK }
+    ensures { calendar.new.spare ≡ calendar.old.spare }
+{
+    match calendar.reserve_task(task) {
+        Ok(()) => Ok(()),
+        Err(_) => {
+            println!(rt; "refused: Calendar::reserve_task")?;
+            let mut meter = Meter::new();
+            let mut copy = calendar.copy()?;
+            copy.advance(&mut meter, 9);
+            drain(rt, &mut copy, &mut meter, tasks);
+            Ok(calendar.reserve_task(task)?)
+        }
+    }
+}
+
 #[test]
 fn growths_that_are_refused(rt: HostRuntime) -> Result<(), Fail> {
     let mut meter = Meter::new();
     let mut calendar = calendar_again(&rt, rt.alloc())?;
     reserve_again(&rt, &mut calendar, &[], 2)?;
+    task_again(&rt, &mut calendar, &[], 2)?;
     put(&rt, &mut calendar, &mut meter, 1, key(1)?)?;
     put(&rt, &mut calendar, &mut meter, 0, key(2)?)?;
     calendar.advance(&mut meter, 0);
     reserve_again(&rt, &mut calendar, &[1, 2], 20)?;
+    task_again(&rt, &mut calendar, &[1, 2], 3)?;
     put(&rt, &mut calendar, &mut meter, 3, key(3)?)?;
     let mut copy = copy_again(&rt, &calendar)?;
     drain(&rt, &mut copy, &mut meter, &[2]);

@@ -1,5 +1,6 @@
 //! The worked examples, many calls beside plain lists, and what is left after memory was refused.
 ghost use Rattle.std.specs.Prelude.{◌≡◌, ◌≢◌, ◌+◌, ◌-◌, ◌<◌, ◌≤◌, ◌^◌, length, IfOk, OnOk, OnErr, []};
+ghost use Rattle.pf_weight.specs.declared.task.TheConstants.{LARGEST_TASK};
 
 mod twin;
 
@@ -221,19 +222,6 @@ fn beside_plain_lists(rt: HostRuntime) -> Result<(), Fail> {
     Ok(())
 }
 
-/// An arena with no heap, though memory may be refused once.
-fn arena_again(rt: &impl Print, alloc: Global) -> Result<Arena, Fail>
-    ensures { IfOk result (λ a. a ≡ record { lists = []; spare = 0; tasks = 0 }) }
-{
-    match Arena::new(alloc) {
-        Ok(arena) => Ok(arena),
-        Err(_) => {
-            println!(rt; "refused: Arena::new")?;
-            Ok(Arena::new(alloc)?)
-        }
-    }
-}
-
 /// The arena holds the tasks 1 to `held` alone, and heap h has the first of them.
 fn look(rt: &impl Abort, arena: &Arena, h: HeapId, held: u32)
     requires { h < length arena.now.lists }
@@ -263,6 +251,29 @@ fn reserve_again(
             println!(rt; "refused: Arena::reserve")?;
             look(rt, arena, h, held);
             Ok(arena.reserve(n)?)
+        }
+    }
+}
+
+/// Makes room for the task's place, though memory may be refused once: then all is as before, and the call is made again.
+fn task_again(
+    rt: &(impl Abort + Print),
+    arena: &mut Arena,
+    h: HeapId,
+    held: u32,
+    task: u32,
+) -> Result<(), Fail>
+    requires heap { h < length arena.old.lists }
+    requires task { task ≤ LARGEST_TASK }
+    ensures lists { length arena.new.lists ≡ length arena.old.lists }
+    ensures spare { arena.new.spare ≡ arena.old.spare }
+{
+    match arena.reserve_task(task) {
+        Ok(()) => Ok(()),
+        Err(_) => {
+            println!(rt; "refused: Arena::reserve_task")?;
+            look(rt, arena, h, held);
+            Ok(arena.reserve_task(task)?)
         }
     }
 }
@@ -320,9 +331,10 @@ fn first_again(rt: &impl Print, arena: &mut Arena) -> Result<HeapId, Fail>
 #[test]
 fn growths_that_are_refused(rt: HostRuntime) -> Result<(), Fail> {
     let mut meter = Meter::new();
-    let mut arena = arena_again(&rt, rt.alloc())?;
+    let mut arena = Arena::new(rt.alloc())?;
     let first = first_again(&rt, &mut arena)?;
     reserve_again(&rt, &mut arena, first, 0, 2)?;
+    task_again(&rt, &mut arena, first, 0, 2)?;
     put(&rt, &mut arena, &mut meter, first, key(2)?)?;
     put(&rt, &mut arena, &mut meter, first, key(1)?)?;
     for _i in 0..9_u32 {
@@ -330,6 +342,7 @@ fn growths_that_are_refused(rt: HostRuntime) -> Result<(), Fail> {
         assert_eq!(rt; least(&arena, &mut meter, more), None);
     }
     reserve_again(&rt, &mut arena, first, 2, 50)?;
+    task_again(&rt, &mut arena, first, 2, 3)?;
     put(&rt, &mut arena, &mut meter, first, key(3)?)?;
     let mut copy = copy_again(&rt, &arena)?;
     drain(&rt, &mut copy, &mut meter, first, &[1, 2, 3]);

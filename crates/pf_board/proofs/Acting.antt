@@ -82,7 +82,7 @@ module _ {E : Type 0} (quanta : E → List Quantum) (steps : E → Bool) (legal 
   -- a quantum is issued
   pub issues_one : (m n : ℕ) (c : Core E) (q : Quantum) (x : ℕ) → IsReached quanta steps legal m n (machine_of c) c.issued → 0 < times q (last_issues quanta steps c.log) → times q c.issued ≡ 0
       → slice_index c.cells q.processor ≡ 0 → q.processor < length c.cells → 0 < x → quantum_at q.processor x ≡ q
-      → IsReached quanta steps legal m n (machine_of (record c { cells = slice_set c.cells q.processor x; issued = c.issued ++ q ∷ []; left = Rattle.pf_board.specs.Quanta.without q c.left })) (c.issued ++ q ∷ [])
+      → IsReached quanta steps legal m n (machine_of (record c { cells = slice_set c.cells q.processor x; issued = c.issued ++ q ∷ []; left = Rattle.pf_board.specs.Quanta.quanta_without q c.left })) (c.issued ++ q ∷ [])
   issues_one m n c q x r last fresh none inside some_word is =
       let s = machine_of c in
       let p = q.processor in
