@@ -22,7 +22,7 @@ weigh h (q ∷ qs) = h q + weigh h qs
 abbrev pub times : Quantum → List Quantum → ℕ
 times q qs = weigh (λ r. one_if (is_same q r)) qs
 
--- the list quanta_without the first q in it
+-- the list without the first q in it
 abbrev pub quanta_without : Quantum → List Quantum → List Quantum
 quanta_without q [] = []
 quanta_without q (r ∷ rs) = if is_same q r then rs else r ∷ quanta_without q rs

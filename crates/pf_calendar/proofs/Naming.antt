@@ -11,7 +11,7 @@ use Rattle.pf_calendar.specs.Invariant.{lists_in, names_of, name_count}
 abbrev pub no_entry : WaitingList
 no_entry = record { slot = 0; heap = 0; count = 0 }
 
--- ---- name_count
+-- ---- times
 
 pub one_of : (h n : ℕ) → n ≡ h → cond {A = ℕ} (eqb n h) 1 0 ≡ 1
 one_of h n e = ap (λ b. cond b 1 0) (eq-eqb n h e)

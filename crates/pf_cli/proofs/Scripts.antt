@@ -108,7 +108,7 @@ pub past_stopped : (A : Type 0) (fault : OutputFault) → IsPastReading {A = A} 
 past_stopped A Write = tt
 past_stopped A Memory = tt
 
--- a text of which some waits, and a further text text_and_then it
+-- a text of which some waits, and a further text behind it
 with_rest : (waiting text rest : List ℕ) (old mid : Option (List ℕ)) → TookAllBut waiting old mid text → TookAllBut (waiting ++ rest) old mid (text ++ rest)
 with_rest waiting text rest old mid h = (h.0, h.1, sym (append_assoc h.0 waiting rest) ∙ ap (λ t. t ++ rest) h.2)
 
@@ -120,7 +120,7 @@ front_on : (waiting text rest : List ℕ) (old mid new : Option (List ℕ)) → 
     → TookFront old new (text ++ rest)
 front_on waiting text rest old mid new h k = so-far-unfinished old mid new (waiting ++ rest) (text ++ rest) (with_rest waiting text rest old mid h) k
 
--- Use: of a meaning text_and_then a text, where some of the text waits, and the rest is taken already.
+-- Use: of a meaning behind a text, where some of the text waits, and the rest is taken already.
 pub answers_behind : {A : Type 0} (m : Meaning) (result : Result A RunFault) (waiting text : List ℕ) (old mid new : Option (List ℕ))
     → TookAllBut waiting old mid text → IsPastReading result → Answers (text_and_then waiting m) result mid new → Answers (text_and_then text m) result old new
 answers_behind m (Ok done) waiting text old mid new h past a = (a.0, appends_on waiting text m.text old mid new h a.1)

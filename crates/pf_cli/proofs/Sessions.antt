@@ -39,7 +39,7 @@ pub stopped_on_the_way : (start mid new : Option (List ℕ)) (was more rest whol
     → TookFront mid new (was ++ more) → TookFront start new whole
 stopped_on_the_way start mid new was more rest whole h k = (k.0 ++ rest, on_the_way start mid new was k.0 more rest whole h k.1)
 
--- what is text_if_replies, by format
+-- what is shown, by format
 text_if_replies-append : (format : Format) (xs ys : List ℕ) → text_if_replies format (xs ++ ys) ≡ text_if_replies format xs ++ text_if_replies format ys
 text_if_replies-append format xs ys = by (has_replies format)
   where
@@ -129,7 +129,7 @@ seen_there d s stands shows =
     ap (λ x. x.denials) (sym shows) ∙ stands.of_run.are_denials ∙ ap (λ x. denials_in x.state.plan x.state.now) shows in
     shows ∙ (λ i. record { version = length d.history; state = d.state; rows = rows i; denials = denials i })
 
--- Use: a command was answered, and its reply isn't text_if_replies, or was put.
+-- Use: a command was answered, and its reply isn't shown, or was put.
 pub answered_unshown : (caller : ℕ) (command : Command) (a b : Session) (reply : Reply) (x : Option (List ℕ)) →
     AnswersCaller caller command a.desk reply b.desk → b.format ≡ a.format → b.lines ≡ a.lines → has_replies a.format ≡ false →
     HasAnswered (command ∷ []) a b x x

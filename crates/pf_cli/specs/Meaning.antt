@@ -25,7 +25,7 @@ use Rattle.pf_words.specs.declared.format.Format.TheVariants.{Schedule, Tables, 
 use Rattle.pf_words.specs.Formats.{has_replies}
 use Rattle.pf_cli.specs.Replies.{reply_line, line_end}
 
--- how a script ends: well, at a bad_record record of this number, or because it is too long
+-- how a script ends: well, at a bad record of this number, or because it is too long
 pub data End : Type 0 where
   Done : End
   BadRecord : ℕ → End
@@ -39,7 +39,7 @@ pub record Meaning : Type 0 where
 abbrev pub text_and_then : List ℕ → Meaning → Meaning
 text_and_then text m = record { text = text ++ m.text; end = m.end }
 
--- a bad_record record ends the script, with no report
+-- a bad record ends the script, with no report
 abbrev pub bad_record : ℕ → Meaning
 bad_record number = record { text = []; end = BadRecord number }
 
@@ -78,7 +78,7 @@ seen_at c = record {
   denials = denials_in c.state.plan c.state.now;
 }
 
--- a table text_and_then a line with its name
+-- a table behind a line with its name
 abbrev pub text_under_title : List ℕ → List ℕ → List ℕ
 text_under_title title table = title ++ line_end ++ table
 
@@ -90,7 +90,7 @@ tables_text seen =
     ++ text_under_title (codes "misses") (misses_text seen)
     ++ text_under_title (codes "denials") (denials_text seen)
 
--- what stands text_and_then all replies
+-- what stands behind all replies
 unfoldable pub report_text : Format → Seen → List ℕ
 report_text Schedule seen = schedule_text seen
 report_text Tables seen = tables_text seen
@@ -104,13 +104,13 @@ report_text Events seen = events_text seen
 report_text Processors seen = processors_text seen
 report_text Stats seen = stats_text seen
 
--- the record is this line, or it is bad_record
+-- the record is this line, or it is bad
 abbrev pub line_meaning : Format → ℕ → ScriptCourse → (ScriptCourse → Meaning) → Option Line → Meaning
 line_meaning format number c next None = bad_record number
 line_meaning format number c next (Some line) =
     text_and_then (text_if_replies format (reply_lines c (commands_of line))) (next (course_behind c (commands_of line)))
 
--- the records text_and_then the settings, the first of them of this number
+-- the records behind the settings, the first of them of this number
 abbrev pub lines_meaning : Format → Version → ℕ → ScriptCourse → List (List (List ℕ)) → Meaning
 lines_meaning format version number c [] = record { text = report_text format (seen_at c); end = Done }
 lines_meaning format version number c (fields ∷ records) =

@@ -76,7 +76,7 @@ past_rest s c n scenario none touched =
     let events = events_rest s c n scenario none touched in
     λ i. record { settings = sym (settings_changed s c) i; events = events i }
 
--- Use: what stands for a scenario agrees with the plan_after one below the least slot that the change touches.
+-- Use: what stands for a scenario agrees with the changed one below the least slot that the change touches.
 pub agrees_changed : (s : Plan) (c : Change) (from : ℕ) (kept : KeptRun) → StandsFor s kept.now kept → edit_fault s c ≡ None →
     slot_touched s c ≡ Some from → from < kept.now → AgreesBelow (plan_after s c) from kept
 agrees_changed s c from kept stands faultless touched below =

@@ -1,5 +1,6 @@
--- What a desk keeps, from its opening_plan on and through one entry more.
-use Rattle.std.proofs.Common.{◌≡◌, ℕ, ◌≤◌, Bool, true, false, if◌then◌else◌, IfSome, Ok, Some, None, List, [], ◌∷◌, ◌++◌, refl, sym, ap, ◌∙◌, subst}
+-- What a desk keeps, from its opening on and through one entry more.
+use Rattle.std.proofs.Common.{◌≡◌, ℕ, ◌≤◌, Bool, true, false, if◌then◌else◌, IfSome, Ok, Err, Some, None, List, [], ◌∷◌, ◌++◌, refl, sym, ap, ◌∙◌, subst}
+use Rattle.std.specs.declared.alloc.AllocError.{AllocError}
 use Rattle.std.specs.List.{slice_get}
 use Rattle.std.proofs.lemmas.List.{nil_from_length}
 use Rattle.pf_scenario.specs.System.{System}
@@ -25,7 +26,7 @@ use Rattle.pf_desk.specs.Kept.{state_of, shown_by, IsKeptDesk}
 use Rattle.pf_desk.proofs.Histories.{legal_append, behind_append, settings_after}
 use Rattle.pf_desk.proofs.Changes.{past_rest}
 
--- at the opening_plan
+-- at the opening
 pub opening_kept : (settings : System) (kept : KeptRun) → StandsFor (opening_plan settings) 0 kept → IsKeptDesk (opening_plan settings) kept []
 opening_kept settings kept stands = record {
   stands = stands_now (opening_plan settings) 0 kept stands;
@@ -93,6 +94,17 @@ refused_handles plan kept es spare spare' caller command fault is answer = recor
   refused = refl;
 }
 
+-- Use: want of memory leaves the parts, whatever room there is then.
+pub wanted_handles : (plan : Plan) (kept : KeptRun) (es es' : List Entry) (spare spare' caller : ℕ) (command : Command) (error : AllocError) →
+    IsKeptDesk plan kept es → es' ≡ es →
+    Handles caller command (shown_by plan kept es spare) (Err error) (shown_by plan kept es' spare')
+wanted_handles plan kept es es' spare spare' caller command error is same = record {
+  ok = tt;
+  err = ap (λ (es : List Entry). shown_by plan kept es spare') same;
+  desk = is_desk _ _ _ _ (subst (IsKeptDesk plan kept) (sym same) is);
+  refused = tt;
+}
+
 -- the reply to an edit without a fault, by the first denial where it is strict
 pub edited_reply : (st : State) (change : Change) (strict : Bool) (denials : List Denied) → edit_fault st.plan change ≡ None →
     denials ≡ denials_in (plan_after st.plan change) st.now → (if strict then slice_get denials 0 else None) ≡ None →
@@ -110,7 +122,7 @@ denied_reply st change true denials d faultless are some =
     ∙ ap (strict_reply st change) (ap (λ ds. slice_get ds 0) (sym are) ∙ some)
 denied_reply st change false denials d faultless are some = cc
 
--- an edit that is made: the plan_after scenario, its kept run without an objection, and one entry more
+-- an edit that is made: the changed scenario, its kept run without an objection, and one entry more
 pub record Edits (plan plan' : Plan) (kept kept' : KeptRun) (es es' : List Entry) (caller : ℕ) (change : Change) (strict : Bool) (id : ℕ) : Type 0 where
   pub is : IsKeptDesk plan kept es
   pub faultless : edit_fault plan change ≡ None

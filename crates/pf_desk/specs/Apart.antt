@@ -10,7 +10,7 @@ use Rattle.pf_desk.specs.Machine.{reply_to, state_after}
 use Rattle.pf_desk.specs.Desk.{Shown}
 use Rattle.pf_desk.specs.Kept.{state_of}
 
--- the candidate of a change: the plan_after scenario with its run over as many slots, and the number of the event number_of_change
+-- the candidate of a change: the changed scenario with its run over as many slots, and the number of the event concerned
 pub record IsCandidate (plan : Plan) (n apart : ℕ) (change : Change) (c : Candidate) : Type 0 where
   pub id : c.id ≡ number_of_change plan change
   pub scenario : c.scenario ≡ plan_after plan change

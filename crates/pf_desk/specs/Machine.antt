@@ -32,7 +32,7 @@ abbrev pub step_reply : State → Reply
 step_reply st =
     if st.now == st.plan.settings.horizon then Refused AtHorizon else Stepped st.now (row_at st.plan st.now)
 
--- a strict edit is refused with the first denial of the plan_after scenario's run so far, old or new
+-- a strict edit is refused with the first denial of the changed scenario's run so far, old or new
 abbrev pub strict_reply : State → Change → Option Denied → Reply
 strict_reply st change None = Edited (number_of_change st.plan change)
 strict_reply st change (Some d) = Refused (WouldDeny d.id d.denial)

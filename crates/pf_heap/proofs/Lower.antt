@@ -173,7 +173,7 @@ root_with_no_parent nodes h (tree at key rank kids rest) small s has top =
     (cases_lt 0 (forest_weight (at_place h) kids)))
     (cases_lt 0 (same h at))
 
--- ---- the forest_lowered key
+-- ---- the lowered key
 
 pub hit : (h at : ℕ) → 1 ≤ same h at → eqb h at ≡ true
 hit h at e = let f = equal_from_same h at e in grind (arith, nat_tests)

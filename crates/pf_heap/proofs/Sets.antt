@@ -69,7 +69,7 @@ task_of_key q at key =
 pub key-le-task : (q : Priority) (f : Forest) → forest_weight (of_key q) f ≤ forest_weight (of_task q.task) f
 key-le-task q f = forest_weight-le (of_key q) (of_task q.task) f (task_of_key q)
 
--- two keys of one task forest_weight no more than the task
+-- two keys of one task weigh no more than the task
 two_of_task : (p q : Priority) → p.task ≡ q.task → eq_by_cmp key_cmp p q ≡ false → (at : ℕ) (key : Priority) →
     of_key p at key + of_key q at key ≤ of_task p.task at key
 two_of_task p q task differ at key =

@@ -21,7 +21,7 @@ abbrev pub head : Forest → ℕ
 head none = nowhere
 head (tree at key rank kids rest) = at
 
--- what all nodes forest_weight together
+-- what all nodes weigh together
 abbrev pub forest_weight : (ℕ → Priority → ℕ) → Forest → ℕ
 forest_weight w none = 0
 forest_weight w (tree at key rank kids rest) = w at key + (forest_weight w kids + forest_weight w rest)

@@ -1,4 +1,4 @@
--- The first_keys of a list of keys, in the order.
+-- The first of a list of keys, in the order.
 use Rattle.std.specs.Prelude.{ℕ, zero, suc, ◌<◌, ◌==◌, ◌↔◌, IsTrue, List, [], ◌++◌, filter, count_by, Contains, AllPairs}
 use Rattle.pf_order.specs.Priority.{Priority, precedes}
 
@@ -6,7 +6,7 @@ use Rattle.pf_order.specs.Priority.{Priority, precedes}
 abbrev pub rank : List Priority → Priority → ℕ
 rank keys k = count_by (λ x. precedes x k) keys
 
--- `chosen` are the first_keys `count` of these keys: exactly those that fewer than `count` of them precede, in order
+-- `chosen` are the first `count` of these keys: exactly those that fewer than `count` of them precede, in order
 pub record AreFirst (count : ℕ) (keys chosen : List Priority) : Type 0 where
   pub exactly : (k : Priority) → Contains chosen k ↔ (Contains keys k × (rank keys k < count))
   pub in_order : AllPairs (λ x y. IsTrue (precedes x y)) chosen

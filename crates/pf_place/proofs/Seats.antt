@@ -51,7 +51,7 @@ module _ (count : ℕ) (before : List (Option Pick)) (picks : List Pick) where
       let unused : ltb q count ≡ false = le-ltb q count l in
       ap (λ b. option_or (cond b (next_pick picks (sitter before q)) None) (cond b (slice_get (others (take count before) picks) (free_below count before picks q)) None)) unused
 
-  -- the places in use are kept or seats_filled_with, and the rest is idle
+  -- the places in use are kept or filled, and the rest is idle
   pub row_from_filled : (m : ℕ) → count ≤ m
       → seats_filled_with keepers (others (take count before) picks) ++ replicate (m - count) None ≡ row_of m count before picks
   unfolding row_of

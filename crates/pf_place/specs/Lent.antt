@@ -1,4 +1,4 @@
--- A row that is places_lent.
+-- A row that is lent.
 use Rattle.std.specs.Prelude.{Option, List}
 use Rattle.std.specs.Option.{option_map}
 use Rattle.pf_order.specs.declared.pick.Pick.{Pick}
@@ -8,6 +8,6 @@ use Rattle.pf_place.specs.declared.row_view.RowView.{RowView}
 abbrev pub lent_row : RowView → List (Option Pick)
 lent_row view = view.places.now
 
--- the row that is places_lent, where one is
+-- the row that is lent, where one is
 abbrev pub places_lent : Option RowView → Option (List (Option Pick))
 places_lent view = option_map lent_row view

@@ -14,7 +14,7 @@ abbrev pub seen_after : ℕ → Plan → ℕ → Seen
 seen_after entries s n =
     record { version = entries; state = record { plan = s; now = n }; rows = rows_in s n; denials = denials_in s n }
 
--- three tasks of weight 2/3 on two processors, and the same with the third join struck_third in the past
+-- three tasks of weight 2/3 on two processors, and the same with the third join struck in the past
 abbrev pub three_tasks : Seen
 three_tasks = seen_after 6 (plan_with 2 3 6 three_joins) 3
 

@@ -1,4 +1,4 @@
--- The first_keys of some keys: there is one answer, and how to show it.
+-- The first of some keys: there is one answer, and how to show it.
 use Rattle.std.proofs.Common.{◌≡◌, ◌≢◌, ℕ, zero, suc, ◌+◌, ◌-◌, ◌<◌, ◌≤◌, Bool, true, false, not, ◌==◌, cond, min, List, [], ◌∷◌, ◌++◌, length, take, drop, get_or, filter, count_by, All, AllPairs, Contains, IsTrue, IsPermutation, ⊎_elim, refl, sym, ap, ap₂, ◌∙◌, subst, subst₂, zero-le, arith}
 use Rattle.std.proofs.lemmas.Bool.{true≢false, cases_Bool, cases_eq, cases_lt, eq-eqb, eqb-true, false_from_ne_true}
 use Rattle.std.proofs.lemmas.List.{take-append-drop, length-append, length-take, length-drop, get_or-take, get_or-drop, get_or_default}
@@ -183,7 +183,7 @@ module _ {X : Type 0} (f : X → ℕ) where
   few_rising n (x ∷ xs) rising below =
       omega (arith, at_least_place (x ∷ xs) x rising (length xs) (omega arith), below (length xs) x (omega arith))
 
--- Use: the first_keys keys are no more than were asked for, and of different tasks where the keys are.
+-- Use: the first keys are no more than were asked for, and of different tasks where the keys are.
 pub first_few : (n : ℕ) (keys chosen : List Priority) → AreFirst n keys chosen → length chosen ≤ n
 first_few n keys chosen are = few_rising (rank keys) n chosen
     (λ i j d before within. rank_lt keys (get_or chosen i d) (get_or chosen j d)
@@ -220,7 +220,7 @@ one_of_rank keys x y at_x at_y apart same = ⊎_elim
     (λ not_back. let higher : rank keys x < rank keys y = rank_lt keys x y at_x (order.one_of_two_precedes x y apart ∙ ap not not_back) in absurd (omega arith))
     (cases_Bool (precedes y x))
 
--- the keys of `first_keys`
+-- the keys of `first`
 from_first : (n : ℕ) (keys : List Priority) (k : Priority) → Contains (first_keys n keys) k → Contains keys k × (rank keys k < n)
 from_first zero keys k at = absurd (contains_none k at)
 from_first (suc c) keys k at = ⊎_elim
@@ -258,7 +258,7 @@ first_in_order (suc c) keys differ =
     let is : rank keys y ≡ c = eqb-true (rank keys y) c of_y.1 in
     before_from_rank keys x y differ of_x.0 of_y.0 (omega arith))
 
--- `first_keys` computes it, where no two keys are of one task.
+-- `first` computes it, where no two keys are of one task.
 pub first_is_first : (n : ℕ) (keys : List Priority) → TasksDiffer keys → AreFirst n keys (first_keys n keys)
 first_is_first n keys differ = record {
   exactly = λ k. (from_first n keys k, λ both. in_first n keys k both.0 both.1);

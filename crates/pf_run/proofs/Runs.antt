@@ -213,7 +213,7 @@ pub computed_alike : (s q : Plan) (n : ℕ) → IsScenario s → IsScenario q �
 computed_alike s q n of_s of_q alike same =
     one_run q n _ _ of_q (run_alike s q n _ alike same (run_is_computed s n of_s)) (run_is_computed q n of_q)
 
--- the first_keys keys, computed
+-- the first keys, computed
 pub first_are_computed : FirstAreComputed
 first_are_computed n keys chosen differ = (
   (λ are. first_is_one n keys chosen (first_keys n keys) are (first_is_first n keys differ)),

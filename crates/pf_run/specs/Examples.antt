@@ -13,12 +13,12 @@ use Rattle.pf_run.specs.declared.denied.Denied.{Denied}
 use Rattle.pf_run.specs.Record.{Slot}
 use Rattle.pf_run.specs.Run.{IsRun}
 
--- these events, with_number from n on
+-- these events, numbered from n on
 abbrev pub numbered_from : ℕ → List Event → List Numbered
 numbered_from n [] = []
 numbered_from n (x ∷ xs) = with_number n x ∷ numbered_from (n + 1) xs
 
--- a scenario of m processors, the base h, the cap and these events, with_number from 1 on
+-- a scenario of m processors, the base h, the cap and these events, numbered from 1 on
 abbrev pub plan_with : ℕ → ℕ → ℕ → List Event → Plan
 plan_with m h cap events = record {
   settings = record { processors = m; base = h; cap = cap; horizon = near_horizon };
@@ -122,7 +122,7 @@ pub record LeaveExamples : Type 0 where
   pub leave_in_time : IsRun (plan_with 1 3 3 (Join 0 1 1 3 0 ∷ Leave 3 1 ∷ [])) 4 (slot_with (pick_with 1 1 ∷ []) ∷ idle_slot ∷ idle_slot ∷ idle_slot ∷ [])
   pub leave_too_early : IsRun (plan_with 1 3 3 (Join 0 1 1 3 0 ∷ Leave 3 1 ∷ Delay 0 1 1 ∷ [])) 4
       (idle_slot ∷ slot_with (pick_with 1 1 ∷ []) ∷ idle_slot ∷ ran_but [] (denied_in 3 2 TooEarly ∷ []) ∷ [])
-  -- a leave goes by the shift of the subtask that slot_with last, 4 + 1, and not by that of the next one
+  -- a leave goes by the shift of the subtask that ran last, 4 + 1, and not by that of the next one
   pub last_in_time : IsRun (plan_with 1 11 11 (Join 0 1 8 11 0 ∷ Delay 1 1 10 ∷ Leave 5 1 ∷ [])) 6
       (slot_with (pick_with 1 1 ∷ []) ∷ idle_slot ∷ idle_slot ∷ idle_slot ∷ idle_slot ∷ idle_slot ∷ [])
   pub last_too_early : IsRun (plan_with 1 11 11 (Join 0 1 8 11 0 ∷ Delay 1 1 10 ∷ Leave 4 1 ∷ [])) 6

@@ -15,7 +15,7 @@ use Rattle.pf_run.specs.Computed.{run_of}
 abbrev pub OneRun : Type 0
 OneRun = (s : Plan) (n : ℕ) (r q : List Slot) → IsScenario s → IsRun s n r → IsRun s n q → r ≡ q
 
--- Runs are causal: the first_keys t slots of a run are the run over t.
+-- Runs are causal: the first t slots of a run are the run over t.
 abbrev pub RunsBegin : Type 0
 RunsBegin = (s : Plan) (n t : ℕ) (r : List Slot) → IsRun s n r → t ≤ n → IsRun s t (take t r)
 
@@ -35,7 +35,7 @@ abbrev pub RunsRestOnPast : Type 0
 RunsRestOnPast = (s q : Plan) (n : ℕ) (r : List Slot) → AreAlike s.settings q.settings
     → events_below n s.events ≡ events_below n q.events → IsRun s n r → IsRun q n r
 
--- The first_keys keys are computed: where no two keys are of one task, the first_keys n of them are what `first_keys` gives, and no
+-- The first keys are computed: where no two keys are of one task, the first n of them are what `first` gives, and no
 -- other list is.
 abbrev pub FirstAreComputed : Type 0
 FirstAreComputed = (n : ℕ) (keys chosen : List Priority) → AllPairs (λ x y. x.task ≢ y.task) keys →

@@ -111,7 +111,7 @@ slot_none events id h = by (find (λ x. x.id == id) events) h
     by (Some x) h = absurd (cc)
     by None h = refl
 
--- events_without the number that no event has
+-- without the number that no event has
 pub without_nothing : (events : List Numbered) (next : ℕ) → All (λ x. (1 ≤ x.id) × (x.id < next)) events → events_without 0 events ≡ events
 without_nothing events next given =
     filter_all (λ x. not (x.id == 0)) events (All-weaker (λ x. (1 ≤ x.id) × (x.id < next)) (λ x. not (x.id == 0) ≡ true) (λ x g. not_from_false _ (ne_eqb _ _ (λ e. omega arith))) events given)

@@ -89,7 +89,7 @@ around_nothing s h =
       limits = rw e h.limits;
     }
 
--- events_without the event in the middle
+-- without the event in the middle
 pub around_one : (s : Plan) (front : List Numbered) (x : Numbered) (back : List Numbered) → s.events ≡ front ++ x ∷ back → IsScenario s → Around s.settings s.next front back
 around_one s front x back e h =
     record {

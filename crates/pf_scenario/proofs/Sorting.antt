@@ -58,7 +58,7 @@ swap_or true false c = refl
 swap_or false true c = refl
 swap_or false false c = refl
 
--- the two ways that `put_in_order` goes
+-- the two ways that `put` goes
 pub put_low : {X : Type 0} (R : X → X → Ordering) (x y : X) (ys : List X) → is_lt (R x y) ≡ true → put_in_order R x (y ∷ ys) ≡ x ∷ y ∷ ys
 put_low R x y ys h = cond-true (is_lt (R x y)) _ _ h
 
@@ -85,7 +85,7 @@ sorted_keeps R (x ∷ xs) =
     IsPermutation-trans (x ∷ xs) (x ∷ sorted_by R xs) (sorted_by R (x ∷ xs))
     (IsPermutation-cons x xs (sorted_by R xs) (sorted_keeps R xs)) (put_keeps R x (sorted_by R xs))
 
--- two elements that the order tells apart may be put_in_order in either way round
+-- two elements that the order tells apart may be put in either way round
 pub put_comm : {X : Type 0} {R : X → X → Ordering} (o : IsTotalOrder R) (x y : X) → R x y ≢ Equal → R y x ≢ Equal → (zs : List X) → put_in_order R x (put_in_order R y zs) ≡ put_in_order R y (put_in_order R x zs)
 put_comm {R = R} o x y differ differ' [] =
     elim (cases_Bool (is_lt (R x y))) [
@@ -129,7 +129,7 @@ put_comm {R = R} o x y differ differ' (z ∷ zs) =
               ∙ sym (ap (put_in_order R y) (put_low R x z zs x_low) ∙ put_low R y x (z ∷ zs) (after o x y differ high))
         ]
 
--- an element put_in_order in amid others, where it is told apart from those before it
+-- an element put in amid others, where it is told apart from those before it
 pub sorted_middle : {X : Type 0} {R : X → X → Ordering} (o : IsTotalOrder R) (xs : List X) (y : X) (ys : List X) → All (λ x. (R x y ≢ Equal) × (R y x ≢ Equal)) xs → sorted_by R (xs ++ y ∷ ys) ≡ put_in_order R y (sorted_by R (xs ++ ys))
 sorted_middle o [] y ys apart = refl
 sorted_middle {R = R} o (x ∷ xs) y ys apart =
@@ -201,7 +201,7 @@ pub put_first : {X : Type 0} (R : X → X → Ordering) (x : X) (ys : List X) �
 put_first R x [] h = refl
 put_first R x (y ∷ ys) h = put_low R x y ys (All-head (λ y. is_lt (R x y) ≡ true) y ys h)
 
--- a filter before or after an element is put_in_order in
+-- a filter before or after an element is put in
 pub filter-put_dropped : {X : Type 0} (p : X → Bool) (R : X → X → Ordering) (x : X) (ys : List X) → p x ≡ false → filter p (put_in_order R x ys) ≡ filter p ys
 filter-put_dropped p R x [] h = cond-false (p x) _ _ h
 filter-put_dropped p R x (y ∷ ys) h =
@@ -237,7 +237,7 @@ filter-sorted_by p {R = R} o (x ∷ xs) =
       | inr drop ↦ filter-put_dropped p R x (sorted_by R xs) drop ∙ filter-sorted_by p o xs ∙ sym (ap (sorted_by R) (cond-false (p x) _ _ drop))
     ]
 
--- two orders that agree on these elements put_in_order them alike
+-- two orders that agree on these elements put them alike
 pub put_agree : {X : Type 0} (R S : X → X → Ordering) (x : X) (ys : List X) → All (λ y. R x y ≡ S x y) ys → put_in_order R x ys ≡ put_in_order S x ys
 put_agree R S x [] h = refl
 put_agree R S x (y ∷ ys) h =

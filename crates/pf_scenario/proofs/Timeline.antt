@@ -17,12 +17,12 @@ use Rattle.pf_scenario.specs.TimeOrder.{time_cmp, put_in_time, in_time_order}
 use Rattle.pf_scenario.specs.Index.{AreDistinctEvents}
 use Rattle.pf_scenario.specs.declared.event.Numbered.{Numbered}
 
--- an event put_in_order amid others that are apart from it
+-- an event put amid others that are apart from it
 pub in_time_middle : (front : List Numbered) (x : Numbered) (back : List Numbered) → All (λ y. AreDistinctEvents y x) front → in_time_order (front ++ x ∷ back) ≡ put_in_time x (in_time_order (front ++ back))
 in_time_middle front x back apart =
     sorted_middle time_cmp_total front x back (All-weaker (λ y. AreDistinctEvents y x) (λ y. (time_cmp y x ≢ Equal) × (time_cmp x y ≢ Equal)) (λ y a. (time_differs y x a.numbers, time_differs x y (apart_back y x a).numbers)) front apart)
 
--- taken out by number before or after the events are put_in_order in time order
+-- taken out by number before or after the events are put in time order
 pub in_time_without : (id : ℕ) (events : List Numbered) → events_without id (in_time_order events) ≡ in_time_order (events_without id events)
 in_time_without id events = filter-sorted_by (λ x. not (x.id == id)) time_cmp_total events
 

@@ -15,7 +15,7 @@ pub record Plan : Type 0 where
   pub events : List Numbered
   pub next : ℕ
 
--- the opening_plan scenario
+-- the opening scenario
 abbrev pub opening_plan : System → Plan
 opening_plan settings = record { settings = settings; events = []; next = 1 }
 

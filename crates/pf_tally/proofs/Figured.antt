@@ -132,7 +132,7 @@ module _ (j : Joined) (ran : List ℕ) (xs : List Numbered) (n : ℕ) (can : Can
       ∙ ap (λ ran. told j processors ran (responses_from (release_at r xs j) j.weight.cost 1 (slots_of r j.task)) (misses_of_task r xs j)
       (extremes_upto (scaled_at r xs j) j.slot (last_slot xs j (length r) - j.slot))) (sym of_ran)
 
--- a task's events_of_task events are enough
+-- a task's own events are enough
 pub figures_own : (r : List Slot) (processors : List ℕ) (xs : List Numbered) (j : Joined) →
     figures_of_task r processors (events_of_task j.task xs) j ≡ figures_of_task r processors xs j
 figures_own r processors xs j =

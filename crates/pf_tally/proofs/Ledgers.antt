@@ -71,7 +71,7 @@ ledger_made s rows denials ledger are settings now events diaries quanta =
       quanta = λ task. quanta.each task ∙ ap (λ rows. slots_in rows task) are.are_rows ∙ slots_seated s n task are.scenario;
     }
 
--- what is known of a task of the ledger: its quanta, its events_of_task events, and that it can be tallied by these
+-- what is known of a task of the ledger: its quanta, its own events, and that it can be tallied by these
 module _ (s : Plan) (n : ℕ) (ledger : Ledger) (known : IsLedger s n ledger) (j : Joined) (at : Contains (filter_map (join_of ledger.settings.base) ledger.events.items) j) where
   task_known : CanTally j (slots_of (run_of s n) j.task) ledger.events.items ledger.now
   task_known =

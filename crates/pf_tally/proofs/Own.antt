@@ -1,4 +1,4 @@
--- Of a task only its events_of_task events count: for its shifts, its clock, its leave and its misses.
+-- Of a task only its own events count: for its shifts, its clock, its leave and its misses.
 use Rattle.std.proofs.Common.{◌≡◌, ℕ, ◌+◌, ◌-◌, ◌*◌, ◌^◌, ◌<◌, ◌≤◌, Bool, true, false, ◌&&◌, ◌==◌, nat_le, not, cond, Option, None, Some, List, [], ◌∷◌, ◌++◌, length, take, get_or, map, filter, find, count_by, sum_by, All, ⊎_elim, refl, sym, ap, ap₂, ◌∙◌, subst, arith}
 use Rattle.std.specs.Prelude.{pos, ◌-ℤ◌}
 use Rattle.std.specs.List.{range_with_len}
@@ -47,7 +47,7 @@ leave_of_other task (Join slot task' cost period early) other = refl
 leave_of_other task (Delay slot task' by) other = refl
 leave_of_other task (Limit slot count) other = refl
 
--- the events_of_task events of one event and others
+-- the own events of one event and others
 own_one : (task : ℕ) (x : Numbered) (xs : List Numbered) → is_own task x.event ≡ true → events_of_task task (x ∷ xs) ≡ x ∷ events_of_task task xs
 own_one task x xs is = ap (λ b. cond b (x ∷ events_of_task task xs) (events_of_task task xs)) is
 
@@ -127,7 +127,7 @@ filter_agree_on p q [] agree = refl
 filter_agree_on p q (x ∷ xs) agree =
     ap₂ (λ b ys. cond b (x ∷ ys) ys) (All-head (λ x. p x ≡ q x) x xs agree) (filter_agree_on p q xs (All-tail (λ x. p x ≡ q x) x xs agree))
 
--- Use: the tasks that stay, by their events_of_task events.
+-- Use: the tasks that stay, by their own events.
 pub staying_own : (xs : List Numbered) (table : List (List Numbered)) (js : List Joined) → AreDiaries xs table →
     filter (λ j. not (has_left (noted_of table j.task) j.task)) js ≡ filter (λ j. not (has_left xs j.task)) js
 staying_own xs table js are =
@@ -173,7 +173,7 @@ rise_own u task (x ∷ xs) rise =
     (λ other. subst P (sym (own_other task x xs other)) (rise_lower u (slot_of x.event) (events_of_task task xs) rise.0 rest))
     (cases_Bool (is_own task x.event))
 
--- Use: it can be tallied by its events_of_task events.
+-- Use: it can be tallied by its own events.
 pub can_own : (j : Joined) (ran : List ℕ) (xs : List Numbered) (n : ℕ) → CanTally j ran xs n → CanTally j ran (events_of_task j.task xs) n
 can_own j ran xs n can = record {
   number = can.number;

@@ -10,10 +10,10 @@ use Rattle.pf_table.specs.Lists.{noted_of}
 abbrev pub is_own : ℕ → Event → Bool
 is_own task event = option_map_or (λ owner. owner == task) (task_of event) false
 
--- the task's events_of_task events among these, in their order
+-- the task's own events among these, in their order
 abbrev pub events_of_task : ℕ → List Numbered → List Numbered
 events_of_task task xs = filter (λ x. is_own task x.event) xs
 
--- of each task the table notes the task's events_of_task events
+-- of each task the table notes the task's own events
 pub record AreDiaries (xs : List Numbered) (table : List (List Numbered)) : Type 0 where
   pub each : (task : ℕ) → noted_of table task ≡ events_of_task task xs

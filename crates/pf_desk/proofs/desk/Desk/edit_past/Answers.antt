@@ -1,5 +1,6 @@
 use Rattle.std.proofs.Common.{◌∙◌, sym}
-use Rattle.pf_desk.proofs.Entering.{Edits, edited_kept, edited_handles}
+use Rattle.std.proofs.lemmas.Result.{err_from_is_err_and}
+use Rattle.pf_desk.proofs.Entering.{Edits, edited_kept, edited_handles, wanted_handles}
 use Rattle.pf_desk.proofs.desk.Desk.edit_past.Goals as goal
 use Rattle.pf_desk.proofs.desk.Desk.edit_past.Goals.{After-push_reserved}
 
@@ -22,3 +23,8 @@ invariant_of-self-2 c = edited_kept _ _ _ _ _ _ _ _ _ _ (edits c)
 
 pub returns-clause-handles : goal.returns-clause-handles
 returns-clause-handles c = rw (← c.self.view_is) (edited_handles _ _ _ _ _ _ _ _ _ _ _ _ (edits c))
+
+pub returns-in_err-reserve-clause-handles : goal.returns-in_err-reserve-clause-handles
+returns-in_err-reserve-clause-handles c =
+    let wanted = err_from_is_err_and c.from_residual-in_err-reserve.result c.from_residual-in_err-reserve.ensures.1 in
+    rw (← c.self.view_is, wanted.1) (wanted_handles _ _ _ _ _ _ _ _ _ c.self.invariant c.reserve.ensures.items)
