@@ -1,4 +1,5 @@
 pub mod Histories
 pub mod Locked
+pub mod Opening
 pub mod Reads
 pub mod Stories

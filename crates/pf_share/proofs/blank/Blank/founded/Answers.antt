@@ -1,0 +1,23 @@
+use Rattle.std.proofs.Common.{◌≡◌, refl, sym, ap, ◌∙◌}
+use Rattle.pf_share.proofs.blank.Blank.founded.Goals as goal
+
+pub invariant_of-result : goal.invariant_of-result
+invariant_of-result g c =
+    let desk = c.requires.desk in
+    let keeper = c.in_ok-board.ensures.keeper in
+    let press = c.opening.ensures.press in
+    let stamp = c.again-stamp.ensures ∙ c.stamp.ensures in
+    let settings : c.args.desk.state.plan.settings ≡ c.in_ok-board.board.terms = ap (λ s. s.plan.settings) desk.1 ∙ sym c.in_ok-board.ensures.board.0 in (
+      record {
+        is_desk = desk.0;
+        settings = settings;
+        keeper_board = ap (λ k. k.board) keeper;
+        has_turn = ap (λ k. k.has_turn) keeper;
+        none_left = ap (λ k. k.left) keeper;
+        seen = rw (keeper, desk.2) refl;
+        press_book = refl;
+        stamp_is = rw (press, sym settings) (stamp ∙ c.in_ok-shown.ensures.shown);
+        is_shown = c.in-Ok.ensures.same ∙ (c.in_ok-publisher.ensures ∙ sym stamp);
+      },
+      desk.2,
+    )

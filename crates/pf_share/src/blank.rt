@@ -1,0 +1,211 @@
+ghost use Rattle.std.specs.Prelude.{◌≡◌, ◌↔◌, ◌≤◌, ◌<◌, ◌^◌, [], IfOk, IsTrue, IsFalse, Err, vec_capacity};
+ghost use Rattle.pf_board.specs.Passes.{new_passes};
+ghost use Rattle.pf_desk.specs.Desk.{IsDesk};
+ghost use Rattle.pf_desk.specs.Machine.{opening_state};
+ghost use Rattle.pf_share.specs.declared.fault.OpenFault.TheVariants.{BadSettings};
+ghost use Rattle.pf_share.specs.Locked.{origin_of};
+ghost use Rattle.pf_share.specs.Opening.{IsBadOpening, IsBeyond, new_viewers};
+
+use crate::calls::{DeskBoard, DeskKeeper, DeskPass};
+use crate::fault::OpenFault;
+use crate::locked::Locked;
+use crate::naming::Naming;
+use crate::opened::Opened;
+use crate::press::Press;
+use crate::publisher::Publisher;
+use crate::shared::Shared;
+use crate::shown::Shown;
+use crate::stamp::Stamp;
+use crate::tells::Tells;
+use crate::viewer::Viewer;
+use pf_desk::desk::Desk;
+use pf_scenario::settings::Settings;
+use std::alloc::{AllocError, Global};
+use std::marker::Model;
+use std::sync::{Arc, Wait};
+
+/// The most passes of a desk.
+pub const MOST_PASSES: u64 = 128;
+
+/// The most viewers of a desk.
+pub const MOST_READERS: u64 = 16;
+
+/// What was wanting for a desk to be opened.
+enum Scarcity {
+    NoViewer,
+    NoMemory,
+}
+
+impl From<AllocError> for Scarcity {
+    fn from(_error: AllocError) -> Self {
+        Scarcity::NoMemory
+    }
+}
+
+/// A desk tells its history.
+struct OfDesk;
+
+impl Tells<Desk> for OfDesk {
+    ghost story = { λ d. record { settings = d.state.plan.settings; entries = d.history } };
+}
+
+/// A desk with an empty history that has no name yet: `start` gives it one.
+#[derive(Drop)]
+pub struct Blank<H: Wait + Drop> {
+    board: DeskBoard,
+    keeper: DeskKeeper,
+    desk: Desk,
+    press: Press,
+    stamp: Stamp,
+    publisher: Publisher<H>,
+    passes: Vec<DeskPass>,
+    viewers: Vec<Viewer>,
+}
+
+impl<H: Wait + Drop> Model for Blank<H> {
+    ghost use Rattle.std.specs.Prelude.{◌≡◌, []};
+    ghost use Rattle.pf_share.specs.Locked.{IsLocked};
+    ghost use Rattle.pf_share.specs.Opening.{Opening};
+
+    ghost Value = { Opening };
+
+    ghost view = { λ b. record { board = b.board; book = b.press; passes = b.passes.items; viewers = b.viewers.items } };
+
+    ghost invariant = { λ b. IsLocked b.board b.press b.desk b.keeper b.press b.stamp b.publisher × (b.desk.history ≡ []) };
+}
+
+impl<H: Wait + Drop> Blank<H> {
+    /// A desk with these settings, no event, no slot stepped and no history, which is shown. `every` is the distance of
+    /// its checkpoints in slots, 1 to `LARGEST_DISTANCE` of pf_timeline; it has 1 to `MOST_PASSES` passes, numbered
+    /// from 0, and 1 to `MOST_READERS` viewers.
+    ///
+    /// # Errors
+    ///
+    /// `BadSettings` where one of the three is out of its limits; `NoViewer` where the readers' table gives no place;
+    /// `NoMemory` where memory is refused.
+    pub fn open(
+        rt: H,
+        alloc: Global,
+        settings: Settings,
+        every: u64,
+        passes: u64,
+        readers: u64,
+    ) -> Result<Self, OpenFault>
+        ensures bad_settings { (result ≡ Err BadSettings) ↔ IsBadOpening every passes readers }
+        ensures settings { IfOk result (λ b. b.board.terms ≡ settings) }
+        ensures passes { IfOk result (λ b. b.passes ≡ new_passes b.board.id settings passes) }
+        ensures viewers { IfOk result (λ b. b.viewers ≡ new_viewers (origin_of b.board b.book) readers) }
+    {
+        if !is_within(MOST_PASSES, passes) || !is_within(MOST_READERS, readers) {
+            return Err(OpenFault::BadSettings);
+        }
+        let desk = Desk::open(alloc, settings, every)?;
+        match Blank::founded(rt, alloc, settings, desk, passes as u32, readers as usize) {
+            Ok(blank) => Ok(blank),
+            Err(Scarcity::NoViewer) => Err(OpenFault::NoViewer),
+            Err(Scarcity::NoMemory) => Err(OpenFault::NoMemory),
+        }
+    }
+
+    /// The same, over a desk with these settings that has no history yet.
+    fn founded(
+        rt: H,
+        alloc: Global,
+        settings: Settings,
+        desk: Desk,
+        passes: u32,
+        readers: usize,
+    ) -> Result<Self, Scarcity>
+        requires desk { IsDesk desk × (desk.state ≡ opening_state settings) × (desk.history ≡ []) }
+        requires readers { (0 < readers) × (readers < 2 ^ 32) }
+        ensures settings { IfOk result (λ b. b.board.terms ≡ settings) }
+        ensures passes { IfOk result (λ b. b.passes ≡ new_passes b.board.id settings passes) }
+        ensures viewers { IfOk result (λ b. b.viewers ≡ new_viewers (origin_of b.board b.book) readers) }
+    {
+        let processors = settings.processors();
+        let (board, keeper, passes) = DeskBoard::new(alloc, &settings, processors, passes)?;
+        let mut press = Press::new();
+        let shown = opening(alloc, &mut press, &desk)?;
+        let stamp = shown.stamp().again();
+        let mut publisher = Publisher::new(rt, alloc, shown, readers)?;
+        let room = Vec::with_capacity(alloc, readers)?;
+        let Ok(viewers) = make_viewers(&mut publisher, &stamp, room, readers) else {
+            return Err(Scarcity::NoViewer);
+        };
+        Ok(Blank {
+            board,
+            keeper,
+            desk,
+            press,
+            stamp,
+            publisher,
+            passes,
+            viewers,
+        })
+    }
+
+    /// The desk under a name.
+    pub fn start<N: Naming>(self) -> Opened<N, H>
+        requires { (self.board ≡ N.board) × (self.book ≡ N.book) }
+        ensures { (result.passes.items ≡ self.passes) × (result.viewers.items ≡ self.viewers) }
+    {
+        let Blank {
+            board,
+            keeper,
+            desk,
+            press,
+            stamp,
+            publisher,
+            passes,
+            viewers,
+        } = self;
+        let locked = Locked::new(desk, keeper, press, stamp, publisher);
+        Opened {
+            shared: Shared::new(board, locked),
+            passes,
+            viewers,
+        }
+    }
+}
+
+/// Whether the number is 1 to `most`.
+fn is_within(most: u64, number: u64) -> bool
+    ensures beyond { IsFalse result → IsBeyond most number }
+    ensures within { IsTrue result → ¬ IsBeyond most number }
+{
+    0 < number && number <= most
+}
+
+/// The snapshot of a desk, with a number for its history.
+fn opening(alloc: Global, press: &mut Press, desk: &Desk) -> Result<Shown, AllocError>
+    ensures press { press.new ≡ press.old }
+    ensures shown { IfOk result (λ s. s ≡ record { origin = record { book = press.old; settings = desk.now.state.plan.settings }; history = desk.now.history }) }
+{
+    let stamp = press.stamp::<Desk, OfDesk>(desk).ok_or(AllocError)?;
+    let snapshot = Arc::new(alloc, desk.snapshot()?)?;
+    Ok(Shown::new(snapshot, stamp))
+}
+
+/// So many viewers, who read nothing yet, for whom there is room. `stamp` is the number of the empty history, which is
+/// shown.
+///
+/// # Errors
+///
+/// Where the readers' table gives no place.
+fn make_viewers<H: Wait + Drop>(
+    publisher: &mut Publisher<H>,
+    stamp: &Stamp,
+    mut viewers: Vec<Viewer>,
+    count: usize,
+) -> Result<Vec<Viewer>, AllocError>
+    requires stamp { (publisher.old ≡ stamp.now) × (stamp.now.history ≡ []) }
+    requires room { (viewers.items ≡ []) × (count ≤ vec_capacity viewers) }
+    ensures same { publisher.new ≡ publisher.old }
+    ensures viewers { IfOk result (λ v. v.items ≡ new_viewers stamp.now.origin count) }
+{
+    for _ in 0..count {
+        let reader = publisher.reader()?;
+        viewers.push_reserved(Viewer::new(reader, stamp));
+    }
+    Ok(viewers)
+}
