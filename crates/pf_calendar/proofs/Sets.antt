@@ -122,7 +122,7 @@ union_sized (suc n) s t e =
       union_sized n s (fin.remove t k.0) (omega (arith, len-remove_one t k.0 k.1, e)),
     )
 
-not_in_removed : (t : Keys) (k : Priority) → fin.contains (fin.remove t k) k ≡ true → ⊥
+pub not_in_removed : (t : Keys) (k : Priority) → fin.contains (fin.remove t k) k ≡ true → ⊥
 not_in_removed t k h =
     let e : false ≡ true = sym (contains-remove key_cmp_total t k k ∙ ap (λ b. not b && fin.contains t k) (key_alike k)) ∙ h in cc
 

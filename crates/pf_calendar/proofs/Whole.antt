@@ -170,6 +170,20 @@ popped {heaps' = heaps'} cal view key has is =
       },
     )
 
+-- ---- how many keys are held
+
+pub held_seen : {heaps : Heaps} {ready : ℕ} {es : List WaitingList} {unused : List ℕ} {held limit room unused_room : ℕ} {now : Queues} (n : ℕ) →
+    IsLaidOut heaps ready es unused held limit room unused_room → seen heaps ready es n ≡ now → key_count now ≡ held
+held_seen n laid view = sym (ap key_count view) ∙ count_is laid n ∙ sym laid.held_is
+
+-- one fewer
+pub one_fewer : {heaps heaps' : Heaps} {ready : ℕ} {es es' : List WaitingList} {unused unused' : List ℕ} {held limit room unused_room room' unused_room' : ℕ} {old new : Queues} (n m : ℕ) →
+    IsLaidOut heaps ready es unused held limit room unused_room → seen heaps ready es n ≡ old → 1 ≤ held →
+    IsLaidOut heaps' ready es' unused' (held - 1) limit room' unused_room' → seen heaps' ready es' m ≡ new → key_count new + 1 ≡ key_count old
+one_fewer {held = held} n m laid view some laid' view' =
+    let back : (held - 1) + 1 ≡ held = omega (arith, some) in
+    ap (λ k. k + 1) (held_seen m laid' view') ∙ back ∙ sym (held_seen n laid view)
+
 -- ---- a calendar that holds nothing
 
 pub new_calendar : (heaps : Heaps) (ready : ℕ) (es : List WaitingList) (unused : List ℕ) (room unused_room : ℕ) → heaps.lists ≡ fin.empty ∷ [] → ready ≡ 0 → es ≡ [] → unused ≡ [] →

@@ -1,9 +1,10 @@
-ghost use Rattle.std.specs.Prelude.{◌≡◌, ◌≢◌, ℕ, ◌+◌, ◌-◌, ◌*◌, ◌<◌, ◌≤◌, ◌^◌, length, max, All, IsTrue, IfOk, OnOk, OnErr, MatchOption, vec_len};
+ghost use Rattle.std.specs.Prelude.{◌≡◌, ◌≢◌, ℕ, ◌+◌, ◌-◌, ◌*◌, ◌<◌, ◌≤◌, ◌^◌, length, max, All, IsTrue, IfOk, IfSome, OnOk, OnErr, MatchOption, vec_len};
 ghost use Rattle.std.specs.Vec.{vec_capacity};
 ghost use Rattle.std.specs.Ordering.{nat_cmp};
 ghost use Rattle.std.specs.FinSet as set;
 ghost use Rattle.std.specs.FinMap as map;
 ghost use Rattle.pf_order.specs.Counts.{Compares};
+ghost use Rattle.pf_weight.specs.declared.task.TheConstants.{LARGEST_TASK};
 ghost use Rattle.pf_heap.specs.Keys.{IsFirst};
 ghost use Rattle.pf_heap.specs.Digits.{digits};
 ghost use Rattle.pf_calendar.specs.Queues.{list_at, until, later, due, key_count, IsQueued, TakesOut, EachTaskOnce, NoneEmpty};
@@ -116,7 +117,7 @@ impl Calendar {
     ///
     /// Where memory is refused: all is as before.
     pub fn reserve_task(&mut self, task: u32) -> Result<(), AllocError>
-        requires { task ≤ 4095 }
+        requires { task ≤ LARGEST_TASK }
         ensures ok { OnOk result (self.new ≡ record self.old { tasks = max self.old.tasks (task + 1) }) }
         ensures err { OnErr result (self.new ≡ self.old) }
     {
@@ -134,6 +135,7 @@ impl Calendar {
           waiting = map.insert self.old.waiting slot (set.insert (list_at self.old.waiting slot) key);
           spare = self.old.spare - 1;
         } }
+        ensures counted { key_count self.new ≡ key_count self.old + 1 }
         ensures some { NoneEmpty self.new.waiting }
         ensures comparisons { Compares (digits (key_count self.old + 1)) meter.old meter.new }
     {
@@ -151,6 +153,8 @@ impl Calendar {
           ready = set.union self.old.ready (due t self.old.waiting);
           waiting = later t self.old.waiting;
         } }
+        ensures counted { key_count self.new ≡ key_count self.old }
+        ensures once { EachTaskOnce self.new }
         ensures some { NoneEmpty self.new.waiting }
         ensures comparisons { Compares (map.len (until t self.old.waiting) * digits (key_count self.old)) meter.old meter.new }
     {
@@ -170,6 +174,7 @@ impl Calendar {
         ensures popped { MatchOption result ((self.old.ready ≡ set.empty) × (self.new ≡ self.old))
             (λ k. IsFirst self.old.ready k
             × (self.new ≡ record self.old { ready = set.remove self.old.ready k; spare = self.old.spare + 1 })) }
+        ensures counted { IfSome result (λ k. key_count self.new + 1 ≡ key_count self.old) }
         ensures once { EachTaskOnce self.old }
         ensures some { NoneEmpty self.new.waiting }
         ensures comparisons { Compares (2 * digits (key_count self.old)) meter.old meter.new }
@@ -183,6 +188,7 @@ impl Calendar {
     pub fn take_out(&mut self, meter: &mut Meter, task: u32) -> Option<Key>
         ensures taken { MatchOption result ((¬ IsQueued self.old task) × (self.new ≡ self.old))
             (λ k. (k.task ≡ task) × TakesOut self.old self.new k) }
+        ensures counted { IfSome result (λ k. key_count self.new + 1 ≡ key_count self.old) }
         ensures once { EachTaskOnce self.old }
         ensures some { NoneEmpty self.new.waiting }
         ensures comparisons { Compares (2 * digits (key_count self.old)) meter.old meter.new }

@@ -1,7 +1,8 @@
 -- What a slot asks of its memory and of the choice.
-use Rattle.std.proofs.Common.{◌≡◌, ℕ, ◌+◌, ◌<◌, ◌≤◌, true, not, ◌==◌, get_or, Option, Some, None, List, [], ◌∷◌, length, sym, ap, ◌∙◌, subst, arith}
+use Rattle.std.proofs.Common.{◌≡◌, ℕ, ◌+◌, ◌<◌, ◌≤◌, true, not, ◌==◌, get_or, Option, Some, None, All, List, [], ◌∷◌, length, sym, ap, ◌∙◌, subst, arith}
 use Rattle.std.proofs.lemmas.Bool.{eqb-true}
 use Rattle.std.proofs.lemmas.List.{length_push, length-map}
+use Rattle.std.proofs.lemmas.List.Elements.{All-map}
 use Rattle.std.proofs.lemmas.List.Sums.{length-filter, count_by-le-length}
 use Rattle.pf_weight.specs.declared.task.TheConstants.{LARGEST_TASK}
 use Rattle.pf_scenario.specs.System.{System}
@@ -12,12 +13,16 @@ use Rattle.pf_scenario.specs.declared.event.Event.TheVariants.{Join, Leave, Dela
 use Rattle.pf_scenario.specs.declared.event.Numbered.{Numbered}
 use Rattle.pf_admit.specs.declared.denial.Denial.{Denial}
 use Rattle.pf_run.specs.Computed.{after_events}
-use Rattle.pf_engine.specs.Fits.{KeptTask, Kept, kept_after}
+use Rattle.pf_engine.specs.Fits.{KeptTask, Kept, kept_task, kept_after}
 use Rattle.pf_engine.specs.Kept.{changed_task, member_after_delay, new_task, denial_at, kept_with_event, kept_after_verdict, kept_after_event, kept_after_events, ready_keys}
-use Rattle.pf_engine.specs.Choice.{OneOfEach}
 use Rattle.pf_engine.specs.Points.{IsAt}
 use Rattle.pf_engine.specs.Roll.{AllJoinBelow}
+use Rattle.pf_run.specs.Record.{Slot}
+use Rattle.pf_run.specs.Inside.{inside, member_of, ready}
 use Rattle.pf_run.proofs.Keys.{ready_count}
+use Rattle.pf_run.proofs.Firsts.{TasksDiffer}
+use Rattle.pf_run.proofs.Within.{done_within}
+use Rattle.pf_engine.proofs.Chosen.{keys_differ}
 use Rattle.pf_run.proofs.Limits.{join_task}
 use Rattle.pf_engine.proofs.Events.{kept_taken}
 use Rattle.pf_engine.proofs.Ready.{ready_same}
@@ -47,18 +52,35 @@ unless_denied_few : (o : Option Denial) (e after : Kept) → length after.tasks 
 unless_denied_few None e after few = few
 unless_denied_few (Some denial) e after few = omega arith
 
+pub event_few : (e : Kept) (event : Event) → length (kept_after_event e event).tasks ≤ length e.tasks + 1
+event_few e event = unless_denied_few (denial_at e event) e (kept_with_event e event) (with_event_few e event)
+
 pub events_few : (e : Kept) (xs : List Numbered) → length (kept_after_events e xs).tasks ≤ length e.tasks + length xs
 events_few e [] = omega arith
 events_few e (x ∷ xs) =
-    omega (arith, events_few (kept_after_event e x.event) xs, unless_denied_few (denial_at e x.event) e (kept_with_event e x.event) (with_event_few e x.event))
+    omega (arith, events_few (kept_after_event e x.event) xs, event_few e x.event)
 
--- no two keys are of one task
-pub one_key_each : (e : Kept) (events : List Numbered) → IsAt e events → OneOfEach (ready_keys e)
-one_key_each e events at =
+-- no two keys of eligible subtasks are of one task
+pub ready_differ : (e : Kept) (events : List Numbered) → IsAt e events → TasksDiffer (ready_keys e)
+ready_differ e events at =
     let s = at.settings in
-    subst (λ k. OneOfEach (ready_keys k)) (sym at.keeps)
-    (subst OneOfEach (sym (ready_same s at.run at.standing))
-    (λ task. omega (arith, ready_count s.base at.run at.standing task, at.follow.once task)))
+    subst (λ k. TasksDiffer (ready_keys k)) (sym at.keeps)
+    (subst TasksDiffer (sym (ready_same s at.run at.standing))
+    (keys_differ (ready s.base at.run at.standing) (λ task. omega (arith, ready_count s.base at.run at.standing task, at.follow.once task))))
+
+-- no task ran more often than slots were taken
+done_after : (s : System) (r : List Slot) (xs : List Numbered) → All (λ k. k.member.done ≤ length r) (kept_after s r xs).tasks
+unfolding kept_after member_of
+done_after s r xs =
+    All-map (λ (k : KeptTask). k.member.done ≤ length r) (kept_task r xs) (inside s.base xs) (λ k d within. done_within r (get_or (inside s.base xs) k d).task)
+
+done_in_slots : (s : System) (r : List Slot) (xs : List Numbered) → All (λ k. k.member.done ≤ (kept_after s r xs).now) (kept_after s r xs).tasks
+unfolding kept_after done_after
+done_in_slots s r xs = done_after s r xs
+
+pub done_at : (e : Kept) (events : List Numbered) → IsAt e events → All (λ k. k.member.done ≤ e.now) e.tasks
+done_at e events at =
+    subst (λ k. All (λ (x : KeptTask). x.member.done ≤ k.now) k.tasks) (sym at.keeps) (done_in_slots at.settings at.run at.standing)
 
 -- after all events
 pub at_end : (e e' : Kept) (ys : List Numbered) → e' ≡ kept_after_events e ys → IsAt e ys → IsAt e' []

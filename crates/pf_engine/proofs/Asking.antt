@@ -15,7 +15,7 @@ member_cond : (b : Bool) (k : KeptTask) (o : Option KeptTask) (m : Member) → I
 member_cond true k o m first rest e = let same : k.member ≡ m = cc in subst IsMember same first.member
 member_cond false k o m first rest e = rest e
 
-member_among : (tasks : List KeptTask) (task : ℕ) (m : Member) → All IsInside tasks → member_in tasks task ≡ Some m → IsMember m
+pub member_among : (tasks : List KeptTask) (task : ℕ) (m : Member) → All IsInside tasks → member_in tasks task ≡ Some m → IsMember m
 member_among [] task m all e = cc
 member_among (k ∷ ks) task m all e =
     member_cond (k.task == task) k (find (λ q. q.task == task) ks) m (All-head IsInside k ks all)

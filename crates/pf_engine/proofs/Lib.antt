@@ -5,7 +5,15 @@ pub mod Ready
 pub mod Fitting
 pub mod Bounding
 pub mod Places
-pub mod Choosing
+pub mod Held
+pub mod NextKeys
+pub mod Chosen
+pub mod Agendas
+pub mod Costs
+pub mod Allowed
+pub mod Running
+pub mod Due
+pub mod Slot
 pub mod Asking
 pub mod Turns
 pub mod Advancing

@@ -219,3 +219,17 @@ listed_more places tasks place x is at read =
 
 pub all_listed : (places : Grown ℕ) (tasks : List KeptTask) (n : ℕ) → length tasks ≤ n → IsListedTo n places tasks → IsListed places tasks
 all_listed places tasks n past is = record { few = is.few; numbers = is.numbers; listed = λ k d within. is.listed k d within (omega arith) }
+
+-- the member of a number, once its task is changed
+pub member_edited : (tasks : List KeptTask) (task place : ℕ) (x y : KeptTask) (f : Member → Member) → IsOnlyAt task tasks place →
+    x ≡ get_or tasks place x → y ≡ record { task = x.task; member = f x.member } → Some y.member ≡ member_in (set tasks place y) task
+member_edited tasks task place x y f is read new =
+    let number : y.task ≡ task = ap (λ (k : KeptTask). k.task) (new ∙ refl) ∙ ap (λ (k : KeptTask). k.task) read ∙ is.here x in
+    member_at_place (set tasks place y) task place y
+    (record {
+      within = omega (arith, is.within, length-set tasks place y);
+      here = λ e. ap (λ (k : KeptTask). k.task) (get_or-set_same tasks place y e is.within) ∙ number;
+      alone = λ k e within other same. is.alone k e (omega (arith, length-set tasks place y)) other
+          (ap (λ (q : KeptTask). q.task) (sym (get_or-set_other tasks place k y e other)) ∙ same);
+    })
+    (sym (get_or-set_same tasks place y y is.within))

@@ -1,26 +1,19 @@
 -- One turn of an engine's loops.
-use Rattle.std.proofs.Common.{◌≡◌, ℕ, Bool, ◌+◌, ◌<◌, ◌≤◌, false, nat_le, cond, Option, Some, None, Result, Ok, Err, List, [], ◌∷◌, ◌++◌, length, take, drop, filter_map, get_or, slice_get, sym, ap, ap₂, ◌∙◌, subst, arith, append_assoc, append-nil}
-use Rattle.std.specs.List.{cons_option}
+use Rattle.std.proofs.Common.{◌≡◌, ℕ, Bool, ◌+◌, ◌<◌, cond, Option, Result, Ok, Err, List, [], ◌∷◌, ◌++◌, length, drop, get_or, sym, ap, ap₂, ◌∙◌, subst, arith, append_assoc, append-nil}
 use Rattle.std.specs.Result.{result_err}
-use Rattle.std.proofs.lemmas.Bool.{le-leb}
-use Rattle.std.proofs.lemmas.Bool.Decides.{nat_tests}
-use Rattle.std.proofs.lemmas.List.{take_more, drop_more}
-use Rattle.std.proofs.lemmas.List.Elements.{All-head, filter_map-append}
-use Rattle.std.proofs.lemmas.Option.{get_or_from_slice_get}
-use Rattle.pf_order.specs.Priority.{Priority}
+use Rattle.std.proofs.lemmas.List.{drop_more}
+use Rattle.std.proofs.lemmas.List.Elements.{All-head}
 use Rattle.pf_scenario.specs.System.{System}
 use Rattle.pf_scenario.specs.Event.{is_join_of}
 use Rattle.pf_scenario.specs.Edit.{IsEvent}
 use Rattle.pf_scenario.specs.declared.scenario.TheConstants.{MOST_EVENTS}
 use Rattle.pf_scenario.specs.declared.event.Numbered.{Numbered}
-use Rattle.pf_admit.specs.declared.member.Member.{Member}
 use Rattle.pf_admit.specs.declared.denial.Denial.{Denial}
 use Rattle.pf_run.specs.declared.denied.Denied.{Denied}
 use Rattle.pf_run.specs.Record.{Slot}
-use Rattle.pf_run.specs.Inside.{eligible_from, next_key, ready_key}
 use Rattle.pf_run.specs.Denials.{denial_of, denied_for}
 use Rattle.pf_run.specs.Computed.{with_event}
-use Rattle.pf_engine.specs.Fits.{KeptTask, Kept, kept_after}
+use Rattle.pf_engine.specs.Fits.{Kept, kept_after}
 use Rattle.pf_engine.specs.Kept.{denial_at, kept_after_event, kept_after_events, denials_of_slot}
 use Rattle.pf_engine.specs.Engines.{IsEngine}
 use Rattle.pf_engine.specs.Points.{CanFollow, IsAt}
@@ -53,9 +46,10 @@ passed b = cond b 1 0
 
 -- the first of the events can be taken
 first_of_kept : (s : System) (r : List Slot) (standing : List Numbered) (x : Numbered) (xs : List Numbered) → CanFollow s r standing (x ∷ xs) →
-    IsEngine (kept_after s r standing) → length (kept_after s r standing).tasks < MOST_EVENTS → CanTakeEvent (kept_after s r standing) x.event
+    IsEngine (kept_after s r standing) → length (kept_after s r standing).tasks < MOST_EVENTS → IsEngine (kept_after_event (kept_after s r standing) x.event) →
+    CanTakeEvent (kept_after s r standing) x.event
 unfolding kept_after
-first_of_kept s r standing x xs can engine few = record {
+first_of_kept s r standing x xs can engine few next = record {
   engine = engine;
   limits = All-head (λ y. IsEvent s y.event) x xs can.limits_of_events;
   absent = λ task joins.
@@ -63,13 +57,15 @@ first_of_kept s r standing x xs can engine few = record {
       member_same s.base r standing task
       ∙ no_member s.base r standing task (omega (arith, can.once task, count_by-cons (λ y. is_join_of task y.event) x xs, one));
   few = few;
+  next = next;
 }
 
 first_of : (e : Kept) (x : Numbered) (xs : List Numbered) → IsAt e (x ∷ xs) → CanTakeEvent e x.event
 first_of e x xs at =
     subst (λ k. CanTakeEvent k x.event) (sym at.keeps)
     (first_of_kept at.settings at.run at.standing x xs at.follow (subst IsEngine at.keeps (engine_at e (x ∷ xs) at))
-    (subst (λ k. length k.tasks < MOST_EVENTS) at.keeps (omega (arith, few_at e (x ∷ xs) at))))
+    (subst (λ k. length k.tasks < MOST_EVENTS) at.keeps (omega (arith, few_at e (x ∷ xs) at)))
+    (subst (λ k. IsEngine (kept_after_event k x.event)) at.keeps (engine_at (kept_after_event e x.event) xs (at_more e x xs at))))
 
 -- the events behind the first i, and those behind one more
 pub events_more : (e e' : Kept) (events : List Numbered) (i : ℕ) (d : Numbered) → i < length events →
@@ -112,34 +108,3 @@ pub given_none : (x : Numbered) (now : ℕ) (o : Option Denial) (result : Result
     result_err result ≡ o → (y : Unit {0}) → result ≡ Ok y → given ≡ given ++ denied_for x now o
 given_none x now o result given err y is =
     sym (append-nil given) ∙ ap (λ q. given ++ denied_for x now q) (ap result_err (sym is) ∙ err)
-
--- one key more is ready
-pub keys_more : (slots : ℕ) (tasks : List KeptTask) (i : ℕ) (task : ℕ) (m : Member) (old keys keys' : List Priority) → i < length tasks →
-    slice_get tasks i ≡ Some (record { task = task; member = m }) →
-    keys ≡ old ++ filter_map (λ k. ready_key slots k.task k.member) (take i tasks) →
-    keys' ≡ keys ++ cons_option (ready_key slots task m) [] →
-    keys' ≡ old ++ filter_map (λ k. ready_key slots k.task k.member) (take (i + 1) tasks)
-keys_more slots tasks i task m old keys keys' within at so_far more =
-    let k : KeptTask = record { task = task; member = m } in
-    let h : KeptTask → Option Priority = λ q. ready_key slots q.task q.member in
-    more
-    ∙ ap (λ ks. ks ++ cons_option (ready_key slots task m) []) so_far
-    ∙ append_assoc old (filter_map h (take i tasks)) (cons_option (ready_key slots task m) [])
-    ∙ ap (λ ks. old ++ ks)
-    (sym (filter_map-append h (take i tasks) (k ∷ []))
-    ∙ ap (filter_map h) (ap (λ q. take i tasks ++ q ∷ []) (sym (get_or_from_slice_get tasks i k k at)) ∙ sym (take_more tasks i k within)))
-
-pub key_ready : (slots task : ℕ) (m : Member) (key : Priority) (keys : List Priority) → eligible_from m ≤ slots → key ≡ next_key task m →
-    keys ++ key ∷ [] ≡ keys ++ cons_option (ready_key slots task m) []
-key_ready slots task m key keys eligible is =
-    ap (λ k. keys ++ k ∷ []) is
-    ∙ ap (λ b. keys ++ cons_option (cond b (Some (next_key task m)) None) []) (sym (le-leb (eligible_from m) slots eligible))
-
-not_yet : (a b : ℕ) → b < a → nat_le a b ≡ false
-not_yet a b late = grind (arith, nat_tests)
-
-pub key_waits : (slots task : ℕ) (m : Member) (keys : List Priority) → slots < eligible_from m →
-    keys ≡ keys ++ cons_option (ready_key slots task m) []
-key_waits slots task m keys late =
-    sym (append-nil keys)
-    ∙ ap (λ b. keys ++ cons_option (cond b (Some (next_key task m)) None) []) (sym (not_yet (eligible_from m) slots late))

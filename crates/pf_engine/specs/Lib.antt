@@ -8,6 +8,6 @@ pub mod Points
 pub mod Taking
 pub mod Roll
 pub mod Places
-pub mod Choice
+pub mod Agenda
 pub mod Keeping
 pub mod Rooms

@@ -2,11 +2,11 @@
 use Rattle.std.specs.Prelude.{◌≡◌, ℕ, ◌≤◌, [], vec_capacity}
 use Rattle.pf_engine.specs.declared.room.Room.{Room}
 
--- empty lists with room for this many denials, keys and picks
-pub record HasSlotRoom (denials keys picks : ℕ) (room : Room) : Type 0 where
+-- empty lists with room for this many denials, and for the keys of this many picks
+pub record HasSlotRoom (denials picks : ℕ) (room : Room) : Type 0 where
   pub no_denials : room.denials.items ≡ []
   pub no_keys : room.keys.items ≡ []
   pub no_picks : room.picks.items ≡ []
   pub denials_fit : denials ≤ vec_capacity room.denials
-  pub keys_fit : keys ≤ vec_capacity room.keys
+  pub keys_fit : picks ≤ vec_capacity room.keys
   pub picks_fit : picks ≤ vec_capacity room.picks

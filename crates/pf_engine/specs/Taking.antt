@@ -1,5 +1,5 @@
 -- What a slot asks of an engine, and what it makes of it, from what it keeps alone.
-use Rattle.std.specs.Prelude.{◌≡◌, ℕ, ◌<◌, true, None, List, length, map}
+use Rattle.std.specs.Prelude.{◌≡◌, ◌≢◌, ℕ, ◌<◌, ◌≤◌, true, None, List, length, map, All, AllPairs, Contains}
 use Rattle.pf_order.specs.Priority.{Priority}
 use Rattle.pf_order.specs.First.{AreFirst}
 use Rattle.pf_scenario.specs.Event.{is_join_of}
@@ -7,17 +7,20 @@ use Rattle.pf_scenario.specs.Edit.{IsEvent}
 use Rattle.pf_scenario.specs.declared.scenario.TheConstants.{MOST_EVENTS}
 use Rattle.pf_scenario.specs.declared.event.Event.{Event}
 use Rattle.pf_scenario.specs.declared.event.Numbered.{Numbered}
+use Rattle.pf_run.specs.Inside.{next_key}
 use Rattle.pf_run.specs.Run.{pick_of_key}
-use Rattle.pf_engine.specs.Fits.{Kept, Taken}
-use Rattle.pf_engine.specs.Kept.{member_in, kept_after_events, denials_of_slot, ready_keys, kept_after_picks}
+use Rattle.pf_engine.specs.Fits.{KeptTask, Kept, Taken}
+use Rattle.pf_engine.specs.Kept.{member_in, kept_after_event, kept_after_events, denials_of_slot, ready_keys, kept_after_picks}
 use Rattle.pf_engine.specs.Engines.{IsEngine}
 
--- this event can be taken: it is within its limits, a task that it joins isn't inside, and one more task finds a place
+-- this event can be taken: it is within its limits, a task that it joins isn't inside, one more task finds a place, and
+-- what is kept afterwards is within its limits, too
 pub record CanTakeEvent (e : Kept) (event : Event) : Type 0 where
   pub engine : IsEngine e
   pub limits : IsEvent e.settings event
   pub absent : (task : ℕ) → is_join_of task event ≡ true → member_in e.tasks task ≡ None
   pub few : length e.tasks < MOST_EVENTS
+  pub next : IsEngine (kept_after_event e event)
 
 -- what a slot of these events gives, and what is kept after it
 pub record Advances (e : Kept) (events : List Numbered) (taken : Taken) (e' : Kept) : Type 0 where
@@ -27,3 +30,10 @@ pub record Advances (e : Kept) (events : List Numbered) (taken : Taken) (e' : Ke
   pub denials : taken.slot.denials ≡ denials_of_slot e events
   pub count : taken.count ≡ (kept_after_events e events).count
   pub after : e' ≡ kept_after_picks (kept_after_events e events) (map pick_of_key chosen)
+
+-- these keys can be run: of different tasks inside, each the next one of its task, in a slot in which a scenario has one
+pub record CanRun (e : Kept) (keys : List Priority) : Type 0 where
+  pub engine : IsEngine e
+  pub done : All (λ k. k.member.done ≤ e.now) e.tasks
+  pub next : (q : Priority) → Contains keys q → (k : KeptTask) × Contains e.tasks k × (q ≡ next_key k.task k.member)
+  pub differ : AllPairs (λ x y. x.task ≢ y.task) keys

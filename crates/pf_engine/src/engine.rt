@@ -1,6 +1,7 @@
-ghost use Rattle.std.specs.Prelude.{◌≡◌, ◌+◌, ◌≤◌, List, [], length, IfOk, OnOk, OnErr};
+ghost use Rattle.std.specs.Prelude.{◌≡◌, ◌+◌, ◌*◌, ◌≤◌, List, [], length, IfOk, OnOk, OnErr};
 ghost use Rattle.pf_order.specs.Counts.{one_more};
 ghost use Rattle.pf_order.specs.Counted.{CountsAtMost};
+ghost use Rattle.pf_heap.specs.Digits.{digits};
 ghost use Rattle.pf_scenario.specs.Scenario.{Plan, events_of};
 ghost use Rattle.pf_scenario.specs.Edit.{IsScenario};
 ghost use Rattle.pf_run.specs.Record.{Slot};
@@ -17,9 +18,15 @@ use std::marker::Model;
 
 /// What goes on from slot to slot: the tasks inside and what is known of them, so that no past slot is looked at
 /// again. It fits a scenario and a run of it where what it keeps is what they give.
-#[derive(Drop)]
 pub struct Engine {
     state: State,
+}
+
+// A call of its own, so that who drops an engine sees none of its parts.
+impl Drop for Engine {
+    fn drop(self) {
+        let Engine { state: _ } = self;
+    }
 }
 
 impl Model for Engine {
@@ -28,11 +35,13 @@ impl Model for Engine {
     ghost Value = { Kept };
 
     ghost use Rattle.pf_engine.specs.Keeping.{kept_of};
+    ghost use Rattle.std.specs.Prelude.{[]};
+    ghost use Rattle.pf_engine.specs.Agenda.{IsAgenda};
     ghost use Rattle.pf_engine.specs.Engines.{IsEngine};
 
     ghost view = { λ e. kept_of e.state };
 
-    ghost invariant = { λ e. IsEngine (kept_of e.state) };
+    ghost invariant = { λ e. IsEngine (kept_of e.state) × IsAgenda e.state.calendar e.state.slots e.state.tasks.tasks [] };
 }
 
 impl Engine {
@@ -46,7 +55,7 @@ impl Engine {
         ensures fits { IfOk result (λ e. (s : Plan) → s.settings ≡ settings → Fits s [] e) }
     {
         Ok(Engine {
-            state: State::new(alloc, settings),
+            state: State::new(alloc, settings)?,
         })
     }
 
@@ -77,7 +86,8 @@ impl Engine {
         })
     }
 
-    /// Takes the slot `now()` and counts one slot: of each scenario and run that the engine fits, the outcome is the
+    /// Takes the slot `now()` and counts one slot, and for c processors in use, n tasks inside before, and g events at most
+    /// (4c + 2 + 4g) times as many comparisons as n + g has binary digits: of each scenario and run that the engine fits, the outcome is the
     /// next slot, and the engine then fits the longer run.
     ///
     /// The events must be all those of that slot in a scenario that the engine fits, in run order, and the slot must be
@@ -93,6 +103,8 @@ impl Engine {
         ensures err { OnErr result (self.new ≡ self.old) }
         ensures counted { OnOk result (meter.new.slots ≡ one_more meter.old.slots) }
         ensures compared { meter.old.compared ≤ meter.new.compared }
+        ensures comparisons { IfOk result (λ o. meter.new.compared
+            ≤ meter.old.compared + (4 * o.count + 2 + 4 * length events.now) * digits (length self.old.tasks + length events.now)) }
         ensures at_most { CountsAtMost 1 meter.old meter.new }
         ensures not_counted { OnErr result (meter.new ≡ meter.old) }
     {

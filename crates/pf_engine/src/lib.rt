@@ -2,7 +2,7 @@
 //! run, and then fits the longer run.
 #![tactic(auto)]
 
-mod choice;
+mod agenda;
 pub mod engine;
 mod kept_task;
 pub mod outcome;

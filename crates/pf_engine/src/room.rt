@@ -10,7 +10,7 @@ use std::alloc::{AllocError, Global};
 pub(crate) struct Room {
     /// For the slot's denials.
     pub(crate) denials: Vec<Denied>,
-    /// For the keys of the subtasks that may run.
+    /// For the keys of the subtasks that run.
     pub(crate) keys: Vec<Key>,
     /// For the subtasks that run.
     pub(crate) picks: Vec<Pick>,
@@ -19,22 +19,17 @@ pub(crate) struct Room {
 impl Room {
     ghost use Rattle.pf_engine.specs.Rooms.{HasSlotRoom};
 
-    /// Room for this many denials, keys and picks.
+    /// Room for this many denials, and for the keys of this many picks.
     ///
     /// # Errors
     ///
     /// Where memory is refused.
-    pub(crate) fn new(
-        alloc: Global,
-        denials: usize,
-        keys: usize,
-        picks: usize,
-    ) -> Result<Self, AllocError>
-        ensures { IfOk result (HasSlotRoom denials keys picks) }
+    pub(crate) fn new(alloc: Global, denials: usize, picks: usize) -> Result<Self, AllocError>
+        ensures { IfOk result (HasSlotRoom denials picks) }
     {
         Ok(Room {
             denials: Vec::with_capacity(alloc, denials)?,
-            keys: Vec::with_capacity(alloc, keys)?,
+            keys: Vec::with_capacity(alloc, picks)?,
             picks: Vec::with_capacity(alloc, picks)?,
         })
     }

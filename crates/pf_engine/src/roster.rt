@@ -1,4 +1,4 @@
-ghost use Rattle.std.specs.Prelude.{◌≡◌, ◌+◌, ◌^◌, ◌<◌, ◌≤◌, ◌++◌, ◌∷◌, [], None, Some, OnOk, IfOk, MatchOption, length, slice_get};
+ghost use Rattle.std.specs.Prelude.{◌≡◌, ◌+◌, ◌^◌, ◌<◌, ◌≤◌, ◌++◌, ◌∷◌, [], None, Some, OnOk, IfOk, MatchOption, length};
 ghost use Rattle.std.specs.Option.{option_copied, ForSome};
 ghost use Rattle.pf_weight.specs.declared.task.TheConstants.{LARGEST_TASK};
 ghost use Rattle.pf_scenario.specs.declared.scenario.TheConstants.{MOST_EVENTS};
@@ -94,21 +94,6 @@ impl Roster {
         Ok(())
     }
 
-    /// How many tasks are inside.
-    pub(crate) fn len(&self) -> usize
-        ensures { result ≡ length self.now.tasks }
-    {
-        self.tasks.len()
-    }
-
-    /// The task at this place, counted from 0.
-    pub(crate) fn at(&self, place: usize) -> KeptTask
-        requires { place < length self.now.tasks }
-        ensures { slice_get self.now.tasks place ≡ Some result }
-    {
-        self.tasks[place]
-    }
-
     /// The member of this number.
     pub(crate) fn get(&self, task: u64) -> Option<&Member>
         requires { task ≤ LARGEST_TASK }
@@ -134,34 +119,38 @@ impl Roster {
         self.tasks.push_reserved(KeptTask { task, member });
     }
 
-    /// Holds back the task's next subtask by this many slots.
-    pub(crate) fn delay(&mut self, task: u64, by: u64)
+    /// Holds back the task's next subtask by this many slots, and answers the member as it is then.
+    pub(crate) fn delay(&mut self, task: u64, by: u64) -> Option<Member>
         requires number { task ≤ LARGEST_TASK }
         requires fits { ForSome (member_in self.old.tasks task) (λ m. m.shift + by < 2 ^ 64) }
         ensures tasks { self.new.tasks ≡ changed_tasks task (member_after_delay by) self.old.tasks }
+        ensures member { result ≡ member_in self.new.tasks task }
         ensures spare { self.new.spare ≡ self.old.spare }
         ensures numbers { self.new.numbers ≡ self.old.numbers }
     {
         let Some(place) = self.place_of(task) else {
-            return;
+            return None;
         };
         let kept = &mut self.tasks[place];
         kept.member.shift += by;
+        Some(kept.member)
     }
 
-    /// Notes that this subtask of the task ran.
-    pub(crate) fn run(&mut self, task: u64, sub: u64)
+    /// Notes that this subtask of the task ran, and answers the member as it is then.
+    pub(crate) fn run(&mut self, task: u64, sub: u64) -> Option<Member>
         requires { task ≤ LARGEST_TASK }
         ensures tasks { self.new.tasks ≡ changed_tasks task (member_after_run sub) self.old.tasks }
+        ensures member { result ≡ member_in self.new.tasks task }
         ensures spare { self.new.spare ≡ self.old.spare }
         ensures numbers { self.new.numbers ≡ self.old.numbers }
     {
         let Some(place) = self.place_of(task) else {
-            return;
+            return None;
         };
         let kept = &mut self.tasks[place];
         kept.member.done = sub;
         kept.member.last = kept.member.shift;
+        Some(kept.member)
     }
 
     /// Takes the task out.

@@ -17,6 +17,7 @@ use Rattle.pf_scenario.specs.declared.event.Numbered.{Numbered}
 use Rattle.pf_scenario.specs.declared.fault.EditFault.{EditFault}
 use Rattle.pf_scenario.proofs.Scenarios.{unless_none}
 use Rattle.pf_scenario.specs.declared.fault.EditFault.TheVariants.{SlotOutOfRange, TaskOutOfRange, EarlyOutOfRange, DelayOutOfRange, CountOutOfRange, BadWeight, JoinTwice, LeaveTwice}
+use Rattle.pf_scenario.specs.declared.limits.TheConstants.{LONGEST_DELAY}
 
 within_from : (most n : ℕ) → is_within most n ≡ true → (1 ≤ n) × (n ≤ most)
 within_from most n e =
@@ -77,8 +78,8 @@ leave_task s slot task limits = within_from LARGEST_TASK task (passes_tests s (L
 pub delay_task : (s : System) (slot task by : ℕ) → IsEvent s (Delay slot task by) → (1 ≤ task) × (task ≤ LARGEST_TASK)
 delay_task s slot task by limits = within_from LARGEST_TASK task (passes_tests s (Delay slot task by) limits).task
 
-pub delay_by : (s : System) (slot task by : ℕ) → IsEvent s (Delay slot task by) → by ≤ 2 ^ 20
-delay_by s slot task by limits = (within_from (2 ^ 20) by (passes_tests s (Delay slot task by) limits).delay).1
+pub delay_by : (s : System) (slot task by : ℕ) → IsEvent s (Delay slot task by) → by ≤ LONGEST_DELAY
+delay_by s slot task by limits = (within_from LONGEST_DELAY by (passes_tests s (Delay slot task by) limits).delay).1
 
 pub limit_count : (s : System) (slot count : ℕ) → IsEvent s (Limit slot count) → count ≤ s.processors
 limit_count s slot count limits = (within_from s.processors count (passes_tests s (Limit slot count) limits).count).1

@@ -12,6 +12,7 @@ use Rattle.pf_scenario.specs.Edit.{IsScenario, IsEvent}
 use Rattle.pf_scenario.specs.declared.event.Event.{Event}
 use Rattle.pf_scenario.specs.declared.event.Event.TheVariants.{Join, Leave, Delay, Limit}
 use Rattle.pf_scenario.specs.declared.event.Numbered.{Numbered}
+use Rattle.pf_scenario.specs.declared.limits.TheConstants.{LONGEST_DELAY}
 use Rattle.pf_run.specs.declared.denied.Denied.{Denied}
 use Rattle.pf_run.specs.Record.{Slot, runs, done, is_denied, in_force}
 use Rattle.pf_run.specs.Inside.{Joined, joined_by, join_of, has_left, inside, load_of, count_after, count_of, hold_back_of, shift_of}
@@ -83,26 +84,26 @@ load_within s xs is limits =
     )
 
 -- the shifts
-pub held_cond : (b : Bool) (by : ℕ) → by ≤ 2 ^ 20 → cond b by 0 ≤ 2 ^ 20
+pub held_cond : (b : Bool) (by : ℕ) → by ≤ LONGEST_DELAY → cond b by 0 ≤ LONGEST_DELAY
 held_cond true by most = most
 held_cond false by most = omega arith
 
-held_within : (s : System) (r : List Slot) (task i : ℕ) (event : Event) → IsEvent s event → hold_back_of r task i event ≤ 2 ^ 20
+held_within : (s : System) (r : List Slot) (task i : ℕ) (event : Event) → IsEvent s event → hold_back_of r task i event ≤ LONGEST_DELAY
 held_within s r task i (Delay slot task' by) limits = held_cond _ by (delay_by s slot task' by limits)
 held_within s r task i (Join slot task' cost period early) limits = omega arith
 held_within s r task i (Leave slot task') limits = omega arith
 held_within s r task i (Limit slot count) limits = omega arith
 
 pub shift_within : (s : System) (r : List Slot) (xs : List Numbered) (j : Joined) (i : ℕ) → IsSystem s →
-    All (λ x. IsEvent s x.event) xs → IsJoined s j → shift_of r xs j i ≤ WIDE_HORIZON + 2 ^ 20 * length xs
+    All (λ x. IsEvent s x.event) xs → IsJoined s j → shift_of r xs j i ≤ WIDE_HORIZON + LONGEST_DELAY * length xs
 unfolding shift_of
 shift_within s r xs j i is limits joined =
     omega (
       arith,
       joined.slot,
       horizon_within s is,
-      sum_by-le (λ (x : Numbered). hold_back_of r j.task i x.event) (2 ^ 20) xs
-          (All-weaker (λ x. IsEvent s x.event) (λ x. hold_back_of r j.task i x.event ≤ 2 ^ 20)
+      sum_by-le (λ (x : Numbered). hold_back_of r j.task i x.event) LONGEST_DELAY xs
+          (All-weaker (λ x. IsEvent s x.event) (λ x. hold_back_of r j.task i x.event ≤ LONGEST_DELAY)
           (λ x h. held_within s r j.task i x.event h) xs limits),
     )
 

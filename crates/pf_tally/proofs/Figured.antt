@@ -16,6 +16,7 @@ use Rattle.pf_scenario.specs.Scenario.{Plan}
 use Rattle.pf_scenario.specs.Edit.{IsScenario, join_alike}
 use Rattle.pf_scenario.specs.declared.event.Numbered.{Numbered}
 use Rattle.pf_scenario.proofs.Sorting.{sorted_keeps}
+use Rattle.pf_scenario.specs.declared.settings.TheConstants.{WIDE_HORIZON}
 use Rattle.pf_run.specs.Record.{Slot, runs, done}
 use Rattle.pf_run.specs.Inside.{Joined, join_of, shift_of}
 use Rattle.pf_run.specs.Run.{events_in_force}
@@ -51,7 +52,7 @@ can_fewer j held n m can fewer = record {
   number = can.number;
   share = can.share;
   joined = can.joined;
-  within = let most : n ≤ 2 ^ 22 = can.within in omega arith;
+  within = let most : n ≤ WIDE_HORIZON = can.within in omega arith;
   chain = can.chain;
   small = can.small;
 }
@@ -100,7 +101,7 @@ module _ (j : Joined) (ran : List ℕ) (xs : List Numbered) (n : ℕ) (can : Can
   held_is : held ≡ held_from (λ u. done r j.task u + 1) j j.slot xs
   held_is = of_held ∙ ap (λ next. held_from next j j.slot xs) (next_is r j ran of_ran)
 
-  released_is : (i : ℕ) → released_at j held i ≡ release_at r xs j i
+  pub released_is : (i : ℕ) → released_at j held i ≡ release_at r xs j i
   unfolding shift_of
   released_is i =
       ap (λ held. release_of j.weight i + (j.slot + sum_by (hold_of i) held)) held_is
@@ -109,7 +110,7 @@ module _ (j : Joined) (ran : List ℕ) (xs : List Numbered) (n : ℕ) (can : Can
   releases_are : released_at j held ≡ release_at r xs j
   releases_are = λ k i. released_is i k
 
-  lag_at : (t : ℕ) → j.slot ≤ t → lag_by j ran held t ≡ scaled_at r xs j t
+  pub lag_at : (t : ℕ) → j.slot ≤ t → lag_by j ran held t ≡ scaled_at r xs j t
   lag_at t joined =
       let clock = clock_is r j xs t can.share can.rise joined in
       let same : t - j.slot - stopped_below t j.weight held ≡ clock_of r xs j t = omega (arith, clock, ap (stopped_below t j.weight) held_is) in
@@ -165,7 +166,7 @@ joined_sorted base xs found js once is same up =
 
 -- a step over the tasks that joined, by number
 module _ (s : Plan) (n : ℕ) (ledger : Ledger) (known : IsLedger s n ledger) (tasks : List Joined) (of_tasks : tasks ≡ by_task (filter_map (join_of ledger.settings.base) ledger.events.items)) where
-  sorted_at : (k : ℕ) (j : Joined) → k < length tasks → j ≡ get_or tasks k j → Contains (filter_map (join_of ledger.settings.base) ledger.events.items) j
+  pub sorted_at : (k : ℕ) (j : Joined) → k < length tasks → j ≡ get_or tasks k j → Contains (filter_map (join_of ledger.settings.base) ledger.events.items) j
   sorted_at k j within is =
       let joined = filter_map (join_of ledger.settings.base) ledger.events.items in
       let P : Joined → Type 0 = Contains tasks in
@@ -177,13 +178,13 @@ module _ (s : Plan) (n : ℕ) (ledger : Ledger) (known : IsLedger s n ledger) (t
       diary ≡ noted_of ledger.diaries j.task → CanTally j ran diary ledger.now
   figures_can k j ran diary within is = task_can s n ledger known j (sorted_at k j within is) ran diary
 
-  pub figures_within : (k : ℕ) (j : Joined) (ran : List ℕ) → k < length tasks → j ≡ get_or tasks k j → ran ≡ noted_of ledger.quanta j.task → All (λ t. t < 2 ^ 22) ran
+  pub figures_within : (k : ℕ) (j : Joined) (ran : List ℕ) → k < length tasks → j ≡ get_or tasks k j → ran ≡ noted_of ledger.quanta j.task → All (λ t. t < WIDE_HORIZON) ran
   figures_within k j ran within is of_ran =
       let at = sorted_at k j within is in
-      let P : List ℕ → Type 0 = All (λ t. t < 2 ^ 22) in
+      let P : List ℕ → Type 0 = All (λ t. t < WIDE_HORIZON) in
       let can = task_can s n ledger known j at ran (events_of_task j.task ledger.events.items) of_ran (sym (known.diaries.each j.task)) in
-      let most : ledger.now ≤ 2 ^ 22 = can.within in
-      let short : length (run_of s n) ≤ 2 ^ 22 = omega (arith, known.slots, known.now) in
+      let most : ledger.now ≤ WIDE_HORIZON = can.within in
+      let short : length (run_of s n) ≤ WIDE_HORIZON = omega (arith, known.slots, known.now) in
       let all = slots_within (runs j.task) 0 (run_of s n) in
       subst P (sym (task_ran s n ledger known j at ran of_ran)) (λ k d within. let h : get_or (slots_of (run_of s n) j.task) k d < 0 + length (run_of s n) = all k d within in omega arith)
 

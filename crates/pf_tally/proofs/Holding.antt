@@ -7,6 +7,7 @@ use Rattle.std.proofs.lemmas.List.Sums.{sum_by-cons, sum_by_push, sum_by-le}
 use Rattle.pf_scenario.specs.declared.event.Event.{Event}
 use Rattle.pf_scenario.specs.declared.event.Event.TheVariants.{Join, Leave, Delay, Limit}
 use Rattle.pf_scenario.specs.declared.event.Numbered.{Numbered}
+use Rattle.pf_scenario.specs.declared.limits.TheConstants.{LONGEST_DELAY}
 use Rattle.pf_run.specs.Record.{Slot}
 use Rattle.pf_run.specs.Inside.{Joined}
 use Rattle.pf_tally.specs.Clock.{next_at}
@@ -100,8 +101,8 @@ all_held next j xs held shift k over are = are.delays ∙ ap (held_from next j j
 pub held_room : (next : ℕ → ℕ) (j : Joined) (xs : List Numbered) (held : List Held) (shift k : ℕ) (d : Numbered) (h : Held) → AreDelays j xs → AreHeld next j (take k xs) held shift → k < length xs →
     h ∷ [] ≡ held_by next j shift (get_or xs k d).event → shift + h.by < 2 ^ 40
 held_room next j xs held shift k d h delays are within is =
-    let sum : sum_by (λ x. delay_from j x.event) (take k xs) ≤ length (take k xs) * 2 ^ 20 =
-    sum_by-le (λ x. delay_from j x.event) (2 ^ 20) (take k xs) (All-take (λ x. delay_from j x.event ≤ 2 ^ 20) k xs delays.short) in
+    let sum : sum_by (λ x. delay_from j x.event) (take k xs) ≤ length (take k xs) * LONGEST_DELAY =
+    sum_by-le (λ x. delay_from j x.event) LONGEST_DELAY (take k xs) (All-take (λ x. delay_from j x.event ≤ LONGEST_DELAY) k xs delays.short) in
     omega (
       arith,
       sum,

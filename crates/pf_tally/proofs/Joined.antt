@@ -14,6 +14,7 @@ use Rattle.pf_scenario.specs.declared.event.Numbered.{Numbered}
 use Rattle.std.specs.Prelude.{not}
 use Rattle.std.specs.List.Sorted.{IsNonDecreasing}
 use Rattle.std.proofs.lemmas.List.Sums.{count_by-le-length}
+use Rattle.pf_scenario.specs.declared.limits.TheConstants.{LONGEST_DELAY}
 use Rattle.pf_run.specs.Record.{Slot, runs}
 use Rattle.pf_run.specs.Inside.{Joined, joined_by, join_of, has_left, inside}
 use Rattle.pf_run.proofs.Containing.{from_filter}
@@ -61,7 +62,7 @@ joined_is system (Leave slot task) j of_system within is = cc
 joined_is system (Delay slot task by) j of_system within is = cc
 joined_is system (Limit slot count) j of_system within is = cc
 
-delay_short : (system : System) (j : Joined) (event : Event) → IsEvent system event → delay_from j event ≤ 2 ^ 20
+delay_short : (system : System) (j : Joined) (event : Event) → IsEvent system event → delay_from j event ≤ LONGEST_DELAY
 delay_short system j (Delay slot task by) within = held_cond (task == j.task) by (delay_by system slot task by within)
 delay_short system j (Join slot task cost period early) within = omega arith
 delay_short system j (Leave slot task) within = omega arith
@@ -75,7 +76,7 @@ can_tally system n xs j r ran log at long of_ran =
     let join = joined_is system g.giver.event j log.settings (All-contains (λ x. IsEvent system x.event) xs g.giver log.limits g.stands) g.gives in
     let before : slot_of g.giver.event < n = All-contains (λ x. slot_of x.event < n) xs g.giver log.below g.stands in
     let most = horizon_within system log.settings in
-    let short : All (λ x. delay_from j x.event ≤ 2 ^ 20) xs = λ k d within. delay_short system j (get_or xs k d).event (log.limits k d within) in
+    let short : All (λ x. delay_from j x.event ≤ LONGEST_DELAY) xs = λ k d within. delay_short system j (get_or xs k d).event (log.limits k d within) in
     record {
       number = join.number;
       share = join.share;

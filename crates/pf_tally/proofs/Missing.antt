@@ -41,7 +41,7 @@ use Rattle.pf_tally.proofs.Subs.{ran_is}
 use Rattle.pf_tally.proofs.Windows.{deadlines_rise}
 
 -- later subtasks are due later
-counted_rises : (i k : ℕ) → i ≤ k → (h : Held) → hold_of i h ≤ hold_of k h
+pub counted_rises : (i k : ℕ) → i ≤ k → (h : Held) → hold_of i h ≤ hold_of k h
 counted_rises i k within h = ⊎_elim
     (λ yes. let low : h.sub ≤ i = leb-true h.sub i yes in
     let later : nat_le h.sub k ≡ true = le-leb h.sub k (omega arith) in
@@ -122,13 +122,13 @@ due_is r xs j i = ap (λ n. deadline_of j.weight i + (j.slot + n)) (all_counted 
 module _ (s : Plan) (n : ℕ) (scenario : IsScenario s) (long : length (run_of s n) ≡ n) (xs : List Numbered) (j : Joined)
     (ran : List ℕ) (held : List Held) (last : ℕ) (of_ran : ran ≡ slots_of (run_of s n) j.task) (of_held : held ≡ held_from (next_at (run_of s n) j) j j.slot xs)
     (of_last : (t : ℕ) → nat_le t last ≡ (nat_le t n && leaves_after xs j t)) where
-  due_same : (i : ℕ) → due_of (run_of s n) xs j i ≡ due_at j held i
+  pub due_same : (i : ℕ) → due_of (run_of s n) xs j i ≡ due_at j held i
   due_same i = due_is (run_of s n) xs j i ∙ ap (λ held. due_at j held i) (sym of_held)
 
-  ran_same : (i : ℕ) → 1 ≤ i → ran_in (run_of s n) j i ≡ slice_get ran (i - 1)
+  pub ran_same : (i : ℕ) → 1 ≤ i → ran_in (run_of s n) j i ≡ slice_get ran (i - 1)
   ran_same i some = ran_is s n j i scenario some ∙ ap (λ ran. slice_get ran (i - 1)) (sym of_ran)
 
-  missed_same : (i : ℕ) → 1 ≤ i → is_missed (run_of s n) xs j i ≡ is_late j ran held last i
+  pub missed_same : (i : ℕ) → 1 ≤ i → is_missed (run_of s n) xs j i ≡ is_late j ran held last i
   missed_same i some =
       ap₂ (λ d o. nat_le d (length (run_of s n)) && leaves_after xs j d && option_map_or (λ t. nat_le d t) o true) (due_same i) (ran_same i some)
       ∙ ap (λ m. nat_le (due_at j held i) m && leaves_after xs j (due_at j held i) && option_map_or (λ t. nat_le (due_at j held i) t) (slice_get ran (i - 1)) true) long

@@ -13,6 +13,7 @@ use Rattle.pf_scenario.specs.Event.{slot_of, task_of, is_leave_of}
 use Rattle.pf_scenario.specs.declared.event.Event.{Event}
 use Rattle.pf_scenario.specs.declared.event.Event.TheVariants.{Join, Leave, Delay, Limit}
 use Rattle.pf_scenario.specs.declared.event.Numbered.{Numbered}
+use Rattle.pf_scenario.specs.declared.limits.TheConstants.{LONGEST_DELAY}
 use Rattle.pf_run.specs.Record.{Slot, done}
 use Rattle.pf_run.specs.Inside.{Joined, has_left, hold_back_of, shift_of}
 use Rattle.pf_tally.specs.Clock.{Stop, next_at, stop_by, stops_behind, is_stopped, clock_of}
@@ -80,7 +81,7 @@ stop_own r before j (Join slot task cost period early) = refl
 stop_own r before j (Leave slot task) = refl
 stop_own r before j (Limit slot count) = refl
 
-stops_own : (r : List Slot) (j : Joined) (before xs : List Numbered) → stops_behind r j (events_of_task j.task before) (events_of_task j.task xs) ≡ stops_behind r j before xs
+pub stops_own : (r : List Slot) (j : Joined) (before xs : List Numbered) → stops_behind r j (events_of_task j.task before) (events_of_task j.task xs) ≡ stops_behind r j before xs
 stops_own r j before [] = refl
 stops_own r j before (x ∷ xs) =
     let rest = stops_own r j (before ++ x ∷ []) xs in
@@ -146,7 +147,7 @@ find_own (x ∷ xs) task =
     ∙ sym (cond-false (is_leave_of task x.event) (Some x) (find (λ x. is_leave_of task x.event) xs) (leave_of_other task x.event other)))
     (cases_Bool (is_own task x.event))
 
-leaves_own : (xs : List Numbered) (j : Joined) → leaves_after (events_of_task j.task xs) j ≡ leaves_after xs j
+pub leaves_own : (xs : List Numbered) (j : Joined) → leaves_after (events_of_task j.task xs) j ≡ leaves_after xs j
 leaves_own xs j = λ k t. option_map_or (λ x. nat_le t (slot_of x.event)) (find_own xs j.task k) true
 
 -- Use: its misses.
@@ -185,7 +186,7 @@ can_own j ran xs n can = record {
   rise = rise_own 0 j.task xs can.rise;
   delays = record {
     joined = can.delays.joined;
-    short = All-filter (λ x. is_own j.task x.event) (λ x. delay_from j x.event ≤ 2 ^ 20) xs can.delays.short;
+    short = All-filter (λ x. is_own j.task x.event) (λ x. delay_from j x.event ≤ LONGEST_DELAY) xs can.delays.short;
     few = omega (arith, can.delays.few, length-filter (λ x. is_own j.task x.event) xs, count_by-le-length (λ x. is_own j.task x.event) xs);
   };
 }

@@ -15,6 +15,7 @@ use Rattle.pf_scenario.specs.declared.event.Numbered.{Numbered}
 use Rattle.std.proofs.lemmas.List.{take_all}
 use Rattle.pf_run.specs.Record.{Slot, runs, done}
 use Rattle.std.specs.Prelude.{pos, ◌-ℤ◌}
+use Rattle.pf_scenario.specs.declared.limits.TheConstants.{LONGEST_DELAY}
 use Rattle.pf_run.specs.Inside.{Joined, join_of, has_left, inside}
 use Rattle.pf_tally.specs.declared.lag.Lag.{Lag}
 use Rattle.pf_run.proofs.Joins.{inside_differ}
@@ -30,10 +31,10 @@ use Rattle.pf_tally.proofs.Sorts.{one_sorted}
 
 -- the delays of a task are small
 module _ (next : ℕ → ℕ) (j : Joined) (some : (u : ℕ) → 1 ≤ next u) (within : (u : ℕ) → next u ≤ 2 ^ 24) where
-  small_one : (shift : ℕ) (x : Event) → shift < 2 ^ 40 → delay_from j x ≤ 2 ^ 20 → All IsSmall (held_by next j shift x)
+  small_one : (shift : ℕ) (x : Event) → shift < 2 ^ 40 → delay_from j x ≤ LONGEST_DELAY → All IsSmall (held_by next j shift x)
   small_one shift (Delay slot task by) room short = one_or_none (task == j.task) short
     where
-      one_or_none : (b : Bool) → cond b by 0 ≤ 2 ^ 20 → All IsSmall (cond b (let held : Held = record { sub = next slot; shift = shift; by = by } in held ∷ []) [])
+      one_or_none : (b : Bool) → cond b by 0 ≤ LONGEST_DELAY → All IsSmall (cond b (let held : Held = record { sub = next slot; shift = shift; by = by } in held ∷ []) [])
       one_or_none true short = let held : Held = record { sub = next slot; shift = shift; by = by } in
           All-cons IsSmall held [] (record { some = some slot; sub = within slot; shift = room; by = short }) (All-nil IsSmall)
       one_or_none false short = All-nil IsSmall
@@ -41,13 +42,13 @@ module _ (next : ℕ → ℕ) (j : Joined) (some : (u : ℕ) → 1 ≤ next u) (
   small_one shift (Leave slot task) room short = All-nil IsSmall
   small_one shift (Limit slot count) room short = All-nil IsSmall
 
-  small_held : (shift : ℕ) (xs : List Numbered) → shift + length xs * 2 ^ 20 < 2 ^ 40 → All (λ x. delay_from j x.event ≤ 2 ^ 20) xs → All IsSmall (held_from next j shift xs)
+  small_held : (shift : ℕ) (xs : List Numbered) → shift + length xs * LONGEST_DELAY < 2 ^ 40 → All (λ x. delay_from j x.event ≤ LONGEST_DELAY) xs → All IsSmall (held_from next j shift xs)
   small_held shift [] room short = All-nil IsSmall
   small_held shift (x ∷ xs) room short =
-      let here : delay_from j x.event ≤ 2 ^ 20 = All-head (λ x. delay_from j x.event ≤ 2 ^ 20) x xs short in
+      let here : delay_from j x.event ≤ LONGEST_DELAY = All-head (λ x. delay_from j x.event ≤ LONGEST_DELAY) x xs short in
       All-append IsSmall (held_by next j shift x.event) (held_from next j (shift + delay_from j x.event) xs)
       (small_one shift x.event (omega arith) here)
-      (small_held (shift + delay_from j x.event) xs (omega arith) (All-tail (λ x. delay_from j x.event ≤ 2 ^ 20) x xs short))
+      (small_held (shift + delay_from j x.event) xs (omega arith) (All-tail (λ x. delay_from j x.event ≤ LONGEST_DELAY) x xs short))
 
 pub all_small : (j : Joined) (ran : List ℕ) (xs : List Numbered) (n : ℕ) → CanTally j ran xs n → All IsSmall (held_from (next_in ran) j j.slot xs)
 all_small j ran xs n can =

@@ -11,6 +11,7 @@ use Rattle.pf_scenario.specs.declared.settings.TheConstants.{WIDE_HORIZON}
 use Rattle.pf_scenario.specs.declared.event.Event.{Event}
 use Rattle.pf_scenario.specs.declared.event.Event.TheVariants.{Delay}
 use Rattle.pf_scenario.specs.declared.event.Numbered.{Numbered}
+use Rattle.pf_scenario.specs.declared.limits.TheConstants.{LONGEST_DELAY}
 use Rattle.pf_run.specs.Inside.{Joined}
 use Rattle.pf_tally.specs.declared.held.Held.{Held}
 
@@ -37,7 +38,7 @@ held_from next j shift (x ∷ xs) = held_by next j shift x.event ++ held_from ne
 -- the numbers of these events are small enough to be added to the task's join slot
 pub record AreDelays (j : Joined) (xs : List Numbered) : Type 0 where
   pub joined : j.slot < WIDE_HORIZON
-  pub short : All (λ x. delay_from j x.event ≤ 2 ^ 20) xs
+  pub short : All (λ x. delay_from j x.event ≤ LONGEST_DELAY) xs
   pub few : length xs ≤ MOST_EVENTS
 
 -- each delay finds the shift that the one before it left, and no earlier subtask
@@ -62,7 +63,7 @@ pub record IsSmall (h : Held) : Type 0 where
   pub some : 1 ≤ h.sub
   pub sub : h.sub ≤ 2 ^ 24
   pub shift : h.shift < 2 ^ 40
-  pub by : h.by ≤ 2 ^ 20
+  pub by : h.by ≤ LONGEST_DELAY
 
 -- what is known of a task that is tallied after n slots: it joined before, it ran in no more slots, and these and its
 -- delays are small enough to be added

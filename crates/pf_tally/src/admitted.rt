@@ -11,11 +11,15 @@ use std::marker::Model;
 
 /// A task as its join brought it.
 #[derive(Clone, Copy)]
-pub(crate) struct Admitted {
-    pub(crate) task: u64,
-    pub(crate) slot: u64,
-    pub(crate) weight: Weight,
-    pub(crate) early: u64,
+pub struct Admitted {
+    /// Its number, 1 to 4,095.
+    pub task: u64,
+    /// The slot of its join.
+    pub slot: u64,
+    /// The part of a processor that it asks for.
+    pub weight: Weight,
+    /// By how many slots its subtasks may run before their release.
+    pub early: u64,
 }
 
 impl Model for Admitted {
@@ -72,7 +76,7 @@ pub(crate) fn admitted_tasks(
 }
 
 /// The tasks that these events bring, by number.
-pub(crate) fn admitted_by_number(
+pub fn admitted_by_number(
     alloc: Global,
     settings: Settings,
     events: &[Numbered],

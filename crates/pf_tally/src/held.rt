@@ -9,17 +9,17 @@ use std::alloc::{AllocError, Global};
 
 /// A delay of a task, with what it found.
 #[derive(Clone, Copy)]
-pub(crate) struct Held {
+pub struct Held {
     /// The subtask that was next, from 1.
-    pub(crate) sub: u64,
+    pub sub: u64,
     /// Its shift before the delay, in slots.
-    pub(crate) shift: u64,
+    pub shift: u64,
     /// By how many slots it and all later ones are held back.
-    pub(crate) by: u64,
+    pub by: u64,
 }
 
 /// How many of the slots, which rise, are below t.
-pub(crate) fn slots_below(slots: &[u64], t: u64) -> u64
+pub fn slots_below(slots: &[u64], t: u64) -> u64
     requires { IsNonDecreasing slots.now }
     ensures value { result ≡ count_by (λ q. nat_lt q t) slots.now }
     ensures bound { result ≤ length slots.now }
@@ -47,7 +47,7 @@ fn held_delay(task: Admitted, ran: &[u64], shift: u64, numbered: &Numbered) -> O
 }
 
 /// The delays of the task among these events, where it ran in the slots `ran`.
-pub(crate) fn held_delays(
+pub fn held_delays(
     alloc: Global,
     task: Admitted,
     ran: &[u64],

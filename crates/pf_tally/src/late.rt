@@ -12,7 +12,7 @@ use pf_scenario::event::{Event, Numbered};
 use pf_window::{deadline, release};
 
 /// The task's leave, if it is among these events.
-pub(crate) fn leave_of(events: &[Numbered], task: u64) -> Option<Numbered>
+pub fn leave_of(events: &[Numbered], task: u64) -> Option<Numbered>
     ensures { result ≡ find (λ x. is_leave_of task x.event) events.now }
 {
     events
@@ -34,8 +34,8 @@ pub(crate) fn last_due(events: &[Numbered], task: Admitted, now: u64) -> u64
     }
 }
 
-/// The shift of subtask i, by the delays of the task.
-fn shift_at(task: Admitted, delays: &[Held], i: u64) -> u64
+/// The shift of subtask i, in slots: the slot of its join and the delays that hold it back.
+pub fn shift_at(task: Admitted, delays: &[Held], i: u64) -> u64
     requires chain { AreSuccessive 0 task.slot delays.now }
     requires small { All IsSmall delays.now }
     requires joined { task.slot < WIDE_HORIZON }
@@ -68,7 +68,7 @@ pub(crate) fn released_of(task: Admitted, delays: &[Held], i: u32) -> u64
     requires last { i ≤ 2 ^ 24 }
     requires chain { AreSuccessive 0 task.slot delays.now }
     requires small { All IsSmall delays.now }
-    requires joined { task.slot < 2 ^ 22 }
+    requires joined { task.slot < WIDE_HORIZON }
     ensures value { result ≡ released_at task delays.now i }
     ensures bound { result < 2 ^ 55 }
 {

@@ -16,30 +16,30 @@ use std::alloc::{AllocError, Global};
 
 /// What a tally rests on.
 #[derive(Drop)]
-pub(crate) struct Ledger {
-    pub(crate) settings: Settings,
+pub struct Ledger {
+    pub settings: Settings,
     /// The number of slots.
-    pub(crate) now: u64,
+    pub now: u64,
     /// The events in force, in run order.
-    pub(crate) events: Vec<Numbered>,
+    pub events: Vec<Numbered>,
     /// Of each task number its own events in force, in run order.
-    pub(crate) diaries: Lists<Numbered>,
+    pub diaries: Lists<Numbered>,
     /// Of each task number the slots in which it runs, rising.
-    pub(crate) quanta: Lists<u64>,
+    pub quanta: Lists<u64>,
 }
 
 impl Ledger {
     ghost use Rattle.pf_table.specs.Lists.{noted_of};
 
     /// The task's own events in force, in run order.
-    pub(crate) fn diary(&self, task: Admitted) -> &[Numbered]
+    pub fn diary(&self, task: Admitted) -> &[Numbered]
         ensures { result.now ≡ noted_of self.entry.now.diaries task.task }
     {
         self.diaries.get(task.task)
     }
 
     /// The slots in which the task runs, rising.
-    pub(crate) fn quanta(&self, task: Admitted) -> &[u64]
+    pub fn quanta(&self, task: Admitted) -> &[u64]
         ensures { result.now ≡ noted_of self.entry.now.quanta task.task }
     {
         self.quanta.get(task.task)
@@ -47,7 +47,7 @@ impl Ledger {
 }
 
 /// The ledger of a scenario's run.
-pub(crate) fn make_ledger(
+pub fn make_ledger(
     alloc: Global,
     scenario: &Scenario,
     rows: &Rows,

@@ -1,23 +1,26 @@
 //! How far each task is from its fair share, and which windows are missed. Its one contract: `lags` and `misses` are
 //! those of the scenario's run.
+//!
+//! What they rest on is open to other tallies of a run: the ledger, with each task's own events and the slots in which it
+//! ran, its delays and its shifts.
 #![tactic(auto)]
 
-mod admitted;
+pub mod admitted;
 mod clock;
 mod diary;
 pub mod extremes;
 pub mod figures;
-mod held;
+pub mod held;
 mod inside;
 pub mod lag;
 pub mod lags;
-mod late;
+pub mod late;
 pub mod laws;
-mod ledger;
+pub mod ledger;
 pub mod miss;
 pub mod misses;
 mod moves;
-mod processors;
+pub mod processors;
 mod quanta;
 mod range;
 mod responses;

@@ -25,7 +25,7 @@ fn note_places(table: &mut Lists<u32>, processors: u32, row: RowView<'_>) -> Res
 }
 
 /// Of each task number the processors on which it runs, slot by slot: one walk over the rows.
-pub(crate) fn processors_by_task(
+pub fn processors_by_task(
     alloc: Global,
     processors: u32,
     rows: &Rows,
@@ -44,7 +44,7 @@ pub(crate) fn processors_by_task(
 }
 
 /// The processors on which the task runs, by this table of them.
-pub(crate) fn processors_of(table: &Lists<u32>, task: Admitted) -> &[u32]
+pub fn processors_of(table: &Lists<u32>, task: Admitted) -> &[u32]
     ensures { result.now ≡ noted_of table.now task.task }
 {
     table.get(task.task)

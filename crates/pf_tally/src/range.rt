@@ -1,6 +1,7 @@
 ghost use Rattle.std.specs.Prelude.{◌≡◌, ◌-◌, ◌^◌, ◌<◌, ◌≤◌, length, All};
 ghost use Rattle.std.specs.List.Sorted.{IsNonDecreasing};
 ghost use Rattle.pf_weight.specs.Share.{IsShare};
+ghost use Rattle.pf_scenario.specs.declared.settings.TheConstants.{WIDE_HORIZON};
 ghost use Rattle.pf_tally.specs.Held.{AreSuccessive, IsSmall};
 ghost use Rattle.pf_tally.specs.Figures.{extremes_upto, last_slot};
 ghost use Rattle.pf_tally.specs.Ranges.{lag_by};
@@ -29,9 +30,9 @@ fn lag_after(task: Admitted, ran: &[u64], delays: &[Held], t: u64) -> i64
     requires chain { AreSuccessive 0 task.slot delays.now }
     requires small { All IsSmall delays.now }
     requires joined { task.slot ≤ t }
-    requires within { t ≤ 2 ^ 22 }
+    requires within { t ≤ WIDE_HORIZON }
     requires rising { IsNonDecreasing ran.now }
-    requires few { length ran.now ≤ 2 ^ 22 }
+    requires few { length ran.now ≤ WIDE_HORIZON }
     ensures { result ≡ lag_by task ran.now delays.now t }
 {
     let owed = task.weight.cost() * clock_at(task, delays, t);
@@ -46,9 +47,9 @@ pub(crate) fn lag_range(task: Admitted, ran: &[u64], delays: &[Held], last: u64)
     requires chain { AreSuccessive 0 task.slot delays.now }
     requires small { All IsSmall delays.now }
     requires joined { task.slot ≤ last }
-    requires within { last ≤ 2 ^ 22 }
+    requires within { last ≤ WIDE_HORIZON }
     requires rising { IsNonDecreasing ran.now }
-    requires few { length ran.now ≤ 2 ^ 22 }
+    requires few { length ran.now ≤ WIDE_HORIZON }
     ensures { result ≡ extremes_upto (lag_by task ran.now delays.now) task.slot (last - task.slot) }
 {
     let mut seen = task.slot;

@@ -1,5 +1,6 @@
 ghost use Rattle.std.specs.Prelude.{◌≡◌, ◌+◌, ◌-◌, ◌%◌, ◌^◌, ◌<◌, ◌≤◌, All, length, IfOk};
 ghost use Rattle.pf_weight.specs.Share.{IsShare};
+ghost use Rattle.pf_scenario.specs.declared.settings.TheConstants.{WIDE_HORIZON};
 ghost use Rattle.pf_tally.specs.Held.{AreSuccessive, IsSmall};
 ghost use Rattle.pf_tally.specs.Figures.{response_of, responses_from};
 ghost use Rattle.pf_tally.specs.Late.{CanMiss, released_at};
@@ -14,11 +15,11 @@ fn response_of(task: Admitted, delays: &[Held], i: u32, slot: u64) -> i64
     requires share { IsShare task.weight }
     requires chain { AreSuccessive 0 task.slot delays.now }
     requires small { All IsSmall delays.now }
-    requires joined { task.slot < 2 ^ 22 }
-    requires within { i ≤ 2 ^ 22 }
+    requires joined { task.slot < WIDE_HORIZON }
+    requires within { i ≤ WIDE_HORIZON }
     requires first { 1 ≤ i }
     requires last { i % task.weight.cost ≡ 0 }
-    requires slot { slot < 2 ^ 22 }
+    requires slot { slot < WIDE_HORIZON }
     ensures { result ≡ response_of (released_at task delays.now) task.weight.cost i slot }
 {
     let first = u64::from(i) + 1 - task.weight.cost();
@@ -33,7 +34,7 @@ pub(crate) fn responses(
     delays: &[Held],
 ) -> Result<Vec<i64>, AllocError>
     requires can { CanMiss task delays.now (length slots.now) }
-    requires slots { All (λ t. t < 2 ^ 22) slots.now }
+    requires slots { All (λ t. t < WIDE_HORIZON) slots.now }
     ensures { IfOk result (λ v. v.items ≡ responses_from (released_at task delays.now) task.weight.cost 1 slots.now) }
 {
     let cost = task.weight.cost();

@@ -1,6 +1,7 @@
 ghost use Rattle.std.specs.Prelude.{◌≡◌, ◌^◌, ◌<◌, length, All, IfOk};
 ghost use Rattle.pf_scenario.specs.Scenario.{Plan};
 ghost use Rattle.pf_scenario.specs.Edit.{IsScenario};
+ghost use Rattle.pf_scenario.specs.declared.settings.TheConstants.{WIDE_HORIZON};
 ghost use Rattle.pf_run.specs.Computed.{run_of};
 ghost use Rattle.pf_run.specs.RunRows.{AreOfRun};
 ghost use Rattle.pf_tally.specs.Held.{CanTally};
@@ -35,7 +36,7 @@ fn figures_of_task(
     now: u64,
 ) -> Result<Figures, AllocError>
     requires can { CanTally task ran.now events.now now }
-    requires slots { All (λ t. t < 2 ^ 22) ran.now }
+    requires slots { All (λ t. t < WIDE_HORIZON) ran.now }
     ensures { (s : Plan) → IsScenario s → length (run_of s now) ≡ now → ran.now ≡ slots_of (run_of s now) task.task
         → IfOk result (λ figures. figures ≡ figures_of_task (run_of s now) processors.now events.now task) }
 {

@@ -1,4 +1,4 @@
-use Rattle.std.proofs.Common.{◌≡◌, ℕ, ◌++◌, ◌+◌, ◌*◌, ◌≤◌, List, true, false, leb, length, get_or, take, sym, ap, ◌∙◌, subst, arith, rules}
+use Rattle.std.proofs.Common.{◌≡◌, ℕ, ◌++◌, ◌+◌, ◌-◌, ◌*◌, ◌≤◌, List, true, false, leb, length, get_or, take, refl, sym, ap, ◌∙◌, subst, arith, rules}
 use Rattle.std.specs.FinSet as set
 use Rattle.std.specs.List.Sorted.{IsNonDecreasingBy, IsPartitionPoint}
 use Rattle.std.specs.Vec.{vec_capacity}
@@ -15,7 +15,7 @@ use Rattle.pf_heap.specs.Digits.{digits}
 use Rattle.pf_calendar.specs.declared.waiting_list.WaitingList.{WaitingList}
 use Rattle.pf_calendar.specs.Queues.{Queues, later, due}
 use Rattle.pf_calendar.specs.Invariant.{names_of}
-use Rattle.pf_calendar.proofs.Whole.{none_empty, IsCalendarAfter, slots_rise, with_room}
+use Rattle.pf_calendar.proofs.Whole.{none_empty, each_task_once, IsCalendarAfter, slots_rise, with_room, held_seen}
 use Rattle.pf_calendar.proofs.Notes.{notes_after, waited_later}
 use Rattle.pf_calendar.proofs.Advancing.{AreDue, can_merge, merges_cost, advanced}
 use Rattle.pf_calendar.proofs.calendar.Calendar.advance.Goals.{After-partition_point-due, After-deref-2, After-drop}
@@ -85,3 +85,14 @@ returns-clause-comparisons c =
 
 pub returns-clause-some : goal.returns-clause-some
 returns-clause-some c = let g = goal.at.returns-clause-some c in none_empty (done g.After-drop (are_due g.After-partition_point-due)).calendar
+
+pub returns-clause-counted : goal.returns-clause-counted
+returns-clause-counted c =
+    let g = goal.at.returns-clause-counted c in
+    held_seen (c.self.inside.limit - c.self.inside.held) (done g.After-drop (are_due g.After-partition_point-due)).calendar.laid refl
+    ∙ sym (held_seen (c.self.inside.limit - c.self.inside.held) c.self.invariant.0.laid c.self.view_is)
+
+pub returns-clause-once : goal.returns-clause-once
+returns-clause-once c =
+    let g = goal.at.returns-clause-once c in
+    each_task_once (done g.After-drop (are_due g.After-partition_point-due)).calendar (c.self.inside.limit - c.self.inside.held)

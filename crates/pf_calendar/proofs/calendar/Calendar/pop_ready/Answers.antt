@@ -1,10 +1,10 @@
-use Rattle.std.proofs.Common.{◌-◌, ap, sym, subst, arith}
+use Rattle.std.proofs.Common.{◌-◌, refl, ap, sym, subst, arith}
 use Rattle.pf_order.proofs.Comparing.{compares_within}
 use Rattle.pf_heap.specs.Keys.{Heaps, IsFirst}
 use Rattle.pf_calendar.specs.Invariant.{waiting_in}
 use Rattle.pf_calendar.specs.Queues.{Queues, EachTaskOnce, NoneEmpty}
 use Rattle.pf_calendar.proofs.Arranged.{ready_listed}
-use Rattle.pf_calendar.proofs.Whole.{none_empty, each_task_once, ready_digits, popped}
+use Rattle.pf_calendar.proofs.Whole.{none_empty, each_task_once, ready_digits, popped, one_fewer}
 use Rattle.pf_calendar.proofs.Notes.{notes_after}
 use Rattle.pf_calendar.proofs.calendar.Calendar.pop_ready.Goals as goal
 
@@ -46,3 +46,8 @@ returns-in_err-key-clause-once c = subst EachTaskOnce c.self.view_is (each_task_
 
 pub returns-clause-once : goal.returns-clause-once
 returns-clause-once c = subst EachTaskOnce c.self.view_is (each_task_once c.self.invariant.0 (c.self.inside.limit - c.self.inside.held))
+
+pub returns-clause-counted : goal.returns-clause-counted
+returns-clause-counted c =
+    let p = popped c.self.invariant.0 c.self.view_is c.in_ok-key.key c.in_ok-key.ensures.popped.0.0 c.in_ok-key.ensures.popped.1 in
+    one_fewer (c.self.inside.limit - c.self.inside.held) (c.self.inside.limit - (c.self.inside.held - 1)) c.self.invariant.0.laid c.self.view_is p.0 p.1.calendar.laid refl

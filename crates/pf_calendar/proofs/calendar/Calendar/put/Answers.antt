@@ -10,7 +10,7 @@ use Rattle.pf_calendar.specs.declared.waiting_list.WaitingList.{WaitingList}
 use Rattle.pf_calendar.specs.Queues.{Queues, list_at, key_count}
 use Rattle.pf_calendar.proofs.Naming.{no_entry}
 use Rattle.pf_calendar.proofs.Arranged.{entry_listed}
-use Rattle.pf_calendar.proofs.Whole.{none_empty, IsCalendarAfter, has_unused, slots_rise, some_free, absent_from, opened, opened_within, opened_size, put_done, with_room, count_is}
+use Rattle.pf_calendar.proofs.Whole.{none_empty, IsCalendarAfter, has_unused, slots_rise, some_free, absent_from, opened, opened_within, opened_size, put_done, with_room, count_is, held_seen}
 use Rattle.pf_table.specs.Grown.{with_value}
 use Rattle.pf_calendar.proofs.Notes.{notes_same, notes_put}
 use Rattle.pf_calendar.proofs.calendar.Calendar.put.Goals.{After-index-entry, After-index_mut}
@@ -92,3 +92,8 @@ insert-requires-clause-placed c = omega (arith, c.requires.placed, ap (λ (q : Q
 
 pub set-requires : goal.set-requires
 set-requires c = omega (arith, c.requires.placed, ap (λ (q : Queues). q.tasks) c.self.view_is, c.self.invariant.1.room, c.task.ensures.value)
+
+pub returns-clause-counted : goal.returns-clause-counted
+returns-clause-counted c =
+    held_seen (c.self.inside.limit - (c.self.inside.held + 1)) (done (goal.at.returns-clause-counted c).After-index_mut).calendar.laid refl
+    ∙ ap (λ n. n + 1) (sym (held_seen (c.self.inside.limit - c.self.inside.held) c.self.invariant.0.laid c.self.view_is))

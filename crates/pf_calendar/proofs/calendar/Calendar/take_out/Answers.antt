@@ -16,7 +16,7 @@ use Rattle.pf_calendar.specs.Queues.{Queues, key_count, IsQueued, TakesOut, Each
 use Rattle.pf_calendar.specs.Steps.{HasNoneFor, RemovesAt}
 use Rattle.pf_calendar.proofs.Naming.{no_entry}
 use Rattle.pf_calendar.proofs.Arranged.{ready_listed, entry_listed}
-use Rattle.pf_calendar.proofs.Whole.{none_empty, each_task_once, IsCalendarAfter, ready_digits, waiting_within, slots_rise, popped, seen, with_room}
+use Rattle.pf_calendar.proofs.Whole.{none_empty, each_task_once, IsCalendarAfter, ready_digits, waiting_within, slots_rise, popped, seen, with_room, one_fewer}
 use Rattle.pf_calendar.proofs.Notes.{notes_after, waited_taken, none_waits}
 use Rattle.pf_calendar.proofs.Leaving.{ready_removed, not_held, some_held, discounted_calendar, takes_out}
 use Rattle.pf_calendar.proofs.calendar.Calendar.take_out.Goals.{In-Some, In_ok-key, In_err-key}
@@ -180,3 +180,17 @@ returns-clause-comparisons c =
     subst (λ (a : Counts × Heaps). Compares (2 * digits (set.len (list_of a.1 c.self.inside.ready))) a.0 c.remove.new.meter)
     (λ i. (c.in_default.ensures.unfound i, c.in_default.ensures.removed.0 i)) c.in_ok-key.ensures.comparisons in
     compares_within (omega (arith, ready_digits c.self.invariant.0.laid c.self.view_is)) start
+
+pub returns-in-Some-clause-counted : goal.returns-in-Some-clause-counted
+returns-in-Some-clause-counted c =
+    let laid = c.self.invariant.0.laid in
+    let r = removes (goal.at.returns-in-Some-clause-counted c).In-Some in
+    one_fewer (c.self.inside.limit - c.self.inside.held) (c.self.inside.limit - (c.self.inside.held - 1)) laid c.self.view_is
+    (some_held laid c.remove_waiting.new.heaps c.args.task c.in-Some.found.0 c.in-Some.found.1 r)
+    (discounted_calendar laid c.remove_waiting.new.heaps c.args.task c.in-Some.found.0 c.in-Some.found.1 r c.discount.new.entries.items c.discount.new.unused.items
+    c.self.invariant.0.some c.discount.ensures.discounted).laid refl
+
+pub returns-clause-counted : goal.returns-clause-counted
+returns-clause-counted c =
+    let f = from_ready (goal.at.returns-clause-counted c).In_ok-key in
+    one_fewer (c.self.inside.limit - c.self.inside.held) (c.self.inside.limit - (c.self.inside.held - 1)) c.self.invariant.0.laid c.self.view_is f.0 f.1.calendar.laid refl

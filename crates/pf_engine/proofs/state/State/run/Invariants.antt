@@ -1,6 +1,13 @@
-use Rattle.std.proofs.Common.{◌≡◌, ◌+◌, ◌++◌, map, take, fold, vec_len, vec_capacity}
+use Rattle.std.proofs.Common.{◌≡◌, ◌+◌, ◌*◌, ◌++◌, None, All, Contains, length, map, take, drop, fold, vec_len, vec_capacity}
 use Rattle.pf_run.specs.Run.{pick_of_key}
 use Rattle.pf_engine.specs.Kept.{tasks_after_pick}
+use Rattle.pf_order.specs.Counts.{Compares}
+use Rattle.pf_heap.specs.Digits.{digits}
+use Rattle.pf_engine.specs.Fits.{KeptTask}
+use Rattle.pf_engine.specs.Kept.{member_in}
+use Rattle.pf_engine.specs.Engines.{IsInside}
+use Rattle.pf_engine.specs.Agenda.{IsAgenda}
+use Rattle.pf_engine.proofs.NextKeys.{Differ}
 use Rattle.pf_engine.proofs.state.State.run.Given as goal
 
 abbrev pub invariant-loop-key : goal.invariant-loop-key
@@ -12,5 +19,11 @@ invariant-loop-key l = record {
   count : l.self.count ≡ l.fn.self.count;
   picks : l.picks.items ≡ l.fn.picks.items ++ map pick_of_key (take l.key-index l.keys);
   few : vec_len l.picks ≡ vec_len l.fn.picks + l.key-index;
+  agenda : IsAgenda l.self.calendar (l.fn.self.slots + 1) l.self.tasks.tasks (drop l.key-index l.keys);
+  members : All IsInside l.self.tasks.tasks;
+  differ : Differ (Contains l.self.tasks.tasks);
+  stay : (k : KeptTask) → Contains l.fn.self.tasks.tasks k → member_in l.self.tasks.tasks k.task ≡ None → ⊥;
+  many : length l.self.tasks.tasks ≡ length l.fn.self.tasks.tasks;
+  comparisons : Compares (l.key-index * digits (length l.fn.self.tasks.tasks)) l.fn.meter l.meter;
   room : vec_capacity l.picks ≡ vec_capacity l.fn.picks;
 }

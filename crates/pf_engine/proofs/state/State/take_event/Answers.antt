@@ -14,3 +14,7 @@ overflow_cast-self c =
 
 pub join-requires-clause-number : goal.join-requires-clause-number
 join-requires-clause-number c = c.requires.number c.in-Join.task (ap (is_join_of c.in-Join.task) c.in-Join.is ∙ eq-eqb c.in-Join.task c.in-Join.task refl)
+
+pub join-requires-clause-key_number : goal.join-requires-clause-key_number
+join-requires-clause-key_number c =
+    c.requires.key_number c.in-Join.task (ap (is_join_of c.in-Join.task) c.in-Join.is ∙ eq-eqb c.in-Join.task c.in-Join.task refl)

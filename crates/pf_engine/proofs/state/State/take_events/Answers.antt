@@ -1,8 +1,12 @@
-use Rattle.std.proofs.Common.{◌<◌, length, get_or, ◌∙◌, arith}
+use Rattle.std.proofs.Common.{◌+◌, ◌<◌, length, get_or, ap, ◌∙◌, arith}
 use Rattle.pf_scenario.specs.declared.event.Event.TheVariants.{Join}
 use Rattle.pf_scenario.specs.declared.event.Numbered.{Numbered}
 use Rattle.pf_engine.specs.Kept.{denial_at}
 use Rattle.pf_engine.specs.Keeping.{kept_of}
+use Rattle.pf_calendar.specs.Queues.{key_count}
+use Rattle.pf_engine.specs.Fits.{Kept}
+use Rattle.pf_engine.proofs.Advancing.{event_few}
+use Rattle.pf_engine.proofs.Costs.{turn, three_of}
 use Rattle.pf_engine.proofs.Turns.{can_take, at_next, events_more, given_more, given_denied, given_none, same_now}
 use Rattle.pf_engine.proofs.state.State.take_events.Goals as goal
 use Rattle.pf_engine.proofs.state.State.take_events.Goals.{in-Err, in_default}
@@ -17,6 +21,9 @@ take_event-requires-clause-can c =
 
 pub take_event-requires-clause-number : goal.take_event-requires-clause-number
 take_event-requires-clause-number c = rw c.loop-x.invariant.numbers (c.requires.numbers c.loop-x.x-index _ (omega arith))
+
+pub take_event-requires-clause-key_number : goal.take_event-requires-clause-key_number
+take_event-requires-clause-key_number c = rw c.loop-x.invariant.key_numbers (c.requires.key_numbers c.loop-x.x-index _ (omega arith))
 
 pub loop-x-preserved : goal.loop-x-preserved
 unfolding no_event
@@ -33,6 +40,14 @@ loop-x-preserved c =
       at = at_next e e' events i no_event within after c.loop-x.invariant.at;
       numbers = c.take_event.ensures.numbers ∙ c.loop-x.invariant.numbers;
       spare = omega (arith, c.take_event.ensures.spare, c.loop-x.invariant.spare);
+      agenda = c.take_event.ensures.agenda;
+      key_spare = omega (arith, c.take_event.ensures.key_spare, c.loop-x.invariant.key_spare);
+      key_numbers = c.take_event.ensures.key_numbers ∙ c.loop-x.invariant.key_numbers;
+      few = omega (arith, ap (λ (k : Kept). length k.tasks) after, event_few e x.event, c.loop-x.invariant.few);
+      comparisons = turn i _ _
+          (three_of (key_count c.loop-x.self.calendar + 1) (length c.args.self.now.tasks.tasks + length events)
+          (omega (arith, c.loop-x.invariant.agenda.count, c.loop-x.invariant.few)))
+          c.loop-x.invariant.comparisons c.take_event.ensures.comparisons;
       room = elim c.match-take_event.branch [
         | in-Err w ↦ rw w.denials-is (omega (arith, w.push_reserved.ensures.len, w.push_reserved.ensures.capacity, c.loop-x.invariant.room))
         | in_default w ↦ rw w.denials-is (omega (arith, c.loop-x.invariant.room))

@@ -1,0 +1,73 @@
+-- One turn of the loop that runs the chosen subtasks.
+use Rattle.std.proofs.Common.{◌≡◌, ◌≢◌, ℕ, ◌+◌, ◌^◌, ◌<◌, ◌≤◌, None, Some, Option, List, [], ◌∷◌, ◌++◌, length, map, take, drop, get_or, fold, All, Contains, refl, sym, ap, ◌∙◌, subst, arith}
+use Rattle.std.proofs.lemmas.List.{take_more, drop_more, map-append}
+use Rattle.std.proofs.lemmas.List.Sums.{fold_push}
+use Rattle.std.proofs.lemmas.List.Elements.{All-contains}
+use Rattle.pf_order.specs.Priority.{Priority}
+use Rattle.pf_calendar.specs.Queues.{Queues}
+use Rattle.pf_admit.specs.declared.member.Member.{Member}
+use Rattle.pf_run.specs.Run.{pick_of_key}
+use Rattle.pf_run.proofs.Within.{horizon_within}
+use Rattle.pf_engine.specs.Fits.{KeptTask, Kept}
+use Rattle.pf_engine.specs.Kept.{member_in, tasks_after_pick}
+use Rattle.pf_engine.specs.Agenda.{IsAgenda}
+use Rattle.pf_engine.specs.Taking.{CanRun}
+use Rattle.pf_engine.proofs.Places.{has_no_task}
+use Rattle.pf_engine.proofs.Agendas.{found_in, others_apart}
+
+pub picks_more : (keys : List Priority) (i : ℕ) (k : Priority) → i < length keys → k ≡ get_or keys i k →
+    map pick_of_key (take (i + 1) keys) ≡ map pick_of_key (take i keys) ++ pick_of_key k ∷ []
+picks_more keys i k within is =
+    ap (map pick_of_key) (take_more keys i k within ∙ ap (λ x. take i keys ++ x ∷ []) (sym is)) ∙ map-append pick_of_key (take i keys) (k ∷ [])
+
+pub tasks_more : (start tasks tasks' : List KeptTask) (keys : List Priority) (i : ℕ) (k : Priority) → i < length keys → k ≡ get_or keys i k →
+    tasks ≡ fold tasks_after_pick start (map pick_of_key (take i keys)) → tasks' ≡ tasks_after_pick tasks (pick_of_key k) →
+    tasks' ≡ fold tasks_after_pick start (map pick_of_key (take (i + 1) keys))
+tasks_more start tasks tasks' keys i k within is so_far more =
+    more
+    ∙ ap (λ ts. tasks_after_pick ts (pick_of_key k)) so_far
+    ∙ sym (fold_push tasks_after_pick start (map pick_of_key (take i keys)) (pick_of_key k))
+    ∙ ap (fold tasks_after_pick start) (sym (picks_more keys i k within is))
+
+-- the first key that is away, and those behind it
+pub next_away : (q : Queues) (now : ℕ) (tasks : List KeptTask) (keys : List Priority) (i : ℕ) (k : Priority) → i < length keys → k ≡ get_or keys i k →
+    IsAgenda q now tasks (drop i keys) → IsAgenda q now tasks (k ∷ drop (i + 1) keys)
+next_away q now tasks keys i k within is a =
+    subst (IsAgenda q now tasks) (drop_more keys i k within ∙ ap (λ x. x ∷ drop (i + 1) keys) (sym is)) a
+
+pub behind_apart : (e : Kept) (keys : List Priority) (i : ℕ) (k : Priority) → CanRun e keys → i < length keys → k ≡ get_or keys i k →
+    All (λ p. p.task ≢ k.task) (drop (i + 1) keys)
+behind_apart e keys i k can within is =
+    subst (λ (x : Priority). All (λ (p : Priority). p.task ≢ x.task) (drop (i + 1) keys)) (sym is) (others_apart keys i k can.differ within)
+
+-- a key is of a task inside, and of no late subtask
+pub key_small : (e : Kept) (keys : List Priority) (i : ℕ) (k : Priority) → CanRun e keys → i < length keys → k ≡ get_or keys i k → k.sub < 2 ^ 24
+key_small e keys i k can within is =
+    let n = can.next k (i, within, sym is) in
+    omega (
+      arith,
+      ap (λ (x : Priority). x.sub) n.2,
+      All-contains (λ (x : KeptTask). x.member.done ≤ e.now) e.tasks n.0 can.done n.1,
+      can.engine.now,
+      horizon_within e.settings can.engine.settings,
+    )
+
+-- its task is inside still
+pub key_inside : (e : Kept) (keys : List Priority) (i : ℕ) (k : Priority) (tasks : List KeptTask) → CanRun e keys → i < length keys → k ≡ get_or keys i k →
+    ((x : KeptTask) → Contains e.tasks x → member_in tasks x.task ≡ None → ⊥) → member_in tasks k.task ≡ None → ⊥
+key_inside e keys i k tasks can within is stay none =
+    let n = can.next k (i, within, sym is) in
+    stay n.0 n.1 (ap (member_in tasks) (sym (ap (λ (x : Priority). x.task) n.2)) ∙ none)
+
+some_member : (o : Option Member) → (o ≡ None → ⊥) → (m : Member) × (o ≡ Some m)
+some_member None some = absurd (some refl)
+some_member (Some m) some = (m, refl)
+
+pub number_placed : {q : Queues} {now : ℕ} {away : List Priority} (tasks : List KeptTask) (task : ℕ) → IsAgenda q now tasks away → (member_in tasks task ≡ None → ⊥) → task < q.tasks
+number_placed {q} tasks task a some =
+    let m = some_member (member_in tasks task) some in
+    All-contains (λ (k : KeptTask). k.task < q.tasks) tasks (record { task = task; member = m.0 }) a.numbers (found_in tasks task m.0 m.1)
+
+-- each is inside at first
+pub all_stay : (tasks : List KeptTask) (k : KeptTask) → Contains tasks k → member_in tasks k.task ≡ None → ⊥
+all_stay tasks k at none = All-contains (λ (x : KeptTask). x.task ≢ k.task) tasks k (has_no_task tasks k.task none) at refl
