@@ -1,8 +1,10 @@
 //! A first desk: makes a plan by calls of pf_desk, and prints who runs where, how far each task is from its fair share,
-//! and how many commands were answered. The contract of `plan` is what a caller relies on.
+//! how many commands were answered, and what one more would change. The contracts of `plan` and `if_left` are what a
+//! caller relies on.
 #![tactic(auto)]
 
 mod plan;
+mod what_if;
 
 use pf_desk::desk::Desk;
 use pf_place::row_view::RowView;
@@ -39,9 +41,14 @@ fn print_lags(rt: &HostRuntime, desk: &Desk) -> anyhow::Result<()> {
 }
 
 fn main(rt: HostRuntime) -> anyhow::Result<()> {
-    let desk = plan::plan(rt.alloc())?;
+    let mut desk = plan::plan(rt.alloc())?;
     print_schedule(&rt, &desk)?;
     print_lags(&rt, &desk)?;
     println!(rt; "{} commands", desk.history().len())?;
+    let seen = what_if::if_left(&mut desk, 3, 2)?;
+    println!(rt;
+        "if task 2 left in slot 3: {} events",
+        seen.events().count()
+    )?;
     Ok(())
 }

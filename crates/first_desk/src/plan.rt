@@ -28,7 +28,7 @@ pub enum PlanFault {
 }
 
 /// The planner's number in the history.
-const PLANNER: u32 = 0;
+pub(crate) const PLANNER: u32 = 0;
 
 /// A join in slot 0 of a task that asks for two quanta in each three slots.
 fn join(task: u64) -> Command

@@ -11,7 +11,6 @@ use Rattle.pf_scenario.specs.declared.event.Event.{Event}
 use Rattle.pf_scenario.specs.declared.event.Numbered.{Numbered}
 use Rattle.pf_scenario.specs.declared.change.Change.{Change}
 use Rattle.pf_scenario.specs.declared.change.Change.TheVariants.{Insert, Alter, Strike}
-use Rattle.pf_scenario.specs.declared.fault.EditFault.{EditFault}
 use Rattle.pf_scenario.proofs.Lists.{All_left, Pairs-from_all, find_middle}
 use Rattle.pf_scenario.proofs.Scenarios.{Held, held, others_of, without_held, replaced_held, or_else_none, unless_none}
 use Rattle.pf_run.specs.Laws.{events_below}

@@ -94,13 +94,13 @@ refused_handles plan kept es spare spare' caller command fault is answer = recor
   refused = refl;
 }
 
--- Use: want of memory leaves the parts, whatever room there is then.
+-- Use: want of memory leaves the parts, with no less room.
 pub wanted_handles : (plan : Plan) (kept : KeptRun) (es es' : List Entry) (spare spare' caller : ℕ) (command : Command) (error : AllocError) →
-    IsKeptDesk plan kept es → es' ≡ es →
+    IsKeptDesk plan kept es → es' ≡ es → spare ≤ spare' →
     Handles caller command (shown_by plan kept es spare) (Err error) (shown_by plan kept es' spare')
-wanted_handles plan kept es es' spare spare' caller command error is same = record {
+wanted_handles plan kept es es' spare spare' caller command error is same room = record {
   ok = tt;
-  err = ap (λ (es : List Entry). shown_by plan kept es spare') same;
+  err = record { rest = ap (λ (es : List Entry). shown_by plan kept es spare') same; room = room };
   desk = is_desk _ _ _ _ (subst (IsKeptDesk plan kept) (sym same) is);
   refused = tt;
 }

@@ -3,7 +3,7 @@ pub mod Changes
 pub mod Pasts
 pub mod Entering
 pub mod Stepping
-pub mod Batches
 pub mod Readying
 pub mod Metered
 pub mod Horizons
+pub mod Gathering

@@ -1,5 +1,5 @@
 -- A command made ready, and made so.
-use Rattle.std.proofs.Common.{◌≡◌, ℕ, ◌+◌, Bool, if◌then◌else◌, Option, Some, None, List, [], ◌∷◌, ◌++◌, length, refl, sym, ap, ◌∙◌, subst, length-append}
+use Rattle.std.proofs.Common.{◌≡◌, ℕ, ◌+◌, ◌≤◌, Bool, if◌then◌else◌, Option, Some, None, List, [], ◌∷◌, ◌++◌, length, refl, sym, ap, ◌∙◌, subst, length-append}
 use Rattle.std.specs.List.{slice_get}
 use Rattle.pf_order.specs.declared.pick.Pick.{Pick}
 use Rattle.pf_scenario.specs.Scenario.{Plan}
@@ -166,16 +166,17 @@ candidate_denied d change strict c x is faultless some =
     denied_reply d.state change strict c.timeline.denials x faultless
     (is.stands.of_run.are_denials ∙ ap (λ s. denials_in s d.state.now) is.scenario) some
 
--- Use: an equal history, whatever the room.
-pub as_before : (plan : Plan) (kept : KeptRun) (es es' : List Entry) (spare spare' : ℕ) → es' ≡ es →
+-- Use: an equal history, with no less room.
+pub as_before : (plan : Plan) (kept : KeptRun) (es es' : List Entry) (spare spare' : ℕ) → es' ≡ es → spare ≤ spare' →
     IsAsBefore (shown_by plan kept es spare) (shown_by plan kept es' spare')
-as_before plan kept es es' spare spare' same = ap (λ (es : List Entry). shown_by plan kept es spare') same
+as_before plan kept es es' spare spare' same room =
+    record { rest = ap (λ (es : List Entry). shown_by plan kept es spare') same; room = room }
 
 -- Use: what was made ready for a desk was so for the same one before it had room.
 pub ready_before : (caller : ℕ) (command : Command) (d d' : Shown) (ready : Ready) → IsAsBefore d d' → MakesReady caller command d' ready →
     MakesReady caller command d ready
 ready_before caller command d d' ready same made =
-    let there : MakesReady caller command (record d { spare = d'.spare }) ready = subst (λ x. MakesReady caller command x ready) same made in
+    let there : MakesReady caller command (record d { spare = d'.spare }) ready = subst (λ x. MakesReady caller command x ready) same.rest made in
     record {
       desk = record { settings = there.desk.settings; every = there.desk.every; history = there.desk.history };
       entry = there.entry;

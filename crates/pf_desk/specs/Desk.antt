@@ -1,5 +1,5 @@
 -- What a desk shows, and what always holds of it.
-use Rattle.std.specs.Prelude.{⊤, ◌≡◌, ◌⊎◌, ◌≤◌, ℕ, Option, IsSome, IfSome, Result, IfOk, OnErr, List, [], ◌∷◌, ◌++◌, length, map, All}
+use Rattle.std.specs.Prelude.{⊤, ◌≡◌, ◌⊎◌, ◌≤◌, ◌+◌, ◌-◌, ℕ, nat_lt, min, if◌then◌else◌, Option, None, Some, IsSome, IfSome, Result, IfOk, OnErr, List, [], ◌∷◌, ◌++◌, length, map, All}
 use Rattle.std.specs.declared.alloc.AllocError.{AllocError}
 use Rattle.pf_order.specs.declared.pick.Pick.{Pick}
 use Rattle.pf_scenario.specs.System.{System}
@@ -25,9 +25,10 @@ pub record Shown : Type 0 where
   pub every : ℕ
   pub spare : ℕ
 
--- the desk is as before, whatever its room for entries
-abbrev pub IsAsBefore : Shown → Shown → Type 0
-IsAsBefore before after = after ≡ record before { spare = after.spare }
+-- the desk is as before, with no less room for entries
+pub record IsAsBefore (before after : Shown) : Type 0 where
+  pub rest : after ≡ record before { spare = after.spare }
+  pub room : before.spare ≤ after.spare
 
 -- the desk's promise: its history is legal and ends in its state, and its rows and denials are those of the run of
 -- its scenario from slot zero
@@ -75,10 +76,16 @@ IsUncounted st Step = st.now ≡ st.plan.settings.horizon
 IsUncounted st (Edit change strict) =
     IsSome (edit_fault st.plan change) ⊎ IfSome (slot_touched st.plan change) (λ t. st.now ≤ t)
 
--- how many slots a command may count: a step one, an edit as many as were stepped
-abbrev pub most_slots : State → Command → ℕ
-most_slots st Step = 1
-most_slots st (Edit change strict) = st.now
+-- how many slots an edit may replay of the now that were stepped, where this is the least slot that it touches and
+-- checkpoints lie so far apart: from the last checkpoint not after it on; none where it is not below now
+abbrev pub most_replayed : ℕ → ℕ → Option ℕ → ℕ
+most_replayed now apart None = 0
+most_replayed now apart (Some t) = if nat_lt t now then min now (now - t + apart) else 0
+
+-- how many slots a command may count: a step one, an edit those that it may replay
+abbrev pub most_slots : Shown → Command → ℕ
+most_slots d Step = 1
+most_slots d (Edit change strict) = most_replayed d.state.now d.every (slot_touched d.state.plan change)
 
 -- a snapshot: how many entries the history had, and what the desk showed then
 pub record Seen : Type 0 where

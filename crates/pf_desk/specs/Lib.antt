@@ -19,3 +19,5 @@ pub mod Desk
 pub mod Kept
 pub mod Horizon
 pub mod Apart
+pub mod Plain
+pub mod Gathered

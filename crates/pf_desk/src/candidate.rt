@@ -1,9 +1,10 @@
-ghost use Rattle.std.specs.Prelude.{◌≡◌, ◌<◌, ◌≤◌, None, IfOk, IfSome};
+ghost use Rattle.std.specs.Prelude.{◌≡◌, ◌<◌, ◌≤◌, None, Some, IfOk, IfSome};
 ghost use Rattle.pf_order.specs.Counted.{CountsAtMost};
 ghost use Rattle.pf_scenario.specs.Scenario.{slot_touched};
 ghost use Rattle.pf_scenario.specs.Edit.{edit_fault};
 ghost use Rattle.pf_timeline.specs.Timeline.{StandsFor};
 ghost use Rattle.pf_desk.specs.Apart.{IsCandidate};
+ghost use Rattle.pf_desk.specs.Desk.{most_replayed};
 
 use pf_order::meter::Meter;
 use pf_scenario::change::Change;
@@ -24,7 +25,8 @@ pub struct Candidate {
 
 impl Candidate {
     /// The candidate of a change without a fault, whose least touched slot `from` is below now, where the timeline stands
-    /// for the scenario. Counts at most as many slots as the timeline has, with an error too.
+    /// for the scenario. Counts at most as many slots as lie from it to now and as two checkpoints lie apart, and at most
+    /// now, with an error too.
     ///
     /// # Errors
     ///
@@ -41,7 +43,7 @@ impl Candidate {
         requires touched { slot_touched scenario.now change ≡ Some from }
         requires below { from < timeline.now.now }
         ensures candidate { IfOk result (λ c. IsCandidate scenario.now timeline.now.now timeline.now.every change c) }
-        ensures at_most { CountsAtMost timeline.now.now meter.old meter.new }
+        ensures at_most { CountsAtMost (most_replayed timeline.now.now timeline.now.every (Some from)) meter.old meter.new }
         ensures compared { meter.old.compared ≤ meter.new.compared }
     {
         let mut changed = scenario.copy()?;

@@ -1,3 +1,6 @@
+ghost use Rattle.std.specs.Prelude.{IsTrue, ◌↔◌};
+ghost use Rattle.pf_desk.specs.Plain.{IsPlain};
+
 use pf_scenario::change::Change;
 
 /// What a caller asks of the desk.
@@ -12,4 +15,16 @@ pub enum Command {
     },
     /// The next slot.
     Step,
+}
+
+impl Command {
+    /// Whether it is an edit that is not strict.
+    pub fn is_plain(&self) -> bool
+        ensures { IsTrue result ↔ IsPlain self.now }
+    {
+        match self {
+            Command::Edit { strict, .. } => !*strict,
+            Command::Step => false,
+        }
+    }
 }

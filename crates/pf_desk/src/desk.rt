@@ -1,4 +1,4 @@
-ghost use Rattle.std.specs.Prelude.{ℕ, if◌then◌else◌, ◌≡◌, ◌⊎◌, ◌<◌, ◌≤◌, ◌+◌, ◌*◌, ◌↔◌, max, [], length, take, All, None, IfOk, IfSome, OnOk, OnErr, Some, Err};
+ghost use Rattle.std.specs.Prelude.{ℕ, if◌then◌else◌, ◌≡◌, ◌⊎◌, ◌<◌, ◌≤◌, ◌+◌, ◌*◌, ◌↔◌, max, [], length, map, take, All, None, IfOk, IfSome, OnOk, OnErr, Some, Err};
 ghost use Rattle.std.specs.List.{slice_get, slice_index_or};
 ghost use Rattle.pf_order.specs.Counts.{one_more};
 ghost use Rattle.pf_order.specs.Counted.{CountsAtMost};
@@ -14,8 +14,11 @@ ghost use Rattle.pf_desk.specs.declared.reply.Reply.TheVariants.{Refused};
 ghost use Rattle.pf_desk.specs.declared.reply.Fault.TheVariants.{WouldDeny};
 ghost use Rattle.pf_desk.specs.Machine.{opening_state, reply_to, IsStepped};
 ghost use Rattle.pf_desk.specs.Apart.{IsCandidate, IsOutcome};
-ghost use Rattle.pf_desk.specs.Desk.{IsDesk, IsAsBefore, AnswersCaller, AnswersAll, LeavesRest, Handles, IsUncounted, most_slots, StandsForHistory, seen_of, IsReadyFor, MakesReady};
+ghost use Rattle.pf_desk.specs.Plain.{IsPlain, ArePlainFrom};
+ghost use Rattle.pf_desk.specs.Gathered.{IsBatch, AnswersFirst};
+ghost use Rattle.pf_desk.specs.Desk.{IsDesk, IsAsBefore, AnswersCaller, AnswersAll, LeavesRest, Handles, IsUncounted, most_replayed, most_slots, StandsForHistory, seen_of, IsReadyFor, MakesReady};
 
+use crate::batch::Batch;
 use crate::candidate::Candidate;
 use crate::command::Command;
 use crate::entry::Entry;
@@ -87,8 +90,8 @@ impl Desk {
     }
 
     /// Answers the caller's command as the machine does, and enters it. A step counts one slot, with want of memory and
-    /// at the horizon none. An edit counts at most as many slots as were stepped, with want of memory too; one that is
-    /// refused for its fault, or that touches no slot below now, counts none.
+    /// at the horizon none. An edit whose least touched slot s is below now counts at most now - s slots and the distance
+    /// of two checkpoints, and at most now, refused or not, with want of memory too; any other edit counts none.
     ///
     /// # Errors
     ///
@@ -106,7 +109,7 @@ impl Desk {
 
         // A slot that was taken counts one.
         ensures counted { IfOk result (λ reply. IsStepped reply → meter.new.slots ≡ one_more meter.old.slots) }
-        ensures at_most { CountsAtMost (most_slots self.old.state command) meter.old meter.new }
+        ensures at_most { CountsAtMost (most_slots self.old command) meter.old meter.new }
         ensures uncounted { IsUncounted self.old.state command → meter.new ≡ meter.old }
         ensures wanting { OnErr result (command ≡ Step → meter.new ≡ meter.old) }
         ensures compared { meter.old.compared ≤ meter.new.compared }
@@ -137,7 +140,7 @@ impl Desk {
 
         // A slot that was taken counts one.
         ensures counted { IfOk result (λ p. IsStepped p.entry.reply → meter.new.slots ≡ one_more meter.old.slots) }
-        ensures at_most { CountsAtMost (most_slots self.old.state command) meter.old meter.new }
+        ensures at_most { CountsAtMost (most_slots self.old command) meter.old meter.new }
         ensures uncounted { IsUncounted self.old.state command → meter.new ≡ meter.old }
         ensures compared { meter.old.compared ≤ meter.new.compared }
     {
@@ -222,7 +225,7 @@ impl Desk {
     fn outcome(&self, meter: &mut Meter, command: Command) -> Result<Outcome, AllocError>
         ensures outcome { IfOk result (λ o. IsOutcome self.now command o) }
         ensures counted { IfOk result (λ o. IsStepped o.reply → meter.new.slots ≡ one_more meter.old.slots) }
-        ensures at_most { CountsAtMost (most_slots self.now.state command) meter.old meter.new }
+        ensures at_most { CountsAtMost (most_slots self.now command) meter.old meter.new }
         ensures uncounted { IsUncounted self.now.state command → meter.new ≡ meter.old }
         ensures compared { meter.old.compared ≤ meter.new.compared }
     {
@@ -263,7 +266,7 @@ impl Desk {
     fn edited(&self, meter: &mut Meter, change: Change, strict: bool) -> Result<Outcome, AllocError>
         ensures outcome { IfOk result (λ o. IsOutcome self.now (Edit change strict) o) }
         ensures edited { IfOk result (λ o. ¬ IsStepped o.reply) }
-        ensures at_most { CountsAtMost self.now.state.now meter.old meter.new }
+        ensures at_most { CountsAtMost (most_slots self.now (Edit change strict)) meter.old meter.new }
         ensures uncounted { IsUncounted self.now.state (Edit change strict) → meter.new ≡ meter.old }
         ensures compared { meter.old.compared ≤ meter.new.compared }
     {
@@ -290,7 +293,7 @@ impl Desk {
     fn candidate(&self, meter: &mut Meter, change: Change) -> Result<Candidate, AllocError>
         requires { edit_fault self.now.state.plan change ≡ None }
         ensures candidate { IfOk result (λ c. IsCandidate self.now.state.plan self.now.state.now self.now.every change c) }
-        ensures at_most { CountsAtMost self.now.state.now meter.old meter.new }
+        ensures at_most { CountsAtMost (most_replayed self.now.state.now self.now.every (slot_touched self.now.state.plan change)) meter.old meter.new }
         ensures uncounted { IfSome (slot_touched self.now.state.plan change) (λ t. self.now.state.now ≤ t) → meter.new ≡ meter.old }
         ensures compared { meter.old.compared ≤ meter.new.compared }
     {
@@ -320,12 +323,16 @@ impl Desk {
         })
     }
 
-    /// Answers the caller's commands one after another. Counts at most one slot for each command where all are steps,
-    /// else at most as many for each as are stepped in the end, or one where none is.
+    /// Answers the caller's commands one after another, each as the machine does at its point. Plain edits that follow one
+    /// another count no more slots together than one edit that touches the least slot of theirs: where all commands are
+    /// plain edits that have a fault or touch no slot below s, at most now - s slots in all and the distance of two
+    /// checkpoints. Counts at most one slot for each command where all are steps, else at most as many for each as are
+    /// stepped in the end, or one where none is.
     ///
     /// # Errors
     ///
-    /// Where memory is refused: the commands before that one were answered.
+    /// Where memory is refused: the first commands were answered, as many as came before a step or an edit that wanted it,
+    /// and of plain edits that follow one another all or none.
     pub fn apply_all(
         &mut self,
         meter: &mut Meter,
@@ -338,13 +345,129 @@ impl Desk {
         ensures desk { IsDesk self.new }
         ensures at_most { CountsAtMost (length commands.now * max 1 self.new.state.now) meter.old meter.new }
         ensures steps { All (λ c. c ≡ Step) commands.now → CountsAtMost (length commands.now) meter.old meter.new }
+        ensures plain { (s : ℕ) → ArePlainFrom s self.old.state commands.now →
+            CountsAtMost (most_replayed self.old.state.now self.old.every (Some s)) meter.old meter.new }
         ensures compared { meter.old.compared ≤ meter.new.compared }
     {
         // A field is read, so that what holds of every desk is known also where there is no command.
         let _ = &self.history;
-        for command in commands {
-            let _ = self.apply(meter, caller, *command)?;
+        let mut done = 0;
+        while done < commands.len() {
+            done += self.apply_front(meter, caller, &commands[done..])?;
         }
+        Ok(())
+    }
+
+    /// Answers the plain edits that the commands begin with, or else the first command, and gives how many these are.
+    fn apply_front(
+        &mut self,
+        meter: &mut Meter,
+        caller: u32,
+        commands: &[Command],
+    ) -> Result<usize, AllocError>
+        requires { 0 < length commands.now }
+        ensures ok { IfOk result (λ k. AnswersFirst k caller commands.now self.old self.new) }
+        ensures err { OnErr result (IsAsBefore self.old self.new) }
+        ensures desk { IsDesk self.new }
+        ensures at_most { CountsAtMost (max 1 self.old.state.now) meter.old meter.new }
+        ensures steps { All (λ c. c ≡ Step) commands.now → CountsAtMost 1 meter.old meter.new }
+        ensures plain { (s : ℕ) → ArePlainFrom s self.old.state commands.now →
+            CountsAtMost (most_replayed self.old.state.now self.old.every (Some s)) meter.old meter.new }
+        ensures whole { All IsPlain commands.now → IfOk result (λ k. k ≡ length commands.now) }
+        ensures compared { meter.old.compared ≤ meter.new.compared }
+    {
+        let plain = plain_edits(commands);
+        if plain > 1 {
+            self.edit_all(meter, caller, &commands[..plain])?;
+            return Ok(plain);
+        }
+        let _ = self.apply(meter, caller, commands[0])?;
+        Ok(1)
+    }
+
+    /// Answers the caller's plain edits one after another: each is judged behind those before it, and the slots are replayed
+    /// once.
+    fn edit_all(
+        &mut self,
+        meter: &mut Meter,
+        caller: u32,
+        commands: &[Command],
+    ) -> Result<(), AllocError>
+        requires { All IsPlain commands.now }
+        ensures ok { OnOk result (AnswersAll caller commands.now self.old self.new) }
+        ensures err { OnErr result (IsAsBefore self.old self.new) }
+        ensures desk { IsDesk self.new }
+        ensures within { CountsAtMost self.old.state.now meter.old meter.new }
+        ensures from { (s : ℕ) → ArePlainFrom s self.old.state commands.now →
+            CountsAtMost (most_replayed self.old.state.now self.old.every (Some s)) meter.old meter.new }
+        ensures compared { meter.old.compared ≤ meter.new.compared }
+    {
+        let alloc = *self.history.allocator();
+        let mut batch = Batch::new(alloc, caller, self.scenario.copy()?, self.timeline.now());
+        for command in commands {
+            match *command {
+                Command::Edit { change, strict: _ } => batch.judge(change)?,
+                Command::Step => unreachable!(),
+            }
+        }
+        self.enter(meter, batch)
+    }
+
+    /// Makes a batch of edits of this desk.
+    fn enter(&mut self, meter: &mut Meter, batch: Batch) -> Result<(), AllocError>
+        requires { IsBatch self.old batch }
+        ensures ok { OnOk result (AnswersAll batch.caller (map (λ e. e.command) batch.entries.items) self.old self.new) }
+        ensures err { OnErr result (IsAsBefore self.old self.new) }
+        ensures desk { IsDesk self.new }
+        ensures at_most { CountsAtMost (most_replayed self.old.state.now self.old.every (Some batch.from)) meter.old meter.new }
+        ensures compared { meter.old.compared ≤ meter.new.compared }
+    {
+        if batch.from < self.timeline.now() {
+            self.enter_past(meter, batch)
+        } else {
+            self.enter_ahead(batch)
+        }
+    }
+
+    /// Makes a batch of edits that touch no slot below now: the run so far stays.
+    fn enter_ahead(&mut self, batch: Batch) -> Result<(), AllocError>
+        requires batch { IsBatch self.old batch }
+        requires ahead { self.old.state.now ≤ batch.from }
+        ensures ok { OnOk result (AnswersAll batch.caller (map (λ e. e.command) batch.entries.items) self.old self.new) }
+        ensures err { OnErr result (IsAsBefore self.old self.new) }
+        ensures desk { IsDesk self.new }
+    {
+        let Batch {
+            caller: _,
+            scenario,
+            from: _,
+            mut entries,
+        } = batch;
+        self.history.append(&mut entries)?;
+        self.scenario = scenario;
+        Ok(())
+    }
+
+    /// Makes a batch of edits that touch slots below now: the run so far is replayed apart, once for all of them.
+    fn enter_past(&mut self, meter: &mut Meter, batch: Batch) -> Result<(), AllocError>
+        requires batch { IsBatch self.old batch }
+        requires below { batch.from < self.old.state.now }
+        ensures ok { OnOk result (AnswersAll batch.caller (map (λ e. e.command) batch.entries.items) self.old self.new) }
+        ensures err { OnErr result (IsAsBefore self.old self.new) }
+        ensures desk { IsDesk self.new }
+        ensures at_most { CountsAtMost (most_replayed self.old.state.now self.old.every (Some batch.from)) meter.old meter.new }
+        ensures compared { meter.old.compared ≤ meter.new.compared }
+    {
+        let Batch {
+            caller: _,
+            scenario,
+            from,
+            mut entries,
+        } = batch;
+        let timeline = self.timeline.rewritten(meter, from, &scenario)?;
+        self.history.append(&mut entries)?;
+        self.scenario = scenario;
+        self.timeline = timeline;
         Ok(())
     }
 
@@ -478,7 +601,7 @@ impl Desk {
     ) -> Result<Reply, AllocError>
         ensures handles { Handles caller (Edit change strict) self.old result self.new }
         ensures edited { IfOk result (λ reply. ¬ IsStepped reply) }
-        ensures at_most { CountsAtMost self.old.state.now meter.old meter.new }
+        ensures at_most { CountsAtMost (most_slots self.old (Edit change strict)) meter.old meter.new }
         ensures uncounted { IsUncounted self.old.state (Edit change strict) → meter.new ≡ meter.old }
         ensures compared { meter.old.compared ≤ meter.new.compared }
     {
@@ -529,7 +652,7 @@ impl Desk {
         requires below { from < self.old.state.now }
         ensures handles { Handles caller (Edit change strict) self.old result self.new }
         ensures edited { IfOk result (λ reply. ¬ IsStepped reply) }
-        ensures at_most { CountsAtMost self.old.state.now meter.old meter.new }
+        ensures at_most { CountsAtMost (most_replayed self.old.state.now self.old.every (Some from)) meter.old meter.new }
         ensures compared { meter.old.compared ≤ meter.new.compared }
     {
         let candidate = Candidate::after(meter, &self.scenario, &self.timeline, from, change)?;
@@ -608,4 +731,20 @@ fn fill(row: &mut Row, rows: &Rows, slot: u64)
         Some(taken) => row.assign(taken),
         None => unreachable!(),
     }
+}
+
+/// How many plain edits the commands begin with.
+fn plain_edits(commands: &[Command]) -> usize
+    ensures within { result ≤ length commands.now }
+    ensures plain { All IsPlain (take result commands.now) }
+    ensures whole { All IsPlain commands.now → result ≡ length commands.now }
+{
+    let mut count = 0;
+    for command in commands {
+        if !command.is_plain() {
+            return count;
+        }
+        count += 1;
+    }
+    count
 }

@@ -2,6 +2,7 @@
 //! shows is the run from slot zero of the scenario as it now stands.
 #![tactic(auto)]
 
+mod batch;
 mod candidate;
 pub mod command;
 pub mod desk;

@@ -9,3 +9,4 @@ pub mod Laws
 pub mod TimeOrder
 pub mod Place
 pub mod Index
+pub mod Sharing

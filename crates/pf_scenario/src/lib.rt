@@ -14,4 +14,5 @@ mod limits;
 mod place;
 pub mod scenario;
 pub mod settings;
+mod shared_agenda;
 mod tables;

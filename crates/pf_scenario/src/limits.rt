@@ -9,10 +9,10 @@ use pf_weight::task::LARGEST_TASK;
 use pf_weight::weight::Weight;
 
 /// The most slots that a subtask may run before its release.
-const MOST_EARLY: u64 = 1 << 20;
+pub const MOST_EARLY: u64 = 1 << 20;
 
 /// The most slots of a delay.
-const LONGEST_DELAY: u64 = 1 << 20;
+pub const LONGEST_DELAY: u64 = 1 << 20;
 
 /// `TaskOutOfRange` where the task is not 1 to 4,095.
 fn check_task(task: u64) -> Result<(), EditFault>

@@ -8,7 +8,6 @@ ghost use Rattle.pf_scenario.specs.declared.fault.EditFault.TheVariants.{EventNo
 ghost use Rattle.pf_scenario.specs.declared.change.Change.TheVariants.{Insert, Alter, Strike};
 ghost use Rattle.pf_scenario.specs.declared.apply_fault.ApplyFault.TheVariants.{Refused};
 
-use crate::agenda::Agenda;
 use crate::apply_fault::ApplyFault;
 use crate::change::Change;
 use crate::event::{Event, Numbered};
@@ -16,6 +15,7 @@ use crate::events::Events;
 use crate::fault::EditFault;
 use crate::limits::check_limits;
 use crate::settings::Settings;
+use crate::shared_agenda::SharedAgenda;
 use std::alloc::{AllocError, Global};
 use std::marker::Model;
 
@@ -29,7 +29,7 @@ pub const LAST_NUMBER: u64 = 1_048_575;
 #[derive(Debug, Drop)]
 pub struct Scenario {
     settings: Settings,
-    events: Agenda,
+    events: SharedAgenda,
     next: u64,
 }
 
@@ -54,7 +54,7 @@ impl Scenario {
         let _ = settings.horizon();
         Scenario {
             settings,
-            events: Agenda::new(alloc),
+            events: SharedAgenda::new(alloc),
             next: 1,
         }
     }
@@ -172,7 +172,7 @@ impl Scenario {
                 Ok(id)
             }
             Change::Strike(id) => {
-                self.strike(id);
+                self.strike(id)?;
                 Ok(id)
             }
         }
@@ -203,12 +203,14 @@ impl Scenario {
     }
 
     /// Drops the event of this number.
-    fn strike(&mut self, id: u64)
+    fn strike(&mut self, id: u64) -> Result<(), AllocError>
         requires { edit_fault self.old (Strike id) ≡ None }
-        ensures value { self.new ≡ plan_after self.old (Strike id) }
+        ensures ok { OnOk result (self.new ≡ plan_after self.old (Strike id)) }
+        ensures err { OnErr result (self.new ≡ self.old) }
         ensures scenario { IsScenario self.new }
     {
-        self.events.take_out(id);
+        self.events.take_out(id)?;
+        Ok(())
     }
 
     /// The least slot that the change touches: for an alter the lower of the old slot and the new. `None` where no
@@ -271,7 +273,7 @@ impl Scenario {
         self.settings
     }
 
-    /// An equal scenario.
+    /// An equal scenario, which shares its events with this one until either is changed.
     ///
     /// # Errors
     ///

@@ -24,7 +24,6 @@ use std::snapshot::Snapshot;
 pub const LARGEST_DISTANCE: u64 = 4096;
 
 /// The kept run of a scenario: the rows and the denials of its first slots.
-#[derive(Drop)]
 pub struct Timeline {
     rows: Rows,
     denials: Vec<Denied>,
@@ -34,6 +33,19 @@ pub struct Timeline {
 
     /// The scenario whose run this is, which clauses alone see.
     scenario: Snapshot<Scenario>,
+}
+
+// A call of its own, so that who drops a timeline sees none of its parts.
+impl Drop for Timeline {
+    fn drop(self) {
+        let Timeline {
+            rows: _,
+            denials: _,
+            engine: _,
+            checkpoints: _,
+            scenario: _,
+        } = self;
+    }
 }
 
 impl Model for Timeline {

@@ -1,27 +1,39 @@
-use Rattle.std.proofs.Common.{ap, arith}
-use Rattle.pf_desk.proofs.Batches.{answers_turn}
-use Rattle.pf_desk.proofs.Metered.{answered_later, counts_turn, steps_turn}
+use Rattle.std.proofs.Common.{◌≡◌, length, drop, All, sym, ap, ◌∙◌, subst, arith}
+use Rattle.std.proofs.lemmas.List.{length-drop, take_rest}
+use Rattle.std.proofs.lemmas.List.Elements.{All-drop}
+use Rattle.pf_desk.specs.declared.command.Command.TheVariants.{Step}
+use Rattle.pf_desk.specs.Plain.{IsPlain, ArePlainFrom}
+use Rattle.pf_desk.specs.Gathered.{AnswersFirst}
+use Rattle.pf_desk.proofs.Gathering.{answers_then, plain_turn}
+use Rattle.pf_desk.proofs.Metered.{all_later, counts_front}
 use Rattle.pf_desk.proofs.desk.Desk.apply_all.Goals as goal
 
-pub loop-command-preserved : goal.loop-command-preserved
-loop-command-preserved c =
-    let later = answered_later _ _ _ _ _ c.in_ok-apply.ensures.ok in
+pub loop-done-preserved : goal.loop-done-preserved
+loop-done-preserved c =
+    let i = c.loop-done.done in
+    let k = c.in_ok-done.field-0 in
+    let commands = c.args.commands.now in
+    let rest = take_rest commands i in
+    let front : AnswersFirst k c.args.caller (drop i commands) c.loop-done.self c.apply_front.new.self =
+    subst (λ cs. AnswersFirst k c.args.caller cs c.loop-done.self c.apply_front.new.self) rest c.in_ok-done.ensures.ok in
+    let later = all_later _ _ _ _ front.answers in
     record {
-      answered = answers_turn _ _ _ _ _ _ _ _ c.loop-command-test.true c.loop-command.invariant.answered c.in_ok-apply.ensures.ok;
-      desk = c.apply.ensures.desk;
-      counted = counts_turn c.loop-command.self.state c.apply.new.self.state _ _ _ _ _ _ (omega arith) later c.loop-command.invariant.counted c.apply.ensures.at_most;
+      within = omega (arith, front.within, length-drop i commands, c.loop-done-test.true);
+      answered = answers_then c.args.caller commands i k _ _ _ c.loop-done.invariant.answered front;
+      desk = c.apply_front.ensures.desk;
+      counted = counts_front c.loop-done.self c.apply_front.new.self i k _ _ _ front.some later c.loop-done.invariant.counted
+          c.apply_front.ensures.at_most;
       compared = omega arith;
       stepped = λ steps.
-          steps_turn c.loop-command.self.state _ _ _ _ _ _ _ c.loop-command-test.true (omega arith) steps (c.loop-command.invariant.stepped steps)
-          c.apply.ensures.at_most;
+          let before = c.loop-done.invariant.stepped steps in
+          let more = c.apply_front.ensures.steps (subst (All (λ c. c ≡ Step)) (sym rest) (All-drop (λ c. c ≡ Step) i commands steps)) in
+          record {
+            never_falls = omega (arith, before.never_falls, more.never_falls);
+            at_most = omega (arith, before.at_most, more.at_most, front.some);
+          };
+      plain = λ s plain.
+          plain_turn s c.args.self.now c.loop-done.self c.apply_front.new.self commands i k c.args.meter.now c.loop-done.meter c.apply_front.new.meter
+          c.loop-done-test.true plain (c.loop-done.invariant.plain s plain)
+          (λ t from. c.apply_front.ensures.plain t (subst (ArePlainFrom t c.loop-done.self.state) (sym rest) from))
+          (λ all. c.in_ok-done.ensures.whole (subst (All IsPlain) (sym rest) all) ∙ ap length rest);
     }
-
-pub returns-in_err-apply-clause-at_most : goal.returns-in_err-apply-clause-at_most
-returns-in_err-apply-clause-at_most c =
-    let same = ap (λ d. d.state.now) c.in_err-apply.ensures.err in
-    counts_turn c.loop-command.self.state c.apply.new.self.state _ _ _ _ _ _ c.loop-command-test.true (omega arith) c.loop-command.invariant.counted c.apply.ensures.at_most
-
-pub returns-in_err-apply-clause-steps : goal.returns-in_err-apply-clause-steps
-returns-in_err-apply-clause-steps c = λ steps.
-    steps_turn c.loop-command.self.state _ _ _ _ _ _ _ c.loop-command-test.true c.loop-command-test.true steps
-    (c.loop-command.invariant.stepped steps) c.apply.ensures.at_most

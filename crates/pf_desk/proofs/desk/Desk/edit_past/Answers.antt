@@ -1,4 +1,4 @@
-use Rattle.std.proofs.Common.{◌∙◌, sym}
+use Rattle.std.proofs.Common.{◌∙◌, sym, arith}
 use Rattle.std.proofs.lemmas.Result.{err_from_is_err_and}
 use Rattle.pf_desk.proofs.Entering.{Edits, edited_kept, edited_handles, wanted_handles}
 use Rattle.pf_desk.proofs.desk.Desk.edit_past.Goals as goal
@@ -27,4 +27,4 @@ returns-clause-handles c = rw (← c.self.view_is) (edited_handles _ _ _ _ _ _ _
 pub returns-in_err-reserve-clause-handles : goal.returns-in_err-reserve-clause-handles
 returns-in_err-reserve-clause-handles c =
     let wanted = err_from_is_err_and c.from_residual-in_err-reserve.result c.from_residual-in_err-reserve.ensures.1 in
-    rw (← c.self.view_is, wanted.1) (wanted_handles _ _ _ _ _ _ _ _ _ c.self.invariant c.reserve.ensures.items)
+    rw (← c.self.view_is, wanted.1) (wanted_handles _ _ _ _ _ _ _ _ _ c.self.invariant c.reserve.ensures.items (omega arith))

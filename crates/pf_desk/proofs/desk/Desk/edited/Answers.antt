@@ -1,4 +1,4 @@
-use Rattle.std.proofs.Common.{◌≡◌, None, sym, ap, ◌∙◌}
+use Rattle.std.proofs.Common.{sym, ap, ◌∙◌}
 use Rattle.pf_desk.specs.declared.reply.Reply.TheVariants.{Refused}
 use Rattle.pf_desk.proofs.Readying.{candidate_outcome, candidate_denied}
 use Rattle.pf_desk.proofs.desk.Desk.edited.Goals as goal

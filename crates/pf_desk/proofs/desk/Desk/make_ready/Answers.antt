@@ -1,4 +1,4 @@
-use Rattle.std.proofs.Common.{◌≡◌, ◌+◌, ◌-◌, length, vec_len, vec_capacity, ap, ◌∙◌, arith}
+use Rattle.std.proofs.Common.{◌+◌, ◌-◌, vec_len, vec_capacity, ap, ◌∙◌, arith}
 use Rattle.std.specs.Arc.{arc_value}
 use Rattle.pf_desk.proofs.Readying.{Readies, made_ready, makes_ready, stood_of_run}
 use Rattle.pf_desk.proofs.desk.Desk.make_ready.Goals as goal

@@ -1,4 +1,4 @@
-use Rattle.std.proofs.Common.{◌≡◌, refl, sym, ap, ◌∙◌, subst}
+use Rattle.std.proofs.Common.{subst, arith}
 use Rattle.std.proofs.lemmas.Result.{IfOk-weaker}
 use Rattle.pf_desk.specs.Machine.{IsStepped}
 use Rattle.pf_desk.proofs.Readying.{as_before, ready_before}
@@ -8,7 +8,7 @@ pub returns-clause-ok : goal.returns-clause-ok
 returns-clause-ok c =
     IfOk-weaker c.make_ready.result _ _
     (λ p made. ready_before c.args.caller c.args.command c.args.self.now _ p
-    (rw (← c.self.view_is) (as_before c.self.inside.scenario c.self.inside.timeline _ _ 0 _ c.in_ok-reserve.ensures.items)) made)
+    (rw (← c.self.view_is) (as_before c.self.inside.scenario c.self.inside.timeline _ _ _ _ c.in_ok-reserve.ensures.items (omega arith))) made)
     c.make_ready.ensures.ready
 
 pub returns-clause-ready : goal.returns-clause-ready

@@ -5,8 +5,8 @@ use Rattle.pf_scenario.proofs.scenario.Scenario.strike.Goals as goal
 pub take_out-requires : goal.take_out-requires
 take_out-requires c = strike_held _ _ c.args.id c.self.view_is c.requires
 
-pub invariant_of-self : goal.invariant_of-self
-invariant_of-self c = rw c.take_out.ensures (changed_scenario _ _ (Strike c.args.id) c.self.view_is c.self.invariant c.requires)
+pub invariant_of-self-2 : goal.invariant_of-self-2
+invariant_of-self-2 c = rw c.in_ok-take_out.ensures.ok (changed_scenario _ _ (Strike c.args.id) c.self.view_is c.self.invariant c.requires)
 
 pub returns-clause-scenario : goal.returns-clause-scenario
-returns-clause-scenario c = invariant_of-self c
+returns-clause-scenario c = invariant_of-self-2 c

@@ -3,7 +3,7 @@ use Rattle.std.proofs.Common.{◌≡◌, ◌<◌, ◌/◌, length, get_or, sym, 
 use Rattle.std.proofs.lemmas.List.{length-take-le}
 use Rattle.pf_timeline.specs.Timeline.{past_below}
 use Rattle.pf_timeline.proofs.Past.{stands_kept}
-use Rattle.pf_timeline.proofs.Points.{agreed_past, front_rows_few, front_denials_few, front_not_behind, front_near, front_run, front_points}
+use Rattle.pf_timeline.proofs.Points.{last_at, agreed_past, front_rows_few, front_denials_few, front_not_behind, front_near, front_run, front_points}
 use Rattle.pf_timeline.proofs.timeline.Timeline.front.Goals as goal
 
 pub first_rows-requires : goal.first_rows-requires
@@ -75,3 +75,9 @@ returns-clause-near c =
     let is = c.get-start.ensures ∙ ap (λ v. get_or c.self.inside.checkpoints.points (c.args.from / v) c.get-start.result.now) c.every.ensures in
     let every : c.self.inside.checkpoints.every ≡ c.args.self.now.every = ap (λ t. t.every) c.self.view_is in
     omega (arith, every, ap (λ e. e.now) c.in_ok-copy.ensures, front_near _ _ _ c.args.from _ _ _ _ c.self.invariant below c.settings.ensures.scenario same _ is)
+
+pub first-requires : goal.first-requires
+first-requires c =
+    let now : c.self.inside.engine.now ≡ c.args.self.now.now = ap (λ t. t.now) c.self.view_is in
+    let below : c.args.from < c.self.inside.engine.now = omega (arith, now, c.requires.below) in
+    omega (arith, ap (λ v. c.args.from / v) c.every.ensures, (last_at _ _ c.args.from _ c.self.invariant.points below).some)

@@ -1,0 +1,188 @@
+ghost use Rattle.std.specs.Prelude.{◌≡◌, ◌<◌, true, ◌∷◌, [], ◌++◌, length, filter, All, IfOk, OnOk, OnErr};
+ghost use Rattle.std.specs.List.{list_any};
+ghost use Rattle.pf_scenario.specs.Event.{is_of_slot, in_run_order};
+ghost use Rattle.pf_scenario.specs.Scenario.{with_number, is_held, events_without};
+ghost use Rattle.pf_scenario.specs.Edit.{join_alike, leave_alike};
+ghost use Rattle.pf_scenario.specs.Index.{IsNewEvent, event_at, with_event};
+
+use crate::agenda::Agenda;
+use crate::event::{Event, Numbered};
+use crate::events::Events;
+use std::alloc::{AllocError, Global};
+use std::marker::Model;
+use std::sync::Arc;
+
+/// An agenda that copies share. A change is made in place where nobody else has it, and else on a copy of it.
+#[derive(Debug, Drop)]
+pub struct SharedAgenda {
+    alloc: Global,
+
+    /// No events, for as long as nothing is shared.
+    empty: Agenda,
+    shared: Option<Arc<Agenda>>,
+}
+
+impl Model for SharedAgenda {
+    ghost use Rattle.std.specs.Prelude.{List};
+    ghost use Rattle.pf_scenario.specs.declared.event.Numbered.{Numbered};
+    ghost use Rattle.pf_scenario.specs.Sharing.{events_shared};
+
+    ghost Value = { List Numbered };
+
+    ghost view = { λ a. events_shared a.empty a.shared };
+}
+
+impl SharedAgenda {
+    /// No events.
+    pub fn new(alloc: Global) -> Self
+        ensures { result ≡ [] }
+    {
+        SharedAgenda {
+            alloc,
+            empty: Agenda::new(alloc),
+            shared: None,
+        }
+    }
+
+    /// The agenda, to read.
+    fn agenda(&self) -> &Agenda
+        ensures { result.now ≡ self.now }
+    {
+        match &self.shared {
+            Some(agenda) => agenda,
+            None => &self.empty,
+        }
+    }
+
+    /// How many events are held.
+    pub fn len(&self) -> usize
+        ensures { result ≡ length self.now }
+    {
+        self.agenda().len()
+    }
+
+    /// The event of this number, where it is held.
+    pub fn get(&self, id: u64) -> Option<Event>
+        ensures { result ≡ event_at self.now id }
+    {
+        self.agenda().get(id)
+    }
+
+    /// Holds an event whose number is above all others.
+    ///
+    /// # Errors
+    ///
+    /// Where memory is refused: the events are as before.
+    pub fn push(&mut self, x: Numbered) -> Result<(), AllocError>
+        requires new { IsNewEvent x self.old }
+        requires last { All (λ y. y.id < x.id) self.old }
+        ensures ok { OnOk result (self.new ≡ self.old ++ x ∷ []) }
+        ensures err { OnErr result (self.new ≡ self.old) }
+    {
+        if let Some(shared) = &mut self.shared {
+            if let Some(agenda) = Arc::get_mut(shared) {
+                return agenda.push(x);
+            }
+        }
+        let mut changed = self.agenda().copy()?;
+        changed.push(x)?;
+        self.shared = Some(Arc::new(self.alloc, changed)?);
+        Ok(())
+    }
+
+    /// Takes the event of this number out, which is held.
+    ///
+    /// # Errors
+    ///
+    /// Where memory is refused: the events are as before. It takes none where nobody else has them.
+    pub fn take_out(&mut self, id: u64) -> Result<(), AllocError>
+        requires { is_held self.old id ≡ true }
+        ensures ok { OnOk result (self.new ≡ events_without id self.old) }
+        ensures err { OnErr result (self.new ≡ self.old) }
+    {
+        if let Some(shared) = &mut self.shared {
+            if let Some(agenda) = Arc::get_mut(shared) {
+                agenda.take_out(id);
+                return Ok(());
+            }
+        }
+        let mut changed = self.agenda().copy()?;
+        changed.take_out(id);
+        self.shared = Some(Arc::new(self.alloc, changed)?);
+        Ok(())
+    }
+
+    /// Puts the event in place of the one of this number, which is held.
+    ///
+    /// # Errors
+    ///
+    /// Where memory is refused: the events are as before.
+    pub fn replace(&mut self, id: u64, event: Event) -> Result<(), AllocError>
+        requires held { is_held self.old id ≡ true }
+        requires new { IsNewEvent (with_number id event) (events_without id self.old) }
+        ensures ok { OnOk result (self.new ≡ with_event id event self.old) }
+        ensures err { OnErr result (self.new ≡ self.old) }
+    {
+        if let Some(shared) = &mut self.shared {
+            if let Some(agenda) = Arc::get_mut(shared) {
+                return agenda.replace(id, event);
+            }
+        }
+        let mut changed = self.agenda().copy()?;
+        changed.replace(id, event)?;
+        self.shared = Some(Arc::new(self.alloc, changed)?);
+        Ok(())
+    }
+
+    /// Whether an event of another number than this one joins the task that the event joins.
+    pub fn joins_beside(&self, id: u64, event: &Event) -> bool
+        ensures { result ≡ list_any (λ x. join_alike x.event event.now) (events_without id self.now) }
+    {
+        self.agenda().joins_beside(id, event)
+    }
+
+    /// Whether an event of another number than this one leaves the task that the event leaves.
+    pub fn leaves_beside(&self, id: u64, event: &Event) -> bool
+        ensures { result ≡ list_any (λ x. leave_alike x.event event.now) (events_without id self.now) }
+    {
+        self.agenda().leaves_beside(id, event)
+    }
+
+    /// The events of slot t, in the order of a run.
+    ///
+    /// # Errors
+    ///
+    /// Where memory is refused.
+    pub fn of_slot(&self, t: u64) -> Result<Vec<Numbered>, AllocError>
+        ensures { IfOk result (λ v. v.items ≡ in_run_order (filter (is_of_slot t) self.now)) }
+    {
+        self.agenda().of_slot(t)
+    }
+
+    /// The events.
+    pub fn iter(&self) -> Events<'_>
+        ensures { result ≡ self.now }
+    {
+        self.agenda().iter()
+    }
+
+    /// The same events, shared.
+    ///
+    /// # Errors
+    ///
+    /// Where memory is refused.
+    pub fn copy(&self) -> Result<Self, AllocError>
+        ensures { IfOk result (λ a. a ≡ self.now) }
+    {
+        let empty = self.empty.copy()?;
+        let shared = match &self.shared {
+            Some(agenda) => Some(Arc::try_clone(agenda)?),
+            None => None,
+        };
+        Ok(SharedAgenda {
+            alloc: self.alloc,
+            empty,
+            shared,
+        })
+    }
+}
