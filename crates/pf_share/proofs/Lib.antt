@@ -1,5 +1,10 @@
 mod Adding
+mod Awaiting
+mod Entering
 mod Growing
+mod Issuing
+mod Limits
 mod Numbering
 mod Prefixes
 mod Publishing
+mod Rising

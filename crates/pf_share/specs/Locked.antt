@@ -12,14 +12,24 @@ use Rattle.pf_share.specs.Stories.{Origin, Stamped}
 abbrev pub origin_of : Boarding System → Book → Origin
 origin_of board book = record { book = book; settings = board.terms }
 
--- the desk keeps its promise; the keeper has seen its history, with no turn out and nothing left to issue; and that history is what is shown
-pub record IsLocked (board : Boarding System) (book : Book) (desk : Shown) (keeper : Keeping Entry System) (press : Book) (stamp shown : Stamped) : Type 0 where
+-- a desk whose history is shown: the desk, and what its keeper knows
+pub record Showing : Type 0 where
+  pub desk : Shown
+  pub keeper : Keeping Entry System
+
+-- the desk keeps its promise; the keeper has seen its history, with no turn out; and that history is what is shown
+pub record IsShownDesk (board : Boarding System) (book : Book) (desk : Shown) (keeper : Keeping Entry System) (press : Book) (stamp shown : Stamped) : Type 0 where
   pub is_desk : IsDesk desk
   pub settings : desk.state.plan.settings ≡ board.terms
+  pub processors : board.processors ≡ board.terms.processors
   pub keeper_board : keeper.board ≡ board.id
   pub has_turn : keeper.has_turn ≡ true
-  pub none_left : keeper.left ≡ []
   pub seen : keeper.seen ≡ numbered desk.history
   pub press_book : press ≡ book
   pub stamp_is : stamp ≡ record { origin = origin_of board book; history = desk.history }
   pub is_shown : shown ≡ stamp
+
+-- and nothing is left to issue: so the desk lies under the lock
+pub record IsLocked (board : Boarding System) (book : Book) (desk : Shown) (keeper : Keeping Entry System) (press : Book) (stamp shown : Stamped) : Type 0 where
+  pub is_shown_desk : IsShownDesk board book desk keeper press stamp shown
+  pub none_left : keeper.left ≡ []

@@ -1,4 +1,4 @@
-ghost use Rattle.std.specs.Prelude.{◌≡◌, ◌↔◌, ◌≤◌, ◌<◌, ◌^◌, [], IfOk, IsTrue, IsFalse, Err, vec_capacity};
+ghost use Rattle.std.specs.Prelude.{◌≡◌, ◌≢◌, ◌↔◌, ◌≤◌, ◌<◌, ◌^◌, [], IfOk, IfErr, IsTrue, IsFalse, Err, vec_capacity};
 ghost use Rattle.pf_board.specs.Passes.{new_passes};
 ghost use Rattle.pf_desk.specs.Desk.{IsDesk};
 ghost use Rattle.pf_desk.specs.Machine.{opening_state};
@@ -99,15 +99,36 @@ impl<H: Wait + Drop> Blank<H> {
         if !is_within(MOST_PASSES, passes) || !is_within(MOST_READERS, readers) {
             return Err(OpenFault::BadSettings);
         }
-        let desk = Desk::open(alloc, settings, every)?;
-        match Blank::founded(rt, alloc, settings, desk, passes as u32, readers as usize) {
+        match Desk::open(alloc, settings, every) {
+            Ok(desk) => Blank::opened(rt, alloc, settings, desk, passes as u32, readers as usize),
+            Err(fault) => Err(OpenFault::from(fault)),
+        }
+    }
+
+    /// The same, over a desk with these settings that has no history yet.
+    fn opened(
+        rt: H,
+        alloc: Global,
+        settings: Settings,
+        desk: Desk,
+        passes: u32,
+        readers: usize,
+    ) -> Result<Self, OpenFault>
+        requires desk { IsDesk desk × (desk.state ≡ opening_state settings) × (desk.history ≡ []) }
+        requires readers { (0 < readers) × (readers < 2 ^ 32) }
+        ensures scarce { IfErr result (λ fault. fault ≢ BadSettings) }
+        ensures settings { IfOk result (λ b. b.board.terms ≡ settings) }
+        ensures passes { IfOk result (λ b. b.passes ≡ new_passes b.board.id settings passes) }
+        ensures viewers { IfOk result (λ b. b.viewers ≡ new_viewers (origin_of b.board b.book) readers) }
+    {
+        match Blank::founded(rt, alloc, settings, desk, passes, readers) {
             Ok(blank) => Ok(blank),
             Err(Scarcity::NoViewer) => Err(OpenFault::NoViewer),
             Err(Scarcity::NoMemory) => Err(OpenFault::NoMemory),
         }
     }
 
-    /// The same, over a desk with these settings that has no history yet.
+    /// The same, but for why there is none.
     fn founded(
         rt: H,
         alloc: Global,

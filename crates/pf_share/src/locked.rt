@@ -1,41 +1,46 @@
-ghost use Rattle.std.specs.Prelude.{◌≡◌, OnOk, OnErr};
+ghost use Rattle.std.specs.Prelude.{◌≡◌, IfOk, IfErr, OnOk, OnErr};
 ghost use mathlib.Core.List.{IsPrefix};
-ghost use Rattle.pf_share.specs.Histories.{entries_of};
+ghost use Rattle.pf_board.specs.Passes.{AreOf, IsFront};
+ghost use Rattle.pf_desk.specs.declared.command.Command.TheVariants.{Edit, Step};
+ghost use Rattle.pf_desk.specs.Desk.{AnswersCaller, IsAsBefore};
+ghost use Rattle.pf_share.specs.Histories.{IsHistory, entries_of};
+ghost use Rattle.pf_share.specs.Ended.{EndsDesk};
+ghost use Rattle.pf_share.specs.Entered.{Enters, NamesOneOf};
 ghost use Rattle.pf_share.specs.Locked.{IsLocked, origin_of};
 
 use crate::calls::{DeskBoard, DeskKeeper, DeskPass};
+use crate::closed::Closed;
+use crate::done::Done;
 use crate::naming::Naming;
 use crate::press::Press;
 use crate::publisher::Publisher;
+use crate::shown_desk::ShownDesk;
 use crate::stamp::Stamp;
+use crate::step_refusal::StepRefusal;
+use crate::unclosed::Unclosed;
 use crate::viewer::Viewer;
+use pf_desk::command::Command;
 use pf_desk::desk::Desk;
-use pf_order::meter::Meter;
+use pf_scenario::change::Change;
 use std::alloc::AllocError;
-use std::marker::{Model, PhantomData};
+use std::marker::Model;
 use std::sync::Wait;
 
-/// What lies under the lock: a desk, and what shows its history. Contracts see the desk.
+/// What lies under the lock: a desk whose history is shown, with nothing left to issue. Contracts see the desk.
 #[derive(Drop)]
 pub struct Locked<N: Naming, H: Wait + Drop> {
-    desk: Desk,
-    meter: Meter,
-    keeper: DeskKeeper,
-    press: Press,
-    stamp: Stamp,
-    publisher: Publisher<H>,
-    of: PhantomData<N>,
+    shown: ShownDesk<N, H>,
 }
 
 impl<N: Naming, H: Wait + Drop> Model for Locked<N, H> {
+    ghost use Rattle.std.specs.Prelude.{◌≡◌, []};
     ghost use Rattle.pf_desk.specs.Desk.{Shown};
-    ghost use Rattle.pf_share.specs.Locked.{IsLocked};
 
     ghost Value = { Shown };
 
-    ghost view = { λ s. s.desk };
+    ghost view = { λ s. s.shown.desk };
 
-    ghost invariant = { λ s. IsLocked N.board N.book s.desk s.keeper s.press s.stamp s.publisher };
+    ghost invariant = { λ s. s.shown.keeper.left ≡ [] };
 }
 
 impl<N: Naming, H: Wait + Drop> Locked<N, H> {
@@ -51,13 +56,7 @@ impl<N: Naming, H: Wait + Drop> Locked<N, H> {
         ensures { result ≡ desk }
     {
         Locked {
-            desk,
-            meter: Meter::new(),
-            keeper,
-            press,
-            stamp,
-            publisher,
-            of: PhantomData,
+            shown: ShownDesk::new(desk, keeper, press, stamp, publisher),
         }
     }
 
@@ -82,10 +81,83 @@ impl<N: Naming, H: Wait + Drop> Locked<N, H> {
         ensures grew { IsPrefix viewer.old.told viewer.new.told }
         ensures not_told { OnErr result (viewer.new ≡ viewer.old) }
     {
-        board.tie(&mut self.keeper, pass);
-        if !viewer.learn(&self.stamp) {
-            return Err(AllocError);
+        self.shown.tell(board, pass, viewer)
+    }
+
+    /// Makes a change as the pass, and shows and enters the answer.
+    ///
+    /// # Errors
+    ///
+    /// Where memory is refused: the desk, but for its room, and the pass are as before.
+    pub(crate) fn edit(
+        &mut self,
+        rt: &impl Wait,
+        board: &DeskBoard,
+        pass: &mut DeskPass,
+        change: Change,
+        strict: bool,
+    ) -> Result<Done, AllocError>
+        requires board { (board.now ≡ N.board) × (pass.old.board ≡ N.board.id) }
+        ensures desk { IfOk result (λ d. AnswersCaller pass.old.me (Edit change strict) self.old d.reply self.new) }
+        ensures entered { IfOk result (λ d. Enters N.board.terms (Edit change strict) pass.old d pass.new) }
+        ensures same_desk { OnErr result (IsAsBefore self.old self.new) }
+        ensures same_pass { OnErr result (pass.new ≡ pass.old) }
+        ensures front { IsFront IsHistory pass.new }
+    {
+        self.shown
+            .enter(rt, board, pass, Command::Edit { change, strict })
+    }
+
+    /// Takes the next slot as the pass, shows and enters the answer, and issues the quanta of the row.
+    ///
+    /// # Errors
+    ///
+    /// `Pending` where a quantum lies untaken, `NoMemory` where memory is refused: the desk, but for its room, and the
+    /// pass are as before.
+    pub(crate) fn step(
+        &mut self,
+        rt: &impl Wait,
+        board: &DeskBoard,
+        pass: &mut DeskPass,
+    ) -> Result<Done, StepRefusal>
+        requires board { (board.now ≡ N.board) × (pass.old.board ≡ N.board.id) }
+        ensures desk { IfOk result (λ d. AnswersCaller pass.old.me Step self.old d.reply self.new) }
+        ensures entered { IfOk result (λ d. Enters N.board.terms Step pass.old d pass.new) }
+        ensures pending { IfErr result (NamesOneOf N.board.processors) }
+        ensures same_desk { OnErr result (IsAsBefore self.old self.new) }
+        ensures same_pass { OnErr result (pass.new ≡ pass.old) }
+        ensures front { OnOk result (IsFront IsHistory pass.new) }
+    {
+        self.shown.step(rt, board, pass)
+    }
+
+    /// The desk, and the quanta that nobody took.
+    ///
+    /// # Errors
+    ///
+    /// Where memory is refused: all comes back untouched.
+    pub(crate) fn close(
+        self,
+        rt: &impl Wait,
+        board: DeskBoard,
+        passes: Vec<DeskPass>,
+    ) -> Result<Closed, Unclosed<N, H>>
+        requires board { (board ≡ N.board) × AreOf N.board.id passes.items }
+        ensures desk { IfOk result (λ c. c.desk ≡ self) }
+        ensures closed { IfOk result (λ c. EndsDesk N.board passes.items c) }
+        ensures refused { IfErr result (λ u. (u.board ≡ board) × (u.locked ≡ self) × (u.passes.items ≡ passes.items)) }
+    {
+        let Locked { shown } = self;
+        match shown.close(rt, board, passes) {
+            Ok(closed) => Ok(closed),
+            Err((board, shown, passes)) => {
+                let locked = Locked { shown };
+                Err(Unclosed {
+                    board,
+                    locked,
+                    passes,
+                })
+            }
         }
-        Ok(())
     }
 }

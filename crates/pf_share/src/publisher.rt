@@ -100,6 +100,14 @@ impl<H: Wait + Drop> Publisher<H> {
         }
         published
     }
+
+    /// Shows no more. It waits for those that still read.
+    pub(crate) fn end(self, rt: &impl Wait) {
+        let Publisher { writer, rt: _ } = self;
+        if let Some(writer) = writer {
+            writer.take(rt);
+        }
+    }
 }
 
 /// A reader that was told what the writer knows.

@@ -1,20 +1,29 @@
-ghost use Rattle.std.specs.Prelude.{◌≡◌, ◌++◌, ◌∷◌, [], length, IfOk, OnOk, OnErr};
+ghost use Rattle.std.specs.Prelude.{◌≡◌, ◌++◌, ◌∷◌, [], length, IfOk, IfErr, OnOk, OnErr};
 ghost use Rattle.std.specs.Arc.{arc_value};
 ghost use mathlib.Core.List.{IsPrefix};
-ghost use Rattle.pf_board.specs.Passes.{IsFront};
+ghost use Rattle.pf_board.specs.Passes.{AreOf, IsFront};
 ghost use Rattle.pf_board.specs.Quanta.{AreApartQuanta};
 ghost use Rattle.pf_board.specs.Takes.{Takes};
+ghost use Rattle.pf_desk.specs.declared.command.Command.TheVariants.{Edit, Step};
 ghost use Rattle.pf_desk.specs.Desk.{StandsForHistory};
+ghost use Rattle.pf_share.specs.Ended.{EndsDesk};
+ghost use Rattle.pf_share.specs.Entered.{Enters, NamesOneOf};
 ghost use Rattle.pf_share.specs.Histories.{IsHistory, entries_of, quanta_of};
 ghost use Rattle.pf_share.specs.Locked.{origin_of};
 
 use crate::calls::{DeskBoard, DeskPass};
+use crate::closed::Closed;
+use crate::done::Done;
 use crate::locked::Locked;
 use crate::naming::Naming;
+use crate::opened::Opened;
+use crate::step_refusal::StepRefusal;
+use crate::unclosed::Unclosed;
 use crate::unread::Unread;
 use crate::viewer::Viewer;
 use pf_board::take::Take;
 use pf_desk::snapshot::Snapshot;
+use pf_scenario::change::Change;
 use std::alloc::AllocError;
 use std::sync::{Arc, Mutex, Wait};
 
@@ -57,6 +66,47 @@ impl<N: Naming, H: Wait + Drop> Shared<N, H> {
         ensures not_told { OnErr result (viewer.new ≡ viewer.old) }
     {
         self.locked.lock(rt).tell(&self.board, pass, viewer)
+    }
+
+    /// Makes a change as the pass, and answers as the desk machine does; the answer is an entry of the one history, which
+    /// is shown before another call comes in. A strict change is refused where the run so far would then have a denial. A
+    /// refused change is an entry too. It waits for the lock, and for viewers that are reading.
+    ///
+    /// # Errors
+    ///
+    /// Where memory is refused: no entry, and the pass is as before.
+    pub fn edit(
+        &self,
+        rt: &impl Wait,
+        pass: &mut DeskPass,
+        change: Change,
+        strict: bool,
+    ) -> Result<Done, AllocError>
+        requires { pass.old.board ≡ N.board.id }
+        ensures entered { IfOk result (λ d. Enters N.board.terms (Edit change strict) pass.old d pass.new) }
+        ensures refused { OnErr result (pass.new ≡ pass.old) }
+        ensures front { IsFront IsHistory pass.new }
+    {
+        self.locked
+            .lock(rt)
+            .edit(rt, &self.board, pass, change, strict)
+    }
+
+    /// Takes the next slot as the pass, and answers as the desk machine does; the answer is an entry of the one history,
+    /// which is shown, and the quanta of its row lie on their processors' words, before another call comes in. A step at
+    /// the horizon is refused, and is an entry too. It waits for the lock, and for viewers that are reading.
+    ///
+    /// # Errors
+    ///
+    /// `Pending` where a quantum lies untaken, `NoMemory` where memory is refused: no entry, and the pass is as before.
+    pub fn step(&self, rt: &impl Wait, pass: &mut DeskPass) -> Result<Done, StepRefusal>
+        requires { pass.old.board ≡ N.board.id }
+        ensures entered { IfOk result (λ d. Enters N.board.terms Step pass.old d pass.new) }
+        ensures pending { IfErr result (NamesOneOf N.board.processors) }
+        ensures refused { OnErr result (pass.new ≡ pass.old) }
+        ensures front { OnOk result (IsFront IsHistory pass.new) }
+    {
+        self.locked.lock(rt).step(rt, &self.board, pass)
     }
 
     /// The number of entries. It waits for nobody. The pass then has seen them all.
@@ -109,5 +159,40 @@ impl<N: Naming, H: Wait + Drop> Shared<N, H> {
         ensures same { (viewer.new.told ≡ viewer.old.told) × (viewer.new.origin ≡ viewer.old.origin) }
     {
         viewer.read()
+    }
+
+    /// Ends the desk: gives it with its whole history, and the quanta that nobody took, by processor. What each of these
+    /// passes has seen begins that history, in which its own entries are those of its number; and where every pass is
+    /// handed in, each quantum that a step issued is either left or was taken, by one pass alone. The viewers end too. It
+    /// waits for those that are still reading.
+    ///
+    /// # Errors
+    ///
+    /// Where memory is refused: all comes back untouched.
+    pub fn close(
+        self,
+        rt: &impl Wait,
+        passes: Vec<DeskPass>,
+        viewers: Vec<Viewer>,
+    ) -> Result<Closed, Opened<N, H>>
+        requires { AreOf N.board.id passes.items }
+        ensures closed { IfOk result (λ c. EndsDesk N.board passes.items c) }
+        ensures refused { IfErr result (λ o. (o.passes.items ≡ passes.items) × (o.viewers.items ≡ viewers.items)) }
+    {
+        let Shared { board, locked } = self;
+        match locked.into_inner().close(rt, board, passes) {
+            Ok(closed) => Ok(closed),
+            Err(
+                Unclosed {
+                    board,
+                    locked,
+                    passes,
+                },
+            ) => Err(Opened {
+                shared: Shared::new(board, locked),
+                passes,
+                viewers,
+            }),
+        }
     }
 }

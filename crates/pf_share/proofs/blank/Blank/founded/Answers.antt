@@ -9,15 +9,18 @@ invariant_of-result g c =
     let stamp = c.again-stamp.ensures ∙ c.stamp.ensures in
     let settings : c.args.desk.state.plan.settings ≡ c.in_ok-board.board.terms = ap (λ s. s.plan.settings) desk.1 ∙ sym c.in_ok-board.ensures.board.0 in (
       record {
-        is_desk = desk.0;
-        settings = settings;
-        keeper_board = ap (λ k. k.board) keeper;
-        has_turn = ap (λ k. k.has_turn) keeper;
+        is_shown_desk = record {
+          is_desk = desk.0;
+          settings = settings;
+          processors = c.in_ok-board.ensures.board.1 ∙ (c.processors-processors.ensures.value ∙ ap (λ s. s.processors) (sym c.in_ok-board.ensures.board.0));
+          keeper_board = ap (λ k. k.board) keeper;
+          has_turn = ap (λ k. k.has_turn) keeper;
+          seen = rw (keeper, desk.2) refl;
+          press_book = refl;
+          stamp_is = rw (press, sym settings) (stamp ∙ c.in_ok-shown.ensures.shown);
+          is_shown = c.in-Ok.ensures.same ∙ (c.in_ok-publisher.ensures ∙ sym stamp);
+        };
         none_left = ap (λ k. k.left) keeper;
-        seen = rw (keeper, desk.2) refl;
-        press_book = refl;
-        stamp_is = rw (press, sym settings) (stamp ∙ c.in_ok-shown.ensures.shown);
-        is_shown = c.in-Ok.ensures.same ∙ (c.in_ok-publisher.ensures ∙ sym stamp);
       },
       desk.2,
     )

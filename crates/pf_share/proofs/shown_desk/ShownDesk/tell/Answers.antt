@@ -3,7 +3,7 @@ use mathlib.Core.List.{IsPrefix}
 use Rattle.pf_desk.specs.declared.entry.Entry.{Entry}
 use Rattle.pf_share.specs.Histories.{entries_of}
 use Rattle.pf_share.proofs.Numbering.{entries_numbered, entries_prefix}
-use Rattle.pf_share.proofs.locked.Locked.tell.Goals as goal
+use Rattle.pf_share.proofs.shown_desk.ShownDesk.tell.Goals as goal
 
 pub returns-clause-begins : goal.returns-clause-begins
 returns-clause-begins g c =
