@@ -1,5 +1,6 @@
 pub mod Examples
-pub mod Records
+pub mod Recorded
 pub mod Places
 pub mod Arrays
 pub mod Floats
+pub mod JsonParts

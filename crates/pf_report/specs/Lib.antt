@@ -3,3 +3,5 @@ pub mod Events
 pub mod Json
 pub mod Page
 pub mod Examples
+pub mod Parts
+pub mod Pieces

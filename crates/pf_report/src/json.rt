@@ -1,9 +1,17 @@
-ghost use Rattle.std.specs.Prelude.{◌≡◌, length, IfOk};
-ghost use Rattle.serde_json.specs.View.{view};
+ghost use Rattle.std.specs.Prelude.{◌≡◌, ◌++◌, length, IfOk};
+ghost use Rattle.serde_json.specs.Data.{array};
+ghost use Rattle.serde_json.specs.View.{items_of, view};
+ghost use Rattle.serde_json.specs.Written.{compact_text};
 ghost use Rattle.pf_place.specs.Lent.{lent_row};
-ghost use Rattle.pf_report.specs.Json.{array_data, sitter_data, denial_data, lag_data, miss_data, report_object, report_data, json_text};
+ghost use Rattle.pf_report.specs.Json.{array_data, sitter_data, denial_data, lag_data, miss_data, json_text};
 
+use crate::denials::DenialRows;
+use crate::elements::{ArrayPieces, Elements};
+use crate::lags::LagRows;
+use crate::misses::MissRows;
+use crate::pieces::{Chain, Pieces, Whole, gathered};
 use crate::rows::{row_at, row_count};
+use crate::schedule::ScheduleRows;
 use pf_desk::snapshot::Snapshot;
 use pf_order::pick::Pick;
 use pf_place::row_view::RowView;
@@ -64,39 +72,6 @@ fn sitter_value(alloc: Global, sitter: Option<Pick>) -> Result<Value, AllocError
     }
 }
 
-/// The denials, in order.
-fn denial_values(alloc: Global, denials: &[Denied]) -> Result<Value, AllocError>
-    ensures { IfOk result (λ v. view v ≡ array_data denial_data denials.now) }
-{
-    let mut values = Vec::with_capacity(alloc, denials.len())?;
-    for denied in denials {
-        values.push(denied_value(alloc, *denied)?)?;
-    }
-    Ok(Value::Array(values))
-}
-
-/// The lags, in order.
-fn lag_values(alloc: Global, lags: &[Lag]) -> Result<Value, AllocError>
-    ensures { IfOk result (λ v. view v ≡ array_data lag_data lags.now) }
-{
-    let mut values = Vec::with_capacity(alloc, lags.len())?;
-    for lag in lags {
-        values.push(lag_value(alloc, *lag)?)?;
-    }
-    Ok(Value::Array(values))
-}
-
-/// The missed windows, in order.
-fn miss_values(alloc: Global, misses: &[Miss]) -> Result<Value, AllocError>
-    ensures { IfOk result (λ v. view v ≡ array_data miss_data misses.now) }
-{
-    let mut values = Vec::with_capacity(alloc, misses.len())?;
-    for miss in misses {
-        values.push(miss_value(alloc, *miss)?)?;
-    }
-    Ok(Value::Array(values))
-}
-
 /// A row, by processor.
 fn row_value(alloc: Global, processors: u32, row: RowView<'_>) -> Result<Value, AllocError>
     requires { length (lent_row row) ≡ processors }
@@ -109,57 +84,118 @@ fn row_value(alloc: Global, processors: u32, row: RowView<'_>) -> Result<Value, 
     Ok(Value::Array(values))
 }
 
-/// The rows of the slots below now.
-fn schedule_value(alloc: Global, snapshot: &Snapshot) -> Result<Value, AllocError>
-    ensures { IfOk result (λ v. view v ≡ array_data (array_data sitter_data) snapshot.now.rows) }
-{
-    let processors = snapshot.settings().processors();
-    let count = row_count(snapshot);
-    let mut values = Vec::with_capacity(alloc, count as usize)?;
-    for t in 0..count {
-        values.push(row_value(alloc, processors, row_at(snapshot, t))?)?;
+impl Elements for DenialRows<'_> {
+    ghost use Rattle.std.specs.Prelude.{length, drop, map};
+    ghost use Rattle.pf_report.specs.Json.{denial_data};
+
+    ghost count = { λ r. length r };
+
+    ghost rest = { λ r at. map denial_data (drop at r) };
+
+    fn count(&self) -> u64 {
+        self.len()
     }
-    Ok(Value::Array(values))
+
+    fn element(&self, alloc: Global, at: u64) -> Result<Value, AllocError> {
+        denied_value(alloc, self.get(at))
+    }
 }
 
-/// The object of a report, of its parts.
-fn object_value(
-    alloc: Global,
-    denials: Value,
-    entries: u64,
-    lags: Value,
-    misses: Value,
-    now: u64,
-    schedule: Value,
-) -> Result<Value, AllocError>
-    ensures { IfOk result (λ v. view v ≡
-        report_object (view denials) entries (view lags) (view misses) now (view schedule)) }
-{
-    json!(in alloc; {
-        "denials": denials,
-        "entries": entries,
-        "lags": lags,
-        "misses": misses,
-        "now": now,
-        "schedule": schedule
-    })
+impl Elements for LagRows {
+    ghost use Rattle.std.specs.Prelude.{length, drop, map};
+    ghost use Rattle.pf_report.specs.Json.{lag_data};
+
+    ghost count = { λ r. length r };
+
+    ghost rest = { λ r at. map lag_data (drop at r) };
+
+    fn count(&self) -> u64 {
+        self.len()
+    }
+
+    fn element(&self, alloc: Global, at: u64) -> Result<Value, AllocError> {
+        lag_value(alloc, self.get(at))
+    }
 }
 
-/// The report as an object.
-fn report_value(alloc: Global, snapshot: &Snapshot) -> Result<Value, AllocError>
-    ensures { IfOk result (λ v. view v ≡ report_data snapshot.now) }
+impl Elements for MissRows {
+    ghost use Rattle.std.specs.Prelude.{length, drop, map};
+    ghost use Rattle.pf_report.specs.Json.{miss_data};
+
+    ghost count = { λ r. length r };
+
+    ghost rest = { λ r at. map miss_data (drop at r) };
+
+    fn count(&self) -> u64 {
+        self.len()
+    }
+
+    fn element(&self, alloc: Global, at: u64) -> Result<Value, AllocError> {
+        miss_value(alloc, self.get(at))
+    }
+}
+
+impl Elements for ScheduleRows<'_> {
+    ghost use Rattle.std.specs.Prelude.{length, drop, map};
+    ghost use Rattle.pf_report.specs.Json.{array_data, sitter_data};
+
+    ghost count = { λ s. length s.rows };
+
+    ghost rest = { λ s at. map (array_data sitter_data) (drop at s.rows) };
+
+    fn count(&self) -> u64 {
+        row_count(self.snapshot())
+    }
+
+    fn element(&self, alloc: Global, at: u64) -> Result<Value, AllocError> {
+        let snapshot = self.snapshot();
+        let processors = snapshot.settings().processors();
+        row_value(alloc, processors, row_at(snapshot, at))
+    }
+}
+
+/// A key of an object, an array, and what follows.
+type KeyedArray<E, B> = Chain<Whole, Chain<ArrayPieces<E>, B>>;
+
+/// A report as a JSON object, in pieces: its keys, and of each array so many elements as make a piece long.
+pub type JsonPieces<'a> = KeyedArray<
+    DenialRows<'a>,
+    KeyedArray<LagRows, KeyedArray<MissRows, KeyedArray<ScheduleRows<'a>, Whole>>>,
+>;
+
+/// An array behind its key, and what follows.
+fn keyed<E: Elements, B: Pieces>(key: Vec<u8>, elements: E, behind: B) -> KeyedArray<E, B>
+    ensures { result ≡ key.items ++ (compact_text (array (items_of (E.rest elements 0))) ++ B.left behind) }
 {
-    let denials = denial_values(alloc, snapshot.denials())?;
-    let lags = lag_values(alloc, &snapshot.lags()?)?;
-    let misses = miss_values(alloc, &snapshot.misses()?)?;
-    let schedule = schedule_value(alloc, snapshot)?;
+    Chain::new(
+        Whole::new(key),
+        Chain::new(ArrayPieces::new(elements), behind),
+    )
+}
+
+/// The whole report as one JSON object, in pieces: compact, its keys in byte order. The lags and the missed windows are
+/// in memory until it is written.
+///
+/// # Errors
+///
+/// Where memory is refused.
+pub fn json_pieces(alloc: Global, snapshot: &Snapshot) -> Result<JsonPieces<'_>, AllocError>
+    ensures { IfOk result (λ pieces. pieces ≡ json_text snapshot.now) }
+{
     let entries = snapshot.version();
     let now = snapshot.now();
-    object_value(alloc, denials, entries, lags, misses, now, schedule)
+    let end = Whole::new(Vec::from_slice(alloc, b"}")?);
+    let key = format!(in alloc; ",\"now\":{now},\"schedule\":")?.into_bytes();
+    let schedule = keyed(key, ScheduleRows::of(snapshot), end);
+    let key = Vec::from_slice(alloc, b",\"misses\":")?;
+    let misses = keyed(key, MissRows::of(snapshot)?, schedule);
+    let key = format!(in alloc; ",\"entries\":{entries},\"lags\":")?.into_bytes();
+    let lags = keyed(key, LagRows::of(snapshot)?, misses);
+    let key = Vec::from_slice(alloc, b"{\"denials\":")?;
+    Ok(keyed(key, DenialRows::of(snapshot), lags))
 }
 
-/// The whole report as one JSON object, compact, its keys in byte order. While it is made, an object of the whole
-/// schedule is in memory.
+/// The whole report as one JSON object: compact, its keys in byte order.
 ///
 /// # Errors
 ///
@@ -167,6 +203,5 @@ fn report_value(alloc: Global, snapshot: &Snapshot) -> Result<Value, AllocError>
 pub fn report_json(alloc: Global, snapshot: &Snapshot) -> Result<Vec<u8>, AllocError>
     ensures { IfOk result (λ text. text.items ≡ json_text snapshot.now) }
 {
-    let text = report_value(alloc, snapshot)?.to_string(alloc)?;
-    Ok(text.into_bytes())
+    gathered(alloc, json_pieces(alloc, snapshot)?)
 }

@@ -2,10 +2,13 @@ ghost use Rattle.std.specs.Prelude.{◌≡◌, [], IfOk, OnOk};
 ghost use Rattle.pf_report.specs.Page.{with_record};
 ghost use Rattle.pf_report.specs.Tables.{lag_record, lags_text};
 
+use crate::pieces::{Chain, Whole, gathered};
+use crate::records::{RecordPieces, Records};
 use crate::table::Table;
 use pf_desk::snapshot::Snapshot;
 use pf_tally::lag::Lag;
 use std::alloc::{AllocError, Global};
+use std::marker::Model;
 
 /// Adds the record of a lag.
 fn push_lag(table: &mut Table, lag: Lag) -> Result<(), AllocError>
@@ -20,7 +23,87 @@ fn push_lag(table: &mut Table, lag: Lag) -> Result<(), AllocError>
     table.end_record()
 }
 
-/// How far each task inside is from its fair share, as a table, by task number.
+/// The lags of the tasks inside, by task number.
+#[derive(Drop)]
+pub struct LagRows {
+    lags: Vec<Lag>,
+}
+
+impl Model for LagRows {
+    ghost use Rattle.std.specs.Prelude.{List};
+    ghost use Rattle.pf_tally.specs.declared.lag.Lag.{Lag};
+
+    ghost Value = { List Lag };
+
+    ghost view = { λ r. r.lags.items };
+}
+
+impl LagRows {
+    ghost use Rattle.std.specs.Prelude.{◌≡◌, ◌∷◌, ◌+◌, ◌<◌, length, drop, IfOk};
+    ghost use Rattle.pf_run.specs.Computed.{run_of};
+    ghost use Rattle.pf_tally.specs.Lags.{lags_of};
+
+    /// Those that a snapshot shows.
+    pub fn of(snapshot: &Snapshot) -> Result<Self, AllocError>
+        ensures { IfOk result (λ rows. rows ≡ lags_of snapshot.now.state.plan (run_of snapshot.now.state.plan snapshot.now.state.now)) }
+    {
+        Ok(LagRows {
+            lags: snapshot.lags()?,
+        })
+    }
+
+    /// The one at a place.
+    pub fn get(&self, at: u64) -> Lag
+        requires { at < length self.now }
+        ensures { drop at self.now ≡ result ∷ drop (at + 1) self.now }
+    {
+        self.lags[at as usize]
+    }
+
+    /// How many there are.
+    pub fn len(&self) -> u64
+        ensures { result ≡ length self.now }
+    {
+        self.lags.len() as u64
+    }
+}
+
+impl Records for LagRows {
+    ghost use Rattle.std.specs.Prelude.{length, drop, map};
+    ghost use Rattle.pf_report.specs.Tables.{lag_record};
+
+    ghost count = { λ r. length r };
+
+    ghost rest = { λ r at. map lag_record (drop at r) };
+
+    fn count(&self) -> u64 {
+        self.len()
+    }
+
+    fn push_record(&self, table: &mut Table, at: u64) -> Result<(), AllocError> {
+        push_lag(table, self.get(at))
+    }
+}
+
+/// How far each task inside is from its fair share, as a table, by task number, in pieces: the heading, and then the records.
+pub type LagPieces = Chain<Whole, RecordPieces<LagRows>>;
+
+/// How far each task inside is from its fair share, as a table, by task number, in pieces.
+///
+/// # Errors
+///
+/// Where memory is refused.
+pub fn lag_pieces(alloc: Global, snapshot: &Snapshot) -> Result<LagPieces, AllocError>
+    ensures { IfOk result (λ pieces. pieces ≡ lags_text snapshot.now) }
+{
+    let mut table = Table::new(alloc);
+    table.push_texts(&["task", "cost", "period", "received", "lag"])?;
+    let heading = Whole::new(table.finish()?);
+    let rows = LagRows::of(snapshot)?;
+    Ok(Chain::new(heading, RecordPieces::new(rows)))
+}
+
+/// How far each task inside is from its fair share, as a table, by task number, in whole.
 ///
 /// # Errors
 ///
@@ -28,10 +111,5 @@ fn push_lag(table: &mut Table, lag: Lag) -> Result<(), AllocError>
 pub fn lags_csv(alloc: Global, snapshot: &Snapshot) -> Result<Vec<u8>, AllocError>
     ensures { IfOk result (λ text. text.items ≡ lags_text snapshot.now) }
 {
-    let mut table = Table::new(alloc);
-    table.push_texts(&["task", "cost", "period", "received", "lag"])?;
-    for lag in &snapshot.lags()? {
-        push_lag(&mut table, *lag)?;
-    }
-    table.finish()
+    gathered(alloc, lag_pieces(alloc, snapshot)?)
 }

@@ -3,11 +3,14 @@
 #![tactic(auto)]
 
 pub mod denials;
+pub mod elements;
 pub mod events;
 pub mod json;
 pub mod lags;
 pub mod laws;
 pub mod misses;
+pub mod pieces;
+pub mod records;
 pub mod rows;
 pub mod schedule;
 pub mod table;

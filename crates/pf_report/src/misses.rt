@@ -2,10 +2,13 @@ ghost use Rattle.std.specs.Prelude.{◌≡◌, [], IfOk, OnOk};
 ghost use Rattle.pf_report.specs.Page.{with_record};
 ghost use Rattle.pf_report.specs.Tables.{miss_record, misses_text};
 
+use crate::pieces::{Chain, Whole, gathered};
+use crate::records::{RecordPieces, Records};
 use crate::table::Table;
 use pf_desk::snapshot::Snapshot;
 use pf_tally::miss::Miss;
 use std::alloc::{AllocError, Global};
+use std::marker::Model;
 
 /// Adds the record of a missed window.
 fn push_miss(table: &mut Table, miss: Miss) -> Result<(), AllocError>
@@ -22,7 +25,87 @@ fn push_miss(table: &mut Table, miss: Miss) -> Result<(), AllocError>
     table.end_record()
 }
 
-/// The missed windows as a table, by deadline, then by task number.
+/// The missed windows, by deadline, then by task number.
+#[derive(Drop)]
+pub struct MissRows {
+    misses: Vec<Miss>,
+}
+
+impl Model for MissRows {
+    ghost use Rattle.std.specs.Prelude.{List};
+    ghost use Rattle.pf_tally.specs.declared.miss.Miss.{Miss};
+
+    ghost Value = { List Miss };
+
+    ghost view = { λ r. r.misses.items };
+}
+
+impl MissRows {
+    ghost use Rattle.std.specs.Prelude.{◌≡◌, ◌∷◌, ◌+◌, ◌<◌, length, drop, IfOk};
+    ghost use Rattle.pf_run.specs.Computed.{run_of};
+    ghost use Rattle.pf_tally.specs.Misses.{misses_of};
+
+    /// Those that a snapshot shows.
+    pub fn of(snapshot: &Snapshot) -> Result<Self, AllocError>
+        ensures { IfOk result (λ rows. rows ≡ misses_of snapshot.now.state.plan (run_of snapshot.now.state.plan snapshot.now.state.now)) }
+    {
+        Ok(MissRows {
+            misses: snapshot.misses()?,
+        })
+    }
+
+    /// The one at a place.
+    pub fn get(&self, at: u64) -> Miss
+        requires { at < length self.now }
+        ensures { drop at self.now ≡ result ∷ drop (at + 1) self.now }
+    {
+        self.misses[at as usize]
+    }
+
+    /// How many there are.
+    pub fn len(&self) -> u64
+        ensures { result ≡ length self.now }
+    {
+        self.misses.len() as u64
+    }
+}
+
+impl Records for MissRows {
+    ghost use Rattle.std.specs.Prelude.{length, drop, map};
+    ghost use Rattle.pf_report.specs.Tables.{miss_record};
+
+    ghost count = { λ r. length r };
+
+    ghost rest = { λ r at. map miss_record (drop at r) };
+
+    fn count(&self) -> u64 {
+        self.len()
+    }
+
+    fn push_record(&self, table: &mut Table, at: u64) -> Result<(), AllocError> {
+        push_miss(table, self.get(at))
+    }
+}
+
+/// The missed windows as a table, by deadline, then by task number, in pieces: the heading, and then the records.
+pub type MissPieces = Chain<Whole, RecordPieces<MissRows>>;
+
+/// The missed windows as a table, by deadline, then by task number, in pieces.
+///
+/// # Errors
+///
+/// Where memory is refused.
+pub fn miss_pieces(alloc: Global, snapshot: &Snapshot) -> Result<MissPieces, AllocError>
+    ensures { IfOk result (λ pieces. pieces ≡ misses_text snapshot.now) }
+{
+    let mut table = Table::new(alloc);
+    table.push_texts(&["task", "sub", "deadline", "ran"])?;
+    let heading = Whole::new(table.finish()?);
+    let rows = MissRows::of(snapshot)?;
+    Ok(Chain::new(heading, RecordPieces::new(rows)))
+}
+
+/// The missed windows as a table, by deadline, then by task number, in whole.
 ///
 /// # Errors
 ///
@@ -30,10 +113,5 @@ fn push_miss(table: &mut Table, miss: Miss) -> Result<(), AllocError>
 pub fn misses_csv(alloc: Global, snapshot: &Snapshot) -> Result<Vec<u8>, AllocError>
     ensures { IfOk result (λ text. text.items ≡ misses_text snapshot.now) }
 {
-    let mut table = Table::new(alloc);
-    table.push_texts(&["task", "sub", "deadline", "ran"])?;
-    for miss in &snapshot.misses()? {
-        push_miss(&mut table, *miss)?;
-    }
-    table.finish()
+    gathered(alloc, miss_pieces(alloc, snapshot)?)
 }

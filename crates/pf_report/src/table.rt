@@ -1,3 +1,4 @@
+use crate::pieces::LONG_PIECE;
 use csv::{ByteRecord, Writer};
 use std::alloc::{AllocError, Global};
 use std::fmt::Display;
@@ -83,6 +84,11 @@ impl Table {
             self.show(*text)?;
         }
         self.end_record()
+    }
+
+    /// Whether the text so far makes a long piece, but for some of its last bytes.
+    pub fn is_long(&self) -> bool {
+        self.writer.get_ref().len() >= LONG_PIECE
     }
 
     /// The text of the table.

@@ -1,10 +1,10 @@
 -- How the parts of a text that a writer took add up, where what it holds is known.
-use Rattle.std.proofs.Common.{◌≡◌, ◌+◌, ◌-◌, ◌∙◌, ℕ, List, [], ◌++◌, length, take, drop, Option, Result, Ok, Err, sym, ap, arith, append_assoc}
+use Rattle.std.proofs.Common.{◌≡◌, ◌+◌, ◌-◌, ◌∙◌, ℕ, List, [], ◌++◌, length, take, drop, Option, Result, Ok, Err, refl, sym, ap, arith, append_assoc}
 use Rattle.std.specs.Prelude.{OnOk, OnErr}
 use Rattle.std.specs.Io.KnownBytes.{Appends, Keeps}
-use Rattle.std.proofs.KnownBytes.{Appends-trans, Appends-kept}
+use Rattle.std.proofs.KnownBytes.{Appends-nil, Appends-trans, Appends-kept}
 use Rattle.std.proofs.lemmas.List.{append-nil, drop-take, take-append-drop, take-take, take_all, length-drop}
-use Rattle.pf_stream.specs.Lines.{TookAllBut, TookFront}
+use Rattle.pf_stream.specs.Written.{TookAllBut, TookFront}
 
 -- a part of a text, and the part behind it
 take-next : (at n : ℕ) (text : List ℕ) → take at text ++ take n (drop at text) ≡ take (at + n) text
@@ -81,3 +81,29 @@ so-far-finished start old new was text h k = rw (← h.2) (Appends-trans start o
 pub so-far-unfinished : (start old new : Option (List ℕ)) (was text : List ℕ) → TookAllBut was start old text → TookFront old new was → TookFront start new text
 so-far-unfinished start old new was text h k =
     rw append-nil at (so-far-stopped start old new was text [] h (rw (append-nil was) k))
+
+-- a text is still to come, in whole
+pub all_to_come : (x : Option (List ℕ)) (text : List ℕ) → TookAllBut text x x text
+all_to_come x text = ([], Appends-nil x, refl)
+
+pub none_written : (x : Option (List ℕ)) (text : List ℕ) → TookFront x x text
+none_written x text = (text, all_to_come x text)
+
+-- Of a whole text some waits, some is put next, and the rest comes then.
+pub on_the_way : (start mid new : Option (List ℕ)) (was waiting more rest whole : List ℕ) → TookAllBut (was ++ (more ++ rest)) start mid whole
+    → TookAllBut waiting mid new (was ++ more) → TookAllBut (waiting ++ rest) start new whole
+on_the_way start mid new was waiting more rest whole h k = (
+  h.0 ++ k.0,
+  Appends-trans start mid new h.0 k.0 h.1 k.1,
+  append_assoc h.0 k.0 (waiting ++ rest)
+      ∙ ap (λ t. h.0 ++ t) (sym (append_assoc k.0 waiting rest) ∙ ap (λ t. t ++ rest) k.2 ∙ append_assoc was more rest) ∙ h.2,
+)
+
+pub stopped_on_the_way : (start mid new : Option (List ℕ)) (was more rest whole : List ℕ) → TookAllBut (was ++ (more ++ rest)) start mid whole
+    → TookFront mid new (was ++ more) → TookFront start new whole
+stopped_on_the_way start mid new was more rest whole h k = (k.0 ++ rest, on_the_way start mid new was k.0 more rest whole h k.1)
+
+-- what holds anyway holds after an error
+pub anyway : {A E : Type 0} (r : Result A E) (P : Type 0) → P → OnErr r P
+anyway (Ok x) P h = tt
+anyway (Err e) P h = h

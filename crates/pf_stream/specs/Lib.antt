@@ -1,4 +1,4 @@
 pub mod Counted
 pub mod Failing
-pub mod Lines
 pub mod Reading
+pub mod Written

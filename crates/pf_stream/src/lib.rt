@@ -3,7 +3,8 @@
 //! text put or a front of it, and a stream failed once where the answer says so, else not at all.
 #![tactic(auto)]
 
-pub mod lines;
 pub mod reading;
 pub mod sink;
 pub mod source;
+pub mod text_buffer;
+pub mod writing;

@@ -1,0 +1,108 @@
+ghost use Rattle.std.specs.Prelude.{◌≡◌, ◌++◌, ℕ, List, IfOk};
+ghost use Rattle.pf_report.specs.Pieces.{TakesPiece};
+
+use std::alloc::{AllocError, Global};
+use std::marker::Model;
+use std::mem;
+
+/// A piece is ended where it has as many bytes: 64 KiB.
+pub const LONG_PIECE: usize = 65_536;
+
+/// A text that is handed out in pieces, from its front to its end. No piece is empty. Where a call fails, no more may be
+/// asked for.
+pub trait Pieces {
+    // the text that is left
+    ghost left: { Self → List ℕ };
+
+    /// The next piece, or none where no text is left.
+    ///
+    /// # Errors
+    ///
+    /// Where memory is refused.
+    fn next_piece(&mut self, alloc: Global) -> Result<Option<Vec<u8>>, AllocError>
+        ensures { IfOk result (λ piece. TakesPiece piece (left self.old) (left self.new)) };
+}
+
+/// A text that is one piece, or none where it is empty.
+#[derive(Drop)]
+pub struct Whole {
+    text: Vec<u8>,
+}
+
+impl Model for Whole {
+    ghost use Rattle.std.specs.Prelude.{ℕ, List};
+
+    ghost Value = { List ℕ };
+
+    ghost view = { λ w. w.text.items };
+}
+
+impl Whole {
+    /// The pieces of a text that is there.
+    pub fn new(text: Vec<u8>) -> Self
+        ensures { result ≡ text.items }
+    {
+        Whole { text }
+    }
+}
+
+impl Pieces for Whole {
+    ghost left = { λ w. w };
+
+    fn next_piece(&mut self, alloc: Global) -> Result<Option<Vec<u8>>, AllocError> {
+        if self.text.is_empty() {
+            return Ok(None);
+        }
+        Ok(Some(mem::replace(&mut self.text, Vec::new(alloc))))
+    }
+}
+
+/// One text behind another.
+#[derive(Drop)]
+pub struct Chain<A: Pieces, B: Pieces> {
+    first: A,
+    second: B,
+}
+
+impl<A: Pieces, B: Pieces> Model for Chain<A, B> {
+    ghost use Rattle.std.specs.Prelude.{ℕ, List, ◌++◌};
+
+    ghost Value = { List ℕ };
+
+    ghost view = { λ c. A.left c.first ++ B.left c.second };
+}
+
+impl<A: Pieces, B: Pieces> Chain<A, B> {
+    /// The pieces of the first text, and then those of the second.
+    pub fn new(first: A, second: B) -> Self
+        ensures { result ≡ A.left first ++ B.left second }
+    {
+        Chain { first, second }
+    }
+}
+
+impl<A: Pieces, B: Pieces> Pieces for Chain<A, B> {
+    ghost left = { λ c. c };
+
+    fn next_piece(&mut self, alloc: Global) -> Result<Option<Vec<u8>>, AllocError> {
+        match self.first.next_piece(alloc)? {
+            Some(piece) => Ok(Some(piece)),
+            None => self.second.next_piece(alloc),
+        }
+    }
+}
+
+/// The text of some pieces, in whole.
+///
+/// # Errors
+///
+/// Where memory is refused.
+pub fn gathered<P: Pieces + Drop>(alloc: Global, mut pieces: P) -> Result<Vec<u8>, AllocError>
+    ensures { IfOk result (λ text. text.items ≡ P.left pieces) }
+{
+    let mut text = Vec::new(alloc);
+    'pieces: while let Some(piece) = pieces.next_piece(alloc)? {
+        text.extend_from_slice(&piece)?;
+    }
+    Ok(text)
+}
