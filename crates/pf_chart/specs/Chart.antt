@@ -1,0 +1,136 @@
+-- The text of a chart.
+use Rattle.std.specs.Prelude.{ℕ, ◌+◌, ◌-◌, ◌*◌, ◌%◌, ◌==◌, min, Bool, ◌&&◌, nat_le, if◌then◌else◌, Option, List, [], ◌∷◌, ◌++◌, codes, length, map, position, replicate, slice_index_or}
+use Rattle.std.specs.Fmt.{decimal}
+use Rattle.std.specs.Int.{div_ceil}
+use Rattle.std.specs.List.{flat_map, list_all, list_any, range_with_len, slice_get}
+use Rattle.std.specs.Option.{option_map_or, unwrap_or}
+use Rattle.pf_order.specs.declared.pick.Pick.{Pick}
+use Rattle.pf_place.specs.Occupancy.{sitter}
+use Rattle.pf_scenario.specs.System.{System}
+use Rattle.pf_desk.specs.Desk.{Seen}
+use Rattle.pf_chart.specs.Course.{Track}
+use Rattle.pf_chart.specs.Cells.{task_cell, window_cell, lag_cell, mark_cell}
+use Rattle.pf_chart.specs.Listing.{Listing, listings_of, count_in}
+use Rattle.pf_chart.specs.declared.track_row.TrackRow.{TrackRow}
+use Rattle.pf_chart.specs.declared.track_row.TrackRow.TheVariants.{Runs, Windows, Lag, Marks}
+use Rattle.pf_chart.specs.Symbols.{blank, rank_symbol}
+
+-- a line without the blanks at its end
+abbrev pub with_first : ℕ → List ℕ → List ℕ
+with_first x [] = if x == blank then [] else x ∷ []
+with_first x (y ∷ ys) = x ∷ y ∷ ys
+
+abbrev pub trimmed : List ℕ → List ℕ
+trimmed [] = []
+trimmed (x ∷ xs) = with_first x (trimmed xs)
+
+-- a line: its label in 12 places, then its cells
+abbrev pub line_text : List ℕ → List ℕ → List ℕ
+line_text label cells = trimmed (label ++ replicate (12 - length label) blank ++ cells) ++ codes "\n"
+
+abbrev pub are_blank : List ℕ → Bool
+are_blank cells = list_all (λ cell. cell == blank) cells
+
+-- nothing where all cells are blank
+abbrev pub line_if_any : List ℕ → List ℕ → List ℕ
+line_if_any label cells = if are_blank cells then [] else line_text label cells
+
+-- the rulers, from slot a on: at each tenth slot its number, and a mark at each slot
+abbrev pub number_cell : ℕ → ℕ → ℕ
+number_cell a t =
+    if nat_le a (t - t % 10) then unwrap_or (slice_get (decimal (t - t % 10)) (t % 10)) blank else blank
+
+abbrev pub tick_cell : ℕ → ℕ
+tick_cell t =
+    if t % 10 == 0 then slice_index_or (codes "|") 0 0
+    else if t % 5 == 0 then slice_index_or (codes ":") 0 0 else slice_index_or (codes ".") 0 0
+
+abbrev pub rulers_text : ℕ → List ℕ → List ℕ
+rulers_text a slots = line_text [] (map (number_cell a) slots) ++ line_text [] (map tick_cell slots)
+
+-- the symbol of a listed task, by its rank
+abbrev pub symbol_of : List Listing → ℕ → ℕ
+symbol_of listed task = option_map_or (λ i. rank_symbol (i + 1)) (position (λ l. l.task == task) listed) blank
+
+-- `#` out of use, `-` idle, else the task's symbol
+abbrev pub processor_cell : List Listing → ℕ → List (Option Pick) → ℕ → ℕ
+processor_cell listed count row p =
+    if nat_le count p then slice_index_or (codes "#") 0 0
+    else option_map_or (λ pick. symbol_of listed pick.task) (sitter row p) (slice_index_or (codes "-") 0 0)
+
+-- a cell of a task that was admitted
+abbrev pub track_cell : (Track → ℕ → ℕ) → Listing → ℕ → ℕ
+track_cell cell l t = option_map_or (λ track. cell track t) l.track blank
+
+-- a cell of each of its lines; the mark `x` stands where an event of it is denied, admitted or not
+abbrev pub row_cell : TrackRow → Listing → ℕ → ℕ
+row_cell Runs l t = track_cell task_cell l t
+row_cell Windows l t = track_cell window_cell l t
+row_cell Lag l t = track_cell lag_cell l t
+row_cell Marks l t = if list_any (λ u. u == t) l.denied then slice_index_or (codes "x") 0 0 else track_cell mark_cell l t
+
+-- the lines with these cells of a listed task of this rank; none where all of them are blank
+abbrev pub lines_with : ℕ → ℕ → List ℕ → List ℕ → List ℕ → List ℕ → List ℕ
+lines_with rank task run windows lag marks =
+    if are_blank run && are_blank windows && are_blank lag && are_blank marks then []
+    else line_text (rank_symbol rank ∷ codes " task " ++ decimal task) run ++ line_if_any (codes "  windows") windows
+    ++ line_if_any (codes "  lag") lag ++ line_if_any (codes "  marks") marks
+
+abbrev pub task_lines : List ℕ → ℕ → Listing → List ℕ
+task_lines slots rank l =
+    lines_with rank l.task (map (row_cell Runs l) slots) (map (row_cell Windows l) slots)
+    (map (row_cell Lag l) slots) (map (row_cell Marks l) slots)
+
+-- of the listed tasks, the first of which has this rank
+abbrev pub all_task_lines : List ℕ → ℕ → List Listing → List ℕ
+all_task_lines slots rank [] = []
+all_task_lines slots rank (l ∷ ls) = task_lines slots rank l ++ all_task_lines slots (rank + 1) ls
+
+-- a line for each processor: p, and its number
+abbrev pub processor_line : Seen → List Listing → List ℕ → ℕ → List ℕ
+processor_line seen listed slots p =
+    line_text (codes "p" ++ decimal p) (map (λ t. processor_cell listed (count_in seen t) (slice_index_or seen.rows t []) p) slots)
+
+-- a block: the slots from a on, which are at most 60
+abbrev pub block_of : Seen → List Listing → ℕ → List ℕ → List ℕ
+block_of seen listed a slots =
+    codes "\n" ++ rulers_text a slots
+    ++ flat_map (processor_line seen listed slots) (range_with_len 0 seen.state.plan.settings.processors)
+    ++ all_task_lines slots 1 listed
+
+-- the block of the slots from a on and below `to`
+abbrev pub block_text : Seen → List Listing → ℕ → ℕ → List ℕ
+block_text seen listed to a = block_of seen listed a (range_with_len a (min 60 (to - a)))
+
+-- the range, and the settings
+abbrev pub range_text : ℕ → ℕ → ℕ → List ℕ
+range_text now from to = codes "slots " ++ decimal from ++ codes " to " ++ decimal to ++ codes " of " ++ decimal now ++ codes "; "
+
+abbrev pub settings_text : System → List ℕ
+settings_text system =
+    codes "processors " ++ decimal system.processors ++ codes "; base " ++ decimal system.base ++ codes "; cap " ++ decimal system.cap ++ codes "\n"
+
+abbrev pub head_with : System → ℕ → ℕ → ℕ → List ℕ
+head_with system now from to = range_text now from to ++ settings_text system
+
+abbrev pub head_text : Seen → ℕ → ℕ → List ℕ
+head_text seen from to = head_with seen.state.plan.settings seen.state.now from to
+
+abbrev pub legend_text : List ℕ
+legend_text =
+    codes "\nprocessors: a task by its symbol, - idle, # out of use\n"
+    ++ codes "task: its processor where it runs, . waits, ! waits behind its deadline\n"
+    ++ codes "windows: [ first slot, ] last, X last and next first, I only slot\n"
+    ++ codes "lag: = none, + - owed or ahead by less than one quantum, 1-9 * owed, a-z ~ ahead\n"
+    ++ codes "marks: > joins, < left, ~ clock stopped, ^ runs late, x denied\n"
+
+-- a block for each 60 slots from `from` on, below `to`
+abbrev pub text_with : Seen → ℕ → ℕ → List Listing → List ℕ
+text_with seen from to listed =
+    head_text seen from to
+    ++ flat_map (λ k. block_text seen listed to (from + 60 * k)) (range_with_len 0 (div_ceil (to - from) 60))
+    ++ legend_text
+
+-- the chart of the slots from `from` on and below `to`
+unfoldable pub chart_text_of : Seen → ℕ → ℕ → List ℕ
+chart_text_of seen from to = text_with seen from to (listings_of seen)

@@ -1,0 +1,9 @@
+pub mod Symbols
+pub mod Windows
+pub mod Course
+pub mod Cells
+pub mod Cut
+pub mod Built
+pub mod Listing
+pub mod Chart
+pub mod Examples

@@ -1,0 +1,113 @@
+use crate::course::Course;
+use crate::line::{are_blank, push_line, push_line_if_any};
+use crate::symbols::{BLANK, rank_symbol};
+use crate::track_row::TrackRow;
+use std::alloc::{AllocError, Global};
+use std::marker::Model;
+
+/// A listed task: its course, if it was admitted, and the slots of its denied events.
+#[derive(Drop)]
+pub struct Listed {
+    task: u32,
+    course: Option<Course>,
+    denied: Vec<u64>,
+}
+
+impl Model for Listed {
+    ghost use Rattle.pf_chart.specs.Listing.{Listing};
+
+    ghost Value = { Listing };
+
+    ghost view = { λ l. record { task = l.task; track = l.course; denied = l.denied.items } };
+}
+
+impl Listed {
+    ghost use Rattle.std.specs.Prelude.{◌≡◌, ◌++◌, ◌∷◌, ◌-◌, codes, map, IfOk, OnOk};
+    ghost use Rattle.std.specs.Fmt.{decimal};
+    ghost use Rattle.std.specs.List.{range_with_len};
+    ghost use Rattle.pf_chart.specs.Chart.{row_cell, task_lines};
+    ghost use Rattle.pf_chart.specs.Symbols.{rank_symbol};
+
+    /// A listed task.
+    pub fn new(task: u32, course: Option<Course>, denied: Vec<u64>) -> Self
+        ensures { result ≡ record { task = task; track = course; denied = denied.items } }
+    {
+        Listed {
+            task,
+            course,
+            denied,
+        }
+    }
+
+    /// The cell of slot t in one of its lines.
+    pub fn cell(&self, row: TrackRow, t: u64) -> u8
+        ensures { result ≡ row_cell row self.now t }
+    {
+        if let TrackRow::Marks = row {
+            if self.denied.contains(&t) {
+                return b'x';
+            }
+        }
+        match &self.course {
+            Some(course) => match row {
+                TrackRow::Runs => course.task_cell(t),
+                TrackRow::Windows => course.window_cell(t),
+                TrackRow::Lag => course.lag_cell(t),
+                TrackRow::Marks => course.mark_cell(t),
+            },
+            None => BLANK,
+        }
+    }
+
+    /// The cells of the slots from `from` on, below `to`, in one of its lines.
+    pub fn cells(
+        &self,
+        alloc: Global,
+        row: TrackRow,
+        from: u64,
+        to: u64,
+    ) -> Result<Vec<u8>, AllocError>
+        ensures { IfOk result (λ v. v.items ≡ map (row_cell row self.now) (range_with_len from (to - from))) }
+    {
+        let mut cells = Vec::new(alloc);
+        for t in from..to {
+            cells.push(self.cell(row, t))?;
+        }
+        Ok(cells)
+    }
+
+    /// The label of its first line, where it has this rank.
+    fn label(&self, alloc: Global, rank: usize) -> Result<Vec<u8>, AllocError>
+        ensures { IfOk result (λ v. v.items ≡ rank_symbol rank ∷ codes " task " ++ decimal self.now.task) }
+    {
+        let number = format!(in alloc; " task {}", self.task)?;
+        let mut label = Vec::new(alloc);
+        label.push(rank_symbol(rank))?;
+        label.extend_from_slice(number.as_bytes())?;
+        Ok(label)
+    }
+
+    /// Appends its lines, where it has this rank, with the slots from `from` on, below `to`: none where all are blank.
+    pub fn push_lines(
+        &self,
+        alloc: Global,
+        text: &mut Vec<u8>,
+        rank: usize,
+        from: u64,
+        to: u64,
+    ) -> Result<(), AllocError>
+        ensures { OnOk result (text.new.items ≡ text.old.items ++ task_lines (range_with_len from (to - from)) rank self.now) }
+    {
+        let runs = self.cells(alloc, TrackRow::Runs, from, to)?;
+        let windows = self.cells(alloc, TrackRow::Windows, from, to)?;
+        let lag = self.cells(alloc, TrackRow::Lag, from, to)?;
+        let marks = self.cells(alloc, TrackRow::Marks, from, to)?;
+        if are_blank(&runs) && are_blank(&windows) && are_blank(&lag) && are_blank(&marks) {
+            return Ok(());
+        }
+        push_line(text, &self.label(alloc, rank)?, &runs)?;
+        push_line_if_any(text, b"  windows", &windows)?;
+        push_line_if_any(text, b"  lag", &lag)?;
+        push_line_if_any(text, b"  marks", &marks)
+    }
+}

@@ -1,0 +1,8 @@
+/// Where a subtask ran.
+#[derive(Clone, Copy, Debug, PartialEq, Eq)]
+pub struct Quantum {
+    /// Its slot.
+    pub slot: u64,
+    /// Its processor.
+    pub processor: u32,
+}

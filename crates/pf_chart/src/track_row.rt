@@ -1,0 +1,12 @@
+/// A line of a listed task.
+#[derive(Clone, Copy, Debug, PartialEq, Eq)]
+pub enum TrackRow {
+    /// Where it runs and waits.
+    Runs,
+    /// Its windows.
+    Windows,
+    /// Its lag.
+    Lag,
+    /// Its marks.
+    Marks,
+}
