@@ -8,15 +8,15 @@ use Rattle.std.proofs.lemmas.List.{append-nil, length-append}
 use Rattle.std.proofs.KnownBytes.{Appends-nil}
 use Rattle.pf_script.specs.Fields.{field}
 use Rattle.pf_script.specs.Script.{script_records}
-use Rattle.pf_stream.specs.Lines.{TookAllBut, TookFront}
-use Rattle.pf_stream.proofs.Sending.{so-far-finished, so-far-stopped, so-far-unfinished, took-before}
+use Rattle.pf_stream.specs.Written.{TookAllBut, TookFront}
+use Rattle.pf_stream.proofs.Sending.{all_to_come, on_the_way, so-far-finished, so-far-stopped, so-far-unfinished, stopped_on_the_way, took-before}
 use Rattle.pf_check.specs.declared.checker.Checker.{Checker}
 use Rattle.pf_check.specs.declared.fault.RecordFault.{RecordFault}
 use Rattle.pf_check.specs.Checked.{HasExamined, HasReported, IsFresh, report_in, reports_left, text_left, text_of_rest}
 use Rattle.pf_check.specs.Examined.{fault_of, stage_after, stage_behind}
 use Rattle.pf_check.specs.Places.{line_at, lines_behind, record_lines}
 use Rattle.pf_check.specs.Reports.{Report, check_text, end_fault, report, report_text, reports, reports_from, reports_of, totals_text}
-use Rattle.pf_check.proofs.Written.{all_but_as, all_to_come, appended_as, finished, front_of, on_the_way, stopped_on_the_way}
+use Rattle.pf_check.proofs.Written.{all_but_as, appended_as, finished, front_of}
 
 -- a record without a fault was examined
 pub examined_fine : (line : ℕ) (fields : List (List ℕ)) (before after : Checker) (x : Option (List ℕ)) → fault_of before.stage fields ≡ None

@@ -1,7 +1,7 @@
 -- A check on its way.
 use Rattle.std.specs.Prelude.{ℕ, ◌≡◌, ◌+◌, List, [], ◌++◌, length, Option, Result, Err}
 use Rattle.std.specs.List.{flat_map}
-use Rattle.pf_stream.specs.Lines.{TookAllBut}
+use Rattle.pf_stream.specs.Written.{TookAllBut}
 use Rattle.pf_check.specs.declared.checker.Checker.{Checker}
 use Rattle.pf_check.specs.declared.fault.CheckFault.{CheckFault}
 use Rattle.pf_check.specs.declared.fault.CheckFault.TheVariants.{Write}

@@ -1,7 +1,7 @@
 ghost use Rattle.std.specs.Prelude.{◌≡◌, ◌+◌, ◌-◌, ◌^◌, ◌<◌, ◌≤◌, ◌++◌, ◌∷◌, [], length, IfOk, OnOk, OnErr};
 ghost use Rattle.std.specs.List.{flat_map};
 ghost use Rattle.std.specs.Io.KnownBytes.{Appends};
-ghost use Rattle.pf_stream.specs.Lines.{TookFront};
+ghost use Rattle.pf_stream.specs.Written.{TookFront};
 ghost use Rattle.pf_stream.specs.Reading.{longest_script};
 ghost use Rattle.pf_check.specs.Checked.{CountsCheck, HasExamined, HasReported, IsFresh, report_in, reports_left, text_left};
 ghost use Rattle.pf_check.specs.Examined.{fault_of};
@@ -15,8 +15,8 @@ use crate::stage::Stage;
 use csv::ByteRecord;
 use pf_script::fields::Fields;
 use pf_script::script::Script;
-use pf_stream::lines::Lines;
 use pf_stream::sink::Sink;
+use pf_stream::text_buffer::TextBuffer;
 use std::alloc::{AllocError, Global};
 
 /// Writes what a check of a script of these bytes finds: a line for each record that the format does not allow, taking
@@ -55,7 +55,7 @@ struct Checker {
     // How many records and how many faults there were.
     records: u64,
     faults: u64,
-    lines: Lines,
+    lines: TextBuffer,
     // The memory in which a line is made.
     text: String,
 }
@@ -69,7 +69,7 @@ impl Checker {
             stage: Stage::Beginning,
             records: 0,
             faults: 0,
-            lines: Lines::new(alloc)?,
+            lines: TextBuffer::new(alloc)?,
             text: String::new(alloc),
         })
     }

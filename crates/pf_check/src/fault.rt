@@ -2,7 +2,7 @@ ghost use Rattle.std.specs.Prelude.{◌≡◌};
 ghost use Rattle.pf_check.specs.declared.fault.CheckFault.TheVariants as fault;
 
 use pf_script::version::Version;
-use pf_stream::lines::WriteFault;
+use pf_stream::writing::WriteFault;
 use std::alloc::AllocError;
 
 /// Why a record is none of a script's.

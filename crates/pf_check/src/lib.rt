@@ -6,6 +6,7 @@
 pub mod checker;
 pub mod examine;
 pub mod fault;
+pub mod laws;
 mod place;
 mod record_lines;
 mod report;

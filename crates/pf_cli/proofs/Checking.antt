@@ -5,7 +5,7 @@ use Rattle.std.specs.Io.KnownBytes.{Appends}
 use Rattle.std.proofs.KnownBytes.{Appends-nil, Keeps-refl}
 use Rattle.pf_stream.specs.declared.reading.ReadingFault.{ReadingFault}
 use Rattle.pf_stream.specs.declared.reading.ReadingFault.TheVariants.{Read, TooLong, Memory}
-use Rattle.pf_stream.specs.Lines.{TookFront}
+use Rattle.pf_stream.specs.Written.{TookFront}
 use Rattle.pf_stream.specs.Reading.{longest_script, ReadsScript}
 use Rattle.pf_check.specs.Reports.{check_text, reports}
 use Rattle.pf_cli.specs.declared.fault.RunFault.TheVariants.{WriteFault, NoMemory}

@@ -1,4 +1,5 @@
 pub mod Checking
+pub mod Ends
 pub mod Limits
 pub mod Openings
 pub mod Replying

@@ -7,7 +7,7 @@ use Rattle.pf_script.specs.Script.{script_records}
 use Rattle.pf_words.specs.declared.format.Format.{Format}
 use Rattle.pf_cli.specs.Meaning.{bad_record, records_meaning, settings_meaning, system_opened_by, script_meaning}
 
-short_meaning : (format : Format) (bytes : List ℕ) → length bytes ≤ 16777216 → script_meaning format bytes ≡ records_meaning format (script_records bytes)
+pub short_meaning : (format : Format) (bytes : List ℕ) → length bytes ≤ 16777216 → script_meaning format bytes ≡ records_meaning format (script_records bytes)
 unfolding script_meaning
 short_meaning format bytes short = let fits : nat_lt 16777216 (length bytes) ≡ false = search (rules, tests) in rw fits refl
 

@@ -1,6 +1,6 @@
 -- The row of a reply has few places.
-use Rattle.std.proofs.Common.{◌≡◌, ℕ, ◌+◌, ◌==◌, Bool, true, false, List, [], length, Option, Some, None, ap, subst, ◌∙◌, arith}
-use Rattle.std.specs.Prelude.{if◌then◌else◌}
+use Rattle.std.proofs.Common.{◌≡◌, ℕ, ◌+◌, ◌==◌, Bool, true, false, List, [], ◌∷◌, ◌++◌, Result, Ok, Err, sym, append_assoc, length, Option, Some, None, ap, subst, ◌∙◌, arith}
+use Rattle.std.specs.Prelude.{if◌then◌else◌, OnOk}
 use Rattle.std.specs.List.{slice_get}
 use Rattle.pf_order.specs.declared.pick.Pick.{Pick}
 use Rattle.pf_scenario.specs.declared.change.Change.{Change}
@@ -52,3 +52,20 @@ few_places st after Step (Stepped slot row) answer state scenario =
     let long : length row ≡ st.plan.settings.processors =
     ap length (step_takes st slot row answer) ∙ places_in st.plan (st.now + 1) st.now [] held (omega arith) in
     omega (arith, held.settings.limits.processors_within)
+
+-- three texts with a space between them
+spaced : (a b c : List ℕ) → a ++ (32 ∷ (b ++ (32 ∷ c))) ≡ (((a ++ 32 ∷ []) ++ b) ++ 32 ∷ []) ++ c
+spaced a b c = sym (simp append_assoc)
+
+-- and what stands before them
+pub spaced_behind : (text before a b c : List ℕ)
+    → (((text ++ before) ++ a) ++ 32 ∷ []) ++ (b ++ (32 ∷ c)) ≡ text ++ (before ++ ((((a ++ 32 ∷ []) ++ b) ++ 32 ∷ []) ++ c))
+spaced_behind text before a b c =
+    append_assoc ((text ++ before) ++ a) (32 ∷ []) (b ++ (32 ∷ c))
+    ∙ append_assoc (text ++ before) a (32 ∷ (b ++ (32 ∷ c)))
+    ∙ append_assoc text before (a ++ (32 ∷ (b ++ (32 ∷ c))))
+    ∙ ap (λ t. text ++ (before ++ t)) (spaced a b c)
+
+pub ok_retold : {A E : Type 0} (r : Result A E) (new xs ys : List ℕ) → xs ≡ ys → OnOk r (new ≡ xs) → OnOk r (new ≡ ys)
+ok_retold (Ok done) new xs ys same h = h ∙ same
+ok_retold (Err e) new xs ys same h = tt

@@ -7,7 +7,7 @@ use Rattle.std.proofs.KnownBytes.{Appends-nil}
 use Rattle.pf_script.specs.declared.line.Line.{Line}
 use Rattle.pf_script.specs.declared.version.Version.{Version}
 use Rattle.pf_script.specs.Grammar.{line_of}
-use Rattle.pf_stream.specs.Lines.{TookAllBut, TookFront}
+use Rattle.pf_stream.specs.Written.{TookAllBut, TookFront}
 use Rattle.pf_stream.proofs.Sending.{so-far-finished, so-far-unfinished, took-before}
 use Rattle.pf_cli.specs.declared.fault.RunFault.{RunFault}
 use Rattle.pf_cli.specs.declared.fault.RunFault.TheVariants.{BadLine, ReadFault, WriteFault, ScriptTooLong, NoMemory}

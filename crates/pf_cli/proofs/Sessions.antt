@@ -1,8 +1,8 @@
 -- What a session's text comes to.
 use Rattle.std.proofs.Common.{◌≡◌, ◌<◌, ℕ, ◌+◌, ◌-◌, suc, Bool, true, false, List, [], ◌∷◌, ◌++◌, length, replicate, Option, Result, Ok, Err, refl, sym, ap, ap₂, subst, ◌∙◌, arith, append_assoc}
-use Rattle.std.specs.Prelude.{if◌then◌else◌, OnErr}
+use Rattle.std.specs.Prelude.{if◌then◌else◌, IfOk, OnErr}
 use Rattle.std.specs.Io.KnownBytes.{Appends}
-use Rattle.std.proofs.KnownBytes.{Appends-nil, Appends-trans}
+use Rattle.std.proofs.KnownBytes.{Appends-nil}
 use Rattle.std.proofs.lemmas.List.{append-nil, length-append}
 use Rattle.pf_run.specs.RunRows.{rows_in, denials_in}
 use Rattle.pf_desk.specs.declared.command.Command.{Command}
@@ -10,7 +10,8 @@ use Rattle.pf_desk.specs.declared.command.Command.TheVariants.{Step}
 use Rattle.pf_desk.specs.declared.reply.Reply.{Reply}
 use Rattle.pf_desk.specs.Machine.{reply_to, state_after}
 use Rattle.pf_desk.specs.Desk.{Shown, AnswersCaller, Seen, StandsForHistory}
-use Rattle.pf_stream.specs.Lines.{TookAllBut, TookFront}
+use Rattle.pf_stream.specs.Written.{TookAllBut, TookFront}
+pub use Rattle.pf_stream.proofs.Sending.{all_to_come, anyway, none_written, on_the_way, stopped_on_the_way}
 use Rattle.pf_words.specs.declared.format.Format.{Format}
 use Rattle.pf_cli.specs.declared.session.Session.{Session}
 use Rattle.pf_cli.specs.Replies.{reply_line}
@@ -18,26 +19,27 @@ use Rattle.pf_words.specs.Formats.{has_replies}
 use Rattle.pf_cli.specs.Meaning.{ScriptCourse, course_after, course_behind, text_if_replies, reply_lines, report_text, seen_at}
 use Rattle.pf_cli.specs.Session.{course_at, replies_of, HasAnswered}
 
--- a text is still to come, in whole
-pub all_to_come : (x : Option (List ℕ)) (text : List ℕ) → TookAllBut text x x text
-all_to_come x text = ([], Appends-nil x, refl)
+-- what the writer didn't take of a text is a rest of it
+pub all_taken : (waiting : List ℕ) (old new : Option (List ℕ)) (text : List ℕ) → TookAllBut waiting old new text → TookFront old new text
+all_taken waiting old new text h = (waiting, h)
 
-pub none_written : (x : Option (List ℕ)) (text : List ℕ) → TookFront x x text
-none_written x text = (text, all_to_come x text)
+-- a piece was added behind what waits
+pub waits_behind : (waiting now : List ℕ) (old new : Option (List ℕ)) (text piece : List ℕ) → TookAllBut waiting old new text → now ≡ waiting ++ piece
+    → TookAllBut now old new (text ++ piece)
+waits_behind waiting now old new text piece h is =
+    (h.0, h.1, ap (λ t. h.0 ++ t) is ∙ sym (append_assoc h.0 waiting piece) ∙ ap (λ t. t ++ piece) h.2)
 
--- Of a whole text some waits, some is put next, and the rest comes then.
-pub on_the_way : (start mid new : Option (List ℕ)) (was waiting more rest whole : List ℕ) → TookAllBut (was ++ (more ++ rest)) start mid whole
-    → TookAllBut waiting mid new (was ++ more) → TookAllBut (waiting ++ rest) start new whole
-on_the_way start mid new was waiting more rest whole h k = (
-  h.0 ++ k.0,
-  Appends-trans start mid new h.0 k.0 h.1 k.1,
-  append_assoc h.0 k.0 (waiting ++ rest)
-      ∙ ap (λ t. h.0 ++ t) (sym (append_assoc k.0 waiting rest) ∙ ap (λ t. t ++ rest) k.2 ∙ append_assoc was more rest) ∙ h.2,
-)
+pub err_at : {A E : Type 0} (r : Result A E) (old new : Option (List ℕ)) (was xs ys : List ℕ) → xs ≡ ys → OnErr r (TookFront old new (was ++ xs))
+    → OnErr r (TookFront old new (was ++ ys))
+err_at r old new was xs ys same h = subst (λ t. OnErr r (TookFront old new (was ++ t))) same h
 
-pub stopped_on_the_way : (start mid new : Option (List ℕ)) (was more rest whole : List ℕ) → TookAllBut (was ++ (more ++ rest)) start mid whole
-    → TookFront mid new (was ++ more) → TookFront start new whole
-stopped_on_the_way start mid new was more rest whole h k = (k.0 ++ rest, on_the_way start mid new was k.0 more rest whole h k.1)
+-- four texts, one behind another
+pub four_texts : (a b c d : List ℕ) → a ++ (b ++ (c ++ d)) ≡ ((a ++ b) ++ c) ++ d
+four_texts a b c d = sym (append_assoc (a ++ b) c d ∙ append_assoc a b (c ++ d))
+
+pub text_retold : {E : Type 0} (r : Result (List ℕ) E) (xs ys : List ℕ) → xs ≡ ys → IfOk r (λ text. text ≡ xs) → IfOk r (λ text. text ≡ ys)
+text_retold (Ok text) xs ys same h = h ∙ same
+text_retold (Err e) xs ys same h = tt
 
 -- what is shown, by format
 text_if_replies-append : (format : Format) (xs ys : List ℕ) → text_if_replies format (xs ++ ys) ≡ text_if_replies format xs ++ text_if_replies format ys
@@ -153,11 +155,6 @@ answered_shown caller command a b reply bytes old new h format line shows took =
   course = course_entered caller command a.desk b.desk reply h;
   text = subst (λ t. TookAllBut b.lines old new (a.lines ++ t)) (put_replies caller command a b.desk reply bytes h line shows) took;
 }
-
--- what holds anyway holds after an error
-pub anyway : {A E : Type 0} (r : Result A E) (P : Type 0) → P → OnErr r P
-anyway (Ok x) P h = tt
-anyway (Err e) P h = h
 
 -- nothing of a text was put, as the format shows none
 pub put_unshown : (format : Format) (bytes waiting : List ℕ) (x : Option (List ℕ)) → has_replies format ≡ false →

@@ -6,15 +6,15 @@ use Rattle.std.proofs.KnownBytes.{Keeps-refl, Consumes-nil}
 use Rattle.pf_words.specs.declared.format.Format.{Format}
 use Rattle.pf_words.specs.declared.request.WordsFault.{WordsFault}
 use Rattle.pf_words.specs.declared.request.WordsFault.TheVariants as fault
-use Rattle.pf_words.specs.Asked.{AsksHelp, AsksVersion, Checks, IsAsked, IsRefused, NamesNoFormat, RunsIn, Task, task_asked}
+use Rattle.pf_words.specs.Asked.{AsksHelp, AsksVersion, Checks, IsAsked, IsRefused, NamesNoFormat, RunsIn, Task, file_asked, task_asked}
 use Rattle.pf_words.proofs.Unasked.{untaken_asks_none}
-use Rattle.pf_cli.specs.declared.fault.RunFault.TheVariants.{NoMemory}
-use Rattle.pf_stream.specs.Lines.{TookFront}
+use Rattle.pf_cli.specs.declared.fault.RunFault.TheVariants.{NoMemory, ReadFault}
+use Rattle.pf_stream.specs.Written.{TookFront}
 use Rattle.pf_stream.specs.Reading.{longest_script, TakesAtMost}
 use Rattle.pf_cli.specs.Answers.{Answers}
 use Rattle.pf_cli.specs.Checks.{ChecksBytes}
 use Rattle.pf_cli.specs.Meaning.{script_meaning}
-use Rattle.pf_cli.specs.Status.{AnswersAsked, AnswersWords, ReadsNothing, Streams, status_of_words}
+use Rattle.pf_cli.specs.Status.{AnswersAsked, AnswersWords, ChecksScript, Does, ReadsNothing, RunsScript, Streams, WithFile, seen_streams, status_of_words}
 use Rattle.pf_cli.proofs.Sessions.{none_written}
 
 -- words that ask for nothing have nothing read
@@ -53,18 +53,9 @@ refused_asks_none words fault.NoMemory any = inl refl
 none_taken : (input : Option (List ℕ)) → TakesAtMost input input (longest_script + 1)
 none_taken input = ([], Consumes-nil input, omega arith)
 
--- want of memory is an answer to all words
-no_memory : (words : List (List ℕ)) (old : Streams) (asked : Option Task) → AnswersAsked words asked 4 old old
-no_memory words old None = record {
-  ended = inr (inr refl);
-  input = refl;
-  reads = refl;
-  writes = omega arith;
-  shown = λ done. absurd (omega (arith, done));
-  cut = λ failed. absurd (omega (arith, failed));
-  unwritten = λ other. Keeps-refl old.output;
-}
-no_memory words old (Some (RunsIn format)) = (
+-- want of memory is an answer to each task
+no_memory : (old : Streams) (task : Task) → Does task 4 old old
+no_memory old (RunsIn format) = (
   Err NoMemory,
   refl,
   record {
@@ -79,7 +70,7 @@ no_memory words old (Some (RunsIn format)) = (
     none_meant : (format : Format) (input output : Option (List ℕ)) → IfSome input (λ bytes. Answers {A = Unit {0}} (script_meaning format bytes) (Err NoMemory) output output)
     none_meant format None output = tt
     none_meant format (Some bytes) output = none_written output _
-no_memory words old (Some Checks) = (
+no_memory old Checks = (
   Err NoMemory,
   refl,
   record {
@@ -94,6 +85,48 @@ no_memory words old (Some Checks) = (
     none_checked : (input output : Option (List ℕ)) → IfSome input (λ bytes. ChecksBytes bytes (Err NoMemory) output output)
     none_checked None output = tt
     none_checked (Some bytes) output = record { text = none_written output _; faults = tt }
+
+-- and to all words
+memory_answers : (words : List (List ℕ)) (old : Streams) (asked : Option Task) (file : Option (List ℕ)) → AnswersAsked words asked file 4 old old
+memory_answers words old None file = record {
+  ended = inr (inr refl);
+  input = refl;
+  reads = refl;
+  writes = omega arith;
+  shown = λ done. absurd (omega (arith, done));
+  cut = λ failed. absurd (omega (arith, failed));
+  unwritten = λ other. Keeps-refl old.output;
+}
+memory_answers words old (Some task) None = no_memory old task
+memory_answers words old (Some task) (Some file) = record {
+  input = refl;
+  reads = refl;
+  does = (0, no_memory (seen_streams None 0 old.output old.failed_writes) task);
+}
+
+-- a file that can't be opened is a reader that failed, and nothing is written
+unopened_run : (format : Format) (output : Option (List ℕ)) (failed : ℕ) → RunsScript format 3 (seen_streams None 0 output failed) (seen_streams None 1 output failed)
+unopened_run format output failed = (
+  Err ReadFault,
+  refl,
+  record { meaning = tt; reads = refl; writes = refl; unwritten = λ fault. Keeps-refl output; taken = none_taken None },
+)
+
+pub run_unopened : (format : Format) (status : ℕ) (output : Option (List ℕ)) (failed : ℕ) → status ≡ 3
+    → WithFile (RunsScript format status) output failed output failed
+run_unopened format status output failed is = (1, rw is (unopened_run format output failed))
+
+-- the same of a check
+unopened_check : (output : Option (List ℕ)) (failed : ℕ) → ChecksScript 3 (seen_streams None 0 output failed) (seen_streams None 1 output failed)
+unopened_check output failed = (
+  Err ReadFault,
+  refl,
+  record { meaning = tt; reads = refl; writes = refl; unwritten = λ fault. Keeps-refl output; taken = none_taken None },
+)
+
+pub check_unopened : (status : ℕ) (output : Option (List ℕ)) (failed : ℕ) → status ≡ 3
+    → WithFile (ChecksScript status) output failed output failed
+check_unopened status output failed is = (1, rw is (unopened_check output failed))
 
 -- the words are not the program's
 mistaken : (words : List (List ℕ)) (old : Streams) → IsRefused words ⊎ NamesNoFormat words → ReadsNothing words 2 old old
@@ -112,7 +145,7 @@ untouched : (words : List (List ℕ)) (why : WordsFault) (old : Streams) → IsA
 untouched words (fault.Refused text) old refused =
     nothing_read words 2 old old (untaken_asks_none words _ refused.2) (mistaken words old (inl refused))
 untouched words fault.UnknownFormat old unknown = nothing_read words 2 old old unknown.1 (mistaken words old (inr unknown))
-untouched words fault.NoMemory old any = no_memory words old (task_asked words)
+untouched words fault.NoMemory old any = memory_answers words old (task_asked words) (file_asked words)
 
 -- words that ask for nothing, and want of memory, leave the streams as they were
 pub refusal_answers : (words : List (List ℕ)) (why : WordsFault) (status : ℕ) (old : Streams) → IsAsked words (Err why)

@@ -1,6 +1,6 @@
 pub use Rattle.pf_stream.specs.Counted
 pub use Rattle.pf_stream.specs.Failing
-pub use Rattle.pf_stream.specs.Lines
+pub use Rattle.pf_stream.specs.Written
 pub use Rattle.pf_stream.specs.Reading
 pub use Rattle.pf_words.specs.Asked
 pub use Rattle.pf_words.specs.CommandLine
@@ -14,6 +14,7 @@ pub use Rattle.pf_check.specs.Reports
 pub mod Answers
 pub mod Checks
 pub mod Examples
+pub mod Laws
 pub mod Meaning
 pub mod Replies
 pub mod Session

@@ -4,7 +4,7 @@ use Rattle.pf_scenario.specs.System.{System}
 use Rattle.pf_desk.specs.declared.command.Command.{Command}
 use Rattle.pf_desk.specs.Machine.{opening_state}
 use Rattle.pf_desk.specs.Desk.{Shown}
-use Rattle.pf_stream.specs.Lines.{TookAllBut}
+use Rattle.pf_stream.specs.Written.{TookAllBut}
 use Rattle.pf_words.specs.declared.format.Format.{Format}
 use Rattle.pf_cli.specs.declared.session.Session.{Session}
 use Rattle.pf_cli.specs.Meaning.{ScriptCourse, course_behind, text_if_replies, reply_lines}

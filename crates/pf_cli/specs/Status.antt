@@ -6,8 +6,8 @@ use Rattle.pf_cli.specs.declared.fault.RunFault.TheVariants.{BadLine, ReadFault,
 use Rattle.pf_words.specs.declared.format.Format.{Format}
 use Rattle.pf_words.specs.declared.request.WordsFault.{WordsFault}
 use Rattle.pf_words.specs.declared.request.WordsFault.TheVariants as words
-use Rattle.pf_words.specs.Asked.{Task, RunsIn, Checks, task_asked, AsksHelp, AsksVersion, IsRefused, NamesNoFormat}
-use Rattle.pf_stream.specs.Lines.{TookFront}
+use Rattle.pf_words.specs.Asked.{Task, RunsIn, Checks, task_asked, file_asked, AsksHelp, AsksVersion, IsRefused, NamesNoFormat}
+use Rattle.pf_stream.specs.Written.{TookFront}
 use Rattle.pf_stream.specs.Reading.{longest_script, TakesAtMost}
 use Rattle.pf_cli.specs.Answers.{Answers, CountsReads, CountsWrites}
 use Rattle.pf_cli.specs.Checks.{ChecksBytes}
@@ -92,12 +92,29 @@ pub record ReadsNothing (words : List (List ℕ)) (status : ℕ) (old new : Stre
   pub cut : status ≡ 3 → (text : List ℕ) × TookFront old.output new.output text
   pub unwritten : (status ≡ 2) ⊎ (status ≡ 4) → Keeps old.output new.output
 
--- words that ask for a run in a format have the script run in it, and those that ask for a check have it checked; where
--- they ask for nothing, nothing is read
-abbrev pub AnswersAsked : List (List ℕ) → Option Task → ℕ → Streams → Streams → Type 0
-AnswersAsked words (Some (RunsIn format)) status old new = RunsScript format status old new
-AnswersAsked words (Some Checks) status old new = ChecksScript status old new
-AnswersAsked words None status old new = ReadsNothing words status old new
+-- a script was run in the format, or checked
+abbrev pub Does : Task → ℕ → Streams → Streams → Type 0
+Does (RunsIn format) status old new = RunsScript format status old new
+Does Checks status old new = ChecksScript status old new
+
+-- something was done with a file in place of the reader, of whose bytes nothing is said; one that can't be opened is a
+-- reader that failed
+abbrev pub WithFile : (Streams → Streams → Type 0) → (old_output : Option (List ℕ)) (old_failed : ℕ) (new_output : Option (List ℕ)) (new_failed : ℕ) → Type 0
+WithFile does old_output old_failed new_output new_failed =
+    (reads : ℕ) × does (seen_streams None 0 old_output old_failed) (seen_streams None reads new_output new_failed)
+
+-- the reader is as before, and the task was done with a file
+pub record DoesWithFile (task : Task) (status : ℕ) (old new : Streams) : Type 0 where
+  pub input : new.input ≡ old.input
+  pub reads : new.failed_reads ≡ old.failed_reads
+  pub does : WithFile (Does task status) old.output old.failed_writes new.output new.failed_writes
+
+-- words that ask for a run in a format have the script run in it, and those that ask for a check have it checked: that
+-- of the file that they name, and else the reader's; where they ask for nothing, nothing is read
+abbrev pub AnswersAsked : List (List ℕ) → Option Task → Option (List ℕ) → ℕ → Streams → Streams → Type 0
+AnswersAsked words (Some task) None status old new = Does task status old new
+AnswersAsked words (Some task) (Some file) status old new = DoesWithFile task status old new
+AnswersAsked words None file status old new = ReadsNothing words status old new
 
 abbrev pub AnswersWords : List (List ℕ) → ℕ → Streams → Streams → Type 0
-AnswersWords words status old new = AnswersAsked words (task_asked words) status old new
+AnswersWords words status old new = AnswersAsked words (task_asked words) (file_asked words) status old new

@@ -9,11 +9,11 @@ pub mod check;
 pub mod fault;
 pub mod laws;
 mod output_fault;
+pub mod program;
 mod replies;
 mod reports;
 pub mod run;
 mod session;
-pub mod words;
 
 pub use pf_stream::{sink, source};
 pub use pf_words::format;

@@ -1,7 +1,7 @@
 ghost use Rattle.std.specs.Prelude.{◌≡◌};
 ghost use Rattle.pf_cli.specs.declared.output_fault.OutputFault.TheVariants as fault;
 
-use pf_stream::lines::WriteFault;
+use pf_stream::writing::WriteFault;
 use std::alloc::AllocError;
 
 /// Why a text was not put or written.

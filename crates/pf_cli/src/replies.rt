@@ -1,45 +1,65 @@
-ghost use Rattle.std.specs.Prelude.{◌≡◌, ◌++◌, ◌≤◌, ◌<◌, length, OnOk};
-ghost use Rattle.std.specs.String.{string_bytes};
+ghost use Rattle.std.specs.Prelude.{◌≡◌, ◌++◌, ◌≤◌, ◌<◌, codes, length, OnOk};
+ghost use Rattle.std.specs.Fmt.{decimal};
 ghost use Rattle.std.specs.List.{flat_map};
+ghost use Rattle.pf_desk.specs.declared.reply.Fault.TheVariants.{WouldDeny};
 ghost use Rattle.pf_cli.specs.Replies.{reply_line, reply_text, fault_text, edit_fault_text, weight_text, place_text, HasFewPlaces};
 
+use pf_admit::denial::Denial;
 use pf_desk::reply::{Fault, Reply};
 use pf_order::pick::Pick;
 use pf_place::row::Row;
 use pf_scenario::fault::EditFault;
+use pf_stream::text_buffer::TextBuffer;
 use std::alloc::AllocError;
 
 /// Adds a reply's line behind a text. Its row has at most 64 places.
 #[tactic(auto, unfolding(crate::specs::Replies::reply_line))]
-pub fn push_reply(text: &mut String, reply: &Reply) -> Result<(), AllocError>
+pub fn push_reply(text: &mut TextBuffer, reply: &Reply) -> Result<(), AllocError>
     requires { HasFewPlaces reply.now }
-    ensures { OnOk result (string_bytes text.new ≡ string_bytes text.old ++ reply_line reply.now) }
+    ensures { OnOk result (text.new ≡ text.old ++ reply_line reply.now) }
 {
     push_reply_text(text, reply)?;
-    text.push('\n')
+    text.push(b"\n")
 }
 
-fn push_reply_text(text: &mut String, reply: &Reply) -> Result<(), AllocError>
+fn push_reply_text(text: &mut TextBuffer, reply: &Reply) -> Result<(), AllocError>
     requires { HasFewPlaces reply.now }
-    ensures { OnOk result (string_bytes text.new ≡ string_bytes text.old ++ reply_text reply.now) }
+    ensures { OnOk result (text.new ≡ text.old ++ reply_text reply.now) }
 {
     match reply {
-        Reply::Edited { id } => write!(text, "event {id}"),
+        Reply::Edited { id } => push_edited(text, *id),
         Reply::Stepped { slot, row } => {
-            write!(text, "slot {slot}:")?;
+            push_slot(text, *slot)?;
             push_row(text, row)
         }
         Reply::Refused(fault) => {
-            text.push_str("refused ")?;
+            text.push(b"refused ")?;
             push_fault(text, *fault)
         }
     }
 }
 
+/// The number of the event concerned.
+fn push_edited(text: &mut TextBuffer, id: u64) -> Result<(), AllocError>
+    ensures { OnOk result (text.new ≡ text.old ++ (codes "event " ++ decimal id)) }
+{
+    text.push(b"event ")?;
+    text.push_number(id)
+}
+
+/// The slot that was stepped.
+fn push_slot(text: &mut TextBuffer, slot: u64) -> Result<(), AllocError>
+    ensures { OnOk result (text.new ≡ text.old ++ (codes "slot " ++ (decimal slot ++ codes ":"))) }
+{
+    text.push(b"slot ")?;
+    text.push_number(slot)?;
+    text.push(b":")
+}
+
 /// Who sits on each processor, in order.
-fn push_row(text: &mut String, row: &Row) -> Result<(), AllocError>
+fn push_row(text: &mut TextBuffer, row: &Row) -> Result<(), AllocError>
     requires { length row.now ≤ 64 }
-    ensures { OnOk result (string_bytes text.new ≡ string_bytes text.old ++ flat_map place_text row.now) }
+    ensures { OnOk result (text.new ≡ text.old ++ flat_map place_text row.now) }
 {
     let processors = row.processors() as u32;
     for processor in 0..processors {
@@ -48,51 +68,65 @@ fn push_row(text: &mut String, row: &Row) -> Result<(), AllocError>
     Ok(())
 }
 
-fn push_place(text: &mut String, place: Option<Pick>) -> Result<(), AllocError>
-    ensures { OnOk result (string_bytes text.new ≡ string_bytes text.old ++ place_text place) }
+fn push_place(text: &mut TextBuffer, place: Option<Pick>) -> Result<(), AllocError>
+    ensures { OnOk result (text.new ≡ text.old ++ place_text place) }
 {
     match place {
-        None => text.push_str(" -"),
+        None => text.push(b" -"),
         Some(pick) => {
-            let task = pick.task;
-            let sub = pick.sub;
-            write!(text, " {task}/{sub}")
+            text.push(b" ")?;
+            text.push_number(u64::from(pick.task))?;
+            text.push(b"/")?;
+            text.push_number(u64::from(pick.sub))
         }
     }
 }
 
 /// Why a command was refused.
-fn push_fault(text: &mut String, fault: Fault) -> Result<(), AllocError>
-    ensures { OnOk result (string_bytes text.new ≡ string_bytes text.old ++ fault_text fault) }
+fn push_fault(text: &mut TextBuffer, fault: Fault) -> Result<(), AllocError>
+    ensures { OnOk result (text.new ≡ text.old ++ fault_text fault) }
 {
     match fault {
         Fault::BadEdit(fault) => push_edit_fault(text, fault),
-        Fault::AtHorizon => text.push_str("30 AtHorizon"),
-        Fault::WouldDeny { id, denial } => {
-            let code = denial.code();
-            let name = denial.name();
-            write!(text, "31 WouldDeny {id} {code} {name}")
-        }
+        Fault::AtHorizon => text.push(b"30 AtHorizon"),
+        Fault::WouldDeny { id, denial } => push_would_deny(text, id, denial),
     }
 }
 
-/// The number and the name of a change's fault.
-fn push_edit_fault(text: &mut String, fault: EditFault) -> Result<(), AllocError>
-    ensures { OnOk result (string_bytes text.new ≡ string_bytes text.old ++ edit_fault_text fault) }
+/// That a strict edit would leave a denial.
+fn push_would_deny(text: &mut TextBuffer, id: u64, denial: Denial) -> Result<(), AllocError>
+    ensures { OnOk result (text.new ≡ text.old ++ fault_text (WouldDeny id denial)) }
 {
-    let code = fault.code();
-    let name = fault.name();
-    write!(text, "{code} {name}")?;
+    text.push(b"31 WouldDeny ")?;
+    text.push_number(id)?;
+    text.push(b" ")?;
+    push_code(text, denial.code(), denial.name())
+}
+
+/// A number and a name.
+fn push_code(text: &mut TextBuffer, code: u64, name: &str) -> Result<(), AllocError>
+    ensures { OnOk result (text.new ≡ text.old ++ (decimal code ++ (codes " " ++ name.now))) }
+{
+    text.push_number(code)?;
+    text.push(b" ")?;
+    text.push(name.as_bytes())
+}
+
+/// The number and the name of a change's fault.
+fn push_edit_fault(text: &mut TextBuffer, fault: EditFault) -> Result<(), AllocError>
+    ensures { OnOk result (text.new ≡ text.old ++ edit_fault_text fault) }
+{
+    push_code(text, fault.code(), fault.name())?;
     push_weight_code(text, fault)
 }
 
 /// Behind a weight's fault, the number of what is wrong with the weight.
-fn push_weight_code(text: &mut String, fault: EditFault) -> Result<(), AllocError>
-    ensures { OnOk result (string_bytes text.new ≡ string_bytes text.old ++ weight_text fault) }
+fn push_weight_code(text: &mut TextBuffer, fault: EditFault) -> Result<(), AllocError>
+    ensures { OnOk result (text.new ≡ text.old ++ weight_text fault) }
 {
     if let EditFault::BadWeight(wrong) = fault {
-        let code = wrong.code();
-        write!(text, " {code}")?;
+        text.push(b" ")?;
+        text.push_number(wrong.code())?;
     }
     Ok(())
 }

@@ -1,73 +1,136 @@
-ghost use Rattle.std.specs.Prelude.{◌≡◌, ◌++◌, IfOk, OnOk};
+ghost use Rattle.std.specs.Prelude.{◌≡◌, ◌-◌, ◌^◌, ◌<◌, ◌++◌, IfOk, OnOk, OnErr};
 ghost use Rattle.pf_report.specs.Json.{json_text};
+ghost use Rattle.pf_stream.specs.Written.{TookAllBut, TookFront};
+ghost use Rattle.pf_cli.specs.Answers.{CountsOutput};
 ghost use Rattle.pf_cli.specs.Meaning.{report_text, tables_text, text_under_title};
 ghost use Rattle.pf_cli.specs.Replies.{line_end};
 
+use crate::output_fault::OutputFault;
 use pf_desk::snapshot::Snapshot;
-use pf_report::denials::denials_csv;
+use pf_report::denials::{DenialPieces, denial_pieces};
 use pf_report::events::events_csv;
-use pf_report::json::report_json;
-use pf_report::lags::lags_csv;
-use pf_report::misses::misses_csv;
-use pf_report::schedule::schedule_csv;
+use pf_report::json::{JsonPieces, json_pieces};
+use pf_report::lags::{LagPieces, lag_pieces};
+use pf_report::misses::{MissPieces, miss_pieces};
+use pf_report::pieces::{Chain, Pieces, Whole};
+use pf_report::schedule::{SchedulePieces, schedule_pieces};
 use pf_stats::processors::processors_csv;
 use pf_stats::stats::stats_csv;
+use pf_stream::sink::Sink;
+use pf_stream::text_buffer::TextBuffer;
 use pf_words::format::Format;
 use std::alloc::{AllocError, Global};
 
-/// What stands behind all replies.
-#[tactic(auto, unfolding(crate::specs::Meaning::report_text))]
-pub fn report_text(
+/// Puts what stands behind all replies, piece by piece. The writer's count of failures must be below `u64::MAX` before
+/// the call.
+///
+/// # Errors
+///
+/// Where a write fails or memory is refused: the writer has a front of the text, and nothing more may be put.
+#[tactic(auto, using(crate::proofs::Sessions::anyway, crate::proofs::Sessions::none_written), unfolding(crate::specs::Meaning::report_text))]
+pub fn put_report<W: Sink>(
     alloc: Global,
     snapshot: &Snapshot,
     format: Format,
-) -> Result<Vec<u8>, AllocError>
-    ensures { IfOk result (λ text. text.items ≡ report_text format snapshot.now) }
+    text: &mut TextBuffer,
+    writer: &mut W,
+) -> Result<(), OutputFault>
+    requires { W.failed writer.old < 2 ^ 64 - 1 }
+    ensures ok { OnOk result
+        (TookAllBut text.new (W.contents writer.old) (W.contents writer.new) (text.old ++ report_text format snapshot.now)) }
+    ensures err { OnErr result
+        (TookFront (W.contents writer.old) (W.contents writer.new) (text.old ++ report_text format snapshot.now)) }
+    ensures count { CountsOutput result (W.failed writer.old) (W.failed writer.new) }
 {
     match format {
-        Format::Schedule => schedule_csv(alloc, snapshot),
-        Format::Tables => tables_text(alloc, snapshot),
-        Format::Json | Format::Report => json_line(alloc, snapshot),
-        Format::Replies => Ok(Vec::new(alloc)),
-        Format::Lags => lags_csv(alloc, snapshot),
-        Format::Misses => misses_csv(alloc, snapshot),
-        Format::Denials => denials_csv(alloc, snapshot),
-        Format::Events => events_csv(alloc, snapshot),
-        Format::Processors => processors_csv(alloc, snapshot),
-        Format::Stats => stats_csv(alloc, snapshot),
+        Format::Schedule => put_pieces(alloc, schedule_pieces(alloc, snapshot)?, text, writer),
+        Format::Tables => put_pieces(alloc, tables_pieces(alloc, snapshot)?, text, writer),
+        Format::Json => put_pieces(alloc, json_line(alloc, snapshot)?, text, writer),
+        Format::Report => put_pieces(alloc, json_line(alloc, snapshot)?, text, writer),
+        Format::Replies => Ok(()),
+        Format::Lags => put_pieces(alloc, lag_pieces(alloc, snapshot)?, text, writer),
+        Format::Misses => put_pieces(alloc, miss_pieces(alloc, snapshot)?, text, writer),
+        Format::Denials => put_pieces(alloc, denial_pieces(alloc, snapshot)?, text, writer),
+        Format::Events => put_pieces(
+            alloc,
+            Whole::new(events_csv(alloc, snapshot)?),
+            text,
+            writer,
+        ),
+        Format::Processors => put_pieces(
+            alloc,
+            Whole::new(processors_csv(alloc, snapshot)?),
+            text,
+            writer,
+        ),
+        Format::Stats => put_pieces(alloc, Whole::new(stats_csv(alloc, snapshot)?), text, writer),
     }
 }
 
-/// The JSON object, as a line.
-fn json_line(alloc: Global, snapshot: &Snapshot) -> Result<Vec<u8>, AllocError>
-    ensures { IfOk result (λ text. text.items ≡ json_text snapshot.now ++ line_end) }
+/// Puts pieces, one after another.
+fn put_pieces<P: Pieces + Drop, W: Sink>(
+    alloc: Global,
+    mut pieces: P,
+    text: &mut TextBuffer,
+    writer: &mut W,
+) -> Result<(), OutputFault>
+    requires { W.failed writer.old < 2 ^ 64 - 1 }
+    ensures ok { OnOk result
+        (TookAllBut text.new (W.contents writer.old) (W.contents writer.new) (text.old ++ P.left pieces)) }
+    ensures err { OnErr result
+        (TookFront (W.contents writer.old) (W.contents writer.new) (text.old ++ P.left pieces)) }
+    ensures count { CountsOutput result (W.failed writer.old) (W.failed writer.new) }
 {
-    let mut text = report_json(alloc, snapshot)?;
-    text.push(b'\n')?;
-    Ok(text)
+    'pieces: while let Some(piece) = pieces.next_piece(alloc)? {
+        text.put(writer, &piece)?;
+    }
+    Ok(())
 }
 
-/// The four tables, each behind a line with its name.
-fn tables_text(alloc: Global, snapshot: &Snapshot) -> Result<Vec<u8>, AllocError>
-    ensures { IfOk result (λ text. text.items ≡ tables_text snapshot.now) }
+/// The JSON object, as a line, in pieces.
+fn json_line(alloc: Global, snapshot: &Snapshot) -> Result<Chain<JsonPieces<'_>, Whole>, AllocError>
+    ensures { IfOk result (λ pieces. pieces ≡ json_text snapshot.now ++ line_end) }
 {
-    let mut text = Vec::new(alloc);
-    let schedule = schedule_csv(alloc, snapshot)?;
-    extend_titled(&mut text, b"schedule", &schedule)?;
-    let lags = lags_csv(alloc, snapshot)?;
-    extend_titled(&mut text, b"lags", &lags)?;
-    let misses = misses_csv(alloc, snapshot)?;
-    extend_titled(&mut text, b"misses", &misses)?;
-    let denials = denials_csv(alloc, snapshot)?;
-    extend_titled(&mut text, b"denials", &denials)?;
-    Ok(text)
+    let end = Whole::new(Vec::from_slice(alloc, b"\n")?);
+    Ok(Chain::new(json_pieces(alloc, snapshot)?, end))
 }
 
-/// Adds a table behind a line with its name.
-fn extend_titled(text: &mut Vec<u8>, title: &[u8], table: &[u8]) -> Result<(), AllocError>
-    ensures { OnOk result (text.new.items ≡ text.old.items ++ text_under_title title.now table.now) }
+/// A line with a name, a table, and what follows.
+type Titled<T, B> = Chain<Whole, Chain<T, B>>;
+
+/// The four tables, each behind a line with its name, in pieces.
+type TablesPieces<'a> = Titled<
+    SchedulePieces<'a>,
+    Titled<LagPieces, Titled<MissPieces, Chain<Whole, DenialPieces<'a>>>>,
+>;
+
+/// A table behind a line with its name, and what follows.
+fn titled<T: Pieces + Drop, B: Pieces + Drop>(
+    alloc: Global,
+    title: &[u8],
+    table: T,
+    behind: B,
+) -> Result<Titled<T, B>, AllocError>
+    ensures { IfOk result (λ pieces. pieces ≡ title.now ++ (T.left table ++ B.left behind)) }
 {
-    text.extend_from_slice(title)?;
-    text.push(b'\n')?;
-    text.extend_from_slice(table)
+    let title = Whole::new(Vec::from_slice(alloc, title)?);
+    Ok(Chain::new(title, Chain::new(table, behind)))
+}
+
+/// The four tables, each behind a line with its name, in pieces. The lags and the missed windows are in memory until they
+/// are written.
+fn tables_pieces(alloc: Global, snapshot: &Snapshot) -> Result<TablesPieces<'_>, AllocError>
+    ensures { IfOk result (λ pieces. pieces ≡ tables_text snapshot.now) }
+{
+    let denials = denial_pieces(alloc, snapshot)?;
+    let title = Whole::new(Vec::from_slice(alloc, b"denials\n")?);
+    let denials = Chain::new(title, denials);
+    let misses = titled(alloc, b"misses\n", miss_pieces(alloc, snapshot)?, denials)?;
+    let lags = titled(alloc, b"lags\n", lag_pieces(alloc, snapshot)?, misses)?;
+    titled(
+        alloc,
+        b"schedule\n",
+        schedule_pieces(alloc, snapshot)?,
+        lags,
+    )
 }

@@ -2,7 +2,7 @@ ghost use Rattle.std.specs.Prelude.{◌≡◌, ◌-◌, ◌^◌, ◌<◌, ◌≤
 ghost use Rattle.std.specs.Io.KnownBytes.{Appends};
 ghost use Rattle.pf_desk.specs.declared.command.Command.TheVariants.{Step};
 ghost use Rattle.pf_timeline.specs.Checkpoints.{largest_distance};
-ghost use Rattle.pf_stream.specs.Lines.{TookAllBut, TookFront};
+ghost use Rattle.pf_stream.specs.Written.{TookAllBut, TookFront};
 ghost use Rattle.pf_cli.specs.Answers.{CountsOutput};
 ghost use Rattle.pf_cli.specs.Meaning.{text_if_replies, commands_of, seen_at, report_text};
 ghost use Rattle.pf_cli.specs.Replies.{line_end};
@@ -10,15 +10,15 @@ ghost use Rattle.pf_cli.specs.Session.{Opened, HasPut, HasAnswered, course_at, r
 
 use crate::output_fault::OutputFault;
 use crate::replies::push_reply;
-use crate::reports::report_text;
+use crate::reports::put_report;
 use pf_desk::command::Command;
 use pf_desk::desk::Desk;
 use pf_desk::fault::OpenFault;
 use pf_order::meter::Meter;
 use pf_scenario::settings::Settings;
 use pf_script::line::Line;
-use pf_stream::lines::Lines;
 use pf_stream::sink::Sink;
+use pf_stream::text_buffer::TextBuffer;
 use pf_words::format::Format;
 use std::alloc::{AllocError, Global};
 
@@ -32,8 +32,7 @@ const CALLER: u32 = 0;
 pub struct Session {
     desk: Desk,
     meter: Meter,
-    lines: Lines,
-    line: String,
+    lines: TextBuffer,
     format: Format,
 }
 
@@ -58,8 +57,7 @@ impl Session {
         Ok(Session {
             desk,
             meter: Meter::new(),
-            lines: Lines::new(alloc)?,
-            line: String::new(alloc),
+            lines: TextBuffer::new(alloc)?,
             format,
         })
     }
@@ -135,9 +133,8 @@ impl Session {
         if !self.format.has_replies() {
             return Ok(());
         }
-        self.line.clear();
-        push_reply(&mut self.line, &reply)?;
-        self.lines.put(writer, self.line.as_bytes())?;
+        self.lines.make_room(writer)?;
+        push_reply(&mut self.lines, &reply)?;
         Ok(())
     }
 
@@ -151,9 +148,8 @@ impl Session {
         ensures count { CountsOutput result (W.failed writer.old) (W.failed writer.new) }
     {
         let snapshot = self.desk.snapshot()?;
-        let text = report_text(alloc, &snapshot, self.format)?;
         let mut lines = self.lines;
-        lines.put(writer, &text)?;
+        put_report(alloc, &snapshot, self.format, &mut lines, writer)?;
         lines.finish(writer)?;
         Ok(())
     }

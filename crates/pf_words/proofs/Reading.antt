@@ -1,18 +1,17 @@
 -- What clap's answer says of the words.
-use Rattle.std.proofs.Common.{◌≡◌, ◌⊎◌, refl, sym, ap, subst, inl, inr, Bool, true, false, option_map, List, [], Option, Some, None, Result, Ok, Err, codes}
+use Rattle.std.proofs.Common.{◌≡◌, ◌⊎◌, ◌∙◌, refl, sym, ap, subst, inl, inr, Bool, true, false, option_map, List, [], Option, Some, None, Result, Ok, Err, codes}
 use Rattle.std.specs.Prelude.{◌↔◌, if◌then◌else◌}
 use Rattle.std.specs.Bool.{Decides}
 use Rattle.std.proofs.lemmas.Slice.Eq.{bytes_eq-Decides}
 use Rattle.clap.specs.Words.{IsAmong, Row, Text, fault_of, first_of, is_simple, is_simple_and_free, subcommand_of}
 use Rattle.clap.specs.declared.error.kind.ErrorKind.{ErrorKind}
 use Rattle.clap.specs.declared.error.kind.ErrorKind.TheVariants.{OutOfMemory}
-use Rattle.pf_words.specs.declared.format.Format.{Format}
 use Rattle.pf_words.specs.declared.request.Request.{Request}
 use Rattle.pf_words.specs.declared.request.Request.TheVariants.{Run, Check, Show}
 use Rattle.pf_words.specs.declared.request.WordsFault.{WordsFault}
 use Rattle.pf_words.specs.declared.request.WordsFault.TheVariants.{Refused, UnknownFormat, NoMemory}
-use Rattle.pf_words.specs.CommandLine.{is_check, kinds_of, name_behind_run, program}
-use Rattle.pf_words.specs.Asked.{Checks, IsAsked, IsShown, RunsIn, ShowsError, format_or_tables, request_of, run_in, task_asked, task_of}
+use Rattle.pf_words.specs.CommandLine.{file_behind, is_check, kinds_of, name_behind_run, program}
+use Rattle.pf_words.specs.Asked.{IsAsked, IsRequest, IsShown, ShowsError, file_asked, file_of, task_asked, task_of}
 
 -- one function after another over what may be there
 pub option_map-option_map : {X Y Z : Type 0} (f : Y → Z) (g : X → Y) (o : Option X) → option_map f (option_map g o) ≡ option_map (λ x. f (g x)) o
@@ -28,17 +27,17 @@ behind_run (Some p) rows name here =
     let is_rows : p.1 ≡ rows = cc in
     rw (is_run, is_rows) refl
 
+-- the text of FILE is that of the subcommand's rows
+pub behind_any : (found : Option (Text × List Row)) (rows : List Row) → option_map (λ p. p.1) found ≡ Some rows
+    → first_of (codes "file") rows ≡ file_behind found
+behind_any None rows here = cc
+behind_any (Some p) rows here =
+    let is_rows : p.1 ≡ rows = cc in
+    rw is_rows refl
+
 -- clap's definitions speak of this command line
 pub program_is_simple : (is_simple program ≡ true) × (is_simple_and_free program ≡ true)
 program_is_simple = (refl, refl)
-
--- words that the grammar takes ask for a check, for a run in the format, or name none
-asked_in : (words : List Text) (checks : Bool) (format : Option Format) → kinds_of words ≡ []
-    → task_asked words ≡ (if checks then Some Checks else option_map (λ f. RunsIn f) format)
-    → IsAsked words (if checks then Ok Check else run_in format)
-asked_in words true format taken is = is
-asked_in words false None taken is = (taken, is)
-asked_in words false (Some format) taken is = is
 
 -- the kinds of error by their definition
 pub kinds_are : (words : List Text) → fault_of program words ≡ kinds_of words
@@ -51,11 +50,21 @@ taken_task : (words : List Text) (found : Option (Text × List Row)) → kinds_o
 unfolding task_asked
 taken_task words found taken is = rw (taken, is) refl
 
+-- the file that is named, by the same
+taken_file : (words : List Text) (found : Option (Text × List Row)) → kinds_of words ≡ [] → found ≡ subcommand_of program words
+    → file_of (file_behind found) ≡ file_asked words
+unfolding file_asked
+taken_file words found taken is = rw (taken, is) refl
+
 -- words that the grammar takes
-pub taken_words : (words : List Text) (found : Option (Text × List Row)) → kinds_of words ≡ [] → found ≡ subcommand_of program words
-    → IsAsked words (request_of found)
-taken_words words found taken is =
-    asked_in words (is_check found) (format_or_tables (name_behind_run found)) taken (taken_task words found taken is)
+pub taken_words : (words : List Text) (found : Option (Text × List Row)) (answer : Result Request WordsFault) → kinds_of words ≡ []
+    → found ≡ subcommand_of program words → IsRequest found answer → IsAsked words answer
+taken_words words found (Ok (Run format file)) taken is asks = (taken_task words found taken is ∙ asks.0, asks.1 ∙ taken_file words found taken is)
+taken_words words found (Ok (Check file)) taken is asks = (taken_task words found taken is ∙ asks.0, asks.1 ∙ taken_file words found taken is)
+taken_words words found (Ok (Show text)) taken is asks = absurd asks
+taken_words words found (Err (Refused text)) taken is asks = absurd asks
+taken_words words found (Err UnknownFormat) taken is asks = (taken, taken_task words found taken is ∙ asks)
+taken_words words found (Err NoMemory) taken is asks = tt
 
 -- whether the subcommand is `check`, by its name
 pub check_named : (found : Option (Text × List Row)) (here : Bool) → ((here ≡ true) ↔ (option_map (λ p. p.0) found ≡ Some (codes "check"))) → here ≡ is_check found
@@ -80,8 +89,8 @@ not_shown kind memory (inr version) = cc
 -- words that it does not take, by the kind of its error
 pub untaken_words : (words : List Text) (kind : ErrorKind) (answer : Result Request WordsFault)
     → (kind ≡ OutOfMemory) ⊎ IsAmong kind (kinds_of words) → ShowsError kind answer → IsAsked words answer
-untaken_words words kind (Ok (Run format)) among shows = absurd shows
-untaken_words words kind (Ok Check) among shows = absurd shows
+untaken_words words kind (Ok (Run format file)) among shows = absurd shows
+untaken_words words kind (Ok (Check file)) among shows = absurd shows
 untaken_words words kind (Ok (Show text)) among shows = elim among [
   | inl memory ↦ absurd (not_shown kind memory shows)
   | inr here ↦ elim shows [

@@ -3,12 +3,16 @@ use Rattle.std.proofs.Common.{refl, inl, inr}
 use Rattle.clap.proofs.OnLiterals.{clap_on_literals}
 use Rattle.clap.specs.declared.error.kind.ErrorKind.TheVariants as kind
 use Rattle.pf_words.specs.CommandLine.{kinds_of}
-use Rattle.pf_words.specs.Asked.{IsShown, task_asked}
-use Rattle.pf_words.specs.Examples.{Runs, WorkedWords}
+use Rattle.pf_words.specs.Asked.{IsShown, task_asked, file_asked}
+use Rattle.pf_words.specs.Examples.{Runs, Files, WorkedWords}
 
 runs : Runs
 unfolding clap_on_literals kinds_of task_asked
-runs = record { none = refl; run = refl; tables = refl; json = refl; schedule = refl; lags = refl }
+runs = record { none = refl; run = refl; tables = refl; json = refl; schedule = refl; lags = refl; of_file = refl }
+
+files : Files
+unfolding clap_on_literals kinds_of file_asked
+files = record { run = refl; before = refl; check = refl; dash = refl; none = refl }
 
 unknown_is_not_shown : ¬ IsShown kind.UnknownArgument
 unknown_is_not_shown (inl help) = cc
@@ -18,10 +22,12 @@ pub worked_words : WorkedWords
 unfolding clap_on_literals kinds_of task_asked
 worked_words = record {
   runs = runs;
+  files = files;
   check = refl;
   unknown = (refl, refl);
   option_alone = (kind.UnknownArgument, unknown_is_not_shown, inl refl);
   drill = (kind.UnknownArgument, unknown_is_not_shown, inl refl);
+  alone = (kind.UnknownArgument, unknown_is_not_shown, inl refl);
   twice = (kind.UnknownArgument, unknown_is_not_shown, inl refl);
   check_format = (kind.UnknownArgument, unknown_is_not_shown, inl refl);
   help = inl refl;

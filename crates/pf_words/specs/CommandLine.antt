@@ -14,13 +14,17 @@ format_option = record (new_rule (codes "format")) {
   action = Some Set;
 }
 
--- `run`, which may have that option
-abbrev pub run_command : App
-run_command = with_rule (new_app (codes "run")) format_option
+-- FILE, a text without a name
+abbrev pub file_argument : Rule
+file_argument = record (new_rule (codes "file")) { value_names = 1; action = Some Set }
 
--- `check`, alone
+-- `run`, which may have that option and FILE
+abbrev pub run_command : App
+run_command = with_rule (with_rule (new_app (codes "run")) format_option) file_argument
+
+-- `check`, which may have FILE
 abbrev pub check_command : App
-check_command = new_app (codes "check")
+check_command = with_rule (new_app (codes "check")) file_argument
 
 -- the program's own name is not among the words, and it tells its version
 abbrev pub as_program : App → App
@@ -38,6 +42,11 @@ kinds_of words = fault_of program words
 abbrev pub name_behind_run : Option (Text × List Row) → Option Text
 name_behind_run None = None
 name_behind_run (Some found) = if bytes_eq found.0 (codes "run") then first_of (codes "format") found.1 else None
+
+-- the text of FILE, in what clap found of a subcommand
+abbrev pub file_behind : Option (Text × List Row) → Option Text
+file_behind None = None
+file_behind (Some found) = first_of (codes "file") found.1
 
 -- whether the subcommand is `check`
 abbrev pub is_check : Option (Text × List Row) → Bool

@@ -1,7 +1,7 @@
 -- Worked examples of what words ask for.
-use Rattle.std.specs.Prelude.{◌≡◌, [], ◌∷◌, Some, codes}
+use Rattle.std.specs.Prelude.{◌≡◌, [], ◌∷◌, Some, None, codes}
 use Rattle.pf_words.specs.declared.format.Format.TheVariants.{Schedule, Tables, Json, Lags}
-use Rattle.pf_words.specs.Asked.{RunsIn, Checks, task_asked, AsksHelp, AsksVersion, IsRefused, NamesNoFormat}
+use Rattle.pf_words.specs.Asked.{RunsIn, Checks, task_asked, file_asked, AsksHelp, AsksVersion, IsRefused, NamesNoFormat}
 
 -- words that ask for a run
 pub record Runs : Type 0 where
@@ -11,16 +11,27 @@ pub record Runs : Type 0 where
   pub json : task_asked (codes "run" ∷ codes "--format" ∷ codes "json" ∷ []) ≡ Some (RunsIn Json)
   pub schedule : task_asked (codes "run" ∷ codes "--format=schedule" ∷ []) ≡ Some (RunsIn Schedule)
   pub lags : task_asked (codes "run" ∷ codes "-f" ∷ codes "lags" ∷ []) ≡ Some (RunsIn Lags)
+  pub of_file : task_asked (codes "run" ∷ codes "plan.csv" ∷ []) ≡ Some (RunsIn Tables)
+
+-- words that name a file, and words that name none
+pub record Files : Type 0 where
+  pub run : file_asked (codes "run" ∷ codes "-f" ∷ codes "lags" ∷ codes "plan.csv" ∷ []) ≡ Some (codes "plan.csv")
+  pub before : file_asked (codes "run" ∷ codes "plan.csv" ∷ codes "--format" ∷ codes "json" ∷ []) ≡ Some (codes "plan.csv")
+  pub check : file_asked (codes "check" ∷ codes "plan.csv" ∷ []) ≡ Some (codes "plan.csv")
+  pub dash : file_asked (codes "run" ∷ codes "-" ∷ []) ≡ None
+  pub none : file_asked (codes "check" ∷ []) ≡ None
 
 pub record WorkedWords : Type 0 where
   pub runs : Runs
+  pub files : Files
   pub check : task_asked (codes "check" ∷ []) ≡ Some Checks
   -- a name of no format
   pub unknown : NamesNoFormat (codes "run" ∷ codes "--format" ∷ codes "xml" ∷ [])
   -- the option without `run`, a word that is none of the program's, and a word too many
   pub option_alone : IsRefused (codes "--format" ∷ codes "json" ∷ [])
   pub drill : IsRefused (codes "drill" ∷ [])
-  pub twice : IsRefused (codes "run" ∷ codes "run" ∷ [])
+  pub alone : IsRefused (codes "plan.csv" ∷ [])
+  pub twice : IsRefused (codes "run" ∷ codes "plan.csv" ∷ codes "plan.csv" ∷ [])
   pub check_format : IsRefused (codes "check" ∷ codes "-f" ∷ codes "lags" ∷ [])
   pub help : AsksHelp (codes "--help" ∷ [])
   pub version : AsksVersion (codes "--version" ∷ [])

@@ -1,7 +1,7 @@
 ghost use Rattle.std.specs.Prelude.{◌≡◌, IfOk, false, codes};
-ghost use Rattle.clap.specs.Words.{app_of, new_app};
+ghost use Rattle.clap.specs.Words.{app_of, new_app, with_rule};
 ghost use Rattle.clap.specs.declared.builder.command.Command.TheViews.{out-Command};
-ghost use Rattle.pf_words.specs.CommandLine.{program, as_program, check_command, run_command};
+ghost use Rattle.pf_words.specs.CommandLine.{program, as_program, check_command, file_argument, run_command};
 
 use clap::{Arg, ArgAction, Command};
 use std::alloc::{AllocError, Global};
@@ -12,7 +12,7 @@ const VERSION: &str = "0.2.0";
 // What `--help` says of the program.
 const ABOUT: &str =
     "Schedules periodic tasks on processors slot by slot (Pfair, the order PD2), as a script says. \
-The script is read from standard input, and the answer is written to standard output.";
+The script is read from FILE or standard input, and the answer is written to standard output.";
 
 // What `--help` teaches behind the words.
 const LESSON: &str = "A script is a list of comma-separated records, one a line:
@@ -59,7 +59,7 @@ pub(crate) fn program<'a>(alloc: Global) -> Result<Command<'a>, AllocError>
     ensures { IfOk result (λ c. app_of c ≡ program) }
 {
     let run = run_command(alloc)?;
-    let check = check_command(alloc);
+    let check = check_command(alloc)?;
     let program = bare_program(alloc)?.subcommand(run)?;
     program.subcommand(check)
 }
@@ -76,7 +76,20 @@ fn bare_program<'a>(alloc: Global) -> Result<Command<'a>, AllocError>
     program.bin_name("pfair")
 }
 
-/// `run`, with `--format` and a text.
+/// The command with FILE, which may be left out.
+fn with_file<'a>(alloc: Global, command: Command<'a>) -> Result<Command<'a>, AllocError>
+    requires { (out-Command command).has_globals ≡ false }
+    ensures shape { IfOk result (λ c. app_of c ≡ with_rule (app_of command.entry) file_argument) }
+    ensures globals { IfOk result (λ c. (out-Command c).has_globals ≡ false) }
+{
+    let file = Arg::new(alloc, "file")
+        .value_name("FILE")
+        .help("the file of the script; - or none: standard input")
+        .action(ArgAction::Set);
+    command.arg(file)
+}
+
+/// `run`, with `--format` and a text, and FILE.
 fn run_command<'a>(alloc: Global) -> Result<Command<'a>, AllocError>
     ensures shape { IfOk result (λ c. app_of c ≡ run_command) }
     ensures globals { IfOk result (λ c. (out-Command c).has_globals ≡ false) }
@@ -87,18 +100,20 @@ fn run_command<'a>(alloc: Global) -> Result<Command<'a>, AllocError>
         .value_name("FORMAT")
         .help("one of the formats below [default: tables]")
         .action(ArgAction::Set);
-    Command::new(alloc, "run")
+    let run = Command::new(alloc, "run")
         .about("Runs the script; also without any words")
         .after_help(LESSON)
-        .arg(format)
+        .arg(format)?;
+    with_file(alloc, run)
 }
 
-/// `check`, alone.
-fn check_command<'a>(alloc: Global) -> Command<'a>
-    ensures shape { app_of result ≡ check_command }
-    ensures globals { (out-Command result).has_globals ≡ false }
+/// `check`, with FILE.
+fn check_command<'a>(alloc: Global) -> Result<Command<'a>, AllocError>
+    ensures shape { IfOk result (λ c. app_of c ≡ check_command) }
+    ensures globals { IfOk result (λ c. (out-Command c).has_globals ≡ false) }
 {
-    Command::new(alloc, "check")
+    let check = Command::new(alloc, "check")
         .about("Checks the script: a line for each record that is none, and where and why")
-        .after_help(LESSON)
+        .after_help(LESSON);
+    with_file(alloc, check)
 }

@@ -8,10 +8,10 @@ use thiserror::Error;
 /// What the words ask for.
 #[derive(Debug, Drop)]
 pub enum Request {
-    /// To run the script in this format.
-    Run(Format),
-    /// To check the script.
-    Check,
+    /// To run the script of this file, or of standard input, in this format.
+    Run(Format, Option<String>),
+    /// To check the script of this file, or of standard input.
+    Check(Option<String>),
     /// To show this text: help, or the version.
     Show(String),
 }

@@ -2,8 +2,9 @@ ghost use Rattle.std.specs.Prelude.{◌≡◌};
 ghost use Rattle.pf_stream.specs.Counted.{write_failures};
 
 use crate::fakes::Reluctant;
-use pf_stream::lines::{Lines, WriteFault};
 use pf_stream::sink::{CountedWriter, Sink};
+use pf_stream::text_buffer::TextBuffer;
+use pf_stream::writing::WriteFault;
 use std::alloc::{AllocError, Global};
 use std::io;
 use std::io::Write;
@@ -12,7 +13,7 @@ use std::io::Write;
 type Written = (bool, Vec<u8>, u64);
 
 /// Puts `abc`, nothing and `de`, and finishes.
-fn put_five(mut lines: Lines, writer: &mut CountedWriter<Reluctant>) -> Result<(), WriteFault>
+fn put_five(mut lines: TextBuffer, writer: &mut CountedWriter<Reluctant>) -> Result<(), WriteFault>
     requires { write_failures writer.old ≡ 0 }
 {
     lines.put(writer, b"abc")?;
@@ -23,7 +24,7 @@ fn put_five(mut lines: Lines, writer: &mut CountedWriter<Reluctant>) -> Result<(
 
 /// Writes five bytes to a writer that stops at this call.
 fn write_five(alloc: Global, stops_at: u64, fails: bool) -> Result<Written, AllocError> {
-    let lines = Lines::new(alloc)?;
+    let lines = TextBuffer::new(alloc)?;
     let mut writer = CountedWriter::new(Reluctant {
         got: Vec::with_capacity(alloc, 5)?,
         calls: 0,
@@ -62,7 +63,7 @@ fn a_stopped_writer_has_the_front_of_the_text(rt: HostRuntime) -> Result<(), All
 
 /// How many bytes a writer has once two texts were put and the lines finished.
 fn put_two(
-    mut lines: Lines,
+    mut lines: TextBuffer,
     held: Vec<u8>,
     first: &[u8],
     second: &[u8],
@@ -77,7 +78,7 @@ fn put_two(
 /// The same of texts of so many bytes, at most 70,000.
 fn put_long(alloc: Global, first: usize, second: usize) -> Result<Option<usize>, AllocError> {
     let long = [b'x'; 70_000];
-    let lines = Lines::new(alloc)?;
+    let lines = TextBuffer::new(alloc)?;
     let held = Vec::with_capacity(alloc, 140_000)?;
     let first = &long[..first.min(70_000)];
     let second = &long[..second.min(70_000)];

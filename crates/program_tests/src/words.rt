@@ -1,7 +1,7 @@
 use crate::fakes::{OneByOne, Plenty, Reluctant};
+use pf_cli::program::{main_words, tell_unread};
 use pf_cli::sink::CountedWriter;
 use pf_cli::source::CountedReader;
-use pf_cli::words::{main_words, tell_unread};
 use std::alloc::AllocError;
 use std::{io, str};
 
@@ -45,12 +45,13 @@ fn is_refused(rt: &HostRuntime, words: &[&str]) -> Result<bool, AllocError> {
 
 #[test]
 fn other_words_are_refused(rt: HostRuntime) -> Result<(), AllocError> {
-    let cases: [&[&str]; 8] = [
+    let cases: [&[&str]; 9] = [
         &["drill"],
+        &["plan.csv"],
         &["--format", "json"],
         &[""],
-        &["run", "run"],
-        &["run", "tables"],
+        &["run", "plan.csv", "plan.csv"],
+        &["check", "--format", "json"],
         &["run", "--format"],
         &["run", "--Format", "json"],
         &["run", "--format", "json", "--format", "json"],
@@ -58,6 +59,25 @@ fn other_words_are_refused(rt: HostRuntime) -> Result<(), AllocError> {
     for words in cases {
         assert!(rt; is_refused(&rt, words)?, "{words:?}");
     }
+    Ok(())
+}
+
+#[test]
+fn a_file_that_is_not_there_cannot_be_read(rt: HostRuntime) -> Result<(), AllocError> {
+    for task in ["run", "check"] {
+        let ending = end_of(&rt, &[task, "no/such/plan.csv"], b"settings,1,1,1,1\n")?;
+        assert!(rt; ending.tells(3, b"cannot read the script\n"), "{task}");
+    }
+    Ok(())
+}
+
+#[test]
+fn a_dash_is_standard_input(rt: HostRuntime) -> Result<(), AllocError> {
+    let script = b"settings,1,1,1,1\n";
+    let read = end_of(&rt, &["run", "-"], script)?;
+    let alone = end_of(&rt, &["run"], script)?;
+    assert_eq!(rt; (read.status, alone.status), (0, 0));
+    assert_eq!(rt; read.written, alone.written);
     Ok(())
 }
 
@@ -85,7 +105,7 @@ fn help_is_shown(rt: HostRuntime) -> Result<(), AllocError> {
     let usage = "Usage: pfair [COMMAND]\n";
     assert!(rt; shows_help(&rt, &["--help"], usage)?);
     assert!(rt; shows_help(&rt, &["help"], usage)?);
-    let usage = "Usage: pfair run [OPTIONS]\n";
+    let usage = "Usage: pfair run [OPTIONS] [FILE]\n";
     assert!(rt; shows_help(&rt, &["run", "--help"], usage)?);
     assert!(rt; shows_help(&rt, &["help", "run"], usage)?);
     Ok(())

@@ -1,7 +1,7 @@
 use Rattle.std.proofs.Common.{◌∷◌, ◌∙◌, ap, arith, length, refl, sym}
 use Rattle.pf_script.proofs.Counting.{few_records}
+use Rattle.pf_stream.proofs.Sending.{anyway, none_written}
 use Rattle.pf_check.proofs.Steps.{begun, begun_faults, ended, ended_faults, ended_front, examined_on, examined_stopped, faults_on, few_on, is_first, is_none}
-use Rattle.pf_check.proofs.Written.{anyway, none_written}
 use Rattle.pf_check.proofs.checker.write_check.Goals as goal
 
 pub returns-in_err-checker-clause-front : goal.returns-in_err-checker-clause-front

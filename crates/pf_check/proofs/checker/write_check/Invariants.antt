@@ -1,5 +1,5 @@
 use Rattle.std.proofs.Common.{◌≡◌, ◌+◌, ◌-◌, ◌^◌, ◌<◌, ◌≤◌, length}
-use Rattle.pf_stream.specs.Lines.{TookAllBut}
+use Rattle.pf_stream.specs.Written.{TookAllBut}
 use Rattle.pf_check.specs.Checked.{reports_left, text_left}
 use Rattle.pf_check.specs.Left.{lines_left}
 use Rattle.pf_check.specs.Reports.{check_text, reports}

@@ -1,6 +1,5 @@
 use Rattle.std.proofs.Common.{◌∙◌, sym, ap, subst, map}
 use Rattle.clap.specs.Words.{App, HasKind, Kinds, fault_of, is_simple, is_simple_and_free, kind_of, subcommand_of, subcommand_rows_of}
-use Rattle.pf_words.specs.Asked.{IsAsked}
 use Rattle.pf_words.proofs.Reading.{kinds_are, program_is_simple, taken_words, untaken_words}
 use Rattle.pf_words.proofs.words.read_words.Goals as goal
 
@@ -11,7 +10,7 @@ returns-in-Ok g c =
     let kinds = ap (λ (a : App). fault_of a words) is ∙ kinds_are words in
     let taken = sym kinds ∙ c.in-Ok.ensures.kinds (ap is_simple_and_free is ∙ program_is_simple.1) in
     let found = (c.in-Ok.ensures.matches (ap is_simple is ∙ program_is_simple.0)).1 ∙ ap (λ (a : App). subcommand_of a words) is in
-    subst (IsAsked words) (sym c.read_matches.ensures) (taken_words words (subcommand_rows_of c.in-Ok.matches) taken found)
+    taken_words words (subcommand_rows_of c.in-Ok.matches) c.read_matches.result taken found c.read_matches.ensures
 
 pub returns-in-Err : goal.returns-in-Err
 returns-in-Err g c =

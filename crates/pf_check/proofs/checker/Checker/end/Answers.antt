@@ -1,9 +1,9 @@
 use Rattle.std.proofs.Common.{◌≡◌, ℕ, List, subst, sym}
 use Rattle.std.specs.Prelude.{IfOk, OnOk, OnErr}
 use Rattle.std.specs.Io.KnownBytes.{Appends}
-use Rattle.pf_stream.specs.Lines.{TookFront}
+use Rattle.pf_stream.specs.Written.{TookFront}
+use Rattle.pf_stream.proofs.Sending.{anyway}
 use Rattle.pf_check.proofs.Steps.{end_faults, end_fine, end_front, end_stopped, end_text}
-use Rattle.pf_check.proofs.Written.{anyway}
 use Rattle.pf_check.proofs.checker.Checker.end.Goals as goal
 
 pub returns-in_default-clause-text : goal.returns-in_default-clause-text

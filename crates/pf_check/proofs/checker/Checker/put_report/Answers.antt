@@ -1,7 +1,8 @@
 use Rattle.std.proofs.Common.{◌≡◌, ◌++◌, ap, ◌∙◌, refl, sym}
 use Rattle.std.proofs.lemmas.List.{append-nil}
+use Rattle.pf_stream.proofs.Sending.{anyway, none_written}
 use Rattle.pf_check.specs.Reports.{report, report_text}
-use Rattle.pf_check.proofs.Written.{anyway, front_of, none_written}
+use Rattle.pf_check.proofs.Written.{front_of}
 use Rattle.pf_check.proofs.checker.Checker.put_report.Goals as goal
 
 pub returns-in_err-push_report-clause-err : goal.returns-in_err-push_report-clause-err

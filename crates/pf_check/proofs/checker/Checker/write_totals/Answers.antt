@@ -1,7 +1,7 @@
 use Rattle.std.proofs.Common.{◌≡◌, ◌++◌, ap, ◌∙◌, refl}
-use Rattle.pf_stream.proofs.Sending.{so-far-unfinished}
+use Rattle.pf_stream.proofs.Sending.{anyway, none_written, so-far-unfinished}
 use Rattle.pf_check.specs.Reports.{totals_text}
-use Rattle.pf_check.proofs.Written.{anyway, front_of, none_written}
+use Rattle.pf_check.proofs.Written.{front_of}
 use Rattle.pf_check.proofs.checker.Checker.write_totals.Goals as goal
 
 pub returns-in_err-push_totals-clause-front : goal.returns-in_err-push_totals-clause-front

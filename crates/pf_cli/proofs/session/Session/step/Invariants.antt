@@ -1,6 +1,6 @@
 use Rattle.std.proofs.Common.{◌≡◌, ◌-◌, ◌++◌, replicate}
 use Rattle.pf_desk.specs.declared.command.Command.TheVariants.{Step}
-use Rattle.pf_stream.specs.Lines.{TookAllBut}
+use Rattle.pf_stream.specs.Written.{TookAllBut}
 use Rattle.pf_cli.specs.Meaning.{course_behind}
 use Rattle.pf_cli.specs.Session.{course_at, replies_of}
 use Rattle.pf_cli.proofs.session.Session.step.Given as goal

@@ -1,6 +1,6 @@
 use Rattle.std.proofs.Common.{map, refl}
 use Rattle.pf_cli.proofs.WordsAnswered.{text_answers, refusal_answers}
-use Rattle.pf_cli.proofs.words.main_words.Goals as goal
+use Rattle.pf_cli.proofs.program.main_words.Goals as goal
 
 pub returns-in-Ok-Show-clause-streams : goal.returns-in-Ok-Show-clause-streams
 returns-in-Ok-Show-clause-streams g c =

@@ -1,36 +1,38 @@
-ghost use Rattle.std.specs.Prelude.{None, ◌≡◌, ◌≢◌, ◌^◌, ◌-◌, ◌<◌, ◌+◌, ◌⊎◌, ◌==◌, if◌then◌else◌, map, IsOk};
+ghost use Rattle.std.specs.Prelude.{None, ◌≡◌, ◌≢◌, ◌^◌, ◌-◌, ◌<◌, ◌+◌, ◌⊎◌, ◌==◌, if◌then◌else◌, map, IsOk, IsSome};
 ghost use Rattle.std.specs.IoError.{error_kind};
 ghost use Rattle.std.specs.Io.KnownBytes.{Appends, Keeps};
-ghost use Rattle.pf_stream.specs.Lines.{TookFront};
-ghost use Rattle.pf_words.specs.Asked.{task_asked};
-ghost use Rattle.pf_cli.specs.Status.{status_of, status_of_words, seen_streams, ChecksScript, RunsScript, AnswersWords};
+ghost use Rattle.pf_stream.specs.Written.{TookFront};
+ghost use Rattle.pf_words.specs.Asked.{file_asked, task_asked};
+ghost use Rattle.pf_cli.specs.Status.{status_of, status_of_words, seen_streams, AnswersWords, ChecksScript, RunsScript, WithFile};
 
 use crate::check::check;
 use crate::fault::RunFault;
 use crate::run::run;
-use pf_stream::lines::write_out;
 use pf_stream::sink::Sink;
-use pf_stream::source::Source;
+use pf_stream::source::{CountedReader, Source};
+use pf_stream::writing::write_out;
 use pf_words::format::Format;
 use pf_words::request::{Request, WordsFault};
 use pf_words::words::read_words;
 use std::alloc::Global;
 use std::convert::AsStr;
 use std::fmt::Display;
+use std::fs::File;
 use std::io;
 use std::io::{ErrorKind, Write};
+use std::rt::Files;
 
 // What is told where a word is no text.
 const NO_TEXT: &str = "error: invalid UTF-8 was detected in one or more arguments";
 
-/// Does what the program's words say, its own name not among them: runs the script that the reader has and writes its
-/// answer to the writer, or checks it and writes what it finds there, or writes help or the version. Without words the
-/// script is run in the format `Tables`. The text of a fault goes to `faults`, whose own faults are passed over. Answers
+/// Does what the program's words say, its own name not among them: runs a script and writes its answer to the writer, or
+/// checks it and writes what it finds there, or writes help or the version. The script is that of the file that the words
+/// name, and else the reader's. Without words the script is run in the format `Tables`. The text of a fault goes to `faults`, whose own faults are passed over. Answers
 /// the status to exit with: 0 where the script was done, a check found no fault, or help was shown, 1 where the script has
-/// a bad record or is too long, 2 where the words are refused or name no format, 3 where the reader or the writer failed,
-/// 4 where memory was refused. Words that ask for a run or a check, and no others, have the script read; where they ask for
-/// neither the reader is as before. The counts of failures of reader and writer must be below `u64::MAX` before the call.
-pub fn main_words<H: AllocGlobal, S: AsStr, R: Source, W: Sink, F: Write>(
+/// a bad record or is too long, 2 where the words are refused or name no format, 3 where the reader or the writer failed or
+/// the file can't be opened or read, 4 where memory was refused. Words that ask for a run or a check and name no file, and no others,
+/// have the reader read; with any other the reader is as before. The counts of failures of reader and writer must be below `u64::MAX` before the call.
+pub fn main_words<H: AllocGlobal + Files, S: AsStr, R: Source, W: Sink, F: Write>(
     rt: &H,
     words: &[S],
     reader: &mut R,
@@ -42,13 +44,15 @@ pub fn main_words<H: AllocGlobal, S: AsStr, R: Source, W: Sink, F: Write>(
     ensures streams { AnswersWords (map S.text words.now) result
         (seen_streams (R.remaining reader.old) (R.failed reader.old) (W.contents writer.old) (W.failed writer.old))
         (seen_streams (R.remaining reader.new) (R.failed reader.new) (W.contents writer.new) (W.failed writer.new)) }
-    ensures unread { task_asked (map S.text words.now) ≡ None → reader.new ≡ reader.old }
+    ensures unread { (task_asked (map S.text words.now) ≡ None) ⊎ IsSome (file_asked (map S.text words.now)) → reader.new ≡ reader.old }
     ensures quiet { result ≡ 0 → Keeps (F.contents faults.old) (F.contents faults.new) }
 {
     let alloc = rt.alloc();
     match read_words(alloc, words) {
-        Ok(Request::Run(format)) => run_told(alloc, format, reader, writer, faults),
-        Ok(Request::Check) => check_told(alloc, reader, writer, faults),
+        Ok(Request::Run(format, None)) => run_told(alloc, format, reader, writer, faults),
+        Ok(Request::Run(format, Some(file))) => run_file(rt, format, file.as_str(), writer, faults),
+        Ok(Request::Check(None)) => check_told(alloc, reader, writer, faults),
+        Ok(Request::Check(Some(file))) => check_file(rt, file.as_str(), writer, faults),
         Ok(Request::Show(text)) => show(text.as_str(), writer, faults),
         Err(fault) => refuse(&fault, faults),
     }
@@ -85,6 +89,47 @@ fn run_told<R: Source, W: Sink, F: Write>(
 {
     let outcome = run(alloc, reader, writer, format);
     tell_outcome(outcome, faults)
+}
+
+/// Runs the script of a file, and answers the status.
+fn run_file<H: AllocGlobal + Files, W: Sink, F: Write>(
+    rt: &H,
+    format: Format,
+    path: &str,
+    writer: &mut W,
+    faults: &mut F,
+) -> u8
+    requires { W.failed writer.old < 2 ^ 64 - 1 }
+    ensures streams { WithFile (RunsScript format result) (W.contents writer.old) (W.failed writer.old) (W.contents writer.new) (W.failed writer.new) }
+    ensures quiet { result ≡ 0 → Keeps (F.contents faults.old) (F.contents faults.new) }
+{
+    match File::open(rt, path) {
+        Ok(file) => run_told(
+            rt.alloc(),
+            format,
+            &mut CountedReader::new(file),
+            writer,
+            faults,
+        ),
+        Err(_) => tell_outcome(Err(RunFault::ReadFault), faults),
+    }
+}
+
+/// Checks the script of a file, and answers the status.
+fn check_file<H: AllocGlobal + Files, W: Sink, F: Write>(
+    rt: &H,
+    path: &str,
+    writer: &mut W,
+    faults: &mut F,
+) -> u8
+    requires { W.failed writer.old < 2 ^ 64 - 1 }
+    ensures streams { WithFile (ChecksScript result) (W.contents writer.old) (W.failed writer.old) (W.contents writer.new) (W.failed writer.new) }
+    ensures quiet { result ≡ 0 → Keeps (F.contents faults.old) (F.contents faults.new) }
+{
+    match File::open(rt, path) {
+        Ok(file) => check_told(rt.alloc(), &mut CountedReader::new(file), writer, faults),
+        Err(_) => tell_outcome(Err(RunFault::ReadFault), faults),
+    }
 }
 
 /// Checks the script, and answers the status.
