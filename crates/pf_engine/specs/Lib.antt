@@ -2,6 +2,7 @@ pub use Rattle.pf_order.specs.Counts
 pub use Rattle.pf_order.specs.Counted
 pub use Rattle.pf_run.specs.Run
 pub mod Fits
+pub mod Comparisons
 pub mod Kept
 pub mod Engines
 pub mod Points

@@ -1,11 +1,11 @@
-ghost use Rattle.std.specs.Prelude.{◌≡◌, ◌+◌, ◌*◌, ◌≤◌, List, [], length, IfOk, OnOk, OnErr};
+ghost use Rattle.std.specs.Prelude.{◌≡◌, ◌+◌, ◌≤◌, List, [], length, IfOk, OnOk, OnErr};
 ghost use Rattle.pf_order.specs.Counts.{one_more};
 ghost use Rattle.pf_order.specs.Counted.{CountsAtMost};
-ghost use Rattle.pf_heap.specs.Digits.{digits};
 ghost use Rattle.pf_scenario.specs.Scenario.{Plan, events_of};
 ghost use Rattle.pf_scenario.specs.Edit.{IsScenario};
 ghost use Rattle.pf_run.specs.Record.{Slot};
 ghost use Rattle.pf_engine.specs.Fits.{Kept, kept_after, Fits, CanTake, TakesSlot};
+ghost use Rattle.pf_engine.specs.Comparisons.{most_comparisons};
 
 use crate::outcome::Outcome;
 use crate::room::Room;
@@ -103,8 +103,8 @@ impl Engine {
         ensures err { OnErr result (self.new ≡ self.old) }
         ensures counted { OnOk result (meter.new.slots ≡ one_more meter.old.slots) }
         ensures compared { meter.old.compared ≤ meter.new.compared }
-        ensures comparisons { IfOk result (λ o. meter.new.compared
-            ≤ meter.old.compared + (4 * o.count + 2 + 4 * length events.now) * digits (length self.old.tasks + length events.now)) }
+        ensures comparisons { IfOk result
+            (λ o. meter.new.compared ≤ meter.old.compared + most_comparisons o.count (length self.old.tasks) (length events.now)) }
         ensures at_most { CountsAtMost 1 meter.old meter.new }
         ensures not_counted { OnErr result (meter.new ≡ meter.old) }
     {

@@ -197,7 +197,8 @@ module _ (s : Plan) (n : ℕ) (rows : List (List (Option Pick))) (denials : List
         )
 
   module _ (taken : Taken) (after : Kept) (next : TakesSlot s (run_of s n) taken after) where
-    count_is : taken.count ≡ count_in_last s (run_of s n ++ taken.slot ∷ [])
+    -- Use: the processors in use are those in the last slot then.
+    pub count_is : taken.count ≡ count_in_last s (run_of s n ++ taken.slot ∷ [])
     count_is =
         let long : length (run_of s n ++ taken.slot ∷ []) ≡ suc (length (run_of s n)) = length_snoc (run_of s n) taken.slot in
         let one_more : length (run_of s n) + 1 ≡ length (run_of s n ++ taken.slot ∷ []) = omega arith in
@@ -209,7 +210,8 @@ module _ (s : Plan) (n : ℕ) (rows : List (List (Option Pick))) (denials : List
         subst (λ count. IsTurn s.settings.processors count taken.slot.picks) (sym count_is)
         (next_is_turn s (run_of s n) taken.slot keeps.of_run.scenario next.next)
 
-    run_grown : run_of s (n + 1) ≡ run_of s n ++ taken.slot ∷ []
+    -- Use: the run is one slot longer.
+    pub run_grown : run_of s (n + 1) ≡ run_of s n ++ taken.slot ∷ []
     run_grown =
         one_run s (n + 1) _ _ keeps.of_run.scenario (run_is_computed s (n + 1) keeps.of_run.scenario)
         (subst (λ k. IsRun s k (run_of s n ++ taken.slot ∷ [])) (omega (arith, slots))

@@ -12,3 +12,4 @@ pub mod Timeline
 pub mod Laws
 pub mod Keeping
 pub mod Checkpoints
+pub mod Comparisons

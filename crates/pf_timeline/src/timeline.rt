@@ -4,6 +4,7 @@ ghost use Rattle.pf_order.specs.Counted.{CountsAtMost};
 ghost use Rattle.pf_scenario.specs.Scenario.{Plan};
 ghost use Rattle.pf_scenario.specs.Edit.{IsScenario};
 ghost use Rattle.pf_timeline.specs.Checkpoints.{largest_distance};
+ghost use Rattle.pf_timeline.specs.Comparisons.{most_comparisons_at};
 ghost use Rattle.pf_timeline.specs.Timeline.{StandsFor, AgreesBelow};
 ghost use Rattle.pf_timeline.specs.declared.fault.StepFault.TheVariants.{AtHorizon};
 ghost use Rattle.pf_timeline.specs.declared.fault.NewFault.TheVariants.{BadSettings};
@@ -94,7 +95,9 @@ impl Timeline {
         })
     }
 
-    /// Takes the next slot of the scenario that the timeline stands for. Counts one slot, and none with an error.
+    /// Takes the next slot of the scenario that the timeline stands for. Counts one slot, and none with an error; for c
+    /// processors in use, n tasks inside before, and g events of that slot at most (4c + 2 + 4g) times as many comparisons
+    /// as n + g has binary digits.
     ///
     /// # Errors
     ///
@@ -109,6 +112,7 @@ impl Timeline {
         ensures uncounted { OnErr result (meter.new ≡ meter.old) }
         ensures at_most { CountsAtMost 1 meter.old meter.new }
         ensures compared { meter.old.compared ≤ meter.new.compared }
+        ensures comparisons { meter.new.compared ≤ meter.old.compared + most_comparisons_at scenario.now self.old.now }
     {
         if self.now() == scenario.settings().horizon() {
             return Err(StepFault::AtHorizon);
@@ -117,7 +121,7 @@ impl Timeline {
         Ok(())
     }
 
-    /// Takes the next slot, which is below the horizon. Counts one slot, and none with an error.
+    /// Takes the next slot, which is below the horizon. Counts as `step` does.
     ///
     /// # Errors
     ///
@@ -132,6 +136,7 @@ impl Timeline {
         ensures uncounted { OnErr result (meter.new ≡ meter.old) }
         ensures at_most { CountsAtMost 1 meter.old meter.new }
         ensures compared { meter.old.compared ≤ meter.new.compared }
+        ensures comparisons { meter.new.compared ≤ meter.old.compared + most_comparisons_at scenario.now self.old.now }
     {
         let events = scenario.slot_events(self.engine.now())?;
         self.denials.reserve(events.len())?;
@@ -150,8 +155,7 @@ impl Timeline {
         Ok(())
     }
 
-    /// A candidate one slot longer, for the scenario that this timeline stands for. Counts one slot, and none with an
-    /// error.
+    /// A candidate one slot longer, for the scenario that this timeline stands for. Counts as `step` does.
     ///
     /// # Errors
     ///
@@ -165,6 +169,7 @@ impl Timeline {
         ensures uncounted { OnErr result (meter.new ≡ meter.old) }
         ensures at_most { CountsAtMost 1 meter.old meter.new }
         ensures compared { meter.old.compared ≤ meter.new.compared }
+        ensures comparisons { meter.new.compared ≤ meter.old.compared + most_comparisons_at scenario.now self.now.now }
     {
         if self.now() == scenario.settings().horizon() {
             return Err(StepFault::AtHorizon);

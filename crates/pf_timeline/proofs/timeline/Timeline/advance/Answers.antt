@@ -5,6 +5,7 @@ use Rattle.pf_timeline.specs.Keeping.{KeepsRun}
 use Rattle.pf_timeline.specs.Timeline.{past_below}
 use Rattle.pf_timeline.proofs.Grown.{keeps_now, kept_now, keeps_more, takes_next, takes_slot, taken_turn, few_denials, last_stands, idle_width}
 use Rattle.pf_place.proofs.Blocks.{but_last_behind}
+use Rattle.pf_timeline.proofs.Comparing.{slot_compared}
 use Rattle.pf_timeline.proofs.Past.{keeps_standing, stands_kept}
 use Rattle.pf_timeline.proofs.Points.{point_kept, point_now_fits, points_longer, points_standing}
 use Rattle.pf_timeline.proofs.timeline.Timeline.advance.Goals as goal
@@ -86,3 +87,10 @@ invariant_of-self-2 c =
 
 pub returns-clause-ok : goal.returns-clause-ok
 returns-clause-ok c = stands_kept _ c.of.result.value _ _ _ _ _ (keeps_next c) (ap (past_below (c.args.self.now.now + 1)) c.of.ensures)
+
+pub returns-clause-comparisons : goal.returns-clause-comparisons
+returns-clause-comparisons c =
+    let keeps = keeps_standing _ _ _ _ _ _ _ _ c.self.invariant.run c.self.view_is c.requires.stands in
+    let events = c.deref.ensures.value ∙ c.in_ok-events.ensures.value ∙ ap (events_of c.args.scenario.now) c.now.ensures in
+    slot_compared _ _ _ _ _ keeps _ events _ _ (takes_slot _ _ _ _ _ keeps _ events _ _ c.in-Ok.ensures.slot) _ _
+    c.in-Ok.ensures.comparisons
