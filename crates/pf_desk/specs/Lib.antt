@@ -11,6 +11,7 @@ pub use Rattle.pf_run.specs.Laws
 pub use Rattle.pf_run.specs.RunRows
 pub use Rattle.pf_timeline.specs.Timeline
 pub use Rattle.pf_timeline.specs.Checkpoints
+pub use Rattle.pf_timeline.specs.Comparisons
 pub use Rattle.pf_tally.specs.Lags
 pub use Rattle.pf_tally.specs.Misses
 pub mod Machine

@@ -8,6 +8,7 @@ ghost use Rattle.pf_run.specs.Computed.{run_of};
 ghost use Rattle.pf_tally.specs.Lags.{lags_of};
 ghost use Rattle.pf_tally.specs.Misses.{misses_of};
 ghost use Rattle.pf_timeline.specs.Checkpoints.{largest_distance};
+ghost use Rattle.pf_timeline.specs.Comparisons.{most_comparisons_at};
 ghost use Rattle.pf_desk.specs.declared.fault.OpenFault.TheVariants.{BadSettings};
 ghost use Rattle.pf_desk.specs.declared.command.Command.TheVariants.{Edit, Step};
 ghost use Rattle.pf_desk.specs.declared.reply.Reply.TheVariants.{Refused};
@@ -91,7 +92,9 @@ impl Desk {
 
     /// Answers the caller's command as the machine does, and enters it. A step counts one slot, with want of memory and
     /// at the horizon none. An edit whose least touched slot s is below now counts at most now - s slots and the distance
-    /// of two checkpoints, and at most now, refused or not, with want of memory too; any other edit counts none.
+    /// of two checkpoints, and at most now, refused or not, with want of memory too; any other edit counts none. A step of a
+    /// slot with c processors in use, n tasks inside before, and g events makes at most (4c + 2 + 4g) times as many
+    /// comparisons as n + g has binary digits.
     ///
     /// # Errors
     ///
@@ -113,6 +116,7 @@ impl Desk {
         ensures uncounted { IsUncounted self.old.state command → meter.new ≡ meter.old }
         ensures wanting { OnErr result (command ≡ Step → meter.new ≡ meter.old) }
         ensures compared { meter.old.compared ≤ meter.new.compared }
+        ensures comparisons { command ≡ Step → meter.new.compared ≤ meter.old.compared + most_comparisons_at self.old.state.plan self.old.state.now }
     {
         match command {
             Command::Edit { change, strict } => self.edit(meter, caller, change, strict),
@@ -143,6 +147,7 @@ impl Desk {
         ensures at_most { CountsAtMost (most_slots self.old command) meter.old meter.new }
         ensures uncounted { IsUncounted self.old.state command → meter.new ≡ meter.old }
         ensures compared { meter.old.compared ≤ meter.new.compared }
+        ensures comparisons { command ≡ Step → meter.new.compared ≤ meter.old.compared + most_comparisons_at self.old.state.plan self.old.state.now }
     {
         self.history.reserve(1)?;
         let outcome = self.outcome(meter, command)?;
@@ -228,6 +233,7 @@ impl Desk {
         ensures at_most { CountsAtMost (most_slots self.now command) meter.old meter.new }
         ensures uncounted { IsUncounted self.now.state command → meter.new ≡ meter.old }
         ensures compared { meter.old.compared ≤ meter.new.compared }
+        ensures comparisons { command ≡ Step → meter.new.compared ≤ meter.old.compared + most_comparisons_at self.now.state.plan self.now.state.now }
     {
         match command {
             Command::Edit { change, strict } => self.edited(meter, change, strict),
@@ -242,6 +248,7 @@ impl Desk {
         ensures at_most { CountsAtMost 1 meter.old meter.new }
         ensures uncounted { self.now.state.now ≡ self.now.state.plan.settings.horizon → meter.new ≡ meter.old }
         ensures compared { meter.old.compared ≤ meter.new.compared }
+        ensures comparisons { meter.new.compared ≤ meter.old.compared + most_comparisons_at self.now.state.plan self.now.state.now }
     {
         let slot = self.timeline.now();
         if slot == self.scenario.settings().horizon() {
@@ -570,6 +577,7 @@ impl Desk {
         ensures uncounted { self.old.state.now ≡ self.old.state.plan.settings.horizon → meter.new ≡ meter.old }
         ensures wanting { OnErr result (meter.new ≡ meter.old) }
         ensures compared { meter.old.compared ≤ meter.new.compared }
+        ensures comparisons { meter.new.compared ≤ meter.old.compared + most_comparisons_at self.old.state.plan self.old.state.now }
     {
         if self.timeline.now() == self.scenario.settings().horizon() {
             return self.refuse(caller, Command::Step, Fault::AtHorizon);

@@ -92,6 +92,13 @@ impl Snapshot {
         self.scenario.settings()
     }
 
+    /// What was planned.
+    pub fn scenario(&self) -> &Scenario
+        ensures { result.now ≡ self.now.state.plan }
+    {
+        &self.scenario
+    }
+
     /// The events held, in rising order of their numbers.
     pub fn events(&self) -> Events<'_>
         ensures { result ≡ self.now.state.plan.events }
@@ -104,6 +111,13 @@ impl Snapshot {
         ensures { places_lent result ≡ slice_get self.now.rows t }
     {
         self.rows.get(t)
+    }
+
+    /// Who runs where, in each slot below now.
+    pub fn rows(&self) -> &Rows
+        ensures { result.now ≡ self.now.rows }
+    {
+        &self.rows
     }
 
     /// The denials of the slots below now, in run order.

@@ -6,10 +6,11 @@ use pf_table::lists::Lists;
 use std::alloc::{AllocError, Global};
 
 /// Of each task number the task's own events, in their order: one walk over the events.
-pub(crate) fn diaries_by_task(
-    alloc: Global,
-    events: &[Numbered],
-) -> Result<Lists<Numbered>, AllocError>
+///
+/// # Errors
+///
+/// Where memory is refused.
+pub fn diaries_by_task(alloc: Global, events: &[Numbered]) -> Result<Lists<Numbered>, AllocError>
     ensures { IfOk result (λ table. AreDiaries events.now table) }
 {
     let mut table = Lists::new(alloc);

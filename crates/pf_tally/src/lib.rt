@@ -7,7 +7,7 @@
 
 pub mod admitted;
 mod clock;
-mod diary;
+pub mod diary;
 pub mod extremes;
 pub mod figures;
 pub mod held;
@@ -24,6 +24,6 @@ pub mod processors;
 mod quanta;
 mod range;
 mod responses;
-mod standing;
+pub mod standing;
 mod tardiness;
 pub mod task_figures;

@@ -18,7 +18,11 @@ fn numbers_of(alloc: Global, denials: &[Denied]) -> Result<Vec<u64>, AllocError>
 }
 
 /// The numbers of the denied events, rising.
-fn denied_numbers(alloc: Global, denials: &[Denied]) -> Result<Vec<u64>, AllocError>
+///
+/// # Errors
+///
+/// Where memory is refused.
+pub fn denied_numbers(alloc: Global, denials: &[Denied]) -> Result<Vec<u64>, AllocError>
     ensures { IfOk result (λ v. AreNumbersOf denials.now v.items) }
 {
     let mut numbers = numbers_of(alloc, denials)?;
@@ -27,7 +31,7 @@ fn denied_numbers(alloc: Global, denials: &[Denied]) -> Result<Vec<u64>, AllocEr
 }
 
 /// Whether the number is among these, which rise.
-fn is_among(numbers: &[u64], id: u64) -> bool
+pub fn is_among(numbers: &[u64], id: u64) -> bool
     requires { IsNonDecreasing numbers.now }
     ensures { result ≡ list_any (λ n. n == id) numbers.now }
 {

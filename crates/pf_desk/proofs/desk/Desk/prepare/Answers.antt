@@ -24,3 +24,6 @@ returns-clause-at_most c = rw (← c.self.view_is) c.outcome.ensures.at_most
 
 pub returns-clause-uncounted : goal.returns-clause-uncounted
 returns-clause-uncounted c = rw (← c.self.view_is) c.outcome.ensures.uncounted
+
+pub returns-clause-comparisons : goal.returns-clause-comparisons
+returns-clause-comparisons c = rw (← c.self.view_is) c.outcome.ensures.comparisons

@@ -49,3 +49,6 @@ invariant_of-self-2 c = stepped_kept _ _ _ _ _ _ _ _ (steps c)
 
 pub returns-clause-handles : goal.returns-clause-handles
 returns-clause-handles c = rw (← c.self.view_is) (stepped_handles _ _ _ _ _ _ _ _ _ _ (steps c))
+
+pub returns-clause-comparisons : goal.returns-clause-comparisons
+returns-clause-comparisons c = rw (← c.self.view_is) c.in_ok-advance.ensures.comparisons

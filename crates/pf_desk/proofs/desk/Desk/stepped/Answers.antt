@@ -1,8 +1,9 @@
-use Rattle.std.proofs.Common.{◌≡◌, ◌<◌, ◌+◌, length, get_or, [], ◌∷◌, ◌++◌, refl, sym, ap, ◌∙◌, subst, arith}
+use Rattle.std.proofs.Common.{◌≡◌, ◌<◌, ◌≤◌, ◌+◌, length, get_or, [], ◌∷◌, ◌++◌, refl, sym, ap, ◌∙◌, subst, arith}
 use Rattle.std.proofs.lemmas.List.{length-replicate}
 use Rattle.pf_timeline.proofs.Grown.{row_each}
 use Rattle.pf_timeline.proofs.Past.{stands_now}
 use Rattle.pf_timeline.specs.Timeline.{KeptRun, StandsFor}
+use Rattle.pf_timeline.specs.Comparisons.{most_comparisons_at}
 use Rattle.pf_desk.specs.declared.command.Command.TheVariants.{Step}
 use Rattle.pf_desk.specs.declared.reply.Reply.TheVariants.{Stepped}
 use Rattle.pf_desk.specs.Desk.{entry_of}
@@ -51,3 +52,9 @@ returns-clause-outcome c =
       stands = stands_now _ _ _ (steps c).stands;
       every = (steps c).every;
     })
+
+pub returns-clause-comparisons : goal.returns-clause-comparisons
+returns-clause-comparisons c =
+    rw (← c.self.view_is)
+    (subst (λ (t : KeptRun). c.advance.new.meter.compared ≤ c.args.meter.now.compared + most_comparisons_at c.self.inside.scenario t.now) c.in_ok-timeline.ensures
+    c.in_ok-advance.ensures.comparisons)
