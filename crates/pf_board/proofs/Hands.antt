@@ -11,7 +11,7 @@ use Rattle.pf_board.specs.declared.view.View.{View}
 use Rattle.pf_board.specs.declared.charter.Charter.{Charter}
 use Rattle.pf_board.specs.Quanta.{total, weigh, one_if}
 use Rattle.pf_board.specs.Passes.{calls_by}
-use Rattle.pf_board.specs.Views.{spent, hand_of, without_hand, carrier_of, hosting, without_guests, guests_of, handed, with_hand}
+use Rattle.pf_board.specs.Views.{spent, hand_of, without_hand, carrier_of, hosting, without_guests, guests_of, without_loads, loads_of, with_loads, handed, with_hand}
 use Rattle.pf_board.specs.Kept.{hands_of, hand_count, held, Core, KnowsAll, Fits, Kept}
 use Rattle.pf_board.proofs.Sums.{set_all, snoc_all, before_set, total_set, total_snoc, total-append}
 use Rattle.pf_board.proofs.Seats.{off, spent_fits}
@@ -132,3 +132,20 @@ module _ {E T : Type 0} (legal : T → List (ℕ × E) → Type 0) (quanta : E �
         quanta_are = λ h. let a = ap (weigh h) none in let d = ap (weigh h) other_none in let t = ap (total (λ (x : Hand E). weigh h x.taken)) one in omega arith;
       })
       (λ c f x. record { of_terms = f.of_terms; seen = f.seen; mine = λ _. (x.guests zero g (ap (λ gs. get_elem? gs zero) one)).1; took = λ _. (x.guests zero g (ap (λ gs. get_elem? gs zero) one)).2; idle = λ e. absurd (true≢false e); guests = f.guests; whole = λ on. keeps_all c id v (handed v (g ∷ [])) refl refl refl refl refl (f.whole on) }))
+
+  -- what a seat's loads found goes to a new seat
+  pub reports : (id : ℕ) (v : View E T) → Splits Holds id v (without_loads v) (loads_of v)
+  reports id v = cuts id v (without_loads v) (loads_of v)
+      (record { each = λ m. omega arith; all = omega arith; quanta_are = λ h. omega arith })
+      (λ c f. record { of_terms = f.of_terms; seen = f.seen; mine = f.mine; took = f.took; idle = f.idle; guests = f.guests; whole = λ on. keeps_all c id v (without_loads v) refl refl refl refl refl (f.whole on) })
+      (λ c new f. record { of_terms = f.of_terms; seen = (c.log, refl); mine = λ e. absurd (off e); took = λ e. absurd (off e); idle = λ _. refl; guests = λ i g e. absurd (cc); whole = no_turn c new (loads_of v) })
+
+  -- and from there to a seat that lists it
+  pub lists : (id : ℕ) (v : View E T) (other : ℕ) (w : View E T) → w.named ≡ false → w.taken ≡ [] → w.guests ≡ [] → Joins Holds id v other w (with_loads v w) spent
+  lists id v other w unnamed none alone = joins id v other w (with_loads v w)
+      (record {
+        each = λ m. let a = ap (λ (b : Bool). (if b then one_if (w.me == m) else 0)) unnamed in let t = ap (total (λ (x : Hand E). one_if (x.me == m))) alone in omega arith;
+        all = let a = ap one_if unnamed in let t = ap (total (λ (x : Hand E). 1)) alone in omega arith;
+        quanta_are = λ h. let a = ap (weigh h) none in let t = ap (total (λ (x : Hand E). weigh h x.taken)) alone in omega arith;
+      })
+      (λ c f x. record { of_terms = f.of_terms; seen = f.seen; mine = f.mine; took = f.took; idle = f.idle; guests = f.guests; whole = λ on. keeps_all c id v (with_loads v w) refl refl refl refl refl (f.whole on) })

@@ -59,6 +59,16 @@ module _ {E T : Type 0} where
   abbrev pub guests_of : View E T → View E T
   guests_of v = record (blank v.terms) { guests = v.guests }
 
+  -- v without what its loads found, a new seat with it alone, and v with what those of w found behind its own
+  abbrev pub without_loads : View E T → View E T
+  without_loads v = record v { loads = [] }
+
+  abbrev pub loads_of : View E T → View E T
+  loads_of v = record (blank v.terms) { loads = v.loads }
+
+  abbrev pub with_loads : View E T → View E T → View E T
+  with_loads v w = record v { loads = v.loads ++ w.loads }
+
   -- v gets its hand back
   abbrev pub handed : View E T → List (Hand E) → View E T
   handed v [] = v

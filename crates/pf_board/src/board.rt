@@ -14,7 +14,7 @@ ghost use Rattle.pf_board.specs.Words.{FitsWord, on_words};
 ghost use Rattle.pf_board.specs.Passes.{AreOf, Finds, IsIn, IsFront, but, calls_by, checked, new_keeper, new_pass, new_passes};
 
 use crate::charter::Charter;
-use crate::cuts::{Another, Host, Lend, PassTurn};
+use crate::cuts::{Another, Host, Lend, PassTurn, Report};
 use crate::handed::Handed;
 use crate::issues::{Issues, Names};
 use crate::keeper::Keeper;
@@ -288,6 +288,18 @@ impl<E, I: Issues<E>> Board<E, I> {
             }
         }
         None
+    }
+
+    /// What the keeper's loads found is listed by the pass, for which they were made, and no longer by the keeper.
+    pub fn report(&self, keeper: &mut Keeper<E, I>, pass: &mut Pass<E, I>)
+        requires { (keeper.old.board ≡ self.now.id) × (pass.old.board ≡ self.now.id) }
+        ensures keeper { keeper.new ≡ record keeper.old { loads = [] } }
+        ensures pass { pass.new ≡ record pass.old { loads = pass.old.loads ++ keeper.old.loads } }
+        ensures front { IsFront I.legal pass.new }
+    {
+        let shared = &self.table.shared;
+        let seat = shared.split_seat::<Report>(&mut keeper.seat);
+        shared.join_seat::<Report>(&mut pass.seat, seat);
     }
 
     /// Puts a quantum onto its processor's word. It is of the last step, and no quantum equal to it was put there

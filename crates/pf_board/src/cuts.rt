@@ -51,6 +51,25 @@ impl<E, T> Join<View<E, T>> for Lend {
     ghost spent = { spent };
 }
 
+/// A seat hands what its loads found to a new one, or lists what another's found behind its own.
+pub struct Report;
+
+impl<E, T> Split<View<E, T>> for Report {
+    ghost use Rattle.pf_board.specs.Views.{without_loads, loads_of};
+
+    ghost left = { without_loads };
+
+    ghost right = { loads_of };
+}
+
+impl<E, T> Join<View<E, T>> for Report {
+    ghost use Rattle.pf_board.specs.Views.{with_loads, spent};
+
+    ghost both = { with_loads };
+
+    ghost spent = { spent };
+}
+
 /// A seat gives the hands that it carries to a new one, or takes those of another.
 pub struct Host;
 

@@ -28,6 +28,7 @@ kept_as_before board book d d' keeper press stamp shown is before desk = record 
   processors = is.processors;
   keeper_board = is.keeper_board;
   has_turn = is.has_turn;
+  no_loads = is.no_loads;
   seen = is.seen ∙ ap (λ x. numbered x.history) (sym before.rest);
   press_book = is.press_book;
   stamp_is = subst (λ (x : Shown). stamp ≡ record { origin = stamp.origin; history = x.history }) (sym before.rest) (ap (λ s. record { origin = stamp.origin; history = s.history }) is.stamp_is) ∙ ap (λ o. record { origin = o; history = d'.history }) (ap (λ s. s.origin) is.stamp_is);

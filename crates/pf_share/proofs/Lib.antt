@@ -4,6 +4,7 @@ mod Entering
 mod Growing
 mod Issuing
 mod Limits
+mod Looking
 mod Numbering
 mod Prefixes
 mod Publishing

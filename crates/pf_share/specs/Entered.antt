@@ -1,5 +1,5 @@
 -- What a pass's command makes of the one history.
-use Rattle.std.specs.Prelude.{ℕ, ⊤, ◌≡◌, ◌<◌, List, [], ◌∷◌, ◌++◌, length}
+use Rattle.std.specs.Prelude.{ℕ, ◌≡◌, ◌≢◌, ◌+◌, ◌<◌, List, [], ◌∷◌, ◌++◌, length}
 use mathlib.Core.List.{IsPrefix}
 use Rattle.pf_scenario.specs.System.{System}
 use Rattle.pf_desk.specs.declared.command.Command.{Command}
@@ -7,7 +7,7 @@ use Rattle.pf_desk.specs.declared.entry.Entry.{Entry}
 use Rattle.pf_desk.specs.Desk.{entry_of}
 use Rattle.pf_desk.specs.History.{last_state}
 use Rattle.pf_desk.specs.Machine.{reply_to}
-use Rattle.pf_board.specs.Passes.{Keeping, Passing, Finds}
+use Rattle.pf_board.specs.Passes.{Passing, empty_loads}
 use Rattle.pf_share.specs.declared.done.Done.{Done}
 use Rattle.pf_share.specs.declared.step_refusal.StepRefusal.{StepRefusal}
 use Rattle.pf_share.specs.declared.step_refusal.StepRefusal.TheVariants.{Pending, NoMemory}
@@ -26,12 +26,17 @@ pub record Enters (settings : System) (command : Command) (v : Passing Entry Sys
   pub is_legal : IsHistory settings w.seen
   pub front : done.front ≡ length w.seen
 
--- a step that is refused since a quantum lies untaken names one of m processors
-abbrev pub NamesOneOf : ℕ → StepRefusal → Type 0
-NamesOneOf m (Pending processor) = processor < m
-NamesOneOf m NoMemory = ⊤
+-- the pass, once the words of the processors below n were found empty for it
+abbrev pub found_empty : ℕ → Passing Entry System → Passing Entry System
+found_empty n v = record v { loads = v.loads ++ empty_loads n }
 
--- the first on which the keeper's check found one
-abbrev pub NamesFound : Keeping Entry System → Keeping Entry System → StepRefusal → Type 0
-NamesFound k k' (Pending processor) = Finds processor k k'
-NamesFound k k' NoMemory = ⊤
+-- and then a quantum on processor n's: the pass lists the word
+pub record FindsQuantum (n : ℕ) (v w : Passing Entry System) : Type 0 where
+  pub word : ℕ
+  pub some_word : word ≢ 0
+  pub pass : w ≡ record v { loads = v.loads ++ (empty_loads n ++ (1 + n, word) ∷ []) }
+
+-- why a step of m processors is refused, and what is left of the pass: a quantum was found on the named processor, the lowest with one; or no word had one, and memory was wanting
+abbrev pub RefusesStep : ℕ → Passing Entry System → StepRefusal → Passing Entry System → Type 0
+RefusesStep m v (Pending processor) w = (processor < m) × FindsQuantum processor v w
+RefusesStep m v NoMemory w = w ≡ found_empty m v

@@ -17,13 +17,14 @@ pub record Showing : Type 0 where
   pub desk : Shown
   pub keeper : Keeping Entry System
 
--- the desk keeps its promise; the keeper has seen its history, with no turn out; and that history is what is shown
+-- the desk keeps its promise; the keeper has seen its history, with no turn out and no load that wasn't reported; and that history is what is shown
 pub record IsShownDesk (board : Boarding System) (book : Book) (desk : Shown) (keeper : Keeping Entry System) (press : Book) (stamp shown : Stamped) : Type 0 where
   pub is_desk : IsDesk desk
   pub settings : desk.state.plan.settings ≡ board.terms
   pub processors : board.processors ≡ board.terms.processors
   pub keeper_board : keeper.board ≡ board.id
   pub has_turn : keeper.has_turn ≡ true
+  pub no_loads : keeper.loads ≡ []
   pub seen : keeper.seen ≡ numbered desk.history
   pub press_book : press ≡ book
   pub stamp_is : stamp ≡ record { origin = origin_of board book; history = desk.history }

@@ -4,6 +4,7 @@ use Rattle.logbook.specs.Pages.{Book}
 use Rattle.pf_scenario.specs.System.{System}
 use Rattle.pf_timeline.specs.Checkpoints.{largest_distance}
 use Rattle.pf_desk.specs.declared.entry.Entry.{Entry}
+use Rattle.pf_desk.specs.Desk.{Shown}
 use Rattle.pf_desk.specs.declared.fault.OpenFault.{OpenFault as DeskFault}
 use Rattle.pf_desk.specs.declared.fault.OpenFault.TheVariants as desk
 use Rattle.pf_board.specs.Passes.{Boarding, Passing}
@@ -26,10 +27,11 @@ IsBeyond most n = (n ≡ 0) ⊎ (most < n)
 abbrev pub IsBadOpening : (every passes readers : ℕ) → Type 0
 IsBadOpening every passes readers = IsBeyond MOST_PASSES passes ⊎ (IsBeyond MOST_READERS readers ⊎ IsBeyond largest_distance every)
 
--- a desk that has no name yet: its board and book, its passes and viewers
+-- a desk that has no name yet: its board and book, what the desk shows, its passes and viewers
 pub record Opening : Type 0 where
   pub board : Boarding System
   pub book : Book
+  pub desk : Shown
   pub passes : List (Passing Entry System)
   pub viewers : List Viewing
 

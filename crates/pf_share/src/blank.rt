@@ -69,7 +69,7 @@ impl<H: Wait + Drop> Model for Blank<H> {
 
     ghost Value = { Opening };
 
-    ghost view = { λ b. record { board = b.board; book = b.press; passes = b.passes.items; viewers = b.viewers.items } };
+    ghost view = { λ b. record { board = b.board; book = b.press; desk = b.desk; passes = b.passes.items; viewers = b.viewers.items } };
 
     ghost invariant = { λ b. IsLocked b.board b.press b.desk b.keeper b.press b.stamp b.publisher × (b.desk.history ≡ []) };
 }
@@ -93,6 +93,8 @@ impl<H: Wait + Drop> Blank<H> {
     ) -> Result<Self, OpenFault>
         ensures bad_settings { (result ≡ Err BadSettings) ↔ IsBadOpening every passes readers }
         ensures settings { IfOk result (λ b. b.board.terms ≡ settings) }
+        ensures counts { IfOk result (λ b. (b.board.processors ≡ settings.processors) × (b.board.passes ≡ passes)) }
+        ensures desk { IfOk result (λ b. IsDesk b.desk × (b.desk.state ≡ opening_state settings) × (b.desk.history ≡ [])) }
         ensures passes { IfOk result (λ b. b.passes ≡ new_passes b.board.id settings passes) }
         ensures viewers { IfOk result (λ b. b.viewers ≡ new_viewers (origin_of b.board b.book) readers) }
     {
@@ -118,6 +120,8 @@ impl<H: Wait + Drop> Blank<H> {
         requires readers { (0 < readers) × (readers < 2 ^ 32) }
         ensures scarce { IfErr result (λ fault. fault ≢ BadSettings) }
         ensures settings { IfOk result (λ b. b.board.terms ≡ settings) }
+        ensures counts { IfOk result (λ b. (b.board.processors ≡ settings.processors) × (b.board.passes ≡ passes)) }
+        ensures desk { IfOk result (λ b. IsDesk b.desk × (b.desk.state ≡ opening_state settings) × (b.desk.history ≡ [])) }
         ensures passes { IfOk result (λ b. b.passes ≡ new_passes b.board.id settings passes) }
         ensures viewers { IfOk result (λ b. b.viewers ≡ new_viewers (origin_of b.board b.book) readers) }
     {
@@ -140,6 +144,8 @@ impl<H: Wait + Drop> Blank<H> {
         requires desk { IsDesk desk × (desk.state ≡ opening_state settings) × (desk.history ≡ []) }
         requires readers { (0 < readers) × (readers < 2 ^ 32) }
         ensures settings { IfOk result (λ b. b.board.terms ≡ settings) }
+        ensures counts { IfOk result (λ b. (b.board.processors ≡ settings.processors) × (b.board.passes ≡ passes)) }
+        ensures desk { IfOk result (λ b. IsDesk b.desk × (b.desk.state ≡ opening_state settings) × (b.desk.history ≡ [])) }
         ensures passes { IfOk result (λ b. b.passes ≡ new_passes b.board.id settings passes) }
         ensures viewers { IfOk result (λ b. b.viewers ≡ new_viewers (origin_of b.board b.book) readers) }
     {

@@ -5,7 +5,7 @@ ghost use Rattle.pf_desk.specs.declared.command.Command.TheVariants.{Edit, Step}
 ghost use Rattle.pf_desk.specs.Desk.{AnswersCaller, IsAsBefore};
 ghost use Rattle.pf_share.specs.Histories.{IsHistory, entries_of};
 ghost use Rattle.pf_share.specs.Ended.{EndsDesk};
-ghost use Rattle.pf_share.specs.Entered.{Enters, NamesOneOf};
+ghost use Rattle.pf_share.specs.Entered.{Enters, RefusesStep, found_empty};
 ghost use Rattle.pf_share.specs.Locked.{IsLocked, origin_of};
 
 use crate::calls::{DeskBoard, DeskKeeper, DeskPass};
@@ -79,6 +79,7 @@ impl<N: Naming, H: Wait + Drop> Locked<N, H> {
         ensures told { OnOk result (viewer.new.told ≡ self.old.history) }
         ensures begins { OnOk result (IsPrefix (entries_of pass.old.seen) viewer.new.told) }
         ensures grew { IsPrefix viewer.old.told viewer.new.told }
+        ensures read { OnOk result (IsPrefix viewer.old.read viewer.new.told) }
         ensures not_told { OnErr result (viewer.new ≡ viewer.old) }
     {
         self.shown.tell(board, pass, viewer)
@@ -108,12 +109,13 @@ impl<N: Naming, H: Wait + Drop> Locked<N, H> {
             .enter(rt, board, pass, Command::Edit { change, strict })
     }
 
-    /// Takes the next slot as the pass, shows and enters the answer, and issues the quanta of the row.
+    /// Looks at each processor's word for the pass, then takes the next slot as the pass, shows and enters the answer,
+    /// and issues the quanta of the row.
     ///
     /// # Errors
     ///
     /// `Pending` where a quantum lies untaken, `NoMemory` where memory is refused: the desk, but for its room, and the
-    /// pass are as before.
+    /// pass, but for its loads, are as before.
     pub(crate) fn step(
         &mut self,
         rt: &impl Wait,
@@ -122,11 +124,11 @@ impl<N: Naming, H: Wait + Drop> Locked<N, H> {
     ) -> Result<Done, StepRefusal>
         requires board { (board.now ≡ N.board) × (pass.old.board ≡ N.board.id) }
         ensures desk { IfOk result (λ d. AnswersCaller pass.old.me Step self.old d.reply self.new) }
-        ensures entered { IfOk result (λ d. Enters N.board.terms Step pass.old d pass.new) }
-        ensures pending { IfErr result (NamesOneOf N.board.processors) }
+        ensures entered { IfOk result (λ d. Enters N.board.terms Step (found_empty N.board.processors pass.old) d pass.new) }
         ensures same_desk { OnErr result (IsAsBefore self.old self.new) }
-        ensures same_pass { OnErr result (pass.new ≡ pass.old) }
-        ensures front { OnOk result (IsFront IsHistory pass.new) }
+        ensures refused { OnErr result (pass.new ≡ record pass.old { loads = pass.new.loads }) }
+        ensures found { IfErr result (λ refusal. RefusesStep N.board.processors pass.old refusal pass.new) }
+        ensures front { IsFront IsHistory pass.new }
     {
         self.shown.step(rt, board, pass)
     }

@@ -7,7 +7,7 @@ ghost use Rattle.pf_board.specs.Takes.{Takes};
 ghost use Rattle.pf_desk.specs.declared.command.Command.TheVariants.{Edit, Step};
 ghost use Rattle.pf_desk.specs.Desk.{StandsForHistory};
 ghost use Rattle.pf_share.specs.Ended.{EndsDesk};
-ghost use Rattle.pf_share.specs.Entered.{Enters, NamesOneOf};
+ghost use Rattle.pf_share.specs.Entered.{Enters, RefusesStep, found_empty};
 ghost use Rattle.pf_share.specs.Histories.{IsHistory, entries_of, quanta_of};
 ghost use Rattle.pf_share.specs.Locked.{origin_of};
 
@@ -46,8 +46,8 @@ impl<N: Naming, H: Wait + Drop> Shared<N, H> {
         }
     }
 
-    /// From now on each history that the viewer reads begins with the desk's, and so with what the pass has seen. It
-    /// waits for the lock.
+    /// From now on each history that the viewer reads begins with the desk's, and so with what the pass has seen; what
+    /// the viewer read before begins that history too. It waits for the lock.
     ///
     /// # Errors
     ///
@@ -62,6 +62,7 @@ impl<N: Naming, H: Wait + Drop> Shared<N, H> {
         ensures pass { pass.new ≡ pass.old }
         ensures viewer { viewer.new ≡ record viewer.old { told = viewer.new.told } }
         ensures told { OnOk result (IsPrefix (entries_of pass.old.seen) viewer.new.told) }
+        ensures read { OnOk result (IsPrefix viewer.old.read viewer.new.told) }
         ensures grew { IsPrefix viewer.old.told viewer.new.told }
         ensures not_told { OnErr result (viewer.new ≡ viewer.old) }
     {
@@ -94,17 +95,20 @@ impl<N: Naming, H: Wait + Drop> Shared<N, H> {
 
     /// Takes the next slot as the pass, and answers as the desk machine does; the answer is an entry of the one history,
     /// which is shown, and the quanta of its row lie on their processors' words, before another call comes in. A step at
-    /// the horizon is refused, and is an entry too. It waits for the lock, and for viewers that are reading.
+    /// the horizon is refused, and is an entry too. It first looks at each processor's word, from processor 0 on, and the
+    /// pass lists what was found: 0 on each where the step is answered. It waits for the lock, and for viewers that are
+    /// reading.
     ///
     /// # Errors
     ///
-    /// `Pending` where a quantum lies untaken, `NoMemory` where memory is refused: no entry, and the pass is as before.
+    /// `Pending` where a quantum was found, which ends the look; `NoMemory` where memory is refused: no entry, and the pass
+    /// is as before, but for what was found.
     pub fn step(&self, rt: &impl Wait, pass: &mut DeskPass) -> Result<Done, StepRefusal>
         requires { pass.old.board ≡ N.board.id }
-        ensures entered { IfOk result (λ d. Enters N.board.terms Step pass.old d pass.new) }
-        ensures pending { IfErr result (NamesOneOf N.board.processors) }
-        ensures refused { OnErr result (pass.new ≡ pass.old) }
-        ensures front { OnOk result (IsFront IsHistory pass.new) }
+        ensures entered { IfOk result (λ d. Enters N.board.terms Step (found_empty N.board.processors pass.old) d pass.new) }
+        ensures refused { OnErr result (pass.new ≡ record pass.old { loads = pass.new.loads }) }
+        ensures found { IfErr result (λ refusal. RefusesStep N.board.processors pass.old refusal pass.new) }
+        ensures front { IsFront IsHistory pass.new }
     {
         self.locked.lock(rt).step(rt, &self.board, pass)
     }

@@ -1,4 +1,4 @@
-ghost use Rattle.std.specs.Prelude.{ℕ, ◌≡◌, ◌<◌, ◌≤◌, ◌++◌, ◌∷◌, [], true, IfOk, IfErr, OnOk, OnErr};
+ghost use Rattle.std.specs.Prelude.{ℕ, ◌≡◌, ◌<◌, ◌≤◌, ◌++◌, ◌∷◌, [], true, IfOk, IfErr, IfSome, IfNone, OnOk, OnErr};
 ghost use mathlib.Core.List.{IsPrefix};
 ghost use Rattle.pf_board.specs.Passes.{AreOf, IsFront, IsIn};
 ghost use Rattle.pf_desk.specs.Desk.{AnswersCaller, IsAsBefore, IsReadyFor, StandsForHistory, entry_of};
@@ -6,7 +6,7 @@ ghost use Rattle.pf_desk.specs.Machine.{reply_to};
 ghost use Rattle.pf_share.specs.Histories.{IsHistory, entries_of, is_step_command, quanta_of_reply};
 ghost use Rattle.pf_desk.specs.declared.command.Command.TheVariants.{Step};
 ghost use Rattle.pf_share.specs.Ended.{EndsDesk};
-ghost use Rattle.pf_share.specs.Entered.{Enters, NamesOneOf, NamesFound};
+ghost use Rattle.pf_share.specs.Entered.{Enters, FindsQuantum, RefusesStep, found_empty};
 ghost use Rattle.pf_share.specs.Issuing.{AwaitsIssue, AwaitsReply};
 ghost use Rattle.pf_share.specs.Locked.{IsShownDesk, origin_of};
 
@@ -107,6 +107,7 @@ impl<N: Naming, H: Wait + Drop> ShownDesk<N, H> {
         ensures told { OnOk result (viewer.new.told ≡ self.old.desk.history) }
         ensures begins { OnOk result (IsPrefix (entries_of pass.old.seen) viewer.new.told) }
         ensures grew { IsPrefix viewer.old.told viewer.new.told }
+        ensures read { OnOk result (IsPrefix viewer.old.read viewer.new.told) }
         ensures not_told { OnErr result (viewer.new ≡ viewer.old) }
     {
         board.tie(&mut self.keeper, pass);
@@ -157,12 +158,28 @@ impl<N: Naming, H: Wait + Drop> ShownDesk<N, H> {
         Ok(Done { reply, front })
     }
 
-    /// Takes the next slot as the pass, answers as the desk machine does, and issues the quanta of the row.
+    /// Looks at each processor's word for the pass, from processor 0 on: the first on which a quantum lies.
+    fn find_untaken(&mut self, board: &DeskBoard, pass: &mut DeskPass) -> Option<u32>
+        requires board { (board.now ≡ N.board) × (pass.old.board ≡ N.board.id) }
+        ensures desk { self.new.desk ≡ self.old.desk }
+        ensures left { self.new.keeper.left ≡ self.old.keeper.left }
+        ensures some { IfSome result (λ p. (p < N.board.processors) × FindsQuantum p pass.old pass.new) }
+        ensures none { IfNone result (pass.new ≡ found_empty N.board.processors pass.old) }
+        ensures empty { IfNone result ((p : ℕ) → p < N.board.processors → IsIn self.new.keeper.empty p) }
+        ensures front { IsFront IsHistory pass.new }
+    {
+        let found = board.check(&mut self.keeper);
+        board.report(&mut self.keeper, pass);
+        found
+    }
+
+    /// Looks at each processor's word for the pass, which lists what was found; then takes the next slot as the pass,
+    /// answers as the desk machine does, and issues the quanta of the row.
     ///
     /// # Errors
     ///
-    /// `Pending` where a quantum lies untaken, `NoMemory` where memory is refused: desk and pass are as before, but for
-    /// the desk's room.
+    /// `Pending` where a quantum lies untaken, `NoMemory` where memory is refused: the desk, but for its room, and the
+    /// pass, but for its loads, are as before.
     pub(crate) fn step(
         &mut self,
         rt: &impl Wait,
@@ -172,15 +189,14 @@ impl<N: Naming, H: Wait + Drop> ShownDesk<N, H> {
         requires board { (board.now ≡ N.board) × (pass.old.board ≡ N.board.id) }
         requires none_left { self.old.keeper.left ≡ [] }
         ensures desk { IfOk result (λ d. AnswersCaller pass.old.me Step self.old.desk d.reply self.new.desk) }
-        ensures entered { IfOk result (λ d. Enters N.board.terms Step pass.old d pass.new) }
+        ensures entered { IfOk result (λ d. Enters N.board.terms Step (found_empty N.board.processors pass.old) d pass.new) }
         ensures none_left { self.new.keeper.left ≡ [] }
-        ensures pending { IfErr result (NamesOneOf N.board.processors) }
-        ensures found { IfErr result (NamesFound self.old.keeper self.new.keeper) }
         ensures same_desk { OnErr result (IsAsBefore self.old.desk self.new.desk) }
-        ensures same_pass { OnErr result (pass.new ≡ pass.old) }
-        ensures front { OnOk result (IsFront IsHistory pass.new) }
+        ensures refused { OnErr result (pass.new ≡ record pass.old { loads = pass.new.loads }) }
+        ensures found { IfErr result (λ refusal. RefusesStep N.board.processors pass.old refusal pass.new) }
+        ensures front { IsFront IsHistory pass.new }
     {
-        if let Some(processor) = board.check(&mut self.keeper) {
+        if let Some(processor) = self.find_untaken(board, pass) {
             return Err(StepRefusal::Pending { processor });
         }
         let done = self.enter(rt, board, pass, Command::Step)?;

@@ -87,6 +87,7 @@ impl Viewer {
         requires { stamp.now.origin ≡ self.old.origin }
         ensures told { IsTrue result → self.new ≡ record self.old { told = stamp.now.history } }
         ensures grew { IsTrue result → IsPrefix self.old.told stamp.now.history }
+        ensures read { IsTrue result → IsPrefix self.old.read stamp.now.history }
         ensures not_told { IsFalse result → self.new ≡ self.old }
     {
         let Some(reader) = self.reader.take() else {

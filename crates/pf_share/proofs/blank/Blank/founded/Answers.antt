@@ -15,6 +15,7 @@ invariant_of-result g c =
           processors = c.in_ok-board.ensures.board.1 ∙ (c.processors-processors.ensures.value ∙ ap (λ s. s.processors) (sym c.in_ok-board.ensures.board.0));
           keeper_board = ap (λ k. k.board) keeper;
           has_turn = ap (λ k. k.has_turn) keeper;
+          no_loads = ap (λ k. k.loads) keeper;
           seen = rw (keeper, desk.2) refl;
           press_book = refl;
           stamp_is = rw (press, sym settings) (stamp ∙ c.in_ok-shown.ensures.shown);

@@ -52,6 +52,7 @@ invariant_of-self-2 g c =
       processors = inv.processors;
       keeper_board = ap (λ k. k.board) keeper ∙ (ap (λ k. k.board) c.turn-turn.ensures.keeper ∙ inv.keeper_board);
       has_turn = ap (λ k. k.has_turn) keeper;
+      no_loads = ap (λ k. k.loads) keeper ∙ (ap (λ k. k.loads) c.turn-turn.ensures.keeper ∙ inv.no_loads);
       seen = ap (λ k. k.seen) keeper ∙ committed_numbered c.args.pass.now.me c.args.command s.desk d' c.turn-turn.result.whole c.commit-reply.result c.in-Some.entry.now is;
       press_book = inv.press_book;
       stamp_is = stamp_after (origin_of g.N.Naming.board g.N.Naming.book) c.args.self.now.desk s.desk d' c.in_ok-prepared.prepared.entry c.commit-reply.result c.again-stamp.result c.in_ok-prepared.shown

@@ -23,3 +23,12 @@ returns-then-is-clause-grew c told =
     let stamp = sym (c.if-is.ensures refl) ∙ (c.stamp.ensures ∙ c.get.ensures) in
     let is = rw (← c.in-Some.ensures.value) at c.self.invariant in
     rw (← ap (λ s. s.told) c.self.view_is) (prefix_into c.self.inside.told.history v.seen x.history c.args.stamp.now.history is.seen_told sees.grew (ap (λ s. s.history) stamp))
+
+pub returns-then-is-clause-read : goal.returns-then-is-clause-read
+returns-then-is-clause-read c told =
+    let sees = c.in-Ok.ensures.1 in
+    let x = c.in-Ok.reading.part.value in
+    let v = view c.in-Some.reader.place in
+    let stamp = sym (c.if-is.ensures refl) ∙ (c.stamp.ensures ∙ c.get.ensures) in
+    let is = rw (← c.in-Some.ensures.value) at c.self.invariant in
+    rw (← ap (λ s. s.read) c.self.view_is) (prefix_into c.self.inside.read.history v.seen x.history c.args.stamp.now.history is.seen_read sees.grew (ap (λ s. s.history) stamp))
