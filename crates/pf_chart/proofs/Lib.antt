@@ -5,3 +5,6 @@ pub mod Order
 pub mod Tracks
 pub mod Examples
 pub mod Lines
+pub mod Ranked
+pub mod InUse
+pub mod Blocks

@@ -1,5 +1,5 @@
 -- A line without the blanks at its end.
-use Rattle.std.proofs.Common.{◌≡◌, ◌≢◌, ℕ, zero, suc, ◌-◌, ◌<◌, ◌≤◌, ◌==◌, List, [], ◌∷◌, ◌++◌, length, take, get_or, refl, sym, ap, ◌∙◌, arith}
+use Rattle.std.proofs.Common.{◌≡◌, ◌≢◌, ℕ, zero, suc, ◌-◌, ◌<◌, ◌≤◌, ◌==◌, List, [], ◌∷◌, ◌++◌, length, take, get_or, refl, sym, ap, ◌∙◌, append_assoc, arith}
 use Rattle.std.proofs.lemmas.Bool.{cond-false, ne_eqb}
 use Rattle.pf_chart.specs.Chart.{with_first, trimmed}
 
@@ -37,3 +37,7 @@ pub all_left_out : (xs : List ℕ) (end : ℕ) → end ≤ 0 → trimmed (take e
 all_left_out xs end none same =
     let z : end ≡ 0 = omega arith in
     ap (λ k. take k xs) z ∙ sym (ap (λ k. trimmed (take k xs)) z) ∙ same
+
+-- three words, each with a number, one behind another
+pub three_words : (old a p b q c r end : List ℕ) → (((old ++ (a ++ p)) ++ (b ++ q)) ++ (c ++ r)) ++ end ≡ old ++ (a ++ p ++ b ++ q ++ c ++ r ++ end)
+three_words old a p b q c r end = simp append_assoc refl

@@ -106,9 +106,11 @@ block_text seen listed to a = block_of seen listed a (range_with_len a (min 60 (
 abbrev pub range_text : ℕ → ℕ → ℕ → List ℕ
 range_text now from to = codes "slots " ++ decimal from ++ codes " to " ++ decimal to ++ codes " of " ++ decimal now ++ codes "; "
 
+abbrev pub settings_with : ℕ → ℕ → ℕ → List ℕ
+settings_with m base cap = codes "processors " ++ decimal m ++ codes "; base " ++ decimal base ++ codes "; cap " ++ decimal cap ++ codes "\n"
+
 abbrev pub settings_text : System → List ℕ
-settings_text system =
-    codes "processors " ++ decimal system.processors ++ codes "; base " ++ decimal system.base ++ codes "; cap " ++ decimal system.cap ++ codes "\n"
+settings_text system = settings_with system.processors system.base system.cap
 
 abbrev pub head_with : System → ℕ → ℕ → ℕ → List ℕ
 head_with system now from to = range_text now from to ++ settings_text system
@@ -125,11 +127,12 @@ legend_text =
     ++ codes "marks: > joins, < left, ~ clock stopped, ^ runs late, x denied\n"
 
 -- a block for each 60 slots from `from` on, below `to`
+abbrev pub blocks_text : Seen → List Listing → ℕ → ℕ → List ℕ
+blocks_text seen listed from to =
+    flat_map (λ k. block_text seen listed to (from + 60 * k)) (range_with_len 0 (div_ceil (to - from) 60))
+
 abbrev pub text_with : Seen → ℕ → ℕ → List Listing → List ℕ
-text_with seen from to listed =
-    head_text seen from to
-    ++ flat_map (λ k. block_text seen listed to (from + 60 * k)) (range_with_len 0 (div_ceil (to - from) 60))
-    ++ legend_text
+text_with seen from to listed = head_text seen from to ++ blocks_text seen listed from to ++ legend_text
 
 -- the chart of the slots from `from` on and below `to`
 unfoldable pub chart_text_of : Seen → ℕ → ℕ → List ℕ

@@ -3,7 +3,7 @@ pub mod Windows
 pub mod Course
 pub mod Cells
 pub mod Cut
-pub mod Built
 pub mod Listing
+pub mod Built
 pub mod Chart
 pub mod Examples

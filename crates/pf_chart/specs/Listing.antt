@@ -1,5 +1,5 @@
 -- Which tasks are listed in a chart, and what is told of each.
-use Rattle.std.specs.Prelude.{ℕ, ◌+◌, Bool, ◌&&◌, ◌==◌, nat_lt, Option, List, map, filter, find}
+use Rattle.std.specs.Prelude.{ℕ, ◌+◌, Bool, ◌&&◌, ◌==◌, nat_lt, Option, List, length, map, filter, find}
 use Rattle.std.specs.List.{list_any, range_with_len}
 use Rattle.pf_weight.specs.declared.task.TheConstants.{LARGEST_TASK}
 use Rattle.pf_scenario.specs.Event.{slot_of}
@@ -41,3 +41,7 @@ listings_of seen =
 abbrev pub count_in : Seen → ℕ → ℕ
 count_in seen t =
     count_of seen.state.plan.settings.processors (events_in_force seen.state.plan (run_of seen.state.plan seen.state.now) (t + 1))
+
+-- that of each slot below now
+abbrev pub counts_of : Seen → List ℕ
+counts_of seen = map (count_in seen) (range_with_len 0 (length seen.rows))

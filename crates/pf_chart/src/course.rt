@@ -101,6 +101,13 @@ impl Course {
         })
     }
 
+    /// Its number.
+    pub fn task(&self) -> u64
+        ensures { result ≡ self.now.task }
+    {
+        self.task
+    }
+
     /// How many of its subtasks ran in slots below t.
     fn done(&self, t: u64) -> usize
         ensures { IsCut (ran_below t) result self.now.windows }

@@ -1,7 +1,9 @@
-ghost use Rattle.std.specs.Prelude.{◌≡◌, ◌++◌, ◌&&◌, nat_le, OnOk};
-ghost use Rattle.pf_chart.specs.Chart.{legend_text};
+ghost use Rattle.std.specs.Prelude.{◌≡◌, ◌++◌, ◌&&◌, nat_le, IfOk, OnOk};
+ghost use Rattle.std.specs.Fmt.{decimal};
+ghost use Rattle.pf_chart.specs.Chart.{head_with, legend_text, range_text, settings_with};
 
-use std::alloc::AllocError;
+use pf_scenario::settings::Settings;
+use std::alloc::{AllocError, Global};
 
 /// What the signs of a chart mean.
 const LEGEND: &[u8] = b"
@@ -28,4 +30,86 @@ pub fn push_legend(text: &mut Vec<u8>) -> Result<(), AllocError>
     ensures { OnOk result (text.new.items ≡ text.old.items ++ legend_text) }
 {
     text.extend_from_slice(LEGEND)
+}
+
+/// The legend.
+///
+/// # Errors
+///
+/// Where memory is refused.
+pub fn legend(alloc: Global) -> Result<Vec<u8>, AllocError>
+    ensures { IfOk result (λ text. text.items ≡ legend_text) }
+{
+    let mut text = Vec::new(alloc);
+    push_legend(&mut text)?;
+    Ok(text)
+}
+
+/// Appends a word and a number.
+fn push_number(
+    alloc: Global,
+    text: &mut Vec<u8>,
+    word: &[u8],
+    number: u64,
+) -> Result<(), AllocError>
+    ensures { OnOk result (text.new.items ≡ text.old.items ++ (word.now ++ decimal number)) }
+{
+    let digits = format!(in alloc; "{number}")?;
+    text.extend_from_slice(word)?;
+    text.extend_from_slice(digits.as_bytes())
+}
+
+/// Appends the range.
+fn push_range(
+    alloc: Global,
+    text: &mut Vec<u8>,
+    now: u64,
+    from: u64,
+    to: u64,
+) -> Result<(), AllocError>
+    ensures { OnOk result (text.new.items ≡ text.old.items ++ range_text now from to) }
+{
+    push_number(alloc, text, b"slots ", from)?;
+    push_number(alloc, text, b" to ", to)?;
+    push_number(alloc, text, b" of ", now)?;
+    text.extend_from_slice(b"; ")
+}
+
+/// Appends the settings, as the numbers that they are.
+fn push_settings(
+    alloc: Global,
+    text: &mut Vec<u8>,
+    processors: u64,
+    base: u64,
+    cap: u64,
+) -> Result<(), AllocError>
+    ensures { OnOk result (text.new.items ≡ text.old.items ++ settings_with processors base cap) }
+{
+    push_number(alloc, text, b"processors ", processors)?;
+    push_number(alloc, text, b"; base ", base)?;
+    push_number(alloc, text, b"; cap ", cap)?;
+    text.push(b'\n')?;
+    Ok(())
+}
+
+/// The head: the range of the `now` slots, and the settings.
+///
+/// # Errors
+///
+/// Where memory is refused.
+pub fn head(
+    alloc: Global,
+    settings: Settings,
+    now: u64,
+    from: u64,
+    to: u64,
+) -> Result<Vec<u8>, AllocError>
+    ensures { IfOk result (λ text. text.items ≡ head_with settings now from to) }
+{
+    let mut text = Vec::new(alloc);
+    push_range(alloc, &mut text, now, from, to)?;
+    let processors = u64::from(settings.processors());
+    let base = settings.base().get();
+    push_settings(alloc, &mut text, processors, base, settings.cap())?;
+    Ok(text)
 }

@@ -1,7 +1,10 @@
-//! What a chart tells of each task: its windows, stops and lags, and the character of each slot. Its one contract: each
-//! cell is the first that the chart's rule gives.
+//! A schedule to look at: a chart in characters, with a line for each processor, and of each task its windows, its lag and
+//! what befell it. The one contract of this crate: from a snapshot `chart_pieces` gives the bytes of the chart.
 #![tactic(auto)]
 
+mod block;
+pub mod chart;
+mod counts;
 pub mod course;
 pub mod courses;
 mod end;
@@ -10,6 +13,7 @@ mod lags;
 pub mod laws;
 pub mod line;
 pub mod listed;
+pub mod listings;
 pub mod pause;
 pub mod quantum;
 pub mod ruler;

@@ -1,3 +1,7 @@
+ghost use Rattle.std.specs.Prelude.{◌≡◌, ◌==◌};
+ghost use Rattle.std.specs.List.{position};
+ghost use Rattle.pf_chart.specs.Chart.{symbol_of};
+
 use crate::course::Course;
 use crate::line::{are_blank, push_line, push_line_if_any};
 use crate::symbols::{BLANK, rank_symbol};
@@ -109,5 +113,22 @@ impl Listed {
         push_line_if_any(text, b"  windows", &windows)?;
         push_line_if_any(text, b"  lag", &lag)?;
         push_line_if_any(text, b"  marks", &marks)
+    }
+}
+
+/// The place of a task among the listed ones.
+fn place_of(listed: &[Listed], task: u32) -> Option<usize>
+    ensures { result ≡ position (λ l. l.task == task) listed.now }
+{
+    listed.iter().position(|listing| listing.task == task)
+}
+
+/// The symbol of a task among the listed ones; blank where it is none of them.
+pub(crate) fn symbol_of(listed: &[Listed], task: u32) -> u8
+    ensures { result ≡ symbol_of listed.now task }
+{
+    match place_of(listed, task) {
+        Some(place) => rank_symbol(place + 1),
+        None => BLANK,
     }
 }

@@ -31,8 +31,8 @@ fn show_sitter(table: &mut Table, sitter: Option<Pick>) -> Result<(), AllocError
     ensures { OnOk result (table.new ≡ with_field table.old (sitter_field sitter)) }
 {
     match sitter {
-        Some(pick) => table.show(format_args!("{}/{}", pick.task, pick.sub)),
-        None => table.show(""),
+        Some(pick) => table.show_pair(u64::from(pick.task), u64::from(pick.sub)),
+        None => table.show_nothing(),
     }
 }
 
@@ -42,7 +42,7 @@ fn push_row(table: &mut Table, t: u64, processors: u32, row: RowView<'_>) -> Res
     requires row { length (lent_row row) ≡ processors }
     ensures { OnOk result (table.new ≡ with_record table.old (decimal t ∷ map sitter_field (lent_row row.entry))) }
 {
-    table.show(t)?;
+    table.show_number(t)?;
     for processor in 0..processors {
         show_sitter(table, row.get(processor))?;
     }

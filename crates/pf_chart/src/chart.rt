@@ -1,0 +1,119 @@
+ghost use Rattle.std.specs.Prelude.{◌≡◌, ◌≤◌, length, IfOk};
+ghost use Rattle.pf_chart.specs.Chart.{chart_text_of};
+ghost use Rattle.pf_chart.specs.Listing.{counts_of};
+
+use crate::block::block_text;
+use crate::counts::counts_in_use;
+use crate::frame::{head, legend};
+use crate::listed::Listed;
+use crate::listings::listings;
+use pf_desk::snapshot::Snapshot;
+use pf_report::pieces::{Chain, Pieces, Whole, gathered};
+use std::alloc::{AllocError, Global};
+use std::marker::Model;
+
+/// How many slots a block has, where so many are left.
+const BLOCK: u64 = 60;
+
+/// The blocks of a chart, from a slot on.
+#[derive(Drop)]
+pub struct Blocks<'a> {
+    snapshot: &'a Snapshot,
+    listed: Vec<Listed>,
+    /// Of each slot below now, how many processors are in use in it.
+    counts: Vec<u64>,
+    /// The first slot that is left.
+    from: u64,
+    /// The slot at which they end.
+    to: u64,
+}
+
+impl<'a> Model for Blocks<'a> {
+    ghost use Rattle.std.specs.Prelude.{ℕ, List, ◌≡◌, ◌≤◌, length};
+    ghost use Rattle.pf_chart.specs.Chart.{blocks_text};
+    ghost use Rattle.pf_chart.specs.Listing.{counts_of};
+
+    ghost Value = { List ℕ };
+
+    ghost view = { λ b. blocks_text b.snapshot.now b.listed.items b.from b.to };
+
+    ghost invariant = { λ b. (b.counts.items ≡ counts_of b.snapshot.now) × (b.to ≤ length b.snapshot.now.rows) };
+}
+
+impl<'a> Pieces for Blocks<'a> {
+    ghost left = { λ b. b };
+
+    fn next_piece(&mut self, alloc: Global) -> Result<Option<Vec<u8>>, AllocError> {
+        if self.from >= self.to {
+            return Ok(None);
+        }
+        let end = self.from + (self.to - self.from).min(BLOCK);
+        let text = block_text(
+            alloc,
+            self.snapshot,
+            &self.listed,
+            &self.counts,
+            self.from,
+            end,
+        )?;
+        self.from = end;
+        Ok(Some(text))
+    }
+}
+
+/// How many processors are in use in each slot that a snapshot shows.
+fn counts(alloc: Global, snapshot: &Snapshot) -> Result<Vec<u64>, AllocError>
+    ensures { IfOk result (λ v. v.items ≡ counts_of snapshot.now) }
+{
+    let now = snapshot.now();
+    counts_in_use(alloc, snapshot.scenario(), now, snapshot.denials())
+}
+
+/// A chart in pieces: its head, its blocks, and the legend.
+pub type ChartPieces<'a> = Chain<Whole, Chain<Blocks<'a>, Whole>>;
+
+/// The chart of the slots from `from` on, below `to`, in pieces, each of which is a block at most. `is_range` tells
+/// whether the snapshot has these slots.
+///
+/// # Errors
+///
+/// Where memory is refused.
+pub fn chart_pieces(
+    alloc: Global,
+    snapshot: &Snapshot,
+    from: u64,
+    to: u64,
+) -> Result<ChartPieces<'_>, AllocError>
+    requires { to ≤ snapshot.now.state.now }
+    ensures { IfOk result (λ pieces. pieces ≡ chart_text_of snapshot.now from to) }
+{
+    let head = head(alloc, snapshot.settings(), snapshot.now(), from, to)?;
+    let legend = legend(alloc)?;
+    let counts = counts(alloc, snapshot)?;
+    let listed = listings(alloc, snapshot)?;
+    let blocks = Blocks {
+        snapshot,
+        listed,
+        counts,
+        from,
+        to,
+    };
+    Ok(Chain::new(Whole::new(head), Chain::new(blocks, Whole::new(legend))))
+}
+
+/// The chart of the slots from `from` on, below `to`, in whole.
+///
+/// # Errors
+///
+/// Where memory is refused.
+pub fn chart_text(
+    alloc: Global,
+    snapshot: &Snapshot,
+    from: u64,
+    to: u64,
+) -> Result<Vec<u8>, AllocError>
+    requires { to ≤ snapshot.now.state.now }
+    ensures { IfOk result (λ text. text.items ≡ chart_text_of snapshot.now from to) }
+{
+    gathered(alloc, chart_pieces(alloc, snapshot, from, to)?)
+}

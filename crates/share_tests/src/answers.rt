@@ -1,0 +1,51 @@
+//! Answers in short.
+
+use pf_desk::reply::Reply;
+use pf_order::pick::Pick;
+use pf_place::row_view::RowView;
+use pf_scenario::change::Change;
+use pf_scenario::event::Event;
+use pf_share::done::Done;
+
+/// The slot that was taken, who runs in it, and the number of entries.
+pub(crate) type Taken = (u64, [(u32, u32); 2], u64);
+
+/// The change that lets a task join in slot 0 with the weight cost/period.
+pub(crate) fn join(task: u64, cost: u64, period: u64) -> Change {
+    Change::Insert(Event::Join {
+        slot: 0,
+        task,
+        cost,
+        period,
+        early: 0,
+    })
+}
+
+/// The number of the event that was edited, and the number of entries. None where the change was refused.
+pub(crate) fn edited(done: &Done) -> Option<(u64, u64)> {
+    match &done.reply {
+        Reply::Edited { id } => Some((*id, done.front)),
+        _ => None,
+    }
+}
+
+/// Who runs on the first two processors: the task and the subtask, or (0, 0) where it is idle.
+pub(crate) fn pair(row: RowView<'_>) -> [(u32, u32); 2] {
+    [named(row.get(0)), named(row.get(1))]
+}
+
+/// What was taken. None where the step was refused.
+pub(crate) fn stepped(done: &Done) -> Option<Taken> {
+    match &done.reply {
+        Reply::Stepped { slot, row } => Some((*slot, pair(row.view()), done.front)),
+        _ => None,
+    }
+}
+
+/// The numbers of a pick.
+fn named(pick: Option<Pick>) -> (u32, u32) {
+    match pick {
+        Some(Pick { task, sub }) => (task, sub),
+        None => (0, 0),
+    }
+}

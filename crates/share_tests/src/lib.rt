@@ -1,0 +1,12 @@
+//! What no clause of the shared desk says: that calls succeed where memory is ample, what is left where it is refused, that
+//! the clauses mean the worked examples, and what threads leave that run at once.
+#![tactic(auto)]
+
+#[cfg(test)]
+mod answers;
+#[cfg(test)]
+mod calls;
+#[cfg(test)]
+mod examples;
+#[cfg(test)]
+mod two;
