@@ -1,3 +1,4 @@
+pub mod Batches
 pub mod Checking
 pub mod Ends
 pub mod Limits

@@ -24,7 +24,7 @@ strict_takes_none : (st : State) (change : Change) (slot : ℕ) (row : List (Opt
 strict_takes_none st change slot row None e = cc
 strict_takes_none st change slot row (Some d) e = cc
 
-edit_takes_none : (st : State) (change : Change) (strict : Bool) (slot : ℕ) (row : List (Option Pick)) (o : Option EditFault)
+pub edit_takes_none : (st : State) (change : Change) (strict : Bool) (slot : ℕ) (row : List (Option Pick)) (o : Option EditFault)
     → Stepped slot row ≡ edit_reply st change strict o → ⊥
 edit_takes_none st change strict slot row (Some fault) e = cc
 edit_takes_none st change true slot row None e =

@@ -14,84 +14,98 @@ use Rattle.pf_cli.specs.declared.fault.RunFault.TheVariants.{BadLine, ReadFault,
 use Rattle.pf_cli.specs.declared.output_fault.OutputFault.{OutputFault}
 use Rattle.pf_cli.specs.declared.output_fault.OutputFault.TheVariants.{Write, Memory}
 use Rattle.pf_words.specs.declared.format.Format.{Format}
+use Rattle.pf_cli.specs.declared.batching.BatchingSession.{BatchingSession}
 use Rattle.pf_cli.specs.declared.session.Session.{Session}
 use Rattle.pf_cli.specs.Answers.{Answers, CountsOutput, CountsWrites, IsPastReading, fault_of_output}
 use Rattle.pf_cli.specs.Meaning.{Meaning, Done, BadRecord, text_and_then, commands_of, course_behind, line_meaning, lines_meaning, settings_meaning, text_if_replies, report_text, seen_at}
 use Rattle.pf_cli.specs.Replies.{line_end}
-use Rattle.pf_cli.specs.Session.{course_at, replies_of, HasAnswered, HasPut, Opened}
+use Rattle.pf_cli.specs.Session.{course_at, HasPut, Opened}
+use Rattle.pf_cli.specs.Batching.{IsUnbatched, HasTaken, course_to_be, replies_to_be, text_to_be}
 use Rattle.pf_scenario.specs.System.{System}
+use Rattle.pf_cli.proofs.Batches.{none_awaited, none_waits}
 use Rattle.pf_cli.proofs.Sessions.{on_the_way, stopped_on_the_way, all_to_come}
 
 -- what the records from this number on mean to a session
 abbrev pub to_come : Version → ℕ → Session → List (List (List ℕ)) → Meaning
 to_come version number s records = lines_meaning s.format version number (course_at s.desk) records
 
--- Of a whole meaning the session has put a part, and the records left are the rest of it.
-pub record IsUnderWay (version : Version) (number : ℕ) (s : Session) (records : List (List (List ℕ))) (start now : Option (List ℕ)) (whole : Meaning) : Type 0 where
-  pub end : (to_come version number s records).end ≡ whole.end
-  pub text : TookAllBut (s.lines ++ (to_come version number s records).text) start now whole.text
+-- what the records from this number on mean to one with edits that wait
+abbrev pub left_to_do : Version → ℕ → BatchingSession → List (List (List ℕ)) → Meaning
+left_to_do version number s records = lines_meaning s.session.format version number (course_to_be s) records
 
-pub begun : (version : Version) (number : ℕ) (s : Session) (records : List (List (List ℕ))) (x : Option (List ℕ))
-    → IsUnderWay version number s records x x (text_and_then s.lines (to_come version number s records))
-begun version number s records x = record { end = refl; text = all_to_come x _ }
+-- Of a whole meaning the session has put a part, and the records left are the rest of it.
+pub record IsUnderWay (version : Version) (number : ℕ) (s : BatchingSession) (records : List (List (List ℕ))) (start now : Option (List ℕ)) (whole : Meaning) : Type 0 where
+  pub end : (left_to_do version number s records).end ≡ whole.end
+  pub text : TookAllBut (text_to_be s ++ (left_to_do version number s records).text) start now whole.text
+
+pub begun : (version : Version) (number : ℕ) (s : Session) (b : BatchingSession) (records : List (List (List ℕ))) (x : Option (List ℕ)) → IsUnbatched s b
+    → IsUnderWay version number b records x x (text_and_then s.lines (to_come version number s records))
+begun version number s b records x none =
+    let text : text_to_be b ≡ s.lines = none_waits b none.none ∙ ap (λ t. t.lines) none.session in
+    let rest : left_to_do version number b records ≡ to_come version number s records =
+    ap (λ c. lines_meaning b.session.format version number c records) (none_awaited b none.none) ∙ ap (λ t. to_come version number t records) none.session in
+    record {
+      end = ap (λ m. m.end) rest;
+      text = subst (λ t. TookAllBut (text_to_be b ++ (left_to_do version number b records).text) x x t) (ap₂ (λ a m. a ++ m.text) text rest) (all_to_come x _);
+    }
 
 -- the session has put all but the rest of the whole
-record IsLeft (s : Session) (rest : Meaning) (start now : Option (List ℕ)) (whole : Meaning) : Type 0 where
+record IsLeft (s : BatchingSession) (rest : Meaning) (start now : Option (List ℕ)) (whole : Meaning) : Type 0 where
   pub end : rest.end ≡ whole.end
-  pub text : TookAllBut (s.lines ++ rest.text) start now whole.text
+  pub text : TookAllBut (text_to_be s ++ rest.text) start now whole.text
 
-left_of : (version : Version) (number : ℕ) (s : Session) (records : List (List (List ℕ))) (fields : List (List ℕ)) (rest : List (List (List ℕ)))
+left_of : (version : Version) (number : ℕ) (s : BatchingSession) (records : List (List (List ℕ))) (fields : List (List ℕ)) (rest : List (List (List ℕ)))
     (line : Option Line) (start now : Option (List ℕ)) (whole : Meaning) → records ≡ fields ∷ rest → line_of version fields ≡ line
     → IsUnderWay version number s records start now whole
-    → IsLeft s (line_meaning s.format number (course_at s.desk) (λ d. lines_meaning s.format version (number + 1) d rest) line) start now whole
+    → IsLeft s (line_meaning s.session.format number (course_to_be s) (λ d. lines_meaning s.session.format version (number + 1) d rest) line) start now whole
 left_of version number s records fields rest line start now whole is_first is_line way =
-    let same : to_come version number s records ≡ line_meaning s.format number (course_at s.desk) (λ d. lines_meaning s.format version (number + 1) d rest) line =
-    ap (to_come version number s) is_first
-    ∙ ap (line_meaning s.format number (course_at s.desk) (λ d. lines_meaning s.format version (number + 1) d rest)) is_line in
+    let same : left_to_do version number s records ≡ line_meaning s.session.format number (course_to_be s) (λ d. lines_meaning s.session.format version (number + 1) d rest) line =
+    ap (left_to_do version number s) is_first
+    ∙ ap (line_meaning s.session.format number (course_to_be s) (λ d. lines_meaning s.session.format version (number + 1) d rest)) is_line in
     record {
       end = ap (λ m. m.end) (sym same) ∙ way.end;
-      text = subst (λ m. TookAllBut (s.lines ++ m.text) start now whole.text) same way.text;
+      text = subst (λ m. TookAllBut (text_to_be s ++ m.text) start now whole.text) same way.text;
     }
 
 -- a line was carried out
-pub line_taken : (version : Version) (number : ℕ) (s after : Session) (records : List (List (List ℕ))) (fields : List (List ℕ)) (rest : List (List (List ℕ)))
+pub line_taken : (version : Version) (number : ℕ) (s after : BatchingSession) (records : List (List (List ℕ))) (fields : List (List ℕ)) (rest : List (List (List ℕ)))
     (line : Line) (start mid new : Option (List ℕ)) (whole : Meaning) → records ≡ fields ∷ rest → line_of version fields ≡ Some line
-    → IsUnderWay version number s records start mid whole → HasAnswered (commands_of line) s after mid new
+    → IsUnderWay version number s records start mid whole → HasTaken (commands_of line) s after mid new
     → IsUnderWay version (number + 1) after rest start new whole
 line_taken version number s after records fields rest line start mid new whole is_first is_line way h =
     let left = left_of version number s records fields rest (Some line) start mid whole is_first is_line way in
-    let same : lines_meaning s.format version (number + 1) (course_behind (course_at s.desk) (commands_of line)) rest ≡ to_come version (number + 1) after rest =
+    let same : lines_meaning s.session.format version (number + 1) (course_behind (course_to_be s) (commands_of line)) rest ≡ left_to_do version (number + 1) after rest =
     ap₂ (λ f c. lines_meaning f version (number + 1) c rest) (sym h.format) (sym h.course) in
     record {
       end = ap (λ m. m.end) (sym same) ∙ left.end;
-      text = subst (λ m. TookAllBut (after.lines ++ m.text) start new whole.text) same
-          (on_the_way start mid new s.lines after.lines (replies_of s (commands_of line)) _ whole.text left.text h.text);
+      text = subst (λ m. TookAllBut (text_to_be after ++ m.text) start new whole.text) same
+          (on_the_way start mid new (text_to_be s) (text_to_be after) (replies_to_be s (commands_of line)) _ whole.text left.text h.text);
     }
 
 -- a line was stopped
-pub line_stopped : (version : Version) (number : ℕ) (s : Session) (records : List (List (List ℕ))) (fields : List (List ℕ)) (rest : List (List (List ℕ)))
+pub line_stopped : (version : Version) (number : ℕ) (s : BatchingSession) (records : List (List (List ℕ))) (fields : List (List ℕ)) (rest : List (List (List ℕ)))
     (line : Line) (start mid new : Option (List ℕ)) (whole : Meaning) → records ≡ fields ∷ rest → line_of version fields ≡ Some line
-    → IsUnderWay version number s records start mid whole → TookFront mid new (s.lines ++ replies_of s (commands_of line))
+    → IsUnderWay version number s records start mid whole → TookFront mid new (text_to_be s ++ replies_to_be s (commands_of line))
     → TookFront start new whole.text
 line_stopped version number s records fields rest line start mid new whole is_first is_line way h =
     let left = left_of version number s records fields rest (Some line) start mid whole is_first is_line way in
-    stopped_on_the_way start mid new s.lines (replies_of s (commands_of line)) _ whole.text left.text h
+    stopped_on_the_way start mid new (text_to_be s) (replies_to_be s (commands_of line)) _ whole.text left.text h
 
 -- a bad record: what waits is the end of the text
-pub bad_left : (version : Version) (number : ℕ) (s : Session) (records : List (List (List ℕ))) (fields : List (List ℕ)) (rest : List (List (List ℕ)))
+pub bad_left : (version : Version) (number : ℕ) (s : BatchingSession) (records : List (List (List ℕ))) (fields : List (List ℕ)) (rest : List (List (List ℕ)))
     (start mid : Option (List ℕ)) (whole : Meaning) → records ≡ fields ∷ rest → line_of version fields ≡ None
-    → IsUnderWay version number s records start mid whole → (whole.end ≡ BadRecord number) × TookAllBut s.lines start mid whole.text
+    → IsUnderWay version number s records start mid whole → (whole.end ≡ BadRecord number) × TookAllBut (text_to_be s) start mid whole.text
 bad_left version number s records fields rest start mid whole is_first is_none way =
     let left = left_of version number s records fields rest None start mid whole is_first is_none way in
-    (sym left.end, subst (λ t. TookAllBut t start mid whole.text) (append-nil s.lines) left.text)
+    (sym left.end, subst (λ t. TookAllBut t start mid whole.text) (append-nil (text_to_be s)) left.text)
 
 -- no record is left: the report is the end of the text
-pub report_left : (version : Version) (number : ℕ) (s : Session) (records : List (List (List ℕ))) (start mid : Option (List ℕ)) (whole : Meaning)
+pub report_left : (version : Version) (number : ℕ) (s : BatchingSession) (records : List (List (List ℕ))) (start mid : Option (List ℕ)) (whole : Meaning)
     → records ≡ [] → IsUnderWay version number s records start mid whole
-    → (whole.end ≡ Done) × TookAllBut (s.lines ++ report_text s.format (seen_at (course_at s.desk))) start mid whole.text
+    → (whole.end ≡ Done) × TookAllBut (text_to_be s ++ report_text s.session.format (seen_at (course_to_be s))) start mid whole.text
 report_left version number s records start mid whole none way =
-    let same = ap (to_come version number s) none in
-    (sym way.end ∙ ap (λ m. m.end) same, subst (λ m. TookAllBut (s.lines ++ m.text) start mid whole.text) same way.text)
+    let same = ap (left_to_do version number s) none in
+    (sym way.end ∙ ap (λ m. m.end) same, subst (λ m. TookAllBut (text_to_be s ++ m.text) start mid whole.text) same way.text)
 
 -- the answer where a text was stopped
 pub answers_stopped : (A : Type 0) (m : Meaning) (fault : OutputFault) (old new : Option (List ℕ)) → TookFront old new m.text
@@ -131,9 +145,9 @@ answers_behind m (Err WriteFault) waiting text old mid new h past a = front_on w
 answers_behind m (Err NoMemory) waiting text old mid new h past a = front_on waiting text m.text old mid new h a
 
 -- the text so far is a front of the whole
-pub front_under_way : (version : Version) (number : ℕ) (s : Session) (records : List (List (List ℕ))) (start now : Option (List ℕ)) (whole : Meaning)
+pub front_under_way : (version : Version) (number : ℕ) (s : BatchingSession) (records : List (List (List ℕ))) (start now : Option (List ℕ)) (whole : Meaning)
     → IsUnderWay version number s records start now whole → TookFront start now whole.text
-front_under_way version number s records start now whole way = (s.lines ++ (to_come version number s records).text, way.text)
+front_under_way version number s records start now whole way = (text_to_be s ++ (left_to_do version number s records).text, way.text)
 
 -- the records of a script, before and after one is read
 pub is_first : (found : Bool) (script : List (List (List ℕ))) (fields : List (List ℕ)) (rest : List (List (List ℕ)))

@@ -63,7 +63,7 @@ reply_lines-append c (x ∷ xs) ys =
     ap (λ t. reply_line (reply_to c.state x) ++ t) (reply_lines-append (course_after c x) xs ys)
     ∙ sym (append_assoc (reply_line (reply_to c.state x)) (reply_lines (course_after c x) xs) (reply_lines (course_behind c (x ∷ xs)) ys))
 
-shown_lines-append : (format : Format) (c : ScriptCourse) (xs ys : List Command)
+pub shown_lines-append : (format : Format) (c : ScriptCourse) (xs ys : List Command)
     → text_if_replies format (reply_lines c (xs ++ ys)) ≡ text_if_replies format (reply_lines c xs) ++ text_if_replies format (reply_lines (course_behind c xs) ys)
 shown_lines-append format c xs ys =
     ap (text_if_replies format) (reply_lines-append c xs ys) ∙ text_if_replies-append format (reply_lines c xs) (reply_lines (course_behind c xs) ys)
@@ -88,7 +88,7 @@ stopped_in_answers xs ys a start mid new whole way h =
     stopped_on_the_way start mid new a.lines (replies_of a xs) (text_if_replies a.format (reply_lines (course_behind (course_at a.desk) xs) ys)) whole
     (subst (λ t. TookAllBut (a.lines ++ t) start mid whole) (shown_lines-append a.format (course_at a.desk) xs ys) way) h
 
-course_behind-append : (c : ScriptCourse) (xs ys : List Command) → course_behind c (xs ++ ys) ≡ course_behind (course_behind c xs) ys
+pub course_behind-append : (c : ScriptCourse) (xs ys : List Command) → course_behind c (xs ++ ys) ≡ course_behind (course_behind c xs) ys
 course_behind-append c [] ys = refl
 course_behind-append c (x ∷ xs) ys = course_behind-append (course_after c x) xs ys
 

@@ -12,6 +12,7 @@ pub use Rattle.pf_check.specs.Examined
 pub use Rattle.pf_check.specs.Places
 pub use Rattle.pf_check.specs.Reports
 pub mod Answers
+pub mod Batching
 pub mod Checks
 pub mod Examples
 pub mod Laws

@@ -12,6 +12,7 @@ use Rattle.pf_report.specs.Events.{events_text}
 use Rattle.pf_report.specs.Json.{json_text}
 use Rattle.pf_stats.specs.Processors.{processors_text}
 use Rattle.pf_stats.specs.Stats.{stats_text}
+use Rattle.pf_chart.specs.Chart.{chart_text_of}
 use Rattle.pf_script.specs.declared.version.Version.{Version}
 use Rattle.pf_script.specs.declared.version.Version.TheVariants.{First, Second}
 use Rattle.pf_script.specs.declared.line.Line.{Line}
@@ -21,7 +22,7 @@ use Rattle.pf_stream.specs.Reading.{longest_script}
 use Rattle.pf_script.specs.Script.{script_records}
 use Rattle.pf_script.specs.Grammar.{horizon_of, is_heading, opening_of, line_of}
 use Rattle.pf_words.specs.declared.format.Format.{Format}
-use Rattle.pf_words.specs.declared.format.Format.TheVariants.{Schedule, Tables, Json, Report, Replies, Lags, Misses, Denials, Events, Processors, Stats}
+use Rattle.pf_words.specs.declared.format.Format.TheVariants.{Schedule, Tables, Json, Report, Replies, Lags, Misses, Denials, Events, Processors, Stats, Chart}
 use Rattle.pf_words.specs.Formats.{has_replies}
 use Rattle.pf_cli.specs.Replies.{reply_line, line_end}
 
@@ -103,6 +104,7 @@ report_text Denials seen = denials_text seen
 report_text Events seen = events_text seen
 report_text Processors seen = processors_text seen
 report_text Stats seen = stats_text seen
+report_text Chart seen = chart_text_of seen 0 seen.state.now
 
 -- the record is this line, or it is bad
 abbrev pub line_meaning : Format → ℕ → ScriptCourse → (ScriptCourse → Meaning) → Option Line → Meaning

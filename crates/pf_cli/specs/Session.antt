@@ -1,5 +1,5 @@
 -- A script that is being carried out.
-use Rattle.std.specs.Prelude.{ℕ, ◌≡◌, List, [], ◌++◌, length, Option}
+use Rattle.std.specs.Prelude.{ℕ, nat_lt, Bool, false, ◌≡◌, List, [], ◌++◌, length, Option, None, Some}
 use Rattle.pf_scenario.specs.System.{System}
 use Rattle.pf_desk.specs.declared.command.Command.{Command}
 use Rattle.pf_desk.specs.Machine.{opening_state}
@@ -16,6 +16,11 @@ course_at d = record { state = d.state; entries = length d.history }
 -- the course of a desk that was opened and has answered no command
 abbrev pub opening_course : System → ScriptCourse
 opening_course settings = record { state = opening_state settings; entries = 0 }
+
+-- whether there is a slot, and it was stepped
+abbrev pub is_before : ℕ → Option ℕ → Bool
+is_before now None = false
+is_before now (Some slot) = nat_lt slot now
 
 -- a session of this format, at the opening of its desk, with no text yet
 pub record Opened (settings : System) (asked : Format) (s : Session) : Type 0 where

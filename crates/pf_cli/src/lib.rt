@@ -5,6 +5,7 @@
 //! the script, in the format that they ask for; words that ask for a check have it check the script.
 #![tactic(auto)]
 
+mod batching;
 pub mod check;
 pub mod fault;
 pub mod laws;

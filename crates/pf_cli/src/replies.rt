@@ -1,14 +1,19 @@
-ghost use Rattle.std.specs.Prelude.{◌≡◌, ◌++◌, ◌≤◌, ◌<◌, codes, length, OnOk};
+ghost use Rattle.std.specs.Prelude.{◌≡◌, ◌++◌, ◌≤◌, ◌<◌, ◌-◌, ◌^◌, All, codes, length, OnOk, OnErr};
 ghost use Rattle.std.specs.Fmt.{decimal};
 ghost use Rattle.std.specs.List.{flat_map};
 ghost use Rattle.pf_desk.specs.declared.reply.Fault.TheVariants.{WouldDeny};
+ghost use Rattle.pf_stream.specs.Written.{TookAllBut, TookFront};
+ghost use Rattle.pf_cli.specs.Answers.{CountsOutput};
 ghost use Rattle.pf_cli.specs.Replies.{reply_line, reply_text, fault_text, edit_fault_text, weight_text, place_text, HasFewPlaces};
 
+use crate::output_fault::OutputFault;
 use pf_admit::denial::Denial;
+use pf_desk::entry::Entry;
 use pf_desk::reply::{Fault, Reply};
 use pf_order::pick::Pick;
 use pf_place::row::Row;
 use pf_scenario::fault::EditFault;
+use pf_stream::sink::Sink;
 use pf_stream::text_buffer::TextBuffer;
 use std::alloc::AllocError;
 
@@ -20,6 +25,32 @@ pub fn push_reply(text: &mut TextBuffer, reply: &Reply) -> Result<(), AllocError
 {
     push_reply_text(text, reply)?;
     text.push(b"\n")
+}
+
+/// Puts the lines of the replies of these entries, each of which has at most 64 places. The writer's count of failures must
+/// be below `u64::MAX` before the call.
+///
+/// # Errors
+///
+/// Where a write fails or memory is refused: the writer has a front of the text, and nothing more may be put.
+pub fn put_replies<W: Sink>(
+    text: &mut TextBuffer,
+    writer: &mut W,
+    entries: &[Entry],
+) -> Result<(), OutputFault>
+    requires places { All (λ e. HasFewPlaces e.reply) entries.now }
+    requires writes { W.failed writer.old < 2 ^ 64 - 1 }
+    ensures ok { OnOk result
+        (TookAllBut text.new (W.contents writer.old) (W.contents writer.new) (text.old ++ flat_map (λ e. reply_line e.reply) entries.now)) }
+    ensures err { OnErr result
+        (TookFront (W.contents writer.old) (W.contents writer.new) (text.old ++ flat_map (λ e. reply_line e.reply) entries.now)) }
+    ensures count { CountsOutput result (W.failed writer.old) (W.failed writer.new) }
+{
+    for entry in entries {
+        text.make_room(writer)?;
+        push_reply(text, &entry.reply)?;
+    }
+    Ok(())
 }
 
 fn push_reply_text(text: &mut TextBuffer, reply: &Reply) -> Result<(), AllocError>

@@ -1,4 +1,5 @@
 ghost use Rattle.std.specs.Prelude.{◌≡◌, ◌-◌, ◌^◌, ◌<◌, ◌++◌, IfOk, OnOk, OnErr};
+ghost use Rattle.pf_chart.specs.Chart.{chart_text_of};
 ghost use Rattle.pf_report.specs.Json.{json_text};
 ghost use Rattle.pf_stream.specs.Written.{TookAllBut, TookFront};
 ghost use Rattle.pf_cli.specs.Answers.{CountsOutput};
@@ -6,6 +7,7 @@ ghost use Rattle.pf_cli.specs.Meaning.{report_text, tables_text, text_under_titl
 ghost use Rattle.pf_cli.specs.Replies.{line_end};
 
 use crate::output_fault::OutputFault;
+use pf_chart::chart::{ChartPieces, chart_pieces};
 use pf_desk::snapshot::Snapshot;
 use pf_report::denials::{DenialPieces, denial_pieces};
 use pf_report::events::events_csv;
@@ -64,7 +66,15 @@ pub fn put_report<W: Sink>(
             writer,
         ),
         Format::Stats => put_pieces(alloc, Whole::new(stats_csv(alloc, snapshot)?), text, writer),
+        Format::Chart => put_pieces(alloc, whole_chart(alloc, snapshot)?, text, writer),
     }
+}
+
+/// The chart of all slots, in pieces.
+fn whole_chart(alloc: Global, snapshot: &Snapshot) -> Result<ChartPieces<'_>, AllocError>
+    ensures { IfOk result (λ pieces. pieces ≡ chart_text_of snapshot.now 0 snapshot.now.state.now) }
+{
+    chart_pieces(alloc, snapshot, 0, snapshot.now())
 }
 
 /// Puts pieces, one after another.

@@ -8,6 +8,7 @@ ghost use Rattle.pf_cli.specs.Answers.{Answers, CountsReads, CountsWrites, IsPas
 ghost use Rattle.pf_cli.specs.Meaning.{script_meaning, settings_meaning, lines_meaning, text_and_then, system_opened_by, system_of};
 ghost use Rattle.pf_cli.specs.Session.{course_at};
 
+use crate::batching::BatchingSession;
 use crate::fault::RunFault;
 use crate::session::Session;
 use csv::ByteRecord;
@@ -25,7 +26,8 @@ use pf_words::format::Format;
 use std::alloc::Global;
 
 /// Reads a whole script, carries it out, and writes its replies and its report in the format: what it writes, and how
-/// it ends, is what the script's bytes mean. Of a reader that has more than a script may, one byte more is taken. The
+/// it ends, is what the script's bytes mean. Plain edits that follow one another, from the first of them that touches a slot
+/// that was stepped, are replayed together, 1,024 at most. Of a reader that has more than a script may, one byte more is taken. The
 /// counts of failures of reader and writer must be below `u64::MAX` before the call.
 ///
 /// # Errors
@@ -124,7 +126,7 @@ fn settings(version: Version, opening: Opening) -> Option<Settings>
 /// Carries out the records behind the settings, the first of which has this number. Each is read into `row`.
 fn carry_out_lines<W: Sink>(
     alloc: Global,
-    mut session: Session,
+    session: Session,
     mut script: Script,
     mut row: ByteRecord,
     writer: &mut W,
@@ -138,15 +140,16 @@ fn carry_out_lines<W: Sink>(
     ensures read { IsPastReading result }
     ensures writes { CountsWrites result (W.failed writer.old) (W.failed writer.new) }
 {
+    let mut batching = BatchingSession::new(alloc, session);
     let mut number = first;
     'records: while script.next(&mut row)? {
         let Some(line) = read_line(&Fields::new(&row), version) else {
-            session.finish(writer)?;
+            batching.finish(writer)?;
             return Err(RunFault::BadLine(number));
         };
-        session.take(writer, line)?;
+        batching.take(writer, line)?;
         number += 1;
     }
-    session.report(alloc, writer)?;
+    batching.report(alloc, writer)?;
     Ok(())
 }

@@ -1,20 +1,23 @@
-ghost use Rattle.std.specs.Prelude.{◌≡◌, ◌-◌, ◌^◌, ◌<◌, ◌≤◌, ◌++◌, [], ◌∷◌, codes, replicate, IfOk, OnOk, OnErr};
+ghost use Rattle.std.specs.Prelude.{◌≡◌, ◌-◌, ◌^◌, ◌<◌, ◌≤◌, ◌++◌, [], ◌∷◌, All, codes, replicate, IfOk, OnOk, OnErr};
 ghost use Rattle.std.specs.Io.KnownBytes.{Appends};
 ghost use Rattle.pf_desk.specs.declared.command.Command.TheVariants.{Step};
+ghost use Rattle.pf_desk.specs.Plain.{IsPlain};
+ghost use Rattle.pf_scenario.specs.Scenario.{slot_touched};
 ghost use Rattle.pf_timeline.specs.Checkpoints.{largest_distance};
 ghost use Rattle.pf_stream.specs.Written.{TookAllBut, TookFront};
 ghost use Rattle.pf_cli.specs.Answers.{CountsOutput};
 ghost use Rattle.pf_cli.specs.Meaning.{text_if_replies, commands_of, seen_at, report_text};
 ghost use Rattle.pf_cli.specs.Replies.{line_end};
-ghost use Rattle.pf_cli.specs.Session.{Opened, HasPut, HasAnswered, course_at, replies_of};
+ghost use Rattle.pf_cli.specs.Session.{Opened, HasPut, HasAnswered, course_at, is_before, replies_of};
 
 use crate::output_fault::OutputFault;
-use crate::replies::push_reply;
+use crate::replies::{push_reply, put_replies};
 use crate::reports::put_report;
 use pf_desk::command::Command;
 use pf_desk::desk::Desk;
 use pf_desk::fault::OpenFault;
 use pf_order::meter::Meter;
+use pf_scenario::change::Change;
 use pf_scenario::settings::Settings;
 use pf_script::line::Line;
 use pf_stream::sink::Sink;
@@ -136,6 +139,38 @@ impl Session {
         self.lines.make_room(writer)?;
         push_reply(&mut self.lines, &reply)?;
         Ok(())
+    }
+
+    /// Answers plain edits, with one replay of the slots that they touch, and puts the replies.
+    pub fn answer_all<W: Sink>(
+        &mut self,
+        writer: &mut W,
+        edits: &[Command],
+    ) -> Result<(), OutputFault>
+        requires plain { All IsPlain edits.now }
+        requires writes { W.failed writer.old < 2 ^ 64 - 1 }
+        ensures ok { OnOk result
+            (HasAnswered edits.now self.old self.new (W.contents writer.old) (W.contents writer.new)) }
+        ensures err { OnErr result
+            (TookFront (W.contents writer.old) (W.contents writer.new) (self.old.lines ++ replies_of self.old edits.now)) }
+        ensures count { CountsOutput result (W.failed writer.old) (W.failed writer.new) }
+    {
+        let answered = self.desk.history().len();
+        self.desk.apply_all(&mut self.meter, CALLER, edits)?;
+        if !self.format.has_replies() {
+            return Ok(());
+        }
+        put_replies(&mut self.lines, writer, &self.desk.history()[answered..])
+    }
+
+    /// Whether a change touches a slot that was stepped.
+    pub fn is_past(&self, change: &Change) -> bool
+        ensures { result ≡ is_before self.now.desk.state.now (slot_touched self.now.desk.state.plan change.now) }
+    {
+        match self.desk.scenario().first_slot(change) {
+            Some(slot) => slot < self.desk.now(),
+            None => false,
+        }
     }
 
     /// Puts the report, and writes what waits.

@@ -2,7 +2,7 @@
 use Rattle.std.specs.Prelude.{ℕ, Bool, true, false, if◌then◌else◌, List, Option, Some, None, codes}
 use Rattle.std.specs.Str.{bytes_eq}
 use Rattle.pf_words.specs.declared.format.Format.{Format}
-use Rattle.pf_words.specs.declared.format.Format.TheVariants.{Schedule, Tables, Json, Report, Replies, Lags, Misses, Denials, Events, Processors, Stats}
+use Rattle.pf_words.specs.declared.format.Format.TheVariants.{Schedule, Tables, Json, Report, Replies, Lags, Misses, Denials, Events, Processors, Stats, Chart}
 
 -- the format of this name
 abbrev pub format_named : List ℕ → Option Format
@@ -18,6 +18,7 @@ format_named name =
     else if bytes_eq name (codes "events") then Some Events
     else if bytes_eq name (codes "processors") then Some Processors
     else if bytes_eq name (codes "stats") then Some Stats
+    else if bytes_eq name (codes "chart") then Some Chart
     else None
 
 -- the formats that have reply lines

@@ -48,6 +48,7 @@ Formats:
   events      the events held, each with its number
   processors  how many quanta each processor gave, how long it was idle, how often its task changed
   stats       the figures of each task: how often it ran, moved and was put off, how soon, how late, its lag
+  chart       a picture in characters: who runs where, each task's windows, its lag, what is late or denied
 
 `check` tells of each record that the format does not allow, and where and why, and carries nothing out.
 

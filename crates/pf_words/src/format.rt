@@ -26,11 +26,13 @@ pub enum Format {
     Processors,
     /// The figures of each task, as a table.
     Stats,
+    /// The schedule as a chart in characters.
+    Chart,
 }
 
 impl Format {
     /// The format of this name: `schedule`, `tables`, `json`, `report`, `replies`, `lags`, `misses`, `denials`,
-    /// `events`, `processors` or `stats`. `None` where the text is none of these.
+    /// `events`, `processors`, `stats` or `chart`. `None` where the text is none of these.
     pub fn named(name: &str) -> Option<Format>
         ensures { result ≡ format_named name.now }
     {
@@ -46,6 +48,7 @@ impl Format {
             "events" => Some(Format::Events),
             "processors" => Some(Format::Processors),
             "stats" => Some(Format::Stats),
+            "chart" => Some(Format::Chart),
             _ => None,
         }
     }

@@ -52,3 +52,8 @@ pub returns-in_ok-stats_csv-in-Stats-clause-err : goal.returns-in_ok-stats_csv-i
 unfolding report_text
 returns-in_ok-stats_csv-in-Stats-clause-err g c =
     err_at c.put_pieces-in-Stats.result _ _ c.args.text.now _ _ ((c.new-in-Stats.ensures ∙ c.in_ok-stats_csv-in-Stats.ensures) ∙ sym (ap (λ f. report_text f c.args.snapshot.now) c.in-Stats.is)) c.put_pieces-in-Stats.ensures.err
+
+pub returns-in_ok-whole_chart-in-Chart-clause-err : goal.returns-in_ok-whole_chart-in-Chart-clause-err
+unfolding report_text
+returns-in_ok-whole_chart-in-Chart-clause-err g c =
+    err_at c.put_pieces-in-Chart.result _ _ c.args.text.now _ _ (c.in_ok-whole_chart-in-Chart.ensures ∙ sym (ap (λ f. report_text f c.args.snapshot.now) c.in-Chart.is)) c.put_pieces-in-Chart.ensures.err

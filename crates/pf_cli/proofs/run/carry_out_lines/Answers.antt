@@ -2,12 +2,14 @@ use Rattle.std.proofs.Common.{length, refl, ap, ◌∙◌, sym, arith}
 use Rattle.std.proofs.lemmas.Result.{err_from_is_err_and}
 use Rattle.pf_script.specs.Grammar.{line_of}
 use Rattle.pf_stream.proofs.Sending.{so-far-finished, so-far-unfinished}
+use Rattle.pf_cli.proofs.Batches.{plain_none}
 use Rattle.pf_cli.proofs.Scripts.{answers_stopped, bad_left, begun, counts_stopped, front_under_way, is_first, is_none, line_stopped, line_taken, past_stopped, report_left}
 use Rattle.pf_cli.proofs.run.carry_out_lines.Goals as goal
 
 pub records-init : goal.records-init
 records-init g c = record {
-  way = begun c.args.version c.args.first c.args.session c.args.script _;
+  way = begun c.args.version c.args.first c.args.session c.new-batching.result c.args.script _ c.new-batching.ensures;
+  plain = plain_none c.new-batching.result.waiting.items c.new-batching.ensures.none;
   count = refl;
   counted = c.requires.counted;
 }
@@ -16,7 +18,7 @@ pub returns-in_err-next-clause-meaning : goal.returns-in_err-next-clause-meaning
 returns-in_err-next-clause-meaning g c =
     let p = err_from_is_err_and c.from_residual.result c.from_residual.ensures.1 in
     let way = c.records.invariant.way in
-    rw (p.1, p.2) (front_under_way c.args.version c.records.number c.records.session c.records.script _ _ _ way)
+    rw (p.1, p.2) (front_under_way c.args.version c.records.number c.records.batching c.records.script _ _ _ way)
 
 pub returns-in_err-next-clause-read : goal.returns-in_err-next-clause-read
 returns-in_err-next-clause-read g c =
@@ -26,14 +28,14 @@ pub returns-in_err-next-clause-writes : goal.returns-in_err-next-clause-writes
 returns-in_err-next-clause-writes g c =
     let p = err_from_is_err_and c.from_residual.result c.from_residual.ensures.1 in rw (p.1, p.2) c.records.invariant.count
 
-pub finish-requires : goal.finish-requires
-finish-requires g c = omega (arith, c.requires.writes, c.records.invariant.count)
+pub finish-requires-clause-writes : goal.finish-requires-clause-writes
+finish-requires-clause-writes g c = omega (arith, c.requires.writes, c.records.invariant.count)
 
-pub take-requires : goal.take-requires
-take-requires g c = omega (arith, c.requires.writes, c.records.invariant.count)
+pub take-requires-clause-writes : goal.take-requires-clause-writes
+take-requires-clause-writes g c = omega (arith, c.requires.writes, c.records.invariant.count)
 
-pub report-requires : goal.report-requires
-report-requires g c = omega (arith, c.requires.writes, c.records.invariant.count)
+pub report-requires-clause-writes : goal.report-requires-clause-writes
+report-requires-clause-writes g c = omega (arith, c.requires.writes, c.records.invariant.count)
 
 pub records-smaller : goal.records-smaller
 records-smaller g c =
@@ -46,12 +48,12 @@ returns-in_err-take-clause-meaning g c =
     let first = is_first c.in_ok-next.field-0 c.records.script _ c.next.new.self c.in_ok-next.ensures.record c.if-branch.true in
     let line = sym (ap (line_of c.args.version) c.new.ensures) ∙ sym c.in-Some.ensures in
     rw (p.1, p.2) (answers_stopped (Unit {0}) _ _ _ _
-    (line_stopped c.args.version c.records.number c.records.session c.records.script _ c.next.new.self c.in-Some.line _ _ _ _ first line c.records.invariant.way c.in_err-take.ensures.err))
+    (line_stopped c.args.version c.records.number c.records.batching c.records.script _ c.next.new.self c.in-Some.line _ _ _ _ first line c.records.invariant.way c.in_err-take.ensures.err))
 
 pub returns-clause-meaning : goal.returns-clause-meaning
 returns-clause-meaning g c =
     let none = is_none c.in_ok-next.field-0 c.records.script _ c.next.new.self c.in_ok-next.ensures.record c.if-branch.false in
-    let left = report_left c.args.version c.records.number c.records.session c.records.script _ _ _ none c.records.invariant.way in
+    let left = report_left c.args.version c.records.number c.records.batching c.records.script _ _ _ none c.records.invariant.way in
     (left.0, so-far-finished _ _ _ _ _ left.1 c.in_ok-report.ensures.ok)
 
 pub returns-in_err-take-clause-read : goal.returns-in_err-take-clause-read
@@ -77,14 +79,14 @@ returns-in_err-finish-clause-meaning g c =
     let p = err_from_is_err_and c.from_residual-in_err-finish.result c.from_residual-in_err-finish.ensures.1 in
     let first = is_first c.in_ok-next.field-0 c.records.script _ c.next.new.self c.in_ok-next.ensures.record c.if-branch.true in
     let line = sym (ap (line_of c.args.version) c.new.ensures) ∙ sym c.in_default.ensures in
-    let left = bad_left c.args.version c.records.number c.records.session c.records.script _ c.next.new.self _ _ _ first line c.records.invariant.way in
+    let left = bad_left c.args.version c.records.number c.records.batching c.records.script _ c.next.new.self _ _ _ first line c.records.invariant.way in
     rw (p.1, p.2) (answers_stopped (Unit {0}) _ _ _ _ (so-far-unfinished _ _ _ _ _ left.1 c.in_err-finish.ensures.err))
 
 pub returns-in_default-clause-meaning : goal.returns-in_default-clause-meaning
 returns-in_default-clause-meaning g c =
     let first = is_first c.in_ok-next.field-0 c.records.script _ c.next.new.self c.in_ok-next.ensures.record c.if-branch.true in
     let line = sym (ap (line_of c.args.version) c.new.ensures) ∙ sym c.in_default.ensures in
-    let left = bad_left c.args.version c.records.number c.records.session c.records.script _ c.next.new.self _ _ _ first line c.records.invariant.way in
+    let left = bad_left c.args.version c.records.number c.records.batching c.records.script _ c.next.new.self _ _ _ first line c.records.invariant.way in
     (left.0, so-far-finished _ _ _ _ _ left.1 c.in_ok-finish.ensures.ok)
 
 pub returns-in_default-clause-writes : goal.returns-in_default-clause-writes
@@ -100,8 +102,9 @@ records-preserved g c =
     let first = is_first c.in_ok-next.field-0 c.records.script _ c.next.new.self c.in_ok-next.ensures.record c.if-branch.true in
     let line = sym (ap (line_of c.args.version) c.new.ensures) ∙ sym c.in-Some.ensures in
     record {
-      way = line_taken c.args.version c.records.number c.records.session c.take.new.self c.records.script _ c.next.new.self c.in-Some.line _ _ _ _
+      way = line_taken c.args.version c.records.number c.records.batching c.take.new.self c.records.script _ c.next.new.self c.in-Some.line _ _ _ _
           first line c.records.invariant.way c.in_ok-take.ensures.ok;
+      plain = c.in_ok-take.ensures.ok.plain;
       count = c.in_ok-take.ensures.count ∙ c.records.invariant.count;
       counted = omega (arith, ap length first, c.records.invariant.counted);
     }
@@ -110,7 +113,7 @@ pub returns-in_err-report-clause-meaning : goal.returns-in_err-report-clause-mea
 returns-in_err-report-clause-meaning g c =
     let p = err_from_is_err_and c.from_residual-in_err-report.result c.from_residual-in_err-report.ensures.1 in
     let none = is_none c.in_ok-next.field-0 c.records.script _ c.next.new.self c.in_ok-next.ensures.record c.if-branch.false in
-    let left = report_left c.args.version c.records.number c.records.session c.records.script _ _ _ none c.records.invariant.way in
+    let left = report_left c.args.version c.records.number c.records.batching c.records.script _ _ _ none c.records.invariant.way in
     rw (p.1, p.2) (answers_stopped (Unit {0}) _ _ _ _ (so-far-unfinished _ _ _ _ _ left.1 c.in_err-report.ensures.err))
 
 pub returns-in_err-report-clause-read : goal.returns-in_err-report-clause-read

@@ -1,4 +1,5 @@
-use Rattle.std.proofs.Common.{◌≡◌, ◌+◌, ◌^◌, ◌<◌, length}
+use Rattle.std.proofs.Common.{◌≡◌, ◌+◌, ◌^◌, ◌<◌, length, All}
+use Rattle.pf_desk.specs.Plain.{IsPlain}
 use Rattle.pf_cli.specs.Meaning.{text_and_then}
 use Rattle.pf_cli.proofs.Scripts.{IsUnderWay, to_come}
 use Rattle.pf_cli.proofs.run.carry_out_lines.Given as goal
@@ -6,8 +7,9 @@ use Rattle.pf_cli.proofs.run.carry_out_lines.Given as goal
 -- of what all records mean, what those before this number mean is put
 abbrev pub invariant-records : goal.invariant-records
 invariant-records g l = record {
-  way : IsUnderWay l.version l.number l.session l.script (g.W.Write.contents l.fn.writer) (g.W.Write.contents l.writer)
+  way : IsUnderWay l.version l.number l.batching l.script (g.W.Write.contents l.fn.writer) (g.W.Write.contents l.writer)
       (text_and_then l.fn.session.lines (to_come l.version l.fn.first l.fn.session l.fn.script));
+  plain : All IsPlain l.batching.waiting.items;
   count : g.W.Sink.failed l.writer ≡ g.W.Sink.failed l.fn.writer;
   counted : l.number + length l.script < 2 ^ 64;
 }
