@@ -76,6 +76,7 @@ module _ (s : Plan) (n : ℕ) (scenario : IsScenario s) (long : length (run_of s
       let late = sym (missed_same s n scenario long xs j ran held (end_of xs j n) of_ran of_next of_last i some) in
       let quantum = ap (λ o. quantum_with o (slice_get on (i - 1))) (sym (ran_same s n scenario long xs j ran held (end_of xs j n) of_ran of_next of_last i some)) in
       λ k. let w : Window = record {
+        sub = i;
         release = release k;
         deadline = due k;
         bit = bit_of j.weight i;
@@ -136,6 +137,7 @@ track_own r on xs j =
     let lags : scaled_at r own j ≡ scaled_at r xs j = λ k t. pos (j.weight.cost * clock_own r xs j t k) -ℤ pos (j.weight.period * done r j.task t) in
     let end : Option Numbered → ℕ = λ o. option_map_or (λ x. min (slot_of x.event) (length r)) o (length r) in
     λ k. let window : ℕ → Window = λ i. record {
+      sub = i;
       release = release_of j.weight i + shift k i;
       deadline = deadline_of j.weight i + shift k i;
       bit = bit_of j.weight i;

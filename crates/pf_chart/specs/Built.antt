@@ -31,6 +31,7 @@ quantum_with slot processor = option_and_then (λ t. option_map (λ p. record { 
 
 abbrev pub window_by : Joined → List ℕ → List ℕ → List Held → ℕ → ℕ → Window
 window_by j ran on held end i = record {
+  sub = i;
   release = released_at j held i;
   deadline = due_at j held i;
   bit = bit_of j.weight i;

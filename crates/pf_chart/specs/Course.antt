@@ -61,6 +61,7 @@ group_due_of r xs j i = if is_heavy j.weight then group_of j.weight i + shift_of
 -- its window, where the events xs are in force
 abbrev pub window_of : List Slot → List ℕ → List Numbered → Joined → ℕ → Window
 window_of r on xs j i = record {
+  sub = i;
   release = release_at r xs j i;
   deadline = due_of r xs j i;
   bit = bit_of j.weight i;

@@ -62,7 +62,11 @@ impl<'a> Pieces for Blocks<'a> {
 }
 
 /// How many processors are in use in each slot that a snapshot shows.
-fn counts(alloc: Global, snapshot: &Snapshot) -> Result<Vec<u64>, AllocError>
+///
+/// # Errors
+///
+/// Where memory is refused.
+pub fn counts(alloc: Global, snapshot: &Snapshot) -> Result<Vec<u64>, AllocError>
     ensures { IfOk result (λ v. v.items ≡ counts_of snapshot.now) }
 {
     let now = snapshot.now();

@@ -54,7 +54,7 @@ impl Model for Course {
 }
 
 impl Course {
-    ghost use Rattle.std.specs.Prelude.{◌≡◌, nat_le, length, IfOk};
+    ghost use Rattle.std.specs.Prelude.{◌≡◌, ◌+◌, ◌-◌, nat_le, length, IfOk};
     ghost use Rattle.pf_scenario.specs.Scenario.{Plan};
     ghost use Rattle.pf_scenario.specs.Edit.{IsScenario};
     ghost use Rattle.pf_run.specs.Computed.{run_of};
@@ -106,6 +106,56 @@ impl Course {
         ensures { result ≡ self.now.task }
     {
         self.task
+    }
+
+    /// Its weight.
+    pub fn weight(&self) -> Weight
+        ensures { result ≡ self.now.weight }
+    {
+        self.weight
+    }
+
+    /// The slot of its join.
+    pub fn joined(&self) -> u64
+        ensures { result ≡ self.now.joined }
+    {
+        self.joined
+    }
+
+    /// The slot of its leave, or how many slots there are where it did not leave.
+    pub fn end(&self) -> u64
+        ensures { result ≡ self.now.end }
+    {
+        self.end
+    }
+
+    /// Whether it left.
+    pub fn left(&self) -> bool
+        ensures { result ≡ self.now.left }
+    {
+        self.left
+    }
+
+    /// The windows of those of its subtasks that a chart draws, from the first one on.
+    pub fn windows(&self) -> &[Window]
+        ensures { result.now ≡ self.now.windows }
+    {
+        &self.windows
+    }
+
+    /// Where delays stop its clock, one after another.
+    pub fn stops(&self) -> &[Pause]
+        ensures { result.now ≡ self.now.stops }
+    {
+        &self.stops
+    }
+
+    /// Its lags, times its period, after the first t slots, for each t from its join to its end.
+    pub fn lags(&self) -> &[i64]
+        ensures value { result.now ≡ self.now.lags }
+        ensures many { length result.now ≡ self.now.end + 1 - self.now.joined }
+    {
+        &self.lags
     }
 
     /// How many of its subtasks ran in slots below t.

@@ -26,7 +26,7 @@ impl Model for Listed {
 }
 
 impl Listed {
-    ghost use Rattle.std.specs.Prelude.{◌≡◌, ◌++◌, ◌∷◌, ◌-◌, codes, map, IfOk, OnOk};
+    ghost use Rattle.std.specs.Prelude.{◌≡◌, ◌++◌, ◌∷◌, ◌-◌, codes, map, IfOk, MatchOption, OnOk};
     ghost use Rattle.std.specs.Fmt.{decimal};
     ghost use Rattle.std.specs.List.{range_with_len};
     ghost use Rattle.pf_chart.specs.Chart.{row_cell, task_lines};
@@ -41,6 +41,20 @@ impl Listed {
             course,
             denied,
         }
+    }
+
+    /// Its number.
+    pub fn task(&self) -> u32
+        ensures { result ≡ self.now.task }
+    {
+        self.task
+    }
+
+    /// Its course, if it was admitted.
+    pub fn course(&self) -> Option<&Course>
+        ensures { MatchOption result (self.now.track ≡ None) (λ course. self.now.track ≡ Some course.now) }
+    {
+        self.course.as_ref()
     }
 
     /// The cell of slot t in one of its lines.

@@ -3,6 +3,8 @@ use crate::quantum::Quantum;
 /// A subtask that a chart draws: its window, with its shift, and where it ran. Times are slots.
 #[derive(Clone, Copy, Debug, PartialEq, Eq)]
 pub struct Window {
+    /// The number of the subtask, from 1.
+    pub sub: u64,
     /// The first slot of its window.
     pub release: u64,
     /// The first slot behind its window.

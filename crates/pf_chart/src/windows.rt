@@ -66,6 +66,7 @@ fn window_of(task: Admitted, ran: &[u64], on: &[u32], delays: &[Held], end: u64,
     let slot = ran.get(i as usize - 1).copied();
     let processor = on.get(i as usize - 1).copied();
     Window {
+        sub: u64::from(i),
         release: release(task.weight, i) + shift,
         deadline: due,
         bit: bit(task.weight, i),
