@@ -1,0 +1,6 @@
+pub mod Steps
+pub mod Noted
+pub mod Parts
+pub mod Greatest
+pub mod Whole
+pub mod Examples

@@ -1,0 +1,57 @@
+-- The rows of the processors and the parts of the tasks, one after another.
+use Rattle.std.proofs.Common.{◌≡◌, ℕ, ◌+◌, ◌-◌, ◌<◌, ◌≤◌, Option, Some, List, [], ◌++◌, length, get_or, sym, ap, ap₂, ◌∙◌, append_assoc, arith}
+use Rattle.std.specs.List.{flat_map, range_with_len, slice_get}
+use Rattle.std.proofs.lemmas.List.{get_or_default}
+use Rattle.std.proofs.lemmas.List.FromFn.{get_or-map-range_with_len}
+use Rattle.pf_order.specs.declared.pick.Pick.{Pick}
+use Rattle.pf_tally.proofs.Noting.{got_at}
+use Rattle.pf_desk.specs.Desk.{Seen}
+use Rattle.pf_chart.specs.Listing.{count_in, counts_of}
+use Rattle.pf_picture.specs.Drawing.{Drawing}
+use Rattle.pf_picture.specs.Picture.{processors_from, rows_text, task_at, tasks_from}
+use Rattle.pf_picture.specs.Processors.{cell_text, processor_name, processor_text, slot_text}
+use Rattle.pf_picture.specs.Scale.{Measures}
+use Rattle.pf_picture.specs.Shapes.{stretch_shape}
+use Rattle.pf_picture.specs.Task.{name_text, task_text_of}
+use Rattle.pf_picture.proofs.Steps.{first_and_others}
+
+-- Use: a slot of a row, by the counts and the row of the slot.
+pub slot_is : (seen : Seen) (s : Measures) (drawings : List Drawing) (counts : List ℕ) (p t count d : ℕ) (row : List (Option Pick)) → t < length seen.rows → counts ≡ counts_of seen
+    → count ≡ get_or counts t d → Some row ≡ slice_get seen.rows t → cell_text s drawings count row p t ≡ slot_text seen s drawings p t
+slot_is seen s drawings counts p t count d row within of_counts of_count of_row =
+    ap₂ (λ count row. cell_text s drawings count row p t)
+    (of_count ∙ ap (λ cs. get_or cs t d) of_counts ∙ get_or-map-range_with_len (count_in seen) 0 (length seen.rows) t t d within (omega arith))
+    (sym (get_or_default seen.rows t [] row within ∙ got_at seen.rows t row of_row))
+
+module _ (seen : Seen) (s : Measures) (drawings : List Drawing) where
+  -- Use: the row of a processor has a line.
+  pub processor_some : (p : ℕ) (text : List ℕ) → text ≡ processor_text seen s drawings p → 1 ≤ length text
+  unfolding processor_text processor_name
+  processor_some p text is = omega (arith, ap length is)
+
+  -- Use: the row of one processor, and what is left behind it.
+  pub processor_next : (p place : ℕ) → p < s.processors → rows_text seen s drawings p place ≡ processor_text seen s drawings p ++ rows_text seen s drawings (p + 1) place
+  processor_next p place some =
+      ap (λ xs. xs ++ tasks_from s drawings place) (first_and_others (processor_text seen s drawings) p s.processors some)
+      ∙ append_assoc (processor_text seen s drawings p) (processors_from seen s drawings (p + 1)) (tasks_from s drawings place)
+
+  -- Use: no processor is left.
+  pub processors_over : (p place : ℕ) → s.processors ≤ p → rows_text seen s drawings p place ≡ tasks_from s drawings place
+  processors_over p place over =
+      ap (λ n. flat_map (processor_text seen s drawings) (range_with_len p n) ++ tasks_from s drawings place) (let z : s.processors - p ≡ 0 = omega arith in z)
+
+  -- Use: the part of one task, and what is left behind it.
+  pub task_next : (p place : ℕ) → s.processors ≤ p → place < s.listed → rows_text seen s drawings p place ≡ task_at s drawings place ++ rows_text seen s drawings p (place + 1)
+  task_next p place over some =
+      processors_over p place over ∙ first_and_others (task_at s drawings) place s.listed some
+      ∙ ap (λ xs. task_at s drawings place ++ xs) (sym (processors_over p (place + 1) over))
+
+  -- Use: nothing is left.
+  pub rows_over : (p place : ℕ) → s.processors ≤ p → s.listed ≤ place → rows_text seen s drawings p place ≡ []
+  rows_over p place over all =
+      processors_over p place over ∙ ap (λ n. flat_map (task_at s drawings) (range_with_len place n)) (let z : s.listed - place ≡ 0 = omega arith in z)
+
+-- Use: the part of a task has a line.
+pub task_some : (s : Measures) (rank : ℕ) (drawing : Drawing) (text : List ℕ) → text ≡ task_text_of s rank drawing → 1 ≤ length text
+unfolding task_text_of name_text stretch_shape
+task_some s rank drawing text is = omega (arith, ap length is)

@@ -1,0 +1,14 @@
+pub mod Element
+pub mod Scale
+pub mod Shapes
+pub mod Boxes
+pub mod Lane
+pub mod Brackets
+pub mod Lines
+pub mod Drawing
+pub mod Task
+pub mod Frame
+pub mod Processors
+pub mod Strips
+pub mod Picture
+pub mod Examples
