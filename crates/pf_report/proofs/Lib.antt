@@ -4,3 +4,4 @@ pub mod Places
 pub mod Arrays
 pub mod Floats
 pub mod JsonParts
+pub mod Parted

@@ -8,6 +8,7 @@ use Rattle.pf_run.specs.Examples.{plan_with, two_joins, three_joins}
 use Rattle.pf_desk.specs.Desk.{Seen}
 use Rattle.pf_report.specs.Tables.{schedule_text, lags_text, misses_text, denials_text}
 use Rattle.pf_report.specs.Json.{json_text}
+use Rattle.pf_report.specs.Part.{schedule_part_text}
 
 -- what a desk shows of the scenario after n slots and so many entries
 abbrev pub seen_after : ℕ → Plan → ℕ → Seen
@@ -41,6 +42,10 @@ of_nobody = seen_after 7 (plan_with 1 2 2 (Join 0 1 1 1 0 ∷ Leave 3 2 ∷ Join
 
 pub record WorkedReports : Type 0 where
   pub schedule : schedule_text three_tasks ≡ codes "slot,p0,p1\n0,1/1,2/1\n1,1/2,3/1\n2,2/2,3/2\n"
+  -- a part of it, the whole as one, and none
+  pub part : schedule_part_text three_tasks 1 2 ≡ codes "slot,p0,p1\n1,1/2,3/1\n"
+  pub whole : schedule_part_text three_tasks 0 3 ≡ schedule_text three_tasks
+  pub none : schedule_part_text three_tasks 2 2 ≡ codes "slot,p0,p1\n"
   pub lags : lags_text three_tasks ≡ codes "task,cost,period,received,lag\n1,2,3,2,0\n2,2,3,2,0\n3,2,3,2,0\n"
   pub json : json_text three_tasks ≡
       codes "{\"denials\":[],\"entries\":6,\"lags\":[{\"cost\":2,\"lag\":0,\"period\":3,\"received\":2,\"task\":1},"

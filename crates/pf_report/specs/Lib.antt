@@ -5,3 +5,4 @@ pub mod Page
 pub mod Examples
 pub mod Parts
 pub mod Pieces
+pub mod Part

@@ -13,4 +13,5 @@ pub mod pieces;
 pub mod records;
 pub mod rows;
 pub mod schedule;
+pub mod schedule_part;
 pub mod table;

@@ -15,7 +15,7 @@ use std::alloc::{AllocError, Global};
 use std::marker::Model;
 
 /// Adds the heading: a column for the slot and for each processor.
-fn push_heading(table: &mut Table, processors: u32) -> Result<(), AllocError>
+pub(crate) fn push_heading(table: &mut Table, processors: u32) -> Result<(), AllocError>
     requires { table.old.fields ≡ [] }
     ensures { OnOk result (table.new ≡ with_record table.old (schedule_heading processors)) }
 {
@@ -37,7 +37,12 @@ fn show_sitter(table: &mut Table, sitter: Option<Pick>) -> Result<(), AllocError
 }
 
 /// Adds the record of slot t, whose row this is.
-fn push_row(table: &mut Table, t: u64, processors: u32, row: RowView<'_>) -> Result<(), AllocError>
+pub(crate) fn push_row(
+    table: &mut Table,
+    t: u64,
+    processors: u32,
+    row: RowView<'_>,
+) -> Result<(), AllocError>
     requires start { table.old.fields ≡ [] }
     requires row { length (lent_row row) ≡ processors }
     ensures { OnOk result (table.new ≡ with_record table.old (decimal t ∷ map sitter_field (lent_row row.entry))) }
