@@ -24,7 +24,7 @@ use Rattle.pf_words.specs.Formats.{has_replies}
 use Rattle.pf_cli.specs.declared.batching.BatchingSession.{BatchingSession}
 use Rattle.pf_cli.specs.declared.session.Session.{Session}
 use Rattle.pf_cli.specs.Batching.{HasTaken, course_to_be, replies_to_be, text_to_be}
-use Rattle.pf_cli.specs.Meaning.{ScriptCourse, course_after, course_behind, reply_lines, report_text, seen_at, text_if_replies}
+use Rattle.pf_cli.specs.Meaning.{ScriptCourse, course_after, course_behind, reply_lines, text_if_replies}
 use Rattle.pf_cli.specs.Replies.{HasFewPlaces, reply_line}
 use Rattle.pf_cli.specs.Session.{HasAnswered, course_at, replies_of}
 use Rattle.pf_cli.proofs.Replying.{edit_takes_none}
@@ -212,30 +212,7 @@ module _ (caller : ℕ) (commands : List Command) (a b : Session) (h : AnswersAl
       → OnErr r (TookFront old new (a.lines ++ replies_of a commands))
   all_stopped r old new shows took = on_err r _ _ (front_at old new a.lines _ _ (lines_are shows)) took
 
--- a text of which some waits, and what is written behind it
-appends_on : (waiting text rest : List ℕ) (old mid new : Option (List ℕ)) → TookAllBut waiting old mid text → Appends mid new (waiting ++ rest)
-    → Appends old new (text ++ rest)
-appends_on waiting text rest old mid new h k =
-    so-far-finished old mid new (waiting ++ rest) (text ++ rest)
-    (h.0, h.1, sym (append_assoc h.0 waiting rest) ∙ ap (λ t. t ++ rest) h.2) k
-
--- Use: those that wait were answered, and the report or the text so far was written behind them.
-pub reported_then : {A E : Type 0} (r : Result A E) (a : BatchingSession) (m : Session) (old mid new : Option (List ℕ))
-    → HasAnswered a.waiting.items a.session m old mid → OnOk r (Appends mid new (m.lines ++ report_text m.format (seen_at (course_at m.desk))))
-    → OnOk r (Appends old new (text_to_be a ++ report_text a.session.format (seen_at (course_to_be a))))
-reported_then r a m old mid new h k =
-    on_ok r _ _
-    (λ w. subst (λ t. Appends old new (text_to_be a ++ t)) (ap₂ (λ f c. report_text f (seen_at c)) h.format h.course)
-    (appends_on m.lines (text_to_be a) (report_text m.format (seen_at (course_at m.desk))) old mid new h.text w)) k
-
-pub unreported_then : {A E : Type 0} (r : Result A E) (a : BatchingSession) (m : Session) (old mid new : Option (List ℕ))
-    → HasAnswered a.waiting.items a.session m old mid → OnErr r (TookFront mid new (m.lines ++ report_text m.format (seen_at (course_at m.desk))))
-    → OnErr r (TookFront old new (text_to_be a ++ report_text a.session.format (seen_at (course_to_be a))))
-unreported_then r a m old mid new h k =
-    on_err r _ _
-    (λ w. subst (λ t. TookFront old new (text_to_be a ++ t)) (ap₂ (λ f c. report_text f (seen_at c)) h.format h.course)
-    (so-far-stopped old mid new m.lines (text_to_be a) (report_text m.format (seen_at (course_at m.desk))) h.text w)) k
-
+-- Use: those that wait were answered, and the text so far was written behind them.
 pub finished_then : {A E : Type 0} (r : Result A E) (a : BatchingSession) (m : Session) (old mid new : Option (List ℕ))
     → HasAnswered a.waiting.items a.session m old mid → OnOk r (Appends mid new m.lines) → OnOk r (Appends old new (text_to_be a))
 finished_then r a m old mid new h k = on_ok r _ _ (so-far-finished old mid new m.lines (text_to_be a) h.text) k

@@ -1,5 +1,5 @@
 -- How a script ends, by the number of its first bad record.
-use Rattle.std.proofs.Common.{◌≡◌, ◌+◌, ℕ, Bool, true, false, List, [], ◌∷◌, Option, Some, None, refl, sym, ap, ◌∙◌}
+use Rattle.std.proofs.Common.{◌≡◌, ◌+◌, ℕ, Bool, true, false, List, [], ◌∷◌, Option, Some, None, refl, sym, subst, inl, inr}
 use Rattle.std.specs.Prelude.{is_some, if◌then◌else◌}
 use Rattle.std.specs.Option.{option_map_or}
 use Rattle.pf_scenario.specs.System.{System}
@@ -7,69 +7,84 @@ use Rattle.pf_script.specs.declared.line.Line.{Line}
 use Rattle.pf_script.specs.declared.line.Opening.{Opening}
 use Rattle.pf_script.specs.declared.version.Version.{Version}
 use Rattle.pf_script.specs.declared.version.Version.TheVariants.{First, Second}
-use Rattle.pf_script.specs.Grammar.{is_heading, line_of, opening_of}
+use Rattle.pf_script.specs.Grammar.{horizon_of, is_heading, line_of, opening_of}
 use Rattle.pf_script.specs.Script.{script_records}
 use Rattle.pf_words.specs.declared.format.Format.{Format}
+use Rattle.pf_words.specs.Formats.{range_of}
+use Rattle.pf_words.specs.Ranges.{is_within}
+use Rattle.pf_desk.specs.Desk.{Seen}
+use Rattle.pf_desk.specs.Machine.{opening_state}
 use Rattle.pf_check.specs.Laws as check
 use Rattle.pf_check.specs.Reports.{Report, reports}
 use Rattle.pf_check.proofs.FirstFaults.{first_fault_ends_reading}
-use Rattle.pf_cli.specs.Laws.{RunsEndAtTheFirstFault, end_at}
-use Rattle.pf_cli.specs.Meaning.{End, Done, BadRecord, ScriptCourse, line_meaning, lines_meaning, settings_meaning, system_opened_by, opening_meaning, records_meaning}
+use Rattle.pf_cli.specs.Laws.{RunsEndAtTheFirstFault, EndsAt, EndsWhole}
+use Rattle.pf_cli.specs.Meaning.{End, Done, BadRecord, Outside, Meaning, ScriptCourse, commands_of, course_behind, report_meaning, report_text, seen_at, line_meaning, lines_meaning, settings_meaning, system_opened_by, opening_meaning, records_meaning, script_meaning}
 use Rattle.pf_cli.proofs.Openings.{short_meaning}
 
--- at a bad record of this number, or well
-abbrev end_by : Option ℕ → End
-end_by None = Done
-end_by (Some number) = BadRecord number
+-- at a bad record of this number, or at none
+abbrev pub EndsBy : Format → Option ℕ → End → Type 0
+EndsBy format None end = EndsWhole format end
+EndsBy format (Some number) end = end ≡ BadRecord number
+
+-- the report ends well, or its range is not within the slots
+report_end : (format : Format) (seen : Seen) → EndsWhole format (report_meaning format seen).end
+report_end format seen = by (is_within (range_of format) seen.state.now) refl
+  where
+    by : (b : Bool) → is_within (range_of format) seen.state.now ≡ b
+        → EndsWhole format (if◌then◌else◌ {A = Meaning} b (record { text = report_text format seen; end = Done }) (record { text = []; end = Outside seen.state.now })).end
+    by true within = inl refl
+    by false outside = inr (seen.state.now, refl, outside)
 
 line_end : (format : Format) (version : Version) (number : ℕ) (c : ScriptCourse) (records : List (List (List ℕ))) (line : Option Line)
-    → ((d : ScriptCourse) → (lines_meaning format version (number + 1) d records).end ≡ end_by (check.bad_line version (number + 1) records))
-    → (line_meaning format number c (λ d. lines_meaning format version (number + 1) d records) line).end
-    ≡ end_by (if is_some line then check.bad_line version (number + 1) records else Some number)
+    → ((d : ScriptCourse) → EndsBy format (check.bad_line version (number + 1) records) (lines_meaning format version (number + 1) d records).end)
+    → EndsBy format (if is_some line then check.bad_line version (number + 1) records else Some number)
+    (line_meaning format number c (λ d. lines_meaning format version (number + 1) d records) line).end
 line_end format version number c records None rest = refl
-line_end format version number c records (Some line) rest = rest _
+line_end format version number c records (Some line) rest = rest (course_behind c (commands_of line))
 
 lines_end : (format : Format) (version : Version) (number : ℕ) (c : ScriptCourse) (records : List (List (List ℕ)))
-    → (lines_meaning format version number c records).end ≡ end_by (check.bad_line version number records)
-lines_end format version number c [] = refl
+    → EndsBy format (check.bad_line version number records) (lines_meaning format version number c records).end
+lines_end format version number c [] = report_end format (seen_at c)
 lines_end format version number c (fields ∷ records) =
     line_end format version number c records (line_of version fields) (λ d. lines_end format version (number + 1) d records)
 
 -- settings within their limits or not
 settings_end : (format : Format) (version : Version) (number : ℕ) (records : List (List (List ℕ))) (fits : Bool) (settings : System)
-    → (settings_meaning format version number records (if fits then Some settings else None)).end
-    ≡ end_by (if fits then check.bad_line version (number + 1) records else Some number)
-settings_end format version number records true settings = lines_end format version (number + 1) _ records
+    → EndsBy format (if fits then check.bad_line version (number + 1) records else Some number)
+    (settings_meaning format version number records (if fits then Some settings else None)).end
+settings_end format version number records true settings = lines_end format version (number + 1) (record { state = opening_state settings; entries = 0 }) records
 settings_end format version number records false settings = refl
 
 opened_end : (format : Format) (version : Version) (number : ℕ) (records : List (List (List ℕ))) (opening : Option Opening)
-    → (settings_meaning format version number records (system_opened_by version opening)).end
-    ≡ end_by (if option_map_or check.is_in_limits opening false then check.bad_line version (number + 1) records else Some number)
+    → EndsBy format (if option_map_or check.is_in_limits opening false then check.bad_line version (number + 1) records else Some number)
+    (settings_meaning format version number records (system_opened_by version opening)).end
 opened_end format version number records None = refl
-opened_end format version number records (Some o) = settings_end format version number records (check.is_in_limits o) _
+opened_end format version number records (Some o) = settings_end format version number records (check.is_in_limits o)
+    (record { processors = o.processors; base = o.base; cap = o.cap; horizon = horizon_of version })
 
 opening_end : (format : Format) (version : Version) (number : ℕ) (records : List (List (List ℕ)))
-    → (opening_meaning format version number records).end ≡ end_by (check.bad_opening version number records)
+    → EndsBy format (check.bad_opening version number records) (opening_meaning format version number records).end
 opening_end format version number [] = refl
 opening_end format version number (fields ∷ records) = opened_end format version number records (opening_of fields)
 
 -- with a heading or without
 heading_end : (format : Format) (heading : Bool) (fields : List (List ℕ)) (records : List (List (List ℕ)))
-    → (if heading then opening_meaning format Second 2 records else opening_meaning format First 1 (fields ∷ records)).end
-    ≡ end_by (if heading then check.bad_opening Second 2 records else check.bad_opening First 1 (fields ∷ records))
+    → EndsBy format (if heading then check.bad_opening Second 2 records else check.bad_opening First 1 (fields ∷ records))
+    (if heading then opening_meaning format Second 2 records else opening_meaning format First 1 (fields ∷ records)).end
 heading_end format true fields records = opening_end format Second 2 records
 heading_end format false fields records = opening_end format First 1 (fields ∷ records)
 
-records_end : (format : Format) (records : List (List (List ℕ))) → (records_meaning format records).end ≡ end_by (check.bad_among records)
+pub records_end : (format : Format) (records : List (List (List ℕ))) → EndsBy format (check.bad_among records) (records_meaning format records).end
 records_end format [] = refl
 records_end format (fields ∷ records) = heading_end format (is_heading fields) fields records
 
-same_end : (rs : List Report) → end_by (check.first_number rs) ≡ end_at rs
-same_end [] = refl
-same_end (r ∷ rs) = refl
+same_end : (format : Format) (rs : List Report) (end : End) → EndsBy format (check.first_number rs) end → EndsAt format rs end
+same_end format [] end ends = ends
+same_end format (r ∷ rs) end ends = ends
 
 -- Use: a run ends at the first fault that a check finds.
 pub runs_end_at_first_fault : RunsEndAtTheFirstFault
 runs_end_at_first_fault format bytes short =
-    ap (λ m. m.end) (short_meaning format bytes short) ∙ records_end format (script_records bytes)
-    ∙ ap end_by (sym (first_fault_ends_reading bytes)) ∙ same_end (reports bytes)
+    let meant = subst (λ (m : Meaning). EndsBy format (check.bad_among (script_records bytes)) m.end) (sym (short_meaning format bytes short)) (records_end format (script_records bytes)) in
+    same_end format (reports bytes) (script_meaning format bytes).end
+    (subst (λ o. EndsBy format o (script_meaning format bytes).end) (sym (first_fault_ends_reading bytes)) meant)

@@ -3,7 +3,9 @@ pub mod Checking
 pub mod Ends
 pub mod Limits
 pub mod Openings
+pub mod Outside
 pub mod Replying
+pub mod Reporting
 pub mod Scripts
 pub mod ScriptsWorked
 pub mod Sessions

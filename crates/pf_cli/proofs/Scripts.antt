@@ -10,16 +10,16 @@ use Rattle.pf_script.specs.Grammar.{line_of}
 use Rattle.pf_stream.specs.Written.{TookAllBut, TookFront}
 use Rattle.pf_stream.proofs.Sending.{so-far-finished, so-far-unfinished, took-before}
 use Rattle.pf_cli.specs.declared.fault.RunFault.{RunFault}
-use Rattle.pf_cli.specs.declared.fault.RunFault.TheVariants.{BadLine, ReadFault, WriteFault, ScriptTooLong, NoMemory}
+use Rattle.pf_cli.specs.declared.fault.RunFault.TheVariants.{BadLine, ReadFault, WriteFault, ScriptTooLong, NotWithin, NoMemory}
 use Rattle.pf_cli.specs.declared.output_fault.OutputFault.{OutputFault}
 use Rattle.pf_cli.specs.declared.output_fault.OutputFault.TheVariants.{Write, Memory}
 use Rattle.pf_words.specs.declared.format.Format.{Format}
 use Rattle.pf_cli.specs.declared.batching.BatchingSession.{BatchingSession}
 use Rattle.pf_cli.specs.declared.session.Session.{Session}
 use Rattle.pf_cli.specs.Answers.{Answers, CountsOutput, CountsWrites, IsPastReading, fault_of_output}
-use Rattle.pf_cli.specs.Meaning.{Meaning, Done, BadRecord, text_and_then, commands_of, course_behind, line_meaning, lines_meaning, settings_meaning, text_if_replies, report_text, seen_at}
+use Rattle.pf_cli.specs.Meaning.{Meaning, BadRecord, text_and_then, commands_of, course_behind, line_meaning, lines_meaning, settings_meaning, text_if_replies, report_meaning, seen_at}
 use Rattle.pf_cli.specs.Replies.{line_end}
-use Rattle.pf_cli.specs.Session.{course_at, HasPut, Opened}
+use Rattle.pf_cli.specs.Session.{course_at, HasAnswered, HasPut, Opened}
 use Rattle.pf_cli.specs.Batching.{IsUnbatched, HasTaken, course_to_be, replies_to_be, text_to_be}
 use Rattle.pf_scenario.specs.System.{System}
 use Rattle.pf_cli.proofs.Batches.{none_awaited, none_waits}
@@ -50,7 +50,7 @@ begun version number s b records x none =
     }
 
 -- the session has put all but the rest of the whole
-record IsLeft (s : BatchingSession) (rest : Meaning) (start now : Option (List ℕ)) (whole : Meaning) : Type 0 where
+pub record IsLeft (s : BatchingSession) (rest : Meaning) (start now : Option (List ℕ)) (whole : Meaning) : Type 0 where
   pub end : rest.end ≡ whole.end
   pub text : TookAllBut (text_to_be s ++ rest.text) start now whole.text
 
@@ -99,13 +99,27 @@ bad_left version number s records fields rest start mid whole is_first is_none w
     let left = left_of version number s records fields rest None start mid whole is_first is_none way in
     (sym left.end, subst (λ t. TookAllBut t start mid whole.text) (append-nil (text_to_be s)) left.text)
 
--- no record is left: the report is the end of the text
+-- no record is left: the report is the rest
 pub report_left : (version : Version) (number : ℕ) (s : BatchingSession) (records : List (List (List ℕ))) (start mid : Option (List ℕ)) (whole : Meaning)
     → records ≡ [] → IsUnderWay version number s records start mid whole
-    → (whole.end ≡ Done) × TookAllBut (text_to_be s ++ report_text s.session.format (seen_at (course_to_be s))) start mid whole.text
+    → IsLeft s (report_meaning s.session.format (seen_at (course_to_be s))) start mid whole
 report_left version number s records start mid whole none way =
     let same = ap (left_to_do version number s) none in
-    (sym way.end ∙ ap (λ m. m.end) same, subst (λ m. TookAllBut (text_to_be s ++ m.text) start mid whole.text) same way.text)
+    record {
+      end = ap (λ m. m.end) (sym same) ∙ way.end;
+      text = subst (λ m. TookAllBut (text_to_be s ++ m.text) start mid whole.text) same way.text;
+    }
+
+-- Use: the rest was done, and its answer is that to the whole.
+pub rest_answers : {A : Type 0} (s : BatchingSession) (rest whole : Meaning) (result : Result A RunFault) (start mid new : Option (List ℕ))
+    → IsLeft s rest start mid whole → IsPastReading result → Answers (text_and_then (text_to_be s) rest) result mid new → Answers whole result start new
+rest_answers s rest whole (Ok done) start mid new left past a = (sym left.end ∙ a.0, so-far-finished start mid new _ _ left.text a.1)
+rest_answers s rest whole (Err (BadLine number)) start mid new left past a = (sym left.end ∙ a.0, so-far-finished start mid new _ _ left.text a.1)
+rest_answers s rest whole (Err ScriptTooLong) start mid new left past a = (sym left.end ∙ a.0, so-far-finished start mid new _ _ left.text a.1)
+rest_answers s rest whole (Err (NotWithin now)) start mid new left past a = (sym left.end ∙ a.0, so-far-finished start mid new _ _ left.text a.1)
+rest_answers s rest whole (Err ReadFault) start mid new left past a = absurd past
+rest_answers s rest whole (Err WriteFault) start mid new left past a = so-far-unfinished start mid new _ _ left.text a
+rest_answers s rest whole (Err NoMemory) start mid new left past a = so-far-unfinished start mid new _ _ left.text a
 
 -- the answer where a text was stopped
 pub answers_stopped : (A : Type 0) (m : Meaning) (fault : OutputFault) (old new : Option (List ℕ)) → TookFront old new m.text
@@ -140,9 +154,19 @@ pub answers_behind : {A : Type 0} (m : Meaning) (result : Result A RunFault) (wa
 answers_behind m (Ok done) waiting text old mid new h past a = (a.0, appends_on waiting text m.text old mid new h a.1)
 answers_behind m (Err (BadLine number)) waiting text old mid new h past a = (a.0, appends_on waiting text m.text old mid new h a.1)
 answers_behind m (Err ScriptTooLong) waiting text old mid new h past a = (a.0, appends_on waiting text m.text old mid new h a.1)
+answers_behind m (Err (NotWithin now)) waiting text old mid new h past a = (a.0, appends_on waiting text m.text old mid new h a.1)
 answers_behind m (Err ReadFault) waiting text old mid new h past a = absurd past
 answers_behind m (Err WriteFault) waiting text old mid new h past a = front_on waiting text m.text old mid new h a
 answers_behind m (Err NoMemory) waiting text old mid new h past a = front_on waiting text m.text old mid new h a
+
+-- Use: the edits that wait were answered, and then the report was put.
+pub reported_then : {A : Type 0} (result : Result A RunFault) (a : BatchingSession) (m : Session) (old mid new : Option (List ℕ))
+    → HasAnswered a.waiting.items a.session m old mid → IsPastReading result
+    → Answers (text_and_then m.lines (report_meaning m.format (seen_at (course_at m.desk)))) result mid new
+    → Answers (text_and_then (text_to_be a) (report_meaning a.session.format (seen_at (course_to_be a)))) result old new
+reported_then result a m old mid new h past answers =
+    answers_behind (report_meaning a.session.format (seen_at (course_to_be a))) result m.lines (text_to_be a) old mid new h.text past
+    (subst (λ r. Answers (text_and_then m.lines r) result mid new) (ap₂ (λ f c. report_meaning f (seen_at c)) h.format h.course) answers)
 
 -- the text so far is a front of the whole
 pub front_under_way : (version : Version) (number : ℕ) (s : BatchingSession) (records : List (List (List ℕ))) (start now : Option (List ℕ)) (whole : Meaning)

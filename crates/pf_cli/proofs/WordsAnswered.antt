@@ -6,8 +6,9 @@ use Rattle.std.proofs.KnownBytes.{Keeps-refl, Consumes-nil}
 use Rattle.pf_words.specs.declared.format.Format.{Format}
 use Rattle.pf_words.specs.declared.request.WordsFault.{WordsFault}
 use Rattle.pf_words.specs.declared.request.WordsFault.TheVariants as fault
-use Rattle.pf_words.specs.Asked.{AsksHelp, AsksVersion, Checks, IsAsked, IsRefused, NamesNoFormat, RunsIn, Task, file_asked, task_asked}
-use Rattle.pf_words.proofs.Unasked.{untaken_asks_none}
+use Rattle.pf_words.specs.Asked.{AsksHelp, AsksVersion, AreMistaken, Checks, IsAsked, IsRefused, RunsIn, Task, file_asked, task_asked}
+use Rattle.pf_words.specs.declared.mistake.Mistake.{Mistake}
+use Rattle.pf_words.proofs.Unasked.{mistaken_asks_none, untaken_asks_none}
 use Rattle.pf_cli.specs.declared.fault.RunFault.TheVariants.{NoMemory, ReadFault}
 use Rattle.pf_stream.specs.Written.{TookFront}
 use Rattle.pf_stream.specs.Reading.{longest_script, TakesAtMost}
@@ -46,7 +47,7 @@ text_answers words text status old new asks ended input reads writes whole front
 -- words that ask for nothing, and are not refused for want of memory, read nothing
 pub refused_asks_none : (words : List (List ℕ)) (why : WordsFault) → IsAsked words (Err why) → (why ≡ fault.NoMemory) ⊎ (task_asked words ≡ None)
 refused_asks_none words (fault.Refused text) refused = inr (untaken_asks_none words _ refused.2)
-refused_asks_none words fault.UnknownFormat unknown = inr unknown.1
+refused_asks_none words (fault.Mistaken mistake) are = inr (mistaken_asks_none words mistake are)
 refused_asks_none words fault.NoMemory any = inl refl
 
 -- a reader that was not read has given no byte
@@ -63,6 +64,7 @@ no_memory old (RunsIn format) = (
     reads = refl;
     writes = refl;
     unwritten = λ failed. Keeps-refl old.output;
+    outside = λ is. absurd is;
     taken = none_taken old.input;
   },
 )
@@ -109,7 +111,14 @@ unopened_run : (format : Format) (output : Option (List ℕ)) (failed : ℕ) →
 unopened_run format output failed = (
   Err ReadFault,
   refl,
-  record { meaning = tt; reads = refl; writes = refl; unwritten = λ fault. Keeps-refl output; taken = none_taken None },
+  record {
+    meaning = tt;
+    reads = refl;
+    writes = refl;
+    unwritten = λ fault. Keeps-refl output;
+    outside = λ is. absurd is;
+    taken = none_taken None;
+  },
 )
 
 pub run_unopened : (format : Format) (status : ℕ) (output : Option (List ℕ)) (failed : ℕ) → status ≡ 3
@@ -129,7 +138,7 @@ pub check_unopened : (status : ℕ) (output : Option (List ℕ)) (failed : ℕ) 
 check_unopened status output failed is = (1, rw is (unopened_check output failed))
 
 -- the words are not the program's
-mistaken : (words : List (List ℕ)) (old : Streams) → IsRefused words ⊎ NamesNoFormat words → ReadsNothing words 2 old old
+mistaken : (words : List (List ℕ)) (old : Streams) → IsRefused words ⊎ ((mistake : Mistake) × AreMistaken words mistake) → ReadsNothing words 2 old old
 mistaken words old are = record {
   ended = inr (inl (are, refl));
   input = refl;
@@ -144,7 +153,8 @@ mistaken words old are = record {
 untouched : (words : List (List ℕ)) (why : WordsFault) (old : Streams) → IsAsked words (Err why) → AnswersWords words (status_of_words why) old old
 untouched words (fault.Refused text) old refused =
     nothing_read words 2 old old (untaken_asks_none words _ refused.2) (mistaken words old (inl refused))
-untouched words fault.UnknownFormat old unknown = nothing_read words 2 old old unknown.1 (mistaken words old (inr unknown))
+untouched words (fault.Mistaken mistake) old are =
+    nothing_read words 2 old old (mistaken_asks_none words mistake are) (mistaken words old (inr (mistake, are)))
 untouched words fault.NoMemory old any = memory_answers words old (task_asked words) (file_asked words)
 
 -- words that ask for nothing, and want of memory, leave the streams as they were

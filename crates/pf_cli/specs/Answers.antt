@@ -5,10 +5,10 @@ use Rattle.pf_stream.specs.declared.reading.ReadingFault.{ReadingFault}
 use Rattle.pf_stream.specs.declared.reading.ReadingFault.TheVariants as reading
 use Rattle.pf_stream.specs.Written.{TookFront}
 use Rattle.pf_cli.specs.declared.fault.RunFault.{RunFault}
-use Rattle.pf_cli.specs.declared.fault.RunFault.TheVariants.{BadLine, ReadFault, WriteFault, ScriptTooLong, NoMemory}
+use Rattle.pf_cli.specs.declared.fault.RunFault.TheVariants.{BadLine, ReadFault, WriteFault, ScriptTooLong, NotWithin, NoMemory}
 use Rattle.pf_cli.specs.declared.output_fault.OutputFault.{OutputFault}
 use Rattle.pf_cli.specs.declared.output_fault.OutputFault.TheVariants as output
-use Rattle.pf_cli.specs.Meaning.{Meaning, Done, BadRecord, TooLong}
+use Rattle.pf_cli.specs.Meaning.{Meaning, Done, BadRecord, TooLong, Outside}
 
 -- the answer is the script's end and the writer took its text; a failing reader leaves the writer as it was, and after
 -- a failing writer or want of memory the writer took the front of the text
@@ -16,6 +16,7 @@ abbrev pub Answers : {A : Type 0} → Meaning → Result A RunFault → Option (
 Answers m (Ok done) old new = (m.end ≡ Done) × Appends old new m.text
 Answers m (Err (BadLine number)) old new = (m.end ≡ BadRecord number) × Appends old new m.text
 Answers m (Err ScriptTooLong) old new = (m.end ≡ TooLong) × Appends old new m.text
+Answers m (Err (NotWithin now)) old new = (m.end ≡ Outside now) × Appends old new m.text
 Answers m (Err ReadFault) old new = Keeps old new
 Answers m (Err WriteFault) old new = TookFront old new m.text
 Answers m (Err NoMemory) old new = TookFront old new m.text
@@ -28,6 +29,11 @@ CountsReads result old new = new ≡ old
 abbrev pub CountsWrites : {A : Type 0} → Result A RunFault → ℕ → ℕ → Type 0
 CountsWrites (Err WriteFault) old new = new ≡ old + 1
 CountsWrites result old new = new ≡ old
+
+-- the range of the format was not within the slots stepped
+abbrev pub IsOutside : {A : Type 0} → Result A RunFault → Type 0
+IsOutside (Err (NotWithin now)) = ⊤
+IsOutside result = ⊥
 
 -- the reader didn't fail
 abbrev pub IsPastReading : {A : Type 0} → Result A RunFault → Type 0

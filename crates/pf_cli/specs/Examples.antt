@@ -1,8 +1,9 @@
 -- Worked examples of what scripts mean.
-use Rattle.std.specs.Prelude.{◌≡◌, ℕ, List, [], ◌++◌, codes}
+use Rattle.std.specs.Prelude.{◌≡◌, ℕ, List, [], ◌++◌, Option, Some, None, codes}
 use Rattle.pf_words.specs.declared.format.Format.{Format}
 use Rattle.pf_words.specs.declared.format.Format.TheVariants.{Schedule, Tables}
-use Rattle.pf_cli.specs.Meaning.{End, Done, BadRecord, script_meaning}
+use Rattle.pf_words.specs.Ranges.{whole}
+use Rattle.pf_cli.specs.Meaning.{End, Done, BadRecord, Outside, script_meaning}
 
 -- in the format, the script is a text and ends so
 abbrev pub Means : Format → List ℕ → List ℕ → End → Type 0
@@ -26,15 +27,31 @@ pub record WholeScripts : Type 0 where
   pub tables : Means Tables three_tasks_script
       (three_tasks_replies ++ codes "schedule\n" ++ three_tasks_schedule ++ codes "lags\n" ++ three_tasks_lags
       ++ codes "misses\ntask,sub,deadline,ran\ndenials\nslot,event,code,reason\n") Done
-  pub schedule : Means Schedule three_tasks_script three_tasks_schedule Done
+  pub schedule : Means (Schedule whole) three_tasks_script three_tasks_schedule Done
   -- behind the heading the same script
-  pub second_version : Means Schedule (codes "pfair,2\n" ++ three_tasks_script) three_tasks_schedule Done
+  pub second_version : Means (Schedule whole) (codes "pfair,2\n" ++ three_tasks_script) three_tasks_schedule Done
+
+-- the format of some of these slots
+abbrev pub schedule_of : Option ℕ → Option ℕ → Format
+schedule_of from to = Schedule (record { from = from; to = to })
+
+-- ranges of the three slots that are stepped, and ranges of others
+pub record Ranges : Type 0 where
+  pub one : Means (schedule_of (Some 1) (Some 2)) three_tasks_script (codes "slot,p0,p1\n1,1/2,3/1\n") Done
+  pub from : Means (schedule_of (Some 2) None) three_tasks_script (codes "slot,p0,p1\n2,2/2,3/2\n") Done
+  pub to : Means (schedule_of None (Some 1)) three_tasks_script (codes "slot,p0,p1\n0,1/1,2/1\n") Done
+  pub empty : Means (schedule_of (Some 3) (Some 3)) three_tasks_script (codes "slot,p0,p1\n") Done
+  pub beyond : Means (schedule_of None (Some 4)) three_tasks_script [] (Outside 3)
+  pub behind : Means (schedule_of (Some 4) None) three_tasks_script [] (Outside 3)
+  pub turned : Means (schedule_of (Some 2) (Some 1)) three_tasks_script [] (Outside 3)
+  -- a bad record comes first
+  pub bad : Means (schedule_of None (Some 4)) (codes "settings,1,2,2,1\nstep\njoin,0,1") [] (BadRecord 3)
 
 -- scripts with a bad record
 pub record BadScripts : Type 0 where
   -- the last record has no line end
   pub third : Means Tables (codes "settings,1,2,2,1\nstep\njoin,0,1") (codes "ready\nslot 0: -\n") (BadRecord 3)
-  pub third_unshown : Means Schedule (codes "settings,1,2,2,1\nstep\njoin,0,1") [] (BadRecord 3)
+  pub third_unshown : Means (Schedule whole) (codes "settings,1,2,2,1\nstep\njoin,0,1") [] (BadRecord 3)
   pub second : Means Tables (codes "settings,1,2,2,1\nleave,0,1,9\n") (codes "ready\n") (BadRecord 2)
   pub settings : Means Tables (codes "settings,65,1,1,1\n") [] (BadRecord 1)
   pub empty : Means Tables [] [] (BadRecord 1)
@@ -48,4 +65,5 @@ pub record BadScripts : Type 0 where
 
 pub record WorkedScripts : Type 0 where
   pub whole : WholeScripts
+  pub ranges : Ranges
   pub bad : BadScripts

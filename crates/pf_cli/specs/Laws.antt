@@ -1,16 +1,27 @@
--- The law of checks and runs.
-use Rattle.std.specs.Prelude.{ℕ, ◌≡◌, ◌≤◌, List, [], ◌∷◌, length}
+-- The laws of checks and runs.
+use Rattle.std.specs.Prelude.{ℕ, ◌≡◌, ◌≤◌, ◌⊎◌, false, List, [], ◌∷◌, length}
 use Rattle.pf_words.specs.declared.format.Format.{Format}
+use Rattle.pf_words.specs.Formats.{range_of}
+use Rattle.pf_words.specs.Ranges.{is_within}
 use Rattle.pf_stream.specs.Reading.{longest_script}
 use Rattle.pf_check.specs.Reports.{Report, reports}
-use Rattle.pf_cli.specs.Meaning.{End, Done, BadRecord, script_meaning}
+use Rattle.pf_cli.specs.Meaning.{End, Done, BadRecord, Outside, script_meaning}
 
--- how a script ends in which a check finds these faults: at the record of the first one, and well where there is none
-abbrev pub end_at : List Report → End
-end_at [] = Done
-end_at (r ∷ rs) = BadRecord r.number
+-- a script without a bad record ends well, but where the range of its format is not within the slots stepped
+abbrev pub EndsWhole : Format → End → Type 0
+EndsWhole format end = (end ≡ Done) ⊎ ((now : ℕ) × (end ≡ Outside now) × (is_within (range_of format) now ≡ false))
+
+-- how a script ends in which a check finds these faults: at the record of the first one
+abbrev pub EndsAt : Format → List Report → End → Type 0
+EndsAt format [] end = EndsWhole format end
+EndsAt format (r ∷ rs) end = end ≡ BadRecord r.number
 
 -- in every format a script that isn't too long ends at the first fault that a check finds in it
 abbrev pub RunsEndAtTheFirstFault : Type 0
 RunsEndAtTheFirstFault = (format : Format) (bytes : List ℕ) → length bytes ≤ longest_script →
-    (script_meaning format bytes).end ≡ end_at (reports bytes)
+    EndsAt format (reports bytes) (script_meaning format bytes).end
+
+-- a script has no text where the range of its format is not within the slots stepped
+abbrev pub NothingIsWrittenOutside : Type 0
+NothingIsWrittenOutside = (format : Format) (bytes : List ℕ) (now : ℕ) → (script_meaning format bytes).end ≡ Outside now →
+    (script_meaning format bytes).text ≡ []

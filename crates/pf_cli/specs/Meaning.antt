@@ -8,6 +8,7 @@ use Rattle.pf_desk.specs.declared.command.Command.TheVariants as command
 use Rattle.pf_desk.specs.Machine.{State, opening_state, reply_to, state_after}
 use Rattle.pf_desk.specs.Desk.{Seen}
 use Rattle.pf_report.specs.Tables.{schedule_text, lags_text, misses_text, denials_text}
+use Rattle.pf_report.specs.Part.{schedule_part_text}
 use Rattle.pf_report.specs.Events.{events_text}
 use Rattle.pf_report.specs.Json.{json_text}
 use Rattle.pf_stats.specs.Processors.{processors_text}
@@ -23,14 +24,17 @@ use Rattle.pf_script.specs.Script.{script_records}
 use Rattle.pf_script.specs.Grammar.{horizon_of, is_heading, opening_of, line_of}
 use Rattle.pf_words.specs.declared.format.Format.{Format}
 use Rattle.pf_words.specs.declared.format.Format.TheVariants.{Schedule, Tables, Json, Report, Replies, Lags, Misses, Denials, Events, Processors, Stats, Chart}
-use Rattle.pf_words.specs.Formats.{has_replies}
+use Rattle.pf_words.specs.Formats.{has_replies, range_of}
+use Rattle.pf_words.specs.Ranges.{end_of, first_of, is_within}
 use Rattle.pf_cli.specs.Replies.{reply_line, line_end}
 
--- how a script ends: well, at a bad record of this number, or because it is too long
+-- how a script ends: well, at a bad record of this number, because it is too long, or because the range of its format is
+-- not within the slots stepped, which are so many
 pub data End : Type 0 where
   Done : End
   BadRecord : ℕ → End
   TooLong : End
+  Outside : ℕ → End
 
 pub record Meaning : Type 0 where
   pub text : List ℕ
@@ -93,7 +97,7 @@ tables_text seen =
 
 -- what stands behind all replies
 unfoldable pub report_text : Format → Seen → List ℕ
-report_text Schedule seen = schedule_text seen
+report_text (Schedule range) seen = schedule_part_text seen (first_of range) (end_of range seen.state.now)
 report_text Tables seen = tables_text seen
 report_text Json seen = json_text seen ++ line_end
 report_text Report seen = json_text seen ++ line_end
@@ -104,7 +108,13 @@ report_text Denials seen = denials_text seen
 report_text Events seen = events_text seen
 report_text Processors seen = processors_text seen
 report_text Stats seen = stats_text seen
-report_text Chart seen = chart_text_of seen 0 seen.state.now
+report_text (Chart range) seen = chart_text_of seen (first_of range) (end_of range seen.state.now)
+
+-- the report, where the range is within the slots stepped, and else nothing
+abbrev pub report_meaning : Format → Seen → Meaning
+report_meaning format seen =
+    if is_within (range_of format) seen.state.now then record { text = report_text format seen; end = Done }
+    else record { text = []; end = Outside seen.state.now }
 
 -- the record is this line, or it is bad
 abbrev pub line_meaning : Format → ℕ → ScriptCourse → (ScriptCourse → Meaning) → Option Line → Meaning
@@ -114,7 +124,7 @@ line_meaning format number c next (Some line) =
 
 -- the records behind the settings, the first of them of this number
 abbrev pub lines_meaning : Format → Version → ℕ → ScriptCourse → List (List (List ℕ)) → Meaning
-lines_meaning format version number c [] = record { text = report_text format (seen_at c); end = Done }
+lines_meaning format version number c [] = report_meaning format (seen_at c)
 lines_meaning format version number c (fields ∷ records) =
     line_meaning format number c (λ d. lines_meaning format version (number + 1) d records) (line_of version fields)
 

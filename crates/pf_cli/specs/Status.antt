@@ -2,22 +2,25 @@
 use Rattle.std.specs.Prelude.{ℕ, ◌≡◌, ◌+◌, List, Option, Some, None, IfSome, Result, Ok, Err, ◌==◌, if◌then◌else◌, ◌⊎◌}
 use Rattle.std.specs.Io.KnownBytes.{Appends, Keeps}
 use Rattle.pf_cli.specs.declared.fault.RunFault.{RunFault}
-use Rattle.pf_cli.specs.declared.fault.RunFault.TheVariants.{BadLine, ReadFault, WriteFault, ScriptTooLong, NoMemory}
+use Rattle.pf_cli.specs.declared.fault.RunFault.TheVariants.{BadLine, ReadFault, WriteFault, ScriptTooLong, NotWithin, NoMemory}
 use Rattle.pf_words.specs.declared.format.Format.{Format}
 use Rattle.pf_words.specs.declared.request.WordsFault.{WordsFault}
 use Rattle.pf_words.specs.declared.request.WordsFault.TheVariants as words
-use Rattle.pf_words.specs.Asked.{Task, RunsIn, Checks, task_asked, file_asked, AsksHelp, AsksVersion, IsRefused, NamesNoFormat}
+use Rattle.pf_words.specs.Asked.{Task, RunsIn, Checks, task_asked, file_asked, AsksHelp, AsksVersion, IsRefused, AreMistaken}
+use Rattle.pf_words.specs.declared.mistake.Mistake.{Mistake}
 use Rattle.pf_stream.specs.Written.{TookFront}
 use Rattle.pf_stream.specs.Reading.{longest_script, TakesAtMost}
-use Rattle.pf_cli.specs.Answers.{Answers, CountsReads, CountsWrites}
+use Rattle.pf_cli.specs.Answers.{Answers, CountsReads, CountsWrites, IsOutside}
 use Rattle.pf_cli.specs.Checks.{ChecksBytes}
 use Rattle.pf_cli.specs.Meaning.{script_meaning}
 
--- 0 done, 1 a script that is bad or too long, 3 a stream that failed, 4 no memory
+-- 0 done, 1 a script that is bad or too long, 2 a range that is not within the slots stepped, 3 a stream that failed, 4 no
+-- memory
 abbrev pub status_of : {A : Type 0} → Result A RunFault → ℕ
 status_of (Ok done) = 0
 status_of (Err (BadLine number)) = 1
 status_of (Err ScriptTooLong) = 1
+status_of (Err (NotWithin now)) = 2
 status_of (Err ReadFault) = 3
 status_of (Err WriteFault) = 3
 status_of (Err NoMemory) = 4
@@ -27,10 +30,10 @@ abbrev pub status_of_check : Result ℕ RunFault → ℕ
 status_of_check (Ok faults) = if faults == 0 then 0 else 1
 status_of_check (Err fault) = status_of {A = ℕ} (Err fault)
 
--- 2 words that are refused or name no format, 4 no memory
+-- 2 words that are refused or mistaken, 4 no memory
 abbrev pub status_of_words : WordsFault → ℕ
 status_of_words (words.Refused text) = 2
-status_of_words words.UnknownFormat = 2
+status_of_words (words.Mistaken mistake) = 2
 status_of_words words.NoMemory = 4
 
 -- what is seen of the two streams: the bytes that the reader has left and those that the writer holds, where they tell
@@ -46,13 +49,14 @@ abbrev pub seen_streams : Option (List ℕ) → ℕ → Option (List ℕ) → �
 seen_streams input failed_reads output failed_writes =
     record { input = input; failed_reads = failed_reads; output = output; failed_writes = failed_writes }
 
--- this answer is one to what the script means; the streams failed as it says, a reader that fails leaves the writer as
--- it was, and of a longer input at most a byte more than a script may have is taken
+-- this answer is one to what the script means; the streams failed as it says, a reader that fails and a range that is not
+-- within the slots stepped leave the writer as it was, and of a longer input at most a byte more than a script may have is taken
 pub record IsAnswer {A : Type 0} (format : Format) (answer : Result A RunFault) (old new : Streams) : Type 0 where
   pub meaning : IfSome old.input (λ bytes. Answers (script_meaning format bytes) answer old.output new.output)
   pub reads : CountsReads answer old.failed_reads new.failed_reads
   pub writes : CountsWrites answer old.failed_writes new.failed_writes
   pub unwritten : answer ≡ Err ReadFault → Keeps old.output new.output
+  pub outside : IsOutside answer → Keeps old.output new.output
   pub taken : TakesAtMost old.input new.input (longest_script + 1)
 
 -- a script was run in this format, and the status is that of the answer
@@ -74,11 +78,11 @@ ChecksScript status old new =
     (answer : Result ℕ RunFault) × (status ≡ status_of_check answer) × IsCheck answer old new
 
 -- how the program ends where it reads no script: help or the version was asked for, and was written (0) or could not be
--- (3), the words were refused or name no format (2), or memory was refused (4)
+-- (3), the words were refused or are mistaken (2), or memory was refused (4)
 abbrev pub EndsUnread : List (List ℕ) → ℕ → Type 0
 EndsUnread words status =
     ((AsksHelp words ⊎ AsksVersion words) × ((status ≡ 0) ⊎ (status ≡ 3)))
-    ⊎ ((IsRefused words ⊎ NamesNoFormat words) × (status ≡ 2))
+    ⊎ ((IsRefused words ⊎ ((mistake : Mistake) × AreMistaken words mistake)) × (status ≡ 2))
     ⊎ (status ≡ 4)
 
 -- no script was read, and nothing was written but one text that was asked for: the whole of it where the status is 0,

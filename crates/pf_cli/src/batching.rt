@@ -2,10 +2,11 @@ ghost use Rattle.std.specs.Prelude.{◌≡◌, ◌-◌, ◌^◌, ◌<◌, ◌++�
 ghost use Rattle.std.specs.Io.KnownBytes.{Appends};
 ghost use Rattle.pf_desk.specs.Plain.{IsPlain};
 ghost use Rattle.pf_stream.specs.Written.{TookFront};
-ghost use Rattle.pf_cli.specs.Answers.{CountsOutput};
+ghost use Rattle.pf_cli.specs.Answers.{Answers, CountsOutput, CountsWrites, IsPastReading};
 ghost use Rattle.pf_cli.specs.Batching.{HasTaken, IsUnbatched, course_to_be, replies_to_be, text_to_be};
-ghost use Rattle.pf_cli.specs.Meaning.{commands_of, report_text, seen_at};
+ghost use Rattle.pf_cli.specs.Meaning.{commands_of, report_meaning, seen_at, text_and_then};
 
+use crate::fault::RunFault;
 use crate::output_fault::OutputFault;
 use crate::session::Session;
 use pf_desk::command::Command;
@@ -120,15 +121,20 @@ impl BatchingSession {
         Ok(())
     }
 
-    /// Answers the edits that wait, puts the report, and writes what waits.
-    pub fn report<W: Sink>(self, alloc: Global, writer: &mut W) -> Result<(), OutputFault>
+    /// Answers the edits that wait, puts the report where the range of the format is within the slots stepped, and writes
+    /// what waits.
+    ///
+    /// # Errors
+    ///
+    /// `NotWithin` where the range is not within them: what waits is written, and no report. `WriteFault` and `NoMemory`:
+    /// the writer has a front of the text.
+    pub fn report<W: Sink>(self, alloc: Global, writer: &mut W) -> Result<(), RunFault>
         requires plain { All IsPlain self.waiting.items }
         requires writes { W.failed writer.old < 2 ^ 64 - 1 }
-        ensures ok { OnOk result
-            (Appends (W.contents writer.old) (W.contents writer.new) (text_to_be self ++ report_text self.session.format (seen_at (course_to_be self)))) }
-        ensures err { OnErr result
-            (TookFront (W.contents writer.old) (W.contents writer.new) (text_to_be self ++ report_text self.session.format (seen_at (course_to_be self)))) }
-        ensures count { CountsOutput result (W.failed writer.old) (W.failed writer.new) }
+        ensures meaning { Answers (text_and_then (text_to_be self) (report_meaning self.session.format (seen_at (course_to_be self)))) result
+            (W.contents writer.old) (W.contents writer.new) }
+        ensures read { IsPastReading result }
+        ensures writes { CountsWrites result (W.failed writer.old) (W.failed writer.new) }
     {
         let BatchingSession {
             mut session,

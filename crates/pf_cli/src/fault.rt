@@ -22,6 +22,9 @@ pub enum RunFault {
     /// The script has more than 16,777,216 bytes.
     #[error("the script is longer than 16777216 bytes")]
     ScriptTooLong,
+    /// The range of the format is not within the slots stepped, which are so many.
+    #[error("range not within {0} slots")]
+    NotWithin(u64),
     /// Memory was refused.
     #[error("out of memory")]
     NoMemory,

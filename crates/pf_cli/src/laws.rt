@@ -1,7 +1,8 @@
 ghost use Rattle.pf_cli.specs.Examples.{WorkedScripts};
-ghost use Rattle.pf_cli.specs.Laws.{RunsEndAtTheFirstFault};
+ghost use Rattle.pf_cli.specs.Laws.{NothingIsWrittenOutside, RunsEndAtTheFirstFault};
 
-/// A run ends at the first fault that a check finds in its script, and well where it finds none.
+/// A run ends at the first fault that a check finds in its script. Where it finds none the run ends well, but where the range
+/// of its format is not within the slots stepped.
 pub fn runs_end_at_the_first_fault()
     ensures { RunsEndAtTheFirstFault }
 {}
@@ -9,4 +10,9 @@ pub fn runs_end_at_the_first_fault()
 /// The texts and the ends of the worked scripts.
 pub fn worked_scripts_are_their_text()
     ensures { WorkedScripts }
+{}
+
+/// A script has no text where the range of its format is not within the slots stepped.
+pub fn nothing_is_written_outside()
+    ensures { NothingIsWrittenOutside }
 {}

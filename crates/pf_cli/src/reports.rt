@@ -1,7 +1,10 @@
-ghost use Rattle.std.specs.Prelude.{◌≡◌, ◌-◌, ◌^◌, ◌<◌, ◌++◌, IfOk, OnOk, OnErr};
+ghost use Rattle.std.specs.Prelude.{◌≡◌, ◌-◌, ◌^◌, ◌<◌, ◌++◌, true, IfOk, OnOk, OnErr};
 ghost use Rattle.pf_chart.specs.Chart.{chart_text_of};
 ghost use Rattle.pf_report.specs.Json.{json_text};
+ghost use Rattle.pf_report.specs.Part.{schedule_part_text};
 ghost use Rattle.pf_stream.specs.Written.{TookAllBut, TookFront};
+ghost use Rattle.pf_words.specs.Formats.{range_of};
+ghost use Rattle.pf_words.specs.Ranges.{end_of, first_of, is_within};
 ghost use Rattle.pf_cli.specs.Answers.{CountsOutput};
 ghost use Rattle.pf_cli.specs.Meaning.{report_text, tables_text, text_under_title};
 ghost use Rattle.pf_cli.specs.Replies.{line_end};
@@ -16,14 +19,16 @@ use pf_report::lags::{LagPieces, lag_pieces};
 use pf_report::misses::{MissPieces, miss_pieces};
 use pf_report::pieces::{Chain, Pieces, Whole};
 use pf_report::schedule::{SchedulePieces, schedule_pieces};
+use pf_report::schedule_part::{PartPieces, schedule_part_pieces};
 use pf_stats::processors::processors_csv;
 use pf_stats::stats::stats_csv;
 use pf_stream::sink::Sink;
 use pf_stream::text_buffer::TextBuffer;
 use pf_words::format::Format;
+use pf_words::slot_range::SlotRange;
 use std::alloc::{AllocError, Global};
 
-/// Puts what stands behind all replies, piece by piece. The writer's count of failures must be below `u64::MAX` before
+/// Puts what stands behind all replies, piece by piece. The range of the format is within the slots stepped. The writer's count of failures must be below `u64::MAX` before
 /// the call.
 ///
 /// # Errors
@@ -37,7 +42,8 @@ pub fn put_report<W: Sink>(
     text: &mut TextBuffer,
     writer: &mut W,
 ) -> Result<(), OutputFault>
-    requires { W.failed writer.old < 2 ^ 64 - 1 }
+    requires within { is_within (range_of format) snapshot.now.state.now ≡ true }
+    requires writes { W.failed writer.old < 2 ^ 64 - 1 }
     ensures ok { OnOk result
         (TookAllBut text.new (W.contents writer.old) (W.contents writer.new) (text.old ++ report_text format snapshot.now)) }
     ensures err { OnErr result
@@ -45,7 +51,9 @@ pub fn put_report<W: Sink>(
     ensures count { CountsOutput result (W.failed writer.old) (W.failed writer.new) }
 {
     match format {
-        Format::Schedule => put_pieces(alloc, schedule_pieces(alloc, snapshot)?, text, writer),
+        Format::Schedule(range) => {
+            put_pieces(alloc, schedule_of(alloc, snapshot, range)?, text, writer)
+        }
         Format::Tables => put_pieces(alloc, tables_pieces(alloc, snapshot)?, text, writer),
         Format::Json => put_pieces(alloc, json_line(alloc, snapshot)?, text, writer),
         Format::Report => put_pieces(alloc, json_line(alloc, snapshot)?, text, writer),
@@ -66,15 +74,36 @@ pub fn put_report<W: Sink>(
             writer,
         ),
         Format::Stats => put_pieces(alloc, Whole::new(stats_csv(alloc, snapshot)?), text, writer),
-        Format::Chart => put_pieces(alloc, whole_chart(alloc, snapshot)?, text, writer),
+        Format::Chart(range) => {
+            put_pieces(alloc, chart_of(alloc, snapshot, range)?, text, writer)
+        }
     }
 }
 
-/// The chart of all slots, in pieces.
-fn whole_chart(alloc: Global, snapshot: &Snapshot) -> Result<ChartPieces<'_>, AllocError>
-    ensures { IfOk result (λ pieces. pieces ≡ chart_text_of snapshot.now 0 snapshot.now.state.now) }
+/// The schedule of a range of slots, in pieces.
+fn schedule_of(
+    alloc: Global,
+    snapshot: &Snapshot,
+    range: SlotRange,
+) -> Result<PartPieces<'_>, AllocError>
+    requires { is_within range snapshot.now.state.now ≡ true }
+    ensures { IfOk result
+        (λ pieces. pieces ≡ schedule_part_text snapshot.now (first_of range) (end_of range snapshot.now.state.now)) }
 {
-    chart_pieces(alloc, snapshot, 0, snapshot.now())
+    schedule_part_pieces(alloc, snapshot, range.first(), range.end(snapshot.now()))
+}
+
+/// The chart of a range of slots, in pieces.
+fn chart_of(
+    alloc: Global,
+    snapshot: &Snapshot,
+    range: SlotRange,
+) -> Result<ChartPieces<'_>, AllocError>
+    requires { is_within range snapshot.now.state.now ≡ true }
+    ensures { IfOk result
+        (λ pieces. pieces ≡ chart_text_of snapshot.now (first_of range) (end_of range snapshot.now.state.now)) }
+{
+    chart_pieces(alloc, snapshot, range.first(), range.end(snapshot.now()))
 }
 
 /// Puts pieces, one after another.

@@ -4,7 +4,7 @@ ghost use Rattle.csv.specs.Records.{fields_of};
 ghost use Rattle.pf_stream.specs.Reading.{longest_script, TakesAtMost};
 ghost use Rattle.pf_script.specs.Grammar.{opening_of};
 ghost use Rattle.pf_cli.specs.declared.fault.RunFault.TheVariants.{ReadFault};
-ghost use Rattle.pf_cli.specs.Answers.{Answers, CountsReads, CountsWrites, IsPastReading};
+ghost use Rattle.pf_cli.specs.Answers.{Answers, CountsReads, CountsWrites, IsOutside, IsPastReading};
 ghost use Rattle.pf_cli.specs.Meaning.{script_meaning, settings_meaning, lines_meaning, text_and_then, system_opened_by, system_of};
 ghost use Rattle.pf_cli.specs.Session.{course_at};
 
@@ -33,8 +33,9 @@ use std::alloc::Global;
 /// # Errors
 ///
 /// `BadLine` at a record that is none of the script's, behind the replies to the records before it. `ReadFault` where the
-/// reader fails and `ScriptTooLong` where it has more bytes than a script may: nothing was written. `WriteFault` where the
-/// writer fails or takes nothing, and `NoMemory` where memory is refused: a front of the text was written.
+/// reader fails and `ScriptTooLong` where it has more bytes than a script may: nothing was written. `NotWithin` where no record
+/// is bad and the range of the format is not within the slots stepped, whose number it tells: nothing was written, as a
+/// format with a range has no replies. `WriteFault` where the writer fails or takes nothing, and `NoMemory` where memory is refused: a front of the text was written.
 pub fn run<R: Source, W: Sink>(
     alloc: Global,
     reader: &mut R,
@@ -46,6 +47,7 @@ pub fn run<R: Source, W: Sink>(
     ensures meaning { IfSome (R.remaining reader.old)
         (λ bytes. Answers (script_meaning format bytes) result (W.contents writer.old) (W.contents writer.new)) }
     ensures unwritten { result ≡ Err ReadFault → Keeps (W.contents writer.old) (W.contents writer.new) }
+    ensures outside { IsOutside result → Keeps (W.contents writer.old) (W.contents writer.new) }
     ensures taken { TakesAtMost (R.remaining reader.old) (R.remaining reader.new) (longest_script + 1) }
     ensures reads { CountsReads result (R.failed reader.old) (R.failed reader.new) }
     ensures writes { CountsWrites result (W.failed writer.old) (W.failed writer.new) }
@@ -150,6 +152,5 @@ fn carry_out_lines<W: Sink>(
         batching.take(writer, line)?;
         number += 1;
     }
-    batching.report(alloc, writer)?;
-    Ok(())
+    batching.report(alloc, writer)
 }

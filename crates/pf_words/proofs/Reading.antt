@@ -2,6 +2,7 @@
 use Rattle.std.proofs.Common.{◌≡◌, ◌⊎◌, ◌∙◌, refl, sym, ap, subst, inl, inr, Bool, true, false, option_map, List, [], Option, Some, None, Result, Ok, Err, codes}
 use Rattle.std.specs.Prelude.{◌↔◌, if◌then◌else◌}
 use Rattle.std.specs.Bool.{Decides}
+use Rattle.std.specs.Result.{result_ok}
 use Rattle.std.proofs.lemmas.Slice.Eq.{bytes_eq-Decides}
 use Rattle.clap.specs.Words.{IsAmong, Row, Text, fault_of, first_of, is_simple, is_simple_and_free, subcommand_of}
 use Rattle.clap.specs.declared.error.kind.ErrorKind.{ErrorKind}
@@ -9,8 +10,8 @@ use Rattle.clap.specs.declared.error.kind.ErrorKind.TheVariants.{OutOfMemory}
 use Rattle.pf_words.specs.declared.request.Request.{Request}
 use Rattle.pf_words.specs.declared.request.Request.TheVariants.{Run, Check, Show}
 use Rattle.pf_words.specs.declared.request.WordsFault.{WordsFault}
-use Rattle.pf_words.specs.declared.request.WordsFault.TheVariants.{Refused, UnknownFormat, NoMemory}
-use Rattle.pf_words.specs.CommandLine.{file_behind, is_check, kinds_of, name_behind_run, program}
+use Rattle.pf_words.specs.declared.request.WordsFault.TheVariants.{Refused, Mistaken, NoMemory}
+use Rattle.pf_words.specs.CommandLine.{file_behind, is_check, kinds_of, program, text_behind_run}
 use Rattle.pf_words.specs.Asked.{IsAsked, IsRequest, IsShown, ShowsError, file_asked, file_of, task_asked, task_of}
 
 -- one function after another over what may be there
@@ -19,10 +20,10 @@ option_map-option_map f g None = refl
 option_map-option_map f g (Some x) = refl
 
 -- where the subcommand is `run`, the text is that of its rows
-pub behind_run : (found : Option (Text × List Row)) (rows : List Row) → option_map (λ p. p.0) found ≡ Some (codes "run")
-    → option_map (λ p. p.1) found ≡ Some rows → first_of (codes "format") rows ≡ name_behind_run found
-behind_run None rows name here = cc
-behind_run (Some p) rows name here =
+pub behind_run : (option : Text) (found : Option (Text × List Row)) (rows : List Row) → option_map (λ p. p.0) found ≡ Some (codes "run")
+    → option_map (λ p. p.1) found ≡ Some rows → first_of option rows ≡ text_behind_run option found
+behind_run option None rows name here = cc
+behind_run option (Some p) rows name here =
     let is_run : p.0 ≡ codes "run" = cc in
     let is_rows : p.1 ≡ rows = cc in
     rw (is_run, is_rows) refl
@@ -46,7 +47,7 @@ kinds_are words = refl
 
 -- what is asked for, by what clap found of a subcommand
 taken_task : (words : List Text) (found : Option (Text × List Row)) → kinds_of words ≡ [] → found ≡ subcommand_of program words
-    → task_asked words ≡ task_of found
+    → task_asked words ≡ result_ok (task_of found)
 unfolding task_asked
 taken_task words found taken is = rw (taken, is) refl
 
@@ -59,11 +60,11 @@ taken_file words found taken is = rw (taken, is) refl
 -- words that the grammar takes
 pub taken_words : (words : List Text) (found : Option (Text × List Row)) (answer : Result Request WordsFault) → kinds_of words ≡ []
     → found ≡ subcommand_of program words → IsRequest found answer → IsAsked words answer
-taken_words words found (Ok (Run format file)) taken is asks = (taken_task words found taken is ∙ asks.0, asks.1 ∙ taken_file words found taken is)
-taken_words words found (Ok (Check file)) taken is asks = (taken_task words found taken is ∙ asks.0, asks.1 ∙ taken_file words found taken is)
+taken_words words found (Ok (Run format file)) taken is asks = (taken_task words found taken is ∙ ap result_ok asks.0, asks.1 ∙ taken_file words found taken is)
+taken_words words found (Ok (Check file)) taken is asks = (taken_task words found taken is ∙ ap result_ok asks.0, asks.1 ∙ taken_file words found taken is)
 taken_words words found (Ok (Show text)) taken is asks = absurd asks
 taken_words words found (Err (Refused text)) taken is asks = absurd asks
-taken_words words found (Err UnknownFormat) taken is asks = (taken, taken_task words found taken is ∙ asks)
+taken_words words found (Err (Mistaken mistake)) taken is asks = (taken, ap task_of (sym is) ∙ asks)
 taken_words words found (Err NoMemory) taken is asks = tt
 
 -- whether the subcommand is `check`, by its name
@@ -102,5 +103,5 @@ untaken_words words kind (Err (Refused text)) among shows = elim among [
   | inl memory ↦ absurd (shows.0 memory)
   | inr here ↦ (kind, shows.1, here)
 ]
-untaken_words words kind (Err UnknownFormat) among shows = absurd shows
+untaken_words words kind (Err (Mistaken mistake)) among shows = absurd shows
 untaken_words words kind (Err NoMemory) among shows = tt

@@ -4,11 +4,16 @@ use Rattle.clap.proofs.OnLiterals.{clap_on_literals}
 use Rattle.clap.specs.declared.error.kind.ErrorKind.TheVariants as kind
 use Rattle.pf_words.specs.CommandLine.{kinds_of}
 use Rattle.pf_words.specs.Asked.{IsShown, task_asked, file_asked}
-use Rattle.pf_words.specs.Examples.{Runs, Files, WorkedWords}
+use Rattle.pf_script.specs.Fields.{number_of}
+use Rattle.pf_words.specs.Examples.{Runs, Ranged, Files, WorkedWords}
 
 runs : Runs
 unfolding clap_on_literals kinds_of task_asked
 runs = record { none = refl; run = refl; tables = refl; json = refl; schedule = refl; lags = refl; of_file = refl }
+
+ranged : Ranged
+unfolding clap_on_literals kinds_of task_asked number_of
+ranged = record { both = refl; from = refl; turned = refl; unranged = (refl, refl); tables = (refl, refl); no_number = (refl, refl) }
 
 files : Files
 unfolding clap_on_literals kinds_of file_asked
@@ -22,6 +27,7 @@ pub worked_words : WorkedWords
 unfolding clap_on_literals kinds_of task_asked
 worked_words = record {
   runs = runs;
+  ranged = ranged;
   files = files;
   check = refl;
   unknown = (refl, refl);

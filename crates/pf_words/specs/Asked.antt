@@ -1,5 +1,6 @@
 -- What the words ask for.
-use Rattle.std.specs.Prelude.{◌≡◌, ◌≢◌, ◌⊎◌, if◌then◌else◌, List, [], Option, Some, None, option_map, Result, Ok, Err, codes, String, string_bytes}
+use Rattle.std.specs.Prelude.{◌≡◌, ◌≢◌, ◌⊎◌, ℕ, if◌then◌else◌, List, [], Option, Some, None, option_map, Result, Ok, Err, codes, String, string_bytes}
+use Rattle.std.specs.Result.{result_ok}
 use Rattle.std.specs.Str.{bytes_eq}
 use Rattle.std.specs.declared.alloc.Global.{Global}
 use Rattle.clap.specs.Walk.{is_empty}
@@ -11,27 +12,70 @@ use Rattle.pf_words.specs.declared.format.Format.TheVariants.{Tables}
 use Rattle.pf_words.specs.declared.request.Request.{Request}
 use Rattle.pf_words.specs.declared.request.Request.TheVariants.{Run, Check, Show}
 use Rattle.pf_words.specs.declared.request.WordsFault.{WordsFault}
-use Rattle.pf_words.specs.declared.request.WordsFault.TheVariants.{Refused, UnknownFormat, NoMemory}
-use Rattle.pf_words.specs.Formats.{format_named}
-use Rattle.pf_words.specs.CommandLine.{file_behind, is_check, kinds_of, name_behind_run, program}
+use Rattle.pf_words.specs.declared.request.WordsFault.TheVariants.{Refused, Mistaken, NoMemory}
+use Rattle.pf_words.specs.declared.mistake.Mistake.{Mistake}
+use Rattle.pf_words.specs.declared.mistake.Mistake.TheVariants.{UnknownFormat, BadNumber, NoRange}
+use Rattle.pf_words.specs.declared.slot_range.SlotRange.{SlotRange}
+use Rattle.pf_words.specs.Formats.{format_named, format_within}
+use Rattle.pf_words.specs.CommandLine.{file_behind, is_check, kinds_of, program, text_behind_run}
+use Rattle.pf_script.specs.Fields.{number_of}
 
 -- without a name the format is `tables`
 abbrev pub format_or_tables : Option Text → Option Format
 format_or_tables None = Some Tables
 format_or_tables (Some name) = format_named name
 
+-- the number that a text is
+abbrev pub number_read : Option ℕ → Result (Option ℕ) Mistake
+number_read None = Err BadNumber
+number_read (Some number) = Ok (Some number)
+
+-- the number that is the text of an option, and none where the option is left out
+abbrev pub number_given : Option Text → Result (Option ℕ) Mistake
+number_given None = Ok None
+number_given (Some text) = number_read (number_of text)
+
+-- the range of these ends
+abbrev pub range_given : Result (Option ℕ) Mistake → Result (Option ℕ) Mistake → Result SlotRange Mistake
+range_given (Err mistake) to = Err mistake
+range_given (Ok from) (Err mistake) = Err mistake
+range_given (Ok from) (Ok to) = Ok (record { from = from; to = to })
+
+-- the format, where it has that range
+abbrev pub format_in_range : Option Format → Result Format Mistake
+format_in_range None = Err NoRange
+format_in_range (Some format) = Ok format
+
+-- the format that is named, of the slots of a range
+abbrev pub format_given : Option Format → Result SlotRange Mistake → Result Format Mistake
+format_given None range = Err UnknownFormat
+format_given (Some format) (Err mistake) = Err mistake
+format_given (Some format) (Ok range) = format_in_range (format_within format range)
+
+-- the format of a run, by what was found of a subcommand
+abbrev pub format_of : Option (Text × List Row) → Result Format Mistake
+format_of found =
+    format_given (format_or_tables (text_behind_run (codes "format") found))
+    (range_given (number_given (text_behind_run (codes "from") found)) (number_given (text_behind_run (codes "to") found)))
+
 -- what the program can be asked to do with a script: to run it in a format, or to check it
 pub data Task : Type 0 where
   RunsIn : Format → Task
   Checks : Task
 
--- what a subcommand asks for, and none: nothing where the text of `--format` names no format
-abbrev pub task_of : Option (Text × List Row) → Option Task
-task_of found = if is_check found then Some Checks else option_map (λ format. RunsIn format) (format_or_tables (name_behind_run found))
+-- to run it in that format
+abbrev pub run_given : Result Format Mistake → Result Task Mistake
+run_given (Err mistake) = Err mistake
+run_given (Ok format) = Ok (RunsIn format)
 
--- what the words ask for: nothing where the grammar does not take them, and where the text of `--format` names no format
+-- what a subcommand asks for, and none: the format is a name of one, the ends of the range are numbers, and the format
+-- has that range, or the words are mistaken
+abbrev pub task_of : Option (Text × List Row) → Result Task Mistake
+task_of found = if is_check found then Ok Checks else run_given (format_of found)
+
+-- what the words ask for: nothing where the grammar does not take them, and where they are mistaken
 unfoldable pub task_asked : List Text → Option Task
-task_asked words = if is_empty (kinds_of words) then task_of (subcommand_of program words) else None
+task_asked words = if is_empty (kinds_of words) then result_ok (task_of (subcommand_of program words)) else None
 
 -- the file of this text: none where it is `-`, which is standard input
 abbrev pub file_of : Option Text → Option Text
@@ -62,9 +106,9 @@ IsShown kind = (kind ≡ DisplayHelp) ⊎ (kind ≡ DisplayVersion)
 abbrev pub IsRefused : List Text → Type 0
 IsRefused words = (kind : ErrorKind) × ¬ IsShown kind × IsAmong kind (kinds_of words)
 
--- the grammar takes the words, and the text of `--format` names no format
-abbrev pub NamesNoFormat : List Text → Type 0
-NamesNoFormat words = (kinds_of words ≡ []) × (task_asked words ≡ None)
+-- the grammar takes the words, and they are mistaken
+abbrev pub AreMistaken : List Text → Mistake → Type 0
+AreMistaken words mistake = (kinds_of words ≡ []) × (task_of (subcommand_of program words) ≡ Err mistake)
 
 -- this answer is what the words ask for; want of memory may stand in place of any
 abbrev pub IsAsked : List Text → Result Request WordsFault → Type 0
@@ -72,16 +116,16 @@ IsAsked words (Ok (Run format file)) = (task_asked words ≡ Some (RunsIn format
 IsAsked words (Ok (Check file)) = (task_asked words ≡ Some Checks) × (name_of file ≡ file_asked words)
 IsAsked words (Ok (Show text)) = AsksHelp words ⊎ AsksVersion words
 IsAsked words (Err (Refused text)) = IsRefused words
-IsAsked words (Err UnknownFormat) = NamesNoFormat words
+IsAsked words (Err (Mistaken mistake)) = AreMistaken words mistake
 IsAsked words (Err NoMemory) = Unit {0}
 
 -- this answer is what words ask for that the grammar takes, by what was found of a subcommand
 abbrev pub IsRequest : Option (Text × List Row) → Result Request WordsFault → Type 0
-IsRequest found (Ok (Run format file)) = (task_of found ≡ Some (RunsIn format)) × (name_of file ≡ file_of (file_behind found))
-IsRequest found (Ok (Check file)) = (task_of found ≡ Some Checks) × (name_of file ≡ file_of (file_behind found))
+IsRequest found (Ok (Run format file)) = (task_of found ≡ Ok (RunsIn format)) × (name_of file ≡ file_of (file_behind found))
+IsRequest found (Ok (Check file)) = (task_of found ≡ Ok Checks) × (name_of file ≡ file_of (file_behind found))
 IsRequest found (Ok (Show text)) = ⊥
 IsRequest found (Err (Refused text)) = ⊥
-IsRequest found (Err UnknownFormat) = task_of found ≡ None
+IsRequest found (Err (Mistaken mistake)) = task_of found ≡ Err mistake
 IsRequest found (Err NoMemory) = Unit {0}
 
 -- what is answered to an error of this kind
@@ -90,5 +134,5 @@ ShowsError kind (Ok (Run format file)) = ⊥
 ShowsError kind (Ok (Check file)) = ⊥
 ShowsError kind (Ok (Show text)) = IsShown kind
 ShowsError kind (Err (Refused text)) = (kind ≢ OutOfMemory) × ¬ IsShown kind
-ShowsError kind (Err UnknownFormat) = ⊥
+ShowsError kind (Err (Mistaken mistake)) = ⊥
 ShowsError kind (Err NoMemory) = Unit {0}

@@ -14,13 +14,20 @@ format_option = record (new_rule (codes "format")) {
   action = Some Set;
 }
 
+-- the options `--from` and `--to`, each with one text
+abbrev pub from_option : Rule
+from_option = record (new_rule (codes "from")) { long = Some (codes "from"); value_names = 1; action = Some Set }
+
+abbrev pub to_option : Rule
+to_option = record (new_rule (codes "to")) { long = Some (codes "to"); value_names = 1; action = Some Set }
+
 -- FILE, a text without a name
 abbrev pub file_argument : Rule
 file_argument = record (new_rule (codes "file")) { value_names = 1; action = Some Set }
 
--- `run`, which may have that option and FILE
+-- `run`, which may have these options and FILE
 abbrev pub run_command : App
-run_command = with_rule (with_rule (new_app (codes "run")) format_option) file_argument
+run_command = with_rule (with_rule (with_rule (with_rule (new_app (codes "run")) format_option) from_option) to_option) file_argument
 
 -- `check`, which may have FILE
 abbrev pub check_command : App
@@ -38,10 +45,10 @@ program = with_subcommand (with_subcommand (as_program (new_app (codes "pfair"))
 unfoldable pub kinds_of : List Text → Kinds
 kinds_of words = fault_of program words
 
--- the text of `--format` behind `run`, in what clap found of a subcommand
-abbrev pub name_behind_run : Option (Text × List Row) → Option Text
-name_behind_run None = None
-name_behind_run (Some found) = if bytes_eq found.0 (codes "run") then first_of (codes "format") found.1 else None
+-- the text of an option behind `run`, in what clap found of a subcommand
+abbrev pub text_behind_run : Text → Option (Text × List Row) → Option Text
+text_behind_run option None = None
+text_behind_run option (Some found) = if bytes_eq found.0 (codes "run") then first_of option found.1 else None
 
 -- the text of FILE, in what clap found of a subcommand
 abbrev pub file_behind : Option (Text × List Row) → Option Text

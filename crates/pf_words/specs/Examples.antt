@@ -1,7 +1,10 @@
 -- Worked examples of what words ask for.
-use Rattle.std.specs.Prelude.{◌≡◌, [], ◌∷◌, Some, None, codes}
-use Rattle.pf_words.specs.declared.format.Format.TheVariants.{Schedule, Tables, Json, Lags}
-use Rattle.pf_words.specs.Asked.{RunsIn, Checks, task_asked, file_asked, AsksHelp, AsksVersion, IsRefused, NamesNoFormat}
+use Rattle.std.specs.Prelude.{◌≡◌, ℕ, [], ◌∷◌, Option, Some, None, codes}
+use Rattle.pf_words.specs.declared.format.Format.TheVariants.{Schedule, Tables, Json, Lags, Chart}
+use Rattle.pf_words.specs.declared.mistake.Mistake.TheVariants.{UnknownFormat, BadNumber, NoRange}
+use Rattle.pf_words.specs.declared.slot_range.SlotRange.{SlotRange}
+use Rattle.pf_words.specs.Ranges.{whole}
+use Rattle.pf_words.specs.Asked.{RunsIn, Checks, task_asked, file_asked, AsksHelp, AsksVersion, IsRefused, AreMistaken}
 
 -- words that ask for a run
 pub record Runs : Type 0 where
@@ -9,9 +12,22 @@ pub record Runs : Type 0 where
   pub run : task_asked (codes "run" ∷ []) ≡ Some (RunsIn Tables)
   pub tables : task_asked (codes "run" ∷ codes "--format" ∷ codes "tables" ∷ []) ≡ Some (RunsIn Tables)
   pub json : task_asked (codes "run" ∷ codes "--format" ∷ codes "json" ∷ []) ≡ Some (RunsIn Json)
-  pub schedule : task_asked (codes "run" ∷ codes "--format=schedule" ∷ []) ≡ Some (RunsIn Schedule)
+  pub schedule : task_asked (codes "run" ∷ codes "--format=schedule" ∷ []) ≡ Some (RunsIn (Schedule whole))
   pub lags : task_asked (codes "run" ∷ codes "-f" ∷ codes "lags" ∷ []) ≡ Some (RunsIn Lags)
   pub of_file : task_asked (codes "run" ∷ codes "plan.csv" ∷ []) ≡ Some (RunsIn Tables)
+
+-- words that ask for a range
+abbrev pub slots : Option ℕ → Option ℕ → SlotRange
+slots from to = record { from = from; to = to }
+
+pub record Ranged : Type 0 where
+  pub both : task_asked (codes "run" ∷ codes "-f" ∷ codes "chart" ∷ codes "--from" ∷ codes "5" ∷ codes "--to" ∷ codes "9" ∷ []) ≡ Some (RunsIn (Chart (slots (Some 5) (Some 9))))
+  pub from : task_asked (codes "run" ∷ codes "--from=05" ∷ codes "-f" ∷ codes "schedule" ∷ []) ≡ Some (RunsIn (Schedule (slots (Some 5) None)))
+  pub turned : task_asked (codes "run" ∷ codes "-f" ∷ codes "chart" ∷ codes "--from" ∷ codes "5" ∷ codes "--to" ∷ codes "3" ∷ []) ≡ Some (RunsIn (Chart (slots (Some 5) (Some 3))))
+  -- a format without a range, and no number
+  pub unranged : AreMistaken (codes "run" ∷ codes "--from" ∷ codes "3" ∷ codes "--format" ∷ codes "json" ∷ []) NoRange
+  pub tables : AreMistaken (codes "run" ∷ codes "--to" ∷ codes "3" ∷ []) NoRange
+  pub no_number : AreMistaken (codes "run" ∷ codes "-f" ∷ codes "chart" ∷ codes "--from" ∷ codes "x" ∷ []) BadNumber
 
 -- words that name a file, and words that name none
 pub record Files : Type 0 where
@@ -23,10 +39,11 @@ pub record Files : Type 0 where
 
 pub record WorkedWords : Type 0 where
   pub runs : Runs
+  pub ranged : Ranged
   pub files : Files
   pub check : task_asked (codes "check" ∷ []) ≡ Some Checks
   -- a name of no format
-  pub unknown : NamesNoFormat (codes "run" ∷ codes "--format" ∷ codes "xml" ∷ [])
+  pub unknown : AreMistaken (codes "run" ∷ codes "--format" ∷ codes "xml" ∷ []) UnknownFormat
   -- the option without `run`, a word that is none of the program's, and a word too many
   pub option_alone : IsRefused (codes "--format" ∷ codes "json" ∷ [])
   pub drill : IsRefused (codes "drill" ∷ [])

@@ -2,3 +2,4 @@ pub mod Asked
 pub mod CommandLine
 pub mod Examples
 pub mod Formats
+pub mod Ranges

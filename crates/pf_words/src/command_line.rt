@@ -1,7 +1,7 @@
 ghost use Rattle.std.specs.Prelude.{◌≡◌, IfOk, false, codes};
 ghost use Rattle.clap.specs.Words.{app_of, new_app, with_rule};
 ghost use Rattle.clap.specs.declared.builder.command.Command.TheViews.{out-Command};
-ghost use Rattle.pf_words.specs.CommandLine.{program, as_program, check_command, file_argument, run_command};
+ghost use Rattle.pf_words.specs.CommandLine.{program, as_program, check_command, file_argument, format_option, from_option, run_command, to_option};
 
 use clap::{Arg, ArgAction, Command};
 use std::alloc::{AllocError, Global};
@@ -52,8 +52,8 @@ Formats:
 
 `check` tells of each record that the format does not allow, and where and why, and carries nothing out.
 
-Status: 0 done, 1 a bad record or a script that is too long, 2 words that are not understood, 3 a fault of reading or
-writing, 4 out of memory. What is wrong is told on standard error.";
+Status: 0 done, 1 a bad record or a script that is too long, 2 words that are not understood or a range of slots that
+were not stepped, 3 a fault of reading or writing, 4 out of memory. What is wrong is told on standard error.";
 
 /// The words that the program knows.
 pub(crate) fn program<'a>(alloc: Global) -> Result<Command<'a>, AllocError>
@@ -90,9 +90,18 @@ fn with_file<'a>(alloc: Global, command: Command<'a>) -> Result<Command<'a>, All
     command.arg(file)
 }
 
-/// `run`, with `--format` and a text, and FILE.
+/// `run`, with the options `--format`, `--from` and `--to`, each with a text, and FILE.
 fn run_command<'a>(alloc: Global) -> Result<Command<'a>, AllocError>
     ensures shape { IfOk result (λ c. app_of c ≡ run_command) }
+    ensures globals { IfOk result (λ c. (out-Command c).has_globals ≡ false) }
+{
+    let run = with_range(alloc, bare_run(alloc)?)?;
+    with_file(alloc, run)
+}
+
+/// `run`, with `--format` and a text alone.
+fn bare_run<'a>(alloc: Global) -> Result<Command<'a>, AllocError>
+    ensures shape { IfOk result (λ c. app_of c ≡ with_rule (new_app (codes "run")) format_option) }
     ensures globals { IfOk result (λ c. (out-Command c).has_globals ≡ false) }
 {
     let format = Arg::new(alloc, "format")
@@ -101,11 +110,48 @@ fn run_command<'a>(alloc: Global) -> Result<Command<'a>, AllocError>
         .value_name("FORMAT")
         .help("one of the formats below [default: tables]")
         .action(ArgAction::Set);
-    let run = Command::new(alloc, "run")
+    Command::new(alloc, "run")
         .about("Runs the script; also without any words")
         .after_help(LESSON)
-        .arg(format)?;
-    with_file(alloc, run)
+        .arg(format)
+}
+
+/// The command with `--from` and `--to`, each with a text.
+fn with_range<'a>(alloc: Global, command: Command<'a>) -> Result<Command<'a>, AllocError>
+    requires { (out-Command command).has_globals ≡ false }
+    ensures shape { IfOk result (λ c. app_of c ≡ with_rule (with_rule (app_of command.entry) from_option) to_option) }
+    ensures globals { IfOk result (λ c. (out-Command c).has_globals ≡ false) }
+{
+    let from = with_from(alloc, command)?;
+    with_to(alloc, from)
+}
+
+/// The command with `--from` and a text.
+fn with_from<'a>(alloc: Global, command: Command<'a>) -> Result<Command<'a>, AllocError>
+    requires { (out-Command command).has_globals ≡ false }
+    ensures shape { IfOk result (λ c. app_of c ≡ with_rule (app_of command.entry) from_option) }
+    ensures globals { IfOk result (λ c. (out-Command c).has_globals ≡ false) }
+{
+    let from = Arg::new(alloc, "from")
+        .long("from")
+        .value_name("F")
+        .help("schedule and chart: the first slot that is shown [default: 0]")
+        .action(ArgAction::Set);
+    command.arg(from)
+}
+
+/// The command with `--to` and a text.
+fn with_to<'a>(alloc: Global, command: Command<'a>) -> Result<Command<'a>, AllocError>
+    requires { (out-Command command).has_globals ≡ false }
+    ensures shape { IfOk result (λ c. app_of c ≡ with_rule (app_of command.entry) to_option) }
+    ensures globals { IfOk result (λ c. (out-Command c).has_globals ≡ false) }
+{
+    let to = Arg::new(alloc, "to")
+        .long("to")
+        .value_name("T")
+        .help("schedule and chart: the slots below T are shown [default: all that were stepped]")
+        .action(ArgAction::Set);
+    command.arg(to)
 }
 
 /// `check`, with FILE.

@@ -1,11 +1,13 @@
 ghost use Rattle.std.specs.Prelude.{◌≡◌};
-ghost use Rattle.pf_words.specs.Formats.{format_named, has_replies};
+ghost use Rattle.pf_words.specs.Formats.{format_named, format_within, has_replies, range_of};
+
+use crate::slot_range::SlotRange;
 
 /// What stands behind the replies.
 #[derive(Clone, Copy, Debug, PartialEq, Eq)]
 pub enum Format {
-    /// The schedule alone, without replies.
-    Schedule,
+    /// The schedule of these slots alone, without replies.
+    Schedule(SlotRange),
     /// The replies, then the schedule, the lags, the misses and the denials as tables.
     Tables,
     /// The replies, then one JSON object.
@@ -26,18 +28,18 @@ pub enum Format {
     Processors,
     /// The figures of each task, as a table.
     Stats,
-    /// The schedule as a chart in characters.
-    Chart,
+    /// The schedule of these slots as a chart in characters.
+    Chart(SlotRange),
 }
 
 impl Format {
     /// The format of this name: `schedule`, `tables`, `json`, `report`, `replies`, `lags`, `misses`, `denials`,
-    /// `events`, `processors`, `stats` or `chart`. `None` where the text is none of these.
+    /// `events`, `processors`, `stats` or `chart`, of all slots. `None` where the text is none of these.
     pub fn named(name: &str) -> Option<Format>
         ensures { result ≡ format_named name.now }
     {
         match name {
-            "schedule" => Some(Format::Schedule),
+            "schedule" => Some(Format::Schedule(SlotRange::whole())),
             "tables" => Some(Format::Tables),
             "json" => Some(Format::Json),
             "report" => Some(Format::Report),
@@ -48,8 +50,35 @@ impl Format {
             "events" => Some(Format::Events),
             "processors" => Some(Format::Processors),
             "stats" => Some(Format::Stats),
-            "chart" => Some(Format::Chart),
+            "chart" => Some(Format::Chart(SlotRange::whole())),
             _ => None,
+        }
+    }
+
+    /// The same format of the slots of a range alone, where it is one of `schedule` and `chart`. Any other has no range:
+    /// it is as before where both ends are left out, and else `None`.
+    pub fn within(self, range: SlotRange) -> Option<Format>
+        ensures { result ≡ format_within self range }
+    {
+        match self {
+            Format::Schedule(_) => Some(Format::Schedule(range)),
+            Format::Chart(_) => Some(Format::Chart(range)),
+            other => {
+                if !range.is_whole() {
+                    return None;
+                }
+                Some(other)
+            }
+        }
+    }
+
+    /// Its slots: all of them where it has no range.
+    pub fn range(self) -> SlotRange
+        ensures { result ≡ range_of self }
+    {
+        match self {
+            Format::Schedule(range) | Format::Chart(range) => range,
+            _ => SlotRange::whole(),
         }
     }
 

@@ -6,5 +6,7 @@
 mod command_line;
 pub mod format;
 pub mod laws;
+pub mod mistake;
 pub mod request;
+pub mod slot_range;
 pub mod words;

@@ -1,7 +1,8 @@
 ghost use Rattle.std.specs.Prelude.{◌≡◌};
-ghost use Rattle.pf_words.specs.declared.request.WordsFault.TheVariants.{NoMemory};
+ghost use Rattle.pf_words.specs.declared.request.WordsFault.TheVariants.{Mistaken, NoMemory};
 
 use crate::format::Format;
+use crate::mistake::Mistake;
 use std::alloc::AllocError;
 use thiserror::Error;
 
@@ -22,9 +23,9 @@ pub enum WordsFault {
     /// They are not the program's: the text says why, and ends its line.
     #[error("{0}")]
     Refused(String),
-    /// The text of `--format` names no format.
-    #[error("unknown format")]
-    UnknownFormat,
+    /// The grammar takes them, and they ask for nothing.
+    #[error("{0}")]
+    Mistaken(Mistake),
     /// Memory was refused.
     #[error("out of memory")]
     NoMemory,
@@ -35,5 +36,13 @@ impl From<AllocError> for WordsFault {
 
     fn from(_error: AllocError) -> WordsFault {
         WordsFault::NoMemory
+    }
+}
+
+impl From<Mistake> for WordsFault {
+    ghost from_gives = { λ mistake f. f ≡ Mistaken mistake };
+
+    fn from(mistake: Mistake) -> WordsFault {
+        WordsFault::Mistaken(mistake)
     }
 }

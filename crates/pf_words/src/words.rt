@@ -1,21 +1,25 @@
-ghost use Rattle.std.specs.Prelude.{◌≡◌, map, option_map, IfOk};
+ghost use Rattle.std.specs.Prelude.{◌≡◌, codes, map, option_map, IfOk};
 ghost use Rattle.clap.specs.Words.{kind_of, subcommand_rows_of};
-ghost use Rattle.pf_words.specs.CommandLine.{file_behind, is_check, name_behind_run};
-ghost use Rattle.pf_words.specs.Asked.{IsAsked, IsRequest, ShowsError, file_of, format_or_tables, name_of};
+ghost use Rattle.pf_words.specs.CommandLine.{file_behind, is_check, text_behind_run};
+ghost use Rattle.pf_words.specs.Asked.{IsAsked, IsRequest, ShowsError, file_of, format_of, format_or_tables, name_of, number_given, range_given};
 
 use crate::command_line::program;
 use crate::format::Format;
+use crate::mistake::Mistake;
 use crate::request::{Request, WordsFault};
+use crate::slot_range::SlotRange;
 use clap::ArgMatches;
 use clap::error::ErrorKind;
+use pf_script::fields::parse_number;
 use std::alloc::{AllocError, Global};
 use std::convert::AsStr;
 
 /// What the program's words ask for, its own name not among them. No words ask for a run with tables, and so does
-/// `run` alone; `run --format NAME` asks for one in the format of that name, and `check` for a check. A file may stand
-/// behind each, for the script to be read from; `-` is standard input, as no file is. Answers `Refused` where the words
-/// are not the program's, `UnknownFormat` where the text of `--format` names no format, and `NoMemory`, in place of any
-/// answer, where memory was refused.
+/// `run` alone; `run --format NAME` asks for one in the format of that name, of the slots from `--from` on and below
+/// `--to`, and `check` for a check. A file may stand behind each, for the script to be read from; `-` is standard input, as
+/// no file is. Answers `Refused` where the words are not the program's, `Mistaken` where the text of `--format` names no
+/// format, where that of `--from` or `--to` is no number, and where the format has no range, the first of these; and
+/// `NoMemory`, in place of any answer, where memory was refused.
 pub fn read_words<S: AsStr>(alloc: Global, words: &[S]) -> Result<Request, WordsFault>
     ensures { IsAsked (map S.text words.now) result }
 {
@@ -33,10 +37,8 @@ fn read_matches(alloc: Global, matches: &ArgMatches<'_>) -> Result<Request, Word
     if asks_check(matches) {
         return Ok(Request::Check(file));
     }
-    match read_format(matches) {
-        Some(format) => Ok(Request::Run(format, file)),
-        None => Err(WordsFault::UnknownFormat),
-    }
+    let format = read_format(matches)?;
+    Ok(Request::Run(format, file))
 }
 
 /// The file behind a subcommand; none where standard input is meant.
@@ -66,21 +68,57 @@ fn asks_check(matches: &ArgMatches<'_>) -> bool
     matches.subcommand_matches("check").is_some()
 }
 
-/// The format of a run; none where the text of `--format` names none.
-fn read_format(matches: &ArgMatches<'_>) -> Option<Format>
-    ensures { result ≡ format_or_tables (name_behind_run (subcommand_rows_of matches.now)) }
+/// The format of a run, of the slots that they ask for.
+fn read_format(matches: &ArgMatches<'_>) -> Result<Format, Mistake>
+    ensures { result ≡ format_of (subcommand_rows_of matches.now) }
 {
-    match format_name(matches) {
+    let Some(format) = read_name(matches) else {
+        return Err(Mistake::UnknownFormat);
+    };
+    match format.within(read_range(matches)?) {
+        Some(format) => Ok(format),
+        None => Err(Mistake::NoRange),
+    }
+}
+
+/// The format of all slots; none where the text of `--format` names none.
+fn read_name(matches: &ArgMatches<'_>) -> Option<Format>
+    ensures { result ≡ format_or_tables (text_behind_run (codes "format") (subcommand_rows_of matches.now)) }
+{
+    match option_text(matches, "format") {
         Some(name) => Format::named(name),
         None => Some(Format::Tables),
     }
 }
 
-/// The text of `--format` behind `run`.
-fn format_name<'a>(matches: &ArgMatches<'a>) -> Option<&'a str>
-    ensures { option_map (λ name. name.now) result ≡ name_behind_run (subcommand_rows_of matches.now) }
+/// The range of a run.
+fn read_range(matches: &ArgMatches<'_>) -> Result<SlotRange, Mistake>
+    ensures { result ≡ range_given (number_given (text_behind_run (codes "from") (subcommand_rows_of matches.now)))
+        (number_given (text_behind_run (codes "to") (subcommand_rows_of matches.now))) }
 {
-    matches.subcommand_matches("run")?.get_str("format")
+    let from = read_number(matches, "from")?;
+    let to = read_number(matches, "to")?;
+    Ok(SlotRange { from, to })
+}
+
+/// The number that is the text of an option behind `run`; none where it is left out.
+fn read_number(matches: &ArgMatches<'_>, option: &str) -> Result<Option<u64>, Mistake>
+    ensures { result ≡ number_given (text_behind_run option.now (subcommand_rows_of matches.now)) }
+{
+    let Some(text) = option_text(matches, option) else {
+        return Ok(None);
+    };
+    match parse_number(text.as_bytes()) {
+        Some(number) => Ok(Some(number)),
+        None => Err(Mistake::BadNumber),
+    }
+}
+
+/// The text of an option behind `run`.
+fn option_text<'a>(matches: &ArgMatches<'a>, option: &str) -> Option<&'a str>
+    ensures { option_map (λ text. text.now) result ≡ text_behind_run option.now (subcommand_rows_of matches.now) }
+{
+    matches.subcommand_matches("run")?.get_str(option)
 }
 
 /// What words ask for that the grammar does not take: help, the version, or nothing.

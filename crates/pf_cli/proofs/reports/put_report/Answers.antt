@@ -3,10 +3,10 @@ use Rattle.pf_cli.specs.Meaning.{report_text}
 use Rattle.pf_cli.proofs.Sessions.{err_at}
 use Rattle.pf_cli.proofs.reports.put_report.Goals as goal
 
-pub returns-in_ok-schedule_pieces-in-Schedule-clause-err : goal.returns-in_ok-schedule_pieces-in-Schedule-clause-err
+pub returns-in_ok-schedule_of-in-Schedule-clause-err : goal.returns-in_ok-schedule_of-in-Schedule-clause-err
 unfolding report_text
-returns-in_ok-schedule_pieces-in-Schedule-clause-err g c =
-    err_at c.put_pieces.result _ _ c.args.text.now _ _ (c.in_ok-schedule_pieces-in-Schedule.ensures ∙ sym (ap (λ f. report_text f c.args.snapshot.now) c.in-Schedule.is)) c.put_pieces.ensures.err
+returns-in_ok-schedule_of-in-Schedule-clause-err g c =
+    err_at c.put_pieces.result _ _ c.args.text.now _ _ (c.in_ok-schedule_of-in-Schedule.ensures ∙ sym (ap (λ f. report_text f c.args.snapshot.now) c.in-Schedule.is)) c.put_pieces.ensures.err
 
 pub returns-in_ok-tables_pieces-in-Tables-clause-err : goal.returns-in_ok-tables_pieces-in-Tables-clause-err
 unfolding report_text
@@ -53,7 +53,7 @@ unfolding report_text
 returns-in_ok-stats_csv-in-Stats-clause-err g c =
     err_at c.put_pieces-in-Stats.result _ _ c.args.text.now _ _ ((c.new-in-Stats.ensures ∙ c.in_ok-stats_csv-in-Stats.ensures) ∙ sym (ap (λ f. report_text f c.args.snapshot.now) c.in-Stats.is)) c.put_pieces-in-Stats.ensures.err
 
-pub returns-in_ok-whole_chart-in-Chart-clause-err : goal.returns-in_ok-whole_chart-in-Chart-clause-err
+pub returns-in_ok-chart_of-in-Chart-clause-err : goal.returns-in_ok-chart_of-in-Chart-clause-err
 unfolding report_text
-returns-in_ok-whole_chart-in-Chart-clause-err g c =
-    err_at c.put_pieces-in-Chart.result _ _ c.args.text.now _ _ (c.in_ok-whole_chart-in-Chart.ensures ∙ sym (ap (λ f. report_text f c.args.snapshot.now) c.in-Chart.is)) c.put_pieces-in-Chart.ensures.err
+returns-in_ok-chart_of-in-Chart-clause-err g c =
+    err_at c.put_pieces-in-Chart.result _ _ c.args.text.now _ _ (c.in_ok-chart_of-in-Chart.ensures ∙ sym (ap (λ f. report_text f c.args.snapshot.now) c.in-Chart.is)) c.put_pieces-in-Chart.ensures.err

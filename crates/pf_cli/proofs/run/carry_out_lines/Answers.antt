@@ -1,9 +1,10 @@
-use Rattle.std.proofs.Common.{length, refl, ap, ◌∙◌, sym, arith}
+use Rattle.std.proofs.Common.{length, refl, ap, subst, ◌∙◌, sym, arith}
 use Rattle.std.proofs.lemmas.Result.{err_from_is_err_and}
 use Rattle.pf_script.specs.Grammar.{line_of}
 use Rattle.pf_stream.proofs.Sending.{so-far-finished, so-far-unfinished}
+use Rattle.pf_cli.specs.Answers.{CountsWrites}
 use Rattle.pf_cli.proofs.Batches.{plain_none}
-use Rattle.pf_cli.proofs.Scripts.{answers_stopped, bad_left, begun, counts_stopped, front_under_way, is_first, is_none, line_stopped, line_taken, past_stopped, report_left}
+use Rattle.pf_cli.proofs.Scripts.{answers_stopped, bad_left, begun, counts_stopped, front_under_way, is_first, is_none, line_stopped, line_taken, past_stopped, report_left, rest_answers}
 use Rattle.pf_cli.proofs.run.carry_out_lines.Goals as goal
 
 pub records-init : goal.records-init
@@ -54,7 +55,7 @@ pub returns-clause-meaning : goal.returns-clause-meaning
 returns-clause-meaning g c =
     let none = is_none c.in_ok-next.field-0 c.records.script _ c.next.new.self c.in_ok-next.ensures.record c.if-branch.false in
     let left = report_left c.args.version c.records.number c.records.batching c.records.script _ _ _ none c.records.invariant.way in
-    (left.0, so-far-finished _ _ _ _ _ left.1 c.in_ok-report.ensures.ok)
+    rest_answers c.records.batching _ _ c.report.result _ _ _ left c.report.ensures.read c.report.ensures.meaning
 
 pub returns-in_err-take-clause-read : goal.returns-in_err-take-clause-read
 returns-in_err-take-clause-read g c =
@@ -109,21 +110,6 @@ records-preserved g c =
       counted = omega (arith, ap length first, c.records.invariant.counted);
     }
 
-pub returns-in_err-report-clause-meaning : goal.returns-in_err-report-clause-meaning
-returns-in_err-report-clause-meaning g c =
-    let p = err_from_is_err_and c.from_residual-in_err-report.result c.from_residual-in_err-report.ensures.1 in
-    let none = is_none c.in_ok-next.field-0 c.records.script _ c.next.new.self c.in_ok-next.ensures.record c.if-branch.false in
-    let left = report_left c.args.version c.records.number c.records.batching c.records.script _ _ _ none c.records.invariant.way in
-    rw (p.1, p.2) (answers_stopped (Unit {0}) _ _ _ _ (so-far-unfinished _ _ _ _ _ left.1 c.in_err-report.ensures.err))
-
-pub returns-in_err-report-clause-read : goal.returns-in_err-report-clause-read
-returns-in_err-report-clause-read g c =
-    let p = err_from_is_err_and c.from_residual-in_err-report.result c.from_residual-in_err-report.ensures.1 in rw (p.1, p.2) (past_stopped (Unit {0}) _)
-
-pub returns-in_err-report-clause-writes : goal.returns-in_err-report-clause-writes
-returns-in_err-report-clause-writes g c =
-    let p = err_from_is_err_and c.from_residual-in_err-report.result c.from_residual-in_err-report.ensures.1 in
-    rw (p.1, p.2) (rw (← c.records.invariant.count) (counts_stopped (Unit {0}) (Unit {0}) _ _ _ c.in_err-report.ensures.count))
-
 pub returns-clause-writes : goal.returns-clause-writes
-returns-clause-writes g c = c.in_ok-report.ensures.count ∙ c.records.invariant.count
+returns-clause-writes g c =
+    subst (λ n. CountsWrites c.report.result n (g.W.Sink.failed c.report.new.writer)) c.records.invariant.count c.report.ensures.writes

@@ -9,6 +9,7 @@ use Rattle.pf_words.specs.declared.format.Format.{Format}
 use Rattle.pf_cli.specs.Answers.{Answers, fault_of_reading}
 use Rattle.pf_cli.specs.Meaning.{script_meaning}
 use Rattle.pf_cli.proofs.Sessions.{none_written}
+use Rattle.pf_cli.proofs.Outside.{nothing_outside, outside_keeps}
 use Rattle.pf_cli.proofs.run.run.Goals as goal
 
 -- no script was read, and nothing was written
@@ -28,3 +29,10 @@ pub returns-in_err-text-clause-meaning : goal.returns-in_err-text-clause-meaning
 returns-in_err-text-clause-meaning g c =
     let p = err_from_is_err_and c.from_residual.result c.from_residual.ensures.1 in
     rw (p.1, p.2) (unread_if (Unit {0}) c.args.format (g.R.Read.remaining c.args.reader.now) _ _ c.in_err-text.ensures.bytes)
+
+pub returns-in_err-text-clause-outside : goal.returns-in_err-text-clause-outside
+returns-in_err-text-clause-outside g c = λ is. Keeps-refl _
+
+pub returns-clause-outside : goal.returns-clause-outside
+returns-clause-outside g c =
+    outside_keeps (script_meaning c.args.format c.deref.result.now) c.carry_out.result _ _ (nothing_outside c.args.format c.deref.result.now) c.carry_out.ensures.meaning

@@ -1,26 +1,34 @@
-use Rattle.std.proofs.Common.{◌++◌, refl, subst}
+use Rattle.std.proofs.Common.{◌++◌, subst}
+use Rattle.std.proofs.lemmas.Result.{err_from_is_err_and}
 use Rattle.pf_stream.specs.Written.{TookFront}
-use Rattle.pf_cli.specs.Session.{HasAnswered, replies_of}
 use Rattle.pf_stream.proofs.Sending.{took-before}
-use Rattle.pf_cli.specs.Meaning.{report_text, seen_at}
-use Rattle.pf_cli.proofs.Batches.{reported_then, unreported_then}
-use Rattle.pf_cli.proofs.Sessions.{anyway}
+use Rattle.pf_cli.specs.Answers.{CountsWrites}
+use Rattle.pf_cli.specs.Session.{HasAnswered, replies_of}
+use Rattle.pf_cli.proofs.Scripts.{answers_stopped, counts_stopped, past_stopped, reported_then}
 use Rattle.pf_cli.proofs.batching.BatchingSession.report.Goals as goal
 
-pub returns-in_err-answer_all-clause-err : goal.returns-in_err-answer_all-clause-err
-returns-in_err-answer_all-clause-err g c =
+pub returns-in_err-answer_all-clause-meaning : goal.returns-in_err-answer_all-clause-meaning
+returns-in_err-answer_all-clause-meaning g c =
+    let p = err_from_is_err_and c.from_residual.result c.from_residual.ensures.1 in
     let stopped = subst (λ w. TookFront (g.W.Write.contents c.args.writer.now) (g.W.Write.contents c.answer_all.new.writer) (c.args.self.session.lines ++ replies_of c.args.self.session w))
     c.deref.ensures.value c.in_err-answer_all.ensures.err in
-    anyway c.from_residual.result _ (took-before _ _ _ _ stopped)
+    rw (p.1, p.2) (answers_stopped (Unit {0}) _ _ _ _ (took-before _ _ _ _ stopped))
 
-pub returns-clause-ok : goal.returns-clause-ok
-returns-clause-ok g c =
+pub returns-in_err-answer_all-clause-read : goal.returns-in_err-answer_all-clause-read
+returns-in_err-answer_all-clause-read g c =
+    let p = err_from_is_err_and c.from_residual.result c.from_residual.ensures.1 in rw (p.1, p.2) (past_stopped (Unit {0}) _)
+
+pub returns-in_err-answer_all-clause-writes : goal.returns-in_err-answer_all-clause-writes
+returns-in_err-answer_all-clause-writes g c =
+    let p = err_from_is_err_and c.from_residual.result c.from_residual.ensures.1 in
+    rw (p.1, p.2) (counts_stopped (Unit {0}) (Unit {0}) _ _ _ c.in_err-answer_all.ensures.count)
+
+pub returns-clause-meaning : goal.returns-clause-meaning
+returns-clause-meaning g c =
     let answered = subst (λ w. HasAnswered w c.args.self.session c.answer_all.new.self (g.W.Write.contents c.args.writer.now) (g.W.Write.contents c.answer_all.new.writer))
     c.deref.ensures.value c.in_ok-answer_all.ensures.ok in
-    reported_then c.report.result c.args.self c.answer_all.new.self _ _ _ answered c.report.ensures.ok
+    reported_then c.report.result c.args.self c.answer_all.new.self _ _ _ answered c.report.ensures.read c.report.ensures.meaning
 
-pub returns-clause-err : goal.returns-clause-err
-returns-clause-err g c =
-    let answered = subst (λ w. HasAnswered w c.args.self.session c.answer_all.new.self (g.W.Write.contents c.args.writer.now) (g.W.Write.contents c.answer_all.new.writer))
-    c.deref.ensures.value c.in_ok-answer_all.ensures.ok in
-    unreported_then c.report.result c.args.self c.answer_all.new.self _ _ _ answered c.report.ensures.err
+pub returns-clause-writes : goal.returns-clause-writes
+returns-clause-writes g c =
+    subst (λ n. CountsWrites c.report.result n (g.W.Sink.failed c.report.new.writer)) c.in_ok-answer_all.ensures.count c.report.ensures.writes
