@@ -1,5 +1,6 @@
 mod Adding
 mod Awaiting
+pub mod Crossing
 mod Entering
 mod Growing
 mod Issuing

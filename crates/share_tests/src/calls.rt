@@ -9,6 +9,7 @@ use pf_share::calls::DeskPass;
 use pf_share::naming::Naming;
 use pf_share::shared::Shared;
 use pf_share::step_refusal::StepRefusal;
+use std::alloc::AllocError;
 use std::sync::Wait;
 
 /// Makes a change that is not strict. The answer is the number of the event and the number of entries.
@@ -17,13 +18,13 @@ pub(crate) fn edit<N: Naming, H: Wait + Drop>(
     shared: &Shared<N, H>,
     pass: &mut DeskPass,
     change: Change,
-) -> Option<(u64, u64)>
+) -> Result<Option<(u64, u64)>, AllocError>
     requires { pass.old.board ≡ N.board.id }
     ensures { pass.new.board ≡ N.board.id }
 {
     match shared.edit(rt, pass, change, false) {
-        Ok(done) => answers::edited(&done),
-        Err(_) => None,
+        Ok(done) => Ok(answers::edited(&done)),
+        Err(error) => Err(error),
     }
 }
 

@@ -1,10 +1,10 @@
 //! The worked examples.
 ghost use Rattle.std.specs.Prelude.{◌≡◌};
-ghost use Rattle.pf_board.specs.Passes.{new_passes};
+ghost use Rattle.pf_board.specs.Passes.{AreOf};
 
 use crate::answers::{join, pair};
 use crate::calls::{edit, step, take};
-use crate::two::{close, pop_two, put_two};
+use crate::passes::{close, pop_two, put_two};
 use pf_board::quantum::Quantum;
 use pf_board::take::Take;
 use pf_scenario::change::Change;
@@ -43,7 +43,7 @@ fn plan<N: Naming, H: Wait + Drop>(
     for task in 1..4 {
         assert_eq!(rt;
             edit(rt, shared, pass, join(task, 2, 3)),
-            Some((task, task))
+            Ok(Some((task, task)))
         );
     }
     assert_eq!(rt; step(rt, shared, pass), Ok(Some((0, [(1, 1), (2, 1)], 4))));
@@ -79,7 +79,10 @@ fn strike<N: Naming, H: Wait + Drop>(
     requires { (first.old.board ≡ N.board.id) × (second.old.board ≡ N.board.id) }
     ensures { (first.new.board ≡ N.board.id) × (second.new.board ≡ N.board.id) }
 {
-    assert_eq!(rt; edit(rt, shared, first, Change::Strike(2)), Some((2, 5)));
+    assert_eq!(rt;
+        edit(rt, shared, first, Change::Strike(2)),
+        Ok(Some((2, 5)))
+    );
     assert_eq!(rt;
         step(rt, shared, second),
         Ok(Some((1, [(1, 2), (3, 2)], 6)))
@@ -97,7 +100,7 @@ fn use_desk<N: Naming, H: Wait + Drop>(
     blank: Blank<H>,
 ) -> Result<(), Fail>
     requires name { (blank.board ≡ N.board) × (blank.book ≡ N.book) }
-    requires passes { blank.passes ≡ new_passes N.board.id N.board.terms 2 }
+    requires passes { AreOf N.board.id blank.passes }
 {
     let Opened {
         shared,

@@ -9,4 +9,6 @@ mod calls;
 #[cfg(test)]
 mod examples;
 #[cfg(test)]
-mod two;
+mod passes;
+#[cfg(test)]
+mod planners;
