@@ -9,8 +9,10 @@ import io
 import json
 import re
 from dataclasses import dataclass, field, replace
-from functools import cache
+from functools import cache, lru_cache
 from itertools import count
+
+from pictures import chart, listed_tasks, picture
 
 # Limits
 
@@ -467,11 +469,52 @@ class Desk:
         lines = [f"slot {t}: " + " ".join(name(place) or "-" for place in rows[t]) for t in range(before, self.now)]
         return lines + [refusal(30)] * (steps - len(lines))
 
-    def report(self, form):
+    def report(self, view):
         placed = run_of(self.scenario, self.now)
-        if form == "json":
-            return json_report(placed, self.entries)
-        return schedule(placed) if form == "schedule" else tables(placed)
+        first, end = view.range(self.now)
+        reports = {
+            "schedule": lambda: schedule(placed, first, end),
+            "tables": lambda: tables(placed),
+            "json": lambda: json_report(placed, self.entries),
+            "report": lambda: json_report(placed, self.entries),
+            "replies": lambda: "",
+            "lags": lambda: lags_table(placed),
+            "misses": lambda: misses_table(placed),
+            "denials": lambda: denials_table(placed),
+            "events": lambda: events_table(self.scenario),
+            "stats": lambda: stats_table(placed),
+            "processors": lambda: processors_table(placed),
+            "chart": lambda: chart(placed, NAMES, first, end),
+            "svg": lambda: picture(placed, NAMES, first, end, view.cell()),
+        }
+        return reports[view.form]()
+
+
+@dataclass(frozen=True)
+class View:
+    """A format, and whether a part of the slots is asked for."""
+    form: str
+    is_part: bool = False
+
+    def range(self, now):
+        return (now // 3, now - now // 4) if self.is_part else (0, now)
+
+    def cell(self):
+        return 9 if self.is_part else 20
+
+    def has_replies(self):
+        return self.form in ("tables", "json", "replies")
+
+    def words(self, script):
+        """The words that ask for it."""
+        told, _ = answers(script)
+        first, end = self.range(told.now if isinstance(told, Desk) else 0)
+        part = ["--from", str(first), "--to", str(end)] if self.is_part else []
+        cell = ["--cell", str(self.cell())] if self.is_part and self.form == "svg" else []
+        return ["run", "--format", self.form, *part, *cell]
+
+    def __str__(self):
+        return f"{self.form}.part" if self.is_part else self.form
 
 
 # Reports
@@ -484,18 +527,67 @@ def table(heading, lines):
     return "".join(",".join("" if value is None else str(value) for value in line) + "\n" for line in [heading, *lines])
 
 
-def schedule(placed):
+def schedule(placed, first, end):
     processors = range(placed.run.scenario.settings.processors)
     return table(["slot", *(f"p{p}" for p in processors)],
-                 ([t, *map(name, row)] for t, row in enumerate(placed.rows)))
+                 ([t, *map(name, placed.rows[t])] for t in range(first, end)))
+
+
+def lags_table(placed):
+    return table(("task", "cost", "period", "received", "lag"), lags(placed))
+
+
+def misses_table(placed):
+    return table(("task", "sub", "deadline", "ran"), misses(placed))
+
+
+def denials_table(placed):
+    return table(("slot", "event", "code", "reason"),
+                 ((slot, event, code, NAMES[code]) for slot, event, code in placed.run.denials))
 
 
 def tables(placed):
-    denials = [(slot, event, code, NAMES[code]) for slot, event, code in placed.run.denials]
-    return ("schedule\n" + schedule(placed)
-            + "lags\n" + table(("task", "cost", "period", "received", "lag"), lags(placed))
-            + "misses\n" + table(("task", "sub", "deadline", "ran"), misses(placed))
-            + "denials\n" + table(("slot", "event", "code", "reason"), denials))
+    return ("schedule\n" + schedule(placed, 0, len(placed.rows)) + "lags\n" + lags_table(placed)
+            + "misses\n" + misses_table(placed) + "denials\n" + denials_table(placed))
+
+
+def events_table(scenario):
+    """The events held, by number, with the fields of their kinds."""
+    names = ("task", "cost", "period", "early", "by", "count")
+    return table(("event", "slot", "kind", *names),
+                 ((number, event.slot, event.kind,
+                   *(getattr(event, each) if each in EVENTS[event.kind] else None for each in names))
+                  for number, event in sorted(scenario.events.items())))
+
+
+def figures(task):
+    """The figures of a task that was admitted, behind its number and weight."""
+    quanta = [window for window in task.windows if window.ran is not None]
+    pairs, cost = list(zip(quanta, quanta[1:])), task.join.cost
+    responses = [last.ran + 1 - quanta[last.i - cost].release for last in quanta if last.i % cost == 0]
+    late = [window for window in task.windows if window.is_late]
+    return (len(quanta), sum(1 for a, b in pairs if a.on != b.on),
+            sum(1 for a, b in pairs if b.ran != a.ran + 1 and (b.i - 1) % cost != 0),
+            len(responses), min(responses, default=None), max(responses, default=None),
+            len(late), max((window.ran + 1 - window.deadline for window in late if window.ran is not None), default=0),
+            min(task.lags.values()), max(task.lags.values()))
+
+
+def stats_table(placed):
+    return table(("task", "cost", "period", "quanta", "migrations", "preemptions", "jobs", "response_min", "response_max",
+                  "missed", "tardiness_max", "lag_min", "lag_max"),
+                 ((task.number, task.join.cost, task.join.period, *figures(task))
+                  for task in listed_tasks(placed, NAMES) if task.was_admitted))
+
+
+def processors_table(placed):
+    """Of each processor its quanta, its idle slots, and the slots in which another task is on it, or nobody, than before."""
+    lines = []
+    for p in range(placed.run.scenario.settings.processors):
+        tasks = [row[p] and row[p][0] for row in placed.rows]
+        quanta = sum(1 for task in tasks if task)
+        lines.append((p, quanta, len(tasks) - quanta, sum(1 for old, new in zip(tasks, tasks[1:]) if old != new)))
+    return table(("processor", "quanta", "idle", "changes"), lines)
 
 
 def json_report(placed, entries):
@@ -513,19 +605,26 @@ def json_report(placed, entries):
 
 # The program
 
-def meaning(script, form):
-    """What `pfair run --format FORM` writes for the script, what it tells of a fault, and its status."""
+def meaning(script, view):
+    """What `pfair run` with the view's words writes for the script, what it tells of a fault, and its status."""
     if len(script) > LONGEST_SCRIPT:
         return b"", b"the script is longer than 16777216 bytes\n", 1
-    lines = []
-    told = replies(records(script), form, lines)
-    text = "".join(line + "\n" for line in lines) if form != "schedule" else ""
+    told, lines = answers(script)
+    text = "".join(line + "\n" for line in lines) if view.has_replies() else ""
     if isinstance(told, Desk):
-        return (text + told.report(form)).encode(), b"", 0
+        return (text + told.report(view)).encode(), b"", 0
     return text.encode(), f"bad record {told}\n".encode(), 1
 
 
-def replies(records, form, lines):
+@lru_cache(maxsize=1)
+def answers(script):
+    """The desk at the script's end, or the number of the bad record, and the reply lines."""
+    lines = []
+    told = replies(records(script) if len(script) <= LONGEST_SCRIPT else [], lines)
+    return told, lines
+
+
+def replies(records, lines):
     """Puts the replies behind the lines. Gives the desk at the script's end, or the number of the bad record."""
     version = 2 if records[:1] == [["pfair", "2"]] else 1
     if len(records) < version:

@@ -1,0 +1,114 @@
+"""Must-fail edits: what each changes of its crate, and in which functions."""
+import dataclasses
+import difflib
+import pathlib
+import re
+
+# The root files of a library and of a program.
+ROOTS = ("src/lib.rt", "src/main.rt")
+
+# A function's first line, and an impl's: the trait, if any, and the type.
+FUNCTION = re.compile(r"(\s*)(?:pub(?:\([^)]*\))? )?(?:const )?(?:unsafe )?fn (\w+)")
+IMPL = re.compile(r"(?:unsafe )?impl\s+(?:([\w:]+)\s+for\s+)?&?([\w:]+)")
+
+
+@dataclasses.dataclass
+class Edit:
+    """An edit: its name, the changes of each file as pairs of an old text and a new one, and what it changes."""
+
+    name: str
+    changes: list
+    # The functions whose lines change, or the modules, where a line outside of functions changes.
+    touched: frozenset
+    # Whether the lines of functions alone change, so that no other function's proof can.
+    is_of_bodies: bool
+
+
+def without_parameters(text):
+    """A text without what stands in angle brackets."""
+    while True:
+        shorter = re.sub(r"<[^<>]*>", "", text.replace("->", ""))
+        if shorter == text:
+            return text
+        text = shorter
+
+
+def module_of(crate, path):
+    """The name of the module that a file of src/ is."""
+    parts = [] if path in ROOTS else path[len("src/") : -len(".rt")].split("/")
+    return "::".join([crate, *parts])
+
+
+def functions_of(crate, path, text):
+    """Of each line of a source file, the function in which it stands, by the name that the prover gives it, or None."""
+    found, owner, inside, blanks = [], [], None, ""
+    for line in text.split("\n"):
+        impl = IMPL.match(without_parameters(line))
+        if impl:
+            owner = ["".join(it.split("::")[-1] for it in (impl[2], impl[1] or ""))]
+        begins = FUNCTION.match(line)
+        if begins:
+            blanks = begins[1]
+            inside = "::".join([module_of(crate, path), *(owner if blanks else []), begins[2]])
+        found.append(inside)
+        if line == blanks + "}":
+            inside = None
+    return found
+
+
+def changed(texts, changes):
+    """The texts with these changes made, or None where an old text does not stand there exactly once."""
+    texts = dict(texts)
+    for path, old, new in changes:
+        if texts.get(path, "").count(old) != 1:
+            return None
+        texts[path] = texts[path].replace(old, new)
+    return texts
+
+
+def touched_by(crate, before, after):
+    """The functions whose lines differ, or the modules where others do; and whether all are functions."""
+    touched, is_of_bodies = set(), True
+    for path in after:
+        if after[path] == before[path]:
+            continue
+        if not path.startswith("src/"):
+            touched, is_of_bodies = touched | {f"{crate}::laws" if "src/laws.rt" in before else crate}, False
+            continue
+        inside = functions_of(crate, path, before[path])
+        lines = (before[path].split("\n"), after[path].split("\n"))
+        for word, first, last, _, _ in difflib.SequenceMatcher(None, *lines, autojunk=False).get_opcodes():
+            for name in inside[first : max(last, first + 1)] if word != "equal" else []:
+                touched.add(name or module_of(crate, path))
+                is_of_bodies = is_of_bodies and name is not None
+    return frozenset(touched), is_of_bodies
+
+
+def read_changes(file):
+    """The changes that an edit's file lists."""
+    changes, path, old = [], None, None
+    for line in file.read_text().split("\n"):
+        word, _, rest = line.partition(":")
+        if word == "file":
+            path = rest.strip()
+        elif word == "old":
+            old = rest.removeprefix(" ")
+        elif word == "new" and path and old:
+            changes.append((path, old, rest.removeprefix(" ")))
+            old = None
+    return changes
+
+
+def read_edits(folder):
+    """The texts of the crate in this folder, its edits, and a text for each that can't be applied."""
+    edits, bad = [], []
+    texts = {str(it.relative_to(folder)): it.read_text() for part in ("src", "specs", "proofs")
+             for it in sorted((folder / part).rglob("*.*")) if it.suffix in (".rt", ".antt")}
+    for file in sorted(pathlib.Path(folder, "must-fail").glob("*.edit")):
+        changes = read_changes(file)
+        after = changed(texts, changes)
+        if not changes or after is None:
+            bad.append(f"{folder.name}/{file.stem}: an old text does not stand in its file exactly once")
+            continue
+        edits.append(Edit(file.stem, changes, *touched_by(folder.name, texts, after)))
+    return texts, edits, bad
