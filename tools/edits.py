@@ -1,4 +1,4 @@
-"""Must-fail edits: what each changes of its crate, and in which functions."""
+"""Wrong bodies: edits that the prover must refuse, what each changes of its crate, and in which functions."""
 import dataclasses
 import difflib
 import pathlib
@@ -104,7 +104,7 @@ def read_edits(folder):
     edits, bad = [], []
     texts = {str(it.relative_to(folder)): it.read_text() for part in ("src", "specs", "proofs")
              for it in sorted((folder / part).rglob("*.*")) if it.suffix in (".rt", ".antt")}
-    for file in sorted(pathlib.Path(folder, "must-fail").glob("*.edit")):
+    for file in sorted(pathlib.Path(folder, "wrong-bodies").glob("*.edit")):
         changes = read_changes(file)
         after = changed(texts, changes)
         if not changes or after is None:
