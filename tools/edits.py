@@ -7,9 +7,9 @@ import re
 # The root files of a library and of a program.
 ROOTS = ("src/lib.rt", "src/main.rt")
 
-# A function's first line, and an impl's: the trait, if any, and the type.
+# A function's first line, and how an impl's begins.
 FUNCTION = re.compile(r"(\s*)(?:pub(?:\([^)]*\))? )?(?:const )?(?:unsafe )?fn (\w+)")
-IMPL = re.compile(r"(?:unsafe )?impl\s+(?:([\w:]+)\s+for\s+)?&?([\w:]+)")
+IMPL = re.compile(r"(?:unsafe )?impl\b ?")
 
 
 @dataclasses.dataclass
@@ -24,13 +24,33 @@ class Edit:
     is_of_bodies: bool
 
 
-def without_parameters(text):
+def bracketed(text):
+    """What stands in the angle brackets that a text begins with, if any, and what stands behind them."""
+    depth = 0
+    for at, sign in enumerate(text.replace("->", "  ") if text.startswith("<") else ""):
+        depth += (sign == "<") - (sign == ">")
+        if not depth:
+            return text[1:at], text[at + 1 :]
+    return "", text
+
+
+def without_brackets(text):
     """A text without what stands in angle brackets."""
-    while True:
-        shorter = re.sub(r"<[^<>]*>", "", text.replace("->", ""))
-        if shorter == text:
-            return text
-        text = shorter
+    shorter = re.sub(r"<[^<>]*>", "", text)
+    return text if shorter == text else without_brackets(shorter)
+
+
+def owner_of(line):
+    """The name that the prover gives what begins on an impl's line: the type, then the trait and what it is given."""
+    begins = IMPL.match(line)
+    if not begins:
+        return None
+    parameters, rest = bracketed(line[begins.end() :])
+    trait, _, kind = rest.rpartition(" for ")
+    words = [re.search(r"[\w:]+", kind)[0], *re.findall(r"\(\)|[\w:]+", trait)]
+    # A destructor has the name of its type alone, and the impl's own parameters stand in no name.
+    left_out = {"Drop", *re.findall(r"(?:^|,)\s*(\w+)", without_brackets(parameters))}
+    return "".join("Unit" if it == "()" else it.split("::")[-1] for it in words if it not in left_out)
 
 
 def module_of(crate, path):
@@ -41,15 +61,13 @@ def module_of(crate, path):
 
 def functions_of(crate, path, text):
     """Of each line of a source file, the function in which it stands, by the name that the prover gives it, or None."""
-    found, owner, inside, blanks = [], [], None, ""
+    found, owner, inside, blanks = [], None, None, ""
     for line in text.split("\n"):
-        impl = IMPL.match(without_parameters(line))
-        if impl:
-            owner = ["".join(it.split("::")[-1] for it in (impl[2], impl[1] or ""))]
+        owner = owner_of(line) or owner
         begins = FUNCTION.match(line)
         if begins:
             blanks = begins[1]
-            inside = "::".join([module_of(crate, path), *(owner if blanks else []), begins[2]])
+            inside = "::".join([module_of(crate, path), *([owner] if blanks and owner else []), begins[2]])
         found.append(inside)
         if line == blanks + "}":
             inside = None

@@ -52,13 +52,14 @@ def words_for(name, uses):
 
 
 class Prover:
-    """Checks copies of one crate, each over what the checks before it kept."""
+    """Checks copies of one crate, each over what the checks before it kept, and at first over what `rt check` has."""
 
     def __init__(self, name, uses, room):
         self.words = words_for(name, uses)
         self.room = pathlib.Path(room, name)
         self.kept = pathlib.Path(room, f"{name}-kept")
-        self.kept.mkdir()
+        own = TOP / "crates" / name / "out" / "incremental"
+        shutil.copytree(own, self.kept) if own.is_dir() else self.kept.mkdir()
 
     def check(self, texts, only):
         """What the prover says of these functions and modules of a crate with these texts."""
