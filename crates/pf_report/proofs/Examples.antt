@@ -19,10 +19,11 @@ use Rattle.pf_tally.specs.Misses.{miss_cmp, misses_of}
 use Rattle.pf_report.specs.Tables.{schedule_text, lags_text, misses_text, denials_text}
 use Rattle.pf_report.specs.Json.{report_data}
 use Rattle.pf_report.specs.Part.{schedule_part_text}
+use Rattle.pf_report.specs.Script.{script_text_of}
 use Rattle.pf_report.specs.Examples.{WorkedReports}
 
 pub worked_reports : WorkedReports
-unfolding digits escaped fields_text is_blank serde_json_on_literals release_of deadline_of bit_of group_of priority_cmp row_of run_cmp events_of done in_force inside load_of count_of shift_of member_of ready course_of rows_in denials_in clock_of lags_of miss_cmp misses_of schedule_text lags_text misses_text denials_text schedule_part_text report_data
+unfolding digits escaped fields_text is_blank serde_json_on_literals release_of deadline_of bit_of group_of priority_cmp row_of run_cmp events_of done in_force inside load_of count_of shift_of member_of ready course_of rows_in denials_in clock_of lags_of miss_cmp misses_of schedule_text lags_text misses_text denials_text schedule_part_text script_text_of report_data
 worked_reports = record {
   schedule = refl;
   part = refl;
@@ -42,4 +43,7 @@ worked_reports = record {
   denied_leave = refl;
   denied_both = refl;
   denied_json = refl;
+  script = refl;
+  wide_script = refl;
+  struck_script = refl;
 }

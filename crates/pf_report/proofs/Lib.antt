@@ -5,3 +5,4 @@ pub mod Arrays
 pub mod Floats
 pub mod JsonParts
 pub mod Parted
+pub mod Scripted

@@ -1,7 +1,8 @@
 -- Worked examples of reports: what a desk shows of a scenario, and the texts.
 use Rattle.std.specs.Prelude.{◌≡◌, ℕ, [], ◌∷◌, ◌++◌, codes}
-use Rattle.pf_scenario.specs.Scenario.{Plan, plan_after}
-use Rattle.pf_scenario.specs.declared.event.Event.TheVariants.{Join, Leave, Delay}
+use Rattle.pf_scenario.specs.Scenario.{Plan, plan_after, with_number}
+use Rattle.pf_scenario.specs.System.{wide_horizon}
+use Rattle.pf_scenario.specs.declared.event.Event.TheVariants.{Join, Leave, Delay, Limit}
 use Rattle.pf_scenario.specs.declared.change.Change.TheVariants.{Strike}
 use Rattle.pf_run.specs.RunRows.{rows_in, denials_in}
 use Rattle.pf_run.specs.Examples.{plan_with, two_joins, three_joins}
@@ -9,6 +10,7 @@ use Rattle.pf_desk.specs.Desk.{Seen}
 use Rattle.pf_report.specs.Tables.{schedule_text, lags_text, misses_text, denials_text}
 use Rattle.pf_report.specs.Json.{json_text}
 use Rattle.pf_report.specs.Part.{schedule_part_text}
+use Rattle.pf_report.specs.Script.{script_text_of}
 
 -- what a desk shows of the scenario after n slots and so many entries
 abbrev pub seen_after : ℕ → Plan → ℕ → Seen
@@ -39,6 +41,17 @@ too_early = seen_after 9 (plan_with 1 11 11 (Join 0 1 8 11 0 ∷ Delay 1 1 10 �
 
 abbrev pub of_nobody : Seen
 of_nobody = seen_after 7 (plan_with 1 2 2 (Join 0 1 1 1 0 ∷ Leave 3 2 ∷ Join 3 2 1 1 0 ∷ [])) 4
+
+-- wide settings, an event of each kind, and numbers that have gaps; no slot was stepped
+abbrev pub wide_plan : Plan
+wide_plan = record {
+  settings = record { processors = 2; base = 4; cap = 8; horizon = wide_horizon };
+  events = with_number 2 (Leave 9 1) ∷ with_number 3 (Limit 4 1) ∷ with_number 7 (Join 0 1 1 4 3) ∷ with_number 8 (Delay 2 1 5) ∷ [];
+  next = 9;
+}
+
+abbrev pub wide_seen : Seen
+wide_seen = record { version = 8; state = record { plan = wide_plan; now = 0 }; rows = []; denials = [] }
 
 pub record WorkedReports : Type 0 where
   pub schedule : schedule_text three_tasks ≡ codes "slot,p0,p1\n0,1/1,2/1\n1,1/2,3/1\n2,2/2,3/2\n"
@@ -85,3 +98,9 @@ pub record WorkedReports : Type 0 where
       ++ codes "\"lags\":[{\"cost\":1,\"lag\":0,\"period\":1,\"received\":2,\"task\":1},"
       ++ codes "{\"cost\":1,\"lag\":2,\"period\":2,\"received\":0,\"task\":2}],"
       ++ codes "\"misses\":[{\"deadline\":2,\"ran\":null,\"sub\":1,\"task\":2}],\"now\":2,\"schedule\":[[[1,1]],[[1,2]]]}"
+  -- the scripts: one that opens, makes the events and steps; one of wide settings, without a step; one of a struck event
+  pub script : script_text_of 4 three_tasks ≡
+      codes "settings,2,3,6,4\njoin,0,1,2,3,0\njoin,0,2,2,3,0\njoin,0,3,2,3,0\nstep,3\n"
+  pub wide_script : script_text_of 4096 wide_seen ≡
+      codes "pfair,2\nsettings,2,4,8,4096\nleave,9,1\nlimit,4,1\njoin,0,1,1,4,3\ndelay,2,1,5\n"
+  pub struck_script : script_text_of 4 struck_third ≡ codes "settings,2,3,6,4\njoin,0,1,2,3,0\njoin,0,2,2,3,0\nstep,3\n"

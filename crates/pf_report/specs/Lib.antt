@@ -6,3 +6,4 @@ pub mod Examples
 pub mod Parts
 pub mod Pieces
 pub mod Part
+pub mod Script

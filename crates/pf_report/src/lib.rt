@@ -14,4 +14,5 @@ pub mod records;
 pub mod rows;
 pub mod schedule;
 pub mod schedule_part;
+pub mod script;
 pub mod table;

@@ -33,7 +33,7 @@ impl Model for Table {
 }
 
 impl Table {
-    ghost use Rattle.std.specs.Prelude.{◌≡◌, ◌++◌, [], codes, map, IfOk, OnOk, IfSome};
+    ghost use Rattle.std.specs.Prelude.{◌≡◌, ◌≤◌, ◌++◌, [], true, codes, length, map, IfOk, OnOk, IfSome};
     ghost use Rattle.std.specs.Fmt.{decimal};
     ghost use Rattle.pf_report.specs.Page.{empty_page, with_field, with_record};
 
@@ -115,7 +115,9 @@ impl Table {
     }
 
     /// Whether the text so far makes a long piece, but for some of its last bytes.
-    pub fn is_long(&self) -> bool {
+    pub fn is_long(&self) -> bool
+        ensures { result ≡ true → 1 ≤ length self.now.text }
+    {
         self.writer.get_ref().len() >= LONG_PIECE
     }
 

@@ -1,0 +1,44 @@
+-- A script of what was seen: one that opens a desk as this one was opened, makes its events, and steps as far.
+use Rattle.std.specs.Prelude.{ℕ, ◌==◌, if◌then◌else◌, List, [], ◌∷◌, ◌++◌, codes, map}
+use Rattle.std.specs.Fmt.{decimal}
+use Rattle.pf_scenario.specs.System.{System, near_horizon}
+use Rattle.pf_scenario.specs.declared.event.Event.{Event}
+use Rattle.pf_scenario.specs.declared.event.Event.TheVariants.{Join, Leave, Delay, Limit}
+use Rattle.pf_scenario.specs.declared.event.Numbered.{Numbered}
+use Rattle.pf_desk.specs.Desk.{Seen}
+use Rattle.pf_report.specs.Tables.{table_text}
+
+-- `pfair,2` where the settings are wide
+abbrev pub heading_records : System → List (List (List ℕ))
+heading_records settings = if settings.horizon == near_horizon then [] else (codes "pfair" ∷ codes "2" ∷ []) ∷ []
+
+-- `settings,M,BASE,CAP,EVERY`, with so many slots between checkpoints
+abbrev pub settings_record : System → ℕ → List (List ℕ)
+settings_record settings every =
+    codes "settings" ∷ decimal settings.processors ∷ decimal settings.base ∷ decimal settings.cap ∷ decimal every ∷ []
+
+-- the record that inserts an event
+abbrev pub insert_record : Event → List (List ℕ)
+insert_record (Join slot task cost period early) =
+    codes "join" ∷ decimal slot ∷ decimal task ∷ decimal cost ∷ decimal period ∷ decimal early ∷ []
+insert_record (Leave slot task) = codes "leave" ∷ decimal slot ∷ decimal task ∷ []
+insert_record (Delay slot task by) = codes "delay" ∷ decimal slot ∷ decimal task ∷ decimal by ∷ []
+insert_record (Limit slot count) = codes "limit" ∷ decimal slot ∷ decimal count ∷ []
+
+-- one for each of these events, in their order
+abbrev pub insert_records : List Numbered → List (List (List ℕ))
+insert_records events = map (λ x. insert_record x.event) events
+
+-- `step,N`, and none where no slot was stepped
+abbrev pub step_records : ℕ → List (List (List ℕ))
+step_records n = if n == 0 then [] else (codes "step" ∷ decimal n ∷ []) ∷ []
+
+-- the records of the script: the settings, behind the heading where they are wide; the events held, by number; the steps
+abbrev pub script_rows : ℕ → Seen → List (List (List ℕ))
+script_rows every seen =
+    heading_records seen.state.plan.settings
+    ++ settings_record seen.state.plan.settings every ∷ (insert_records seen.state.plan.events ++ step_records seen.state.now)
+
+-- its text, where the desk has so many slots between checkpoints
+unfoldable pub script_text_of : ℕ → Seen → List ℕ
+script_text_of every seen = table_text (script_rows every seen)

@@ -1,0 +1,160 @@
+ghost use Rattle.std.specs.Prelude.{◌≡◌, ◌≤◌, ◌∷◌, ◌++◌, [], length, map, IfOk, OnOk};
+ghost use Rattle.std.specs.Fmt.{decimal};
+ghost use Rattle.pf_report.specs.Page.{with_record};
+ghost use Rattle.pf_report.specs.Script.{heading_records, settings_record, insert_record, step_records, script_text_of};
+ghost use Rattle.pf_report.specs.Tables.{table_text};
+
+use crate::pieces::{Chain, LONG_PIECE, Pieces, Whole, gathered};
+use crate::table::Table;
+use pf_desk::snapshot::Snapshot;
+use pf_scenario::event::Event;
+use pf_scenario::events::Events;
+use pf_scenario::settings::{NEAR_HORIZON, Settings};
+use std::alloc::{AllocError, Global};
+use std::marker::Model;
+
+/// Adds a record of a word and these numbers.
+fn push_words(table: &mut Table, word: &str, numbers: &[u64]) -> Result<(), AllocError>
+    requires { table.old.fields ≡ [] }
+    ensures { OnOk result (table.new ≡ with_record table.old (word.now ∷ map decimal numbers.now)) }
+{
+    table.show(word)?;
+    for number in numbers {
+        table.show_number(*number)?;
+    }
+    table.end_record()
+}
+
+/// The record of a word and these numbers. Records of a script have different lengths, which those of a table have not:
+/// each is a table by itself.
+fn record_text(alloc: Global, word: &str, numbers: &[u64]) -> Result<Vec<u8>, AllocError>
+    ensures text { IfOk result (λ text. text.items ≡ table_text ((word.now ∷ map decimal numbers.now) ∷ [])) }
+    ensures some { IfOk result (λ text. 1 ≤ length text.items) }
+{
+    let mut table = Table::new(alloc);
+    push_words(&mut table, word, numbers)?;
+    table.finish()
+}
+
+/// The record that inserts an event.
+fn insert_text(alloc: Global, event: Event) -> Result<Vec<u8>, AllocError>
+    ensures text { IfOk result (λ text. text.items ≡ table_text (insert_record event ∷ [])) }
+    ensures some { IfOk result (λ text. 1 ≤ length text.items) }
+{
+    match event {
+        Event::Join {
+            slot,
+            task,
+            cost,
+            period,
+            early,
+        } => record_text(alloc, "join", &[slot, task, cost, period, early]),
+        Event::Leave { slot, task } => record_text(alloc, "leave", &[slot, task]),
+        Event::Delay { slot, task, by } => record_text(alloc, "delay", &[slot, task, by]),
+        Event::Limit { slot, count } => record_text(alloc, "limit", &[slot, count]),
+    }
+}
+
+/// The records that insert some events, in their order: each piece has as many of them as make it long.
+#[derive(Drop)]
+pub struct InsertPieces<'a> {
+    events: Events<'a>,
+}
+
+impl<'a> Model for InsertPieces<'a> {
+    ghost use Rattle.std.specs.Prelude.{ℕ, List};
+    ghost use Rattle.pf_report.specs.Script.{insert_records};
+    ghost use Rattle.pf_report.specs.Tables.{table_text};
+
+    ghost Value = { List ℕ };
+
+    ghost view = { λ p. table_text (insert_records p.events) };
+}
+
+impl Pieces for InsertPieces<'_> {
+    ghost left = { λ p. p };
+
+    fn next_piece(&mut self, alloc: Global) -> Result<Option<Vec<u8>>, AllocError> {
+        let Some(first) = self.events.next() else {
+            return Ok(None);
+        };
+        let mut piece = insert_text(alloc, first.event)?;
+        'events: while piece.len() < LONG_PIECE {
+            let Some(next) = self.events.next() else {
+                break;
+            };
+            piece.extend_from_slice(&insert_text(alloc, next.event)?)?;
+        }
+        Ok(Some(piece))
+    }
+}
+
+/// The heading of a script of wide settings; nothing for others.
+fn heading_text(alloc: Global, settings: Settings) -> Result<Vec<u8>, AllocError>
+    ensures { IfOk result (λ text. text.items ≡ table_text (heading_records settings)) }
+{
+    let mut table = Table::new(alloc);
+    if settings.horizon() != NEAR_HORIZON {
+        table.push_texts(&["pfair", "2"])?;
+    }
+    table.finish()
+}
+
+/// What a script begins with: the settings, behind the heading where they are wide.
+fn opening_text(alloc: Global, settings: Settings, every: u64) -> Result<Vec<u8>, AllocError>
+    ensures { IfOk result (λ text. text.items ≡ table_text (heading_records settings) ++ table_text (settings_record settings every ∷ [])) }
+{
+    let processors = u64::from(settings.processors());
+    let base = u64::from(settings.base().get());
+    let numbers = [processors, base, settings.cap(), every];
+    let mut text = heading_text(alloc, settings)?;
+    text.extend_from_slice(&record_text(alloc, "settings", &numbers)?)?;
+    Ok(text)
+}
+
+/// What a script ends with: the steps, where there are some.
+fn steps_text(alloc: Global, count: u64) -> Result<Vec<u8>, AllocError>
+    ensures { IfOk result (λ text. text.items ≡ table_text (step_records count)) }
+{
+    if count == 0 {
+        return Ok(Vec::new(alloc));
+    }
+    record_text(alloc, "step", &[count])
+}
+
+/// A script in pieces: its opening, then the events, then the steps.
+pub type ScriptPieces<'a> = Chain<Whole, Chain<InsertPieces<'a>, Whole>>;
+
+/// A script of what was seen, in pieces: the heading `pfair,2` where the settings are wide; the settings, with `every` slots
+/// between checkpoints, which a snapshot does not tell; an insert for each event held, by number; the steps, where there
+/// are some. Scripts with ordinary settings have no limits of processors: where such a desk holds one, its record stands
+/// here too, but no script of that version may have it.
+///
+/// # Errors
+///
+/// Where memory is refused.
+pub fn script_pieces(
+    alloc: Global,
+    snapshot: &Snapshot,
+    every: u64,
+) -> Result<ScriptPieces<'_>, AllocError>
+    ensures { IfOk result (λ pieces. pieces ≡ script_text_of every snapshot.now) }
+{
+    let opening = Whole::new(opening_text(alloc, snapshot.settings(), every)?);
+    let steps = Whole::new(steps_text(alloc, snapshot.now())?);
+    let inserts = InsertPieces {
+        events: snapshot.events(),
+    };
+    Ok(Chain::new(opening, Chain::new(inserts, steps)))
+}
+
+/// The same script in whole.
+///
+/// # Errors
+///
+/// Where memory is refused.
+pub fn script_text(alloc: Global, snapshot: &Snapshot, every: u64) -> Result<Vec<u8>, AllocError>
+    ensures { IfOk result (λ text. text.items ≡ script_text_of every snapshot.now) }
+{
+    gathered(alloc, script_pieces(alloc, snapshot, every)?)
+}
