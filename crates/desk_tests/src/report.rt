@@ -1,21 +1,39 @@
 //! The report of the strike in the past, also where memory is refused once: then the call is made again.
 
-use crate::commands::{join, strike};
+use crate::commands::{delay, join, leave, limit, strike};
 use crate::told::{desk_after, snapshot};
 use pf_admit::denial::Denial;
 use pf_desk::command::Command::Step;
 use pf_desk::snapshot::Snapshot;
+use pf_diff::diff::diff_text;
 use pf_report::denials::denials_csv;
 use pf_report::json::report_json;
 use pf_report::lags::lags_csv;
 use pf_report::misses::misses_csv;
 use pf_report::schedule::schedule_csv;
+use pf_report::script::script_text;
 use pf_scenario::settings::Settings;
 use std::alloc::{AllocError, Global};
 use std::test::Fail;
 
-/// Three tasks of weight 2/3 join in slot 0, on two processors; three steps; the third join is struck. Memory may be
-/// refused once.
+/// Three tasks of weight 2/3 join in slot 0, on two processors; three steps. Memory may be refused once.
+fn three(alloc: Global) -> Result<Snapshot, Fail> {
+    let commands = [
+        join(0, 1, 2, 3, 0),
+        join(0, 2, 2, 3, 0),
+        join(0, 3, 2, 3, 0),
+        Step,
+        Step,
+        Step,
+    ];
+    let desk = desk_after(alloc, Settings::new(2, 3, 6)?, 64, &commands)?;
+    match snapshot(&desk) {
+        Ok(snapshot) => Ok(snapshot),
+        Err(_) => Ok(snapshot(&desk)?),
+    }
+}
+
+/// The same, and then the third join is struck.
 fn struck(alloc: Global) -> Result<Snapshot, Fail> {
     let commands = [
         join(0, 1, 2, 3, 0),
@@ -130,6 +148,65 @@ fn the_json_text(rt: HostRuntime) -> Result<(), Fail> {
         "{\"denials\":[],\"entries\":7,\"lags\":[{\"cost\":2,\"lag\":0,\"period\":3,\"received\":2,\"task\":1},\
         {\"cost\":2,\"lag\":0,\"period\":3,\"received\":2,\"task\":2}],\"misses\":[],\"now\":3,\
         \"schedule\":[[[1,1],[2,1]],[[1,2],[2,2]],[null,null]]}";
+    assert_eq!(rt; text.as_slice(), wanted.as_bytes());
+    Ok(())
+}
+
+/// An event of each kind, in wide settings, and a step. Memory may be refused once.
+fn each_kind(alloc: Global) -> Result<Snapshot, Fail> {
+    let commands = [
+        join(0, 1, 1, 4, 3),
+        limit(4, 1),
+        leave(9, 1),
+        delay(2, 1, 5),
+        Step,
+    ];
+    let desk = desk_after(alloc, Settings::wide(2, 4, 8)?, 64, &commands)?;
+    match snapshot(&desk) {
+        Ok(snapshot) => Ok(snapshot),
+        Err(_) => Ok(snapshot(&desk)?),
+    }
+}
+
+/// The script of the desk. A caller that needs no clause of `script_text` calls this.
+fn script(alloc: Global, snapshot: &Snapshot) -> Result<Vec<u8>, AllocError> {
+    script_text(alloc, snapshot, 64)
+}
+
+#[test]
+fn the_script(rt: HostRuntime) -> Result<(), Fail> {
+    let snapshot = each_kind(rt.alloc())?;
+    let text = match script(rt.alloc(), &snapshot) {
+        Ok(text) => text,
+        Err(_) => {
+            println!(rt; "refused: script_text")?;
+            script(rt.alloc(), &snapshot)?
+        }
+    };
+    let records =
+        "pfair,2\nsettings,2,4,8,64\njoin,0,1,1,4,3\nlimit,4,1\nleave,9,1\ndelay,2,1,5\nstep,1\n";
+    assert_eq!(rt; text.as_slice(), records.as_bytes());
+    Ok(())
+}
+
+/// What differs between two snapshots. A caller that needs no clause of `diff_text` calls this.
+fn diff(alloc: Global, before: &Snapshot, after: &Snapshot) -> Result<Vec<u8>, AllocError> {
+    diff_text(alloc, before, after)
+}
+
+#[test]
+fn what_differs(rt: HostRuntime) -> Result<(), Fail> {
+    let before = three(rt.alloc())?;
+    let after = struck(rt.alloc())?;
+    let text = match diff(rt.alloc(), &before, &after) {
+        Ok(text) => text,
+        Err(_) => {
+            println!(rt; "refused: diff_text")?;
+            diff(rt.alloc(), &before, &after)?
+        }
+    };
+    let wanted = "schedule\nslot,processor,before,after\n1,1,3/1,2/2\n2,0,2/2,\n2,1,3/2,\n\
+        lags\ntask,before,after\n3,0,\nmisses\ntask,sub,before,after\ndenials\nevent,slot,before,after\n";
     assert_eq!(rt; text.as_slice(), wanted.as_bytes());
     Ok(())
 }

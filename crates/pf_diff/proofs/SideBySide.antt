@@ -1,0 +1,116 @@
+-- What differs between two schedules, slot by slot and processor by processor.
+use Rattle.std.proofs.Common.{◌≡◌, ◌∙◌, ◌⊎◌, ℕ, zero, suc, ◌+◌, ◌<◌, ◌≤◌, List, [], ◌∷◌, ◌++◌, Option, Some, None, Result, Ok, Err, length, drop, min, ⊎_elim, inl, inr, ap, sym, refl, append_assoc, arith}
+use Rattle.std.specs.Prelude.{OnOk}
+use Rattle.std.specs.List.{slice_get}
+use Rattle.std.proofs.Math.ListN.{drop_of_length-le}
+use Rattle.std.proofs.lemmas.Grind.{flat_map-append}
+use Rattle.std.proofs.Math.Nat.{min-le_left, min-le_right, le-min}
+use Rattle.std.proofs.lemmas.List.{at_drop_more, append-nil}
+use Rattle.csv.specs.Writing.{row_text, default_writer}
+use Rattle.pf_order.specs.declared.pick.Pick.{Pick}
+use Rattle.pf_place.specs.Occupancy.{sitter}
+use Rattle.pf_tally.proofs.Noting.{got_at}
+use Rattle.pf_report.specs.Page.{Page}
+use Rattle.pf_report.specs.Tables.{table_text}
+use Rattle.pf_diff.specs.Diff.{sitter_changes, row_changes, slot_changes}
+use Rattle.pf_diff.specs.Written.{with_records, AddsSlot}
+
+-- the text of records behind others
+pub table_append : (xs ys : List (List (List ℕ))) → table_text (xs ++ ys) ≡ table_text xs ++ table_text ys
+table_append xs ys = flat_map-append (row_text default_writer) xs ys
+
+-- the processors from p on: p, and those behind it
+row_more : (t p : ℕ) (xs ys : List (Option Pick)) → p < length xs → p < length ys
+    → row_changes t p (drop p xs) (drop p ys)
+    ≡ sitter_changes t p (sitter xs p) (sitter ys p) ++ row_changes t (p + 1) (drop (p + 1) xs) (drop (p + 1) ys)
+row_more t p xs ys first second =
+    at_drop_more (λ row. row_changes t p row (drop p ys)) xs p None first
+    ∙ at_drop_more (λ row. row_changes t p (sitter xs p ∷ drop (p + 1) xs) row) ys p None second
+
+row_none : (t p : ℕ) (row : List (Option Pick)) → row_changes t p row [] ≡ []
+row_none t p [] = refl
+row_none t p (x ∷ xs) = refl
+
+slot_none : (t : ℕ) (rows : List (List (Option Pick))) → slot_changes t rows [] ≡ []
+slot_none t [] = refl
+slot_none t (x ∷ xs) = refl
+
+within_or : (n p : ℕ) → (n ≤ p) ⊎ (p < n)
+within_or zero p = inl (omega arith)
+within_or (suc n) zero = inr (omega arith)
+within_or (suc n) (suc p) = ⊎_elim (λ h. inl (omega (arith, h))) (λ h. inr (omega (arith, h))) (within_or n p)
+
+-- what both have up to their lesser length
+below_both : (a b p : ℕ) → p < min a b → (p < a) × (p < b)
+below_both a b p within = (omega (arith, within, min-le_left a b), omega (arith, within, min-le_right a b))
+
+past_one : (a b p : ℕ) → min a b ≤ p → (a ≤ p) ⊎ (b ≤ p)
+past_one a b p over = ⊎_elim inl (λ first. ⊎_elim inr (λ second. absurd (omega (arith, over, le-min {k = suc p} {a = a} {b = b} (omega (arith, first)) (omega (arith, second))))) (within_or b p)) (within_or a p)
+
+-- where one of the rows ends, no record is left
+pub row_end : (t p : ℕ) (xs ys : List (Option Pick)) → min (length xs) (length ys) ≤ p → row_changes t p (drop p xs) (drop p ys) ≡ []
+row_end t p xs ys over =
+    ⊎_elim (λ first. ap (λ row. row_changes t p row (drop p ys)) (drop_of_length-le xs first))
+    (λ second. ap (row_changes t p (drop p xs)) (drop_of_length-le ys second) ∙ row_none t p (drop p xs))
+    (past_one (length xs) (length ys) p over)
+
+-- the text of the processors from p on, where those of p are written
+pub row_written : (text whole : List ℕ) (t p : ℕ) (xs ys : List (Option Pick)) → p < min (length xs) (length ys)
+    → text ++ table_text (row_changes t p (drop p xs) (drop p ys)) ≡ whole
+    → (text ++ table_text (sitter_changes t p (sitter xs p) (sitter ys p))) ++ table_text (row_changes t (p + 1) (drop (p + 1) xs) (drop (p + 1) ys)) ≡ whole
+row_written text whole t p xs ys within h =
+    let both = below_both (length xs) (length ys) p within in
+    append_assoc text _ _
+    ∙ ap (λ more. text ++ more) (sym (table_append (sitter_changes t p (sitter xs p) (sitter ys p)) (row_changes t (p + 1) (drop (p + 1) xs) (drop (p + 1) ys))))
+    ∙ ap (λ records. text ++ table_text records) (sym (row_more t p xs ys both.0 both.1))
+    ∙ h
+
+-- the text of all processors
+pub row_done : (text before : List ℕ) (t p : ℕ) (xs ys : List (Option Pick)) → min (length xs) (length ys) ≤ p
+    → text ++ table_text (row_changes t p (drop p xs) (drop p ys)) ≡ before ++ table_text (row_changes t 0 xs ys)
+    → text ≡ before ++ table_text (row_changes t 0 xs ys)
+row_done text before t p xs ys over h =
+    sym (append-nil text) ∙ sym (ap (λ records. text ++ table_text records) (row_end t p xs ys over)) ∙ h
+
+-- the slots from t on: t, and those behind it
+slot_more : (t : ℕ) (xs ys : List (List (Option Pick))) (x y : List (Option Pick)) → t < length xs → t < length ys
+    → Some x ≡ slice_get xs t → Some y ≡ slice_get ys t
+    → slot_changes t (drop t xs) (drop t ys) ≡ row_changes t 0 x y ++ slot_changes (t + 1) (drop (t + 1) xs) (drop (t + 1) ys)
+slot_more t xs ys x y first second is-x is-y =
+    at_drop_more (λ rows. slot_changes t rows (drop t ys)) xs t x first
+    ∙ ap (λ r. slot_changes t (r ∷ drop (t + 1) xs) (drop t ys)) (got_at xs t x is-x)
+    ∙ at_drop_more (λ rows. slot_changes t (x ∷ drop (t + 1) xs) rows) ys t y second
+    ∙ ap (λ r. slot_changes t (x ∷ drop (t + 1) xs) (r ∷ drop (t + 1) ys)) (got_at ys t y is-y)
+
+-- where one of the schedules ends, no record is left
+pub slot_end : (t : ℕ) (xs ys : List (List (Option Pick))) → min (length xs) (length ys) ≤ t → slot_changes t (drop t xs) (drop t ys) ≡ []
+slot_end t xs ys over =
+    ⊎_elim (λ first. ap (λ rows. slot_changes t rows (drop t ys)) (drop_of_length-le xs first))
+    (λ second. ap (slot_changes t (drop t xs)) (drop_of_length-le ys second) ∙ slot_none t (drop t xs))
+    (past_one (length xs) (length ys) t over)
+
+-- what differs in slot t was added to a page
+pub slot_added : (t : ℕ) (xs ys : List (List (Option Pick))) (x y : List (Option Pick)) (old new : Page) → t < length xs → t < length ys
+    → Some x ≡ slice_get xs t → Some y ≡ slice_get ys t → new ≡ with_records old (row_changes t 0 x y) → AddsSlot t xs ys old new
+slot_added t xs ys x y old new first second is-x is-y e =
+    let behind = slot_changes (t + 1) (drop (t + 1) xs) (drop (t + 1) ys) in
+    record {
+      text = ap (λ (page : Page). page.text ++ table_text behind) e
+          ∙ append_assoc old.text (table_text (row_changes t 0 x y)) (table_text behind)
+          ∙ ap (λ more. old.text ++ more) (sym (table_append (row_changes t 0 x y) behind))
+          ∙ ap (λ records. old.text ++ table_text records) (sym (slot_more t xs ys x y first second is-x is-y));
+      fields = ap (λ (page : Page). page.fields) e;
+    }
+
+-- all processors of a slot are written to a page
+pub row_page : (page old : Page) (t p : ℕ) (xs ys : List (Option Pick)) → min (length xs) (length ys) ≤ p
+    → page.text ++ table_text (row_changes t p (drop p xs) (drop p ys)) ≡ old.text ++ table_text (row_changes t 0 xs ys) → page.fields ≡ []
+    → page ≡ with_records old (row_changes t 0 xs ys)
+row_page page old t p xs ys over h none = λ i. record { text = row_done page.text old.text t p xs ys over h i; fields = none i }
+
+-- the slot was added to a page, where its records were
+pub slot_pushed : {A E : Type 0} (r : Result A E) (t : ℕ) (xs ys : List (List (Option Pick))) (x y : List (Option Pick)) (old new : Page)
+    → t < length xs → t < length ys → Some x ≡ slice_get xs t → Some y ≡ slice_get ys t
+    → OnOk r (new ≡ with_records old (row_changes t 0 x y)) → OnOk r (AddsSlot t xs ys old new)
+slot_pushed (Ok v) t xs ys x y old new first second is-x is-y h = slot_added t xs ys x y old new first second is-x is-y h
+slot_pushed (Err e) t xs ys x y old new first second is-x is-y h = tt

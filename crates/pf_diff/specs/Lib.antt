@@ -1,0 +1,4 @@
+pub mod Changes
+pub mod Diff
+pub mod Written
+pub mod Examples
