@@ -19,7 +19,7 @@ from pictures import chart, listed_tasks, picture
 MOST_PROCESSORS, LARGEST_TASK, LARGEST_BASE, LARGEST_CAP, LARGEST_EVERY = 64, 4_095, 2**30, 2**44, 4_096
 LARGEST_EARLY, LARGEST_DELAY, MOST_EVENTS, LARGEST_NUMBER = 2**20, 2**20, 65_535, 1_048_575
 HORIZONS = {1: 2**20, 2: 2**22}
-LONGEST_SCRIPT = 16_777_216
+LONGEST_SCRIPT, MOST_DRAWN = 16_777_216, 4_096
 
 NAMES = {10: "EventNotFound", 11: "SlotOutOfRange", 12: "TaskOutOfRange", 13: "EarlyOutOfRange", 14: "DelayOutOfRange",
          15: "BadWeight", 16: "JoinTwice", 17: "LeaveTwice", 18: "TooManyEvents", 19: "NumbersSpent",
@@ -560,6 +560,40 @@ def events_table(scenario):
                   for number, event in sorted(scenario.events.items())))
 
 
+def script(desk):
+    """A script of the desk as it stands: its settings, the events held, by number, and the slots stepped."""
+    settings, events = desk.scenario.settings, desk.scenario.events
+    lines = [("pfair", 2)] if settings.horizon == HORIZONS[2] else []
+    lines.append(("settings", settings.processors, settings.base, settings.cap, settings.every))
+    lines += [(event.kind, *(getattr(event, each) for each in EVENTS[event.kind])) for _, event in sorted(events.items())]
+    lines += [("step", desk.now)] if desk.now else []
+    return table(lines[0], lines[1:])
+
+
+def found(placed):
+    """What three reports of a run have by key: the lags, the misses and the denials."""
+    return ({(task,): lag for task, _, _, _, lag in lags(placed)},
+            {(task, sub): "never" if ran is None else f"ran {ran}" for task, sub, _, ran in misses(placed)},
+            {(event, slot): NAMES[code] for slot, event, code in placed.run.denials})
+
+
+def differences(before, after):
+    """The keys at which two reports differ, with what the one and the other have there."""
+    return [(*key, before.get(key), after.get(key)) for key in sorted({**before, **after})
+            if before.get(key) != after.get(key)]
+
+
+def diff(before, after):
+    """What differs between two runs: their schedules, as far as both go, their lags, misses and denials."""
+    text = "schedule\n" + table(("slot", "processor", "before", "after"), (
+        (t, p, name(old), name(new)) for t, rows in enumerate(zip(before.rows, after.rows))
+        for p, (old, new) in enumerate(zip(*rows)) if old != new))
+    keys = (("lags", "task"), ("misses", "task", "sub"), ("denials", "event", "slot"))
+    for (title, *names), old, new in zip(keys, found(before), found(after)):
+        text += title + "\n" + table((*names, "before", "after"), differences(old, new))
+    return text
+
+
 def figures(task):
     """The figures of a task that was admitted, behind its number and weight."""
     quanta = [window for window in task.windows if window.ran is not None]
@@ -612,6 +646,9 @@ def meaning(script, view):
     told, lines = answers(script)
     text = "".join(line + "\n" for line in lines) if view.has_replies() else ""
     if isinstance(told, Desk):
+        first, end = view.range(told.now)
+        if view.form == "svg" and end - first > MOST_DRAWN:
+            return b"", b"range too long\n", 2
         return (text + told.report(view)).encode(), b"", 0
     return text.encode(), f"bad record {told}\n".encode(), 1
 

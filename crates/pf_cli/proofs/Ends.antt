@@ -10,15 +10,15 @@ use Rattle.pf_script.specs.declared.version.Version.TheVariants.{First, Second}
 use Rattle.pf_script.specs.Grammar.{horizon_of, is_heading, line_of, opening_of}
 use Rattle.pf_script.specs.Script.{script_records}
 use Rattle.pf_words.specs.declared.format.Format.{Format}
-use Rattle.pf_words.specs.Formats.{range_of}
-use Rattle.pf_words.specs.Ranges.{is_within}
+use Rattle.pf_words.specs.declared.range_fault.RangeFault.{RangeFault}
+use Rattle.pf_words.specs.Formats.{range_fault}
 use Rattle.pf_desk.specs.Desk.{Seen}
 use Rattle.pf_desk.specs.Machine.{opening_state}
 use Rattle.pf_check.specs.Laws as check
 use Rattle.pf_check.specs.Reports.{Report, reports}
 use Rattle.pf_check.proofs.FirstFaults.{first_fault_ends_reading}
 use Rattle.pf_cli.specs.Laws.{RunsEndAtTheFirstFault, EndsAt, EndsWhole}
-use Rattle.pf_cli.specs.Meaning.{End, Done, BadRecord, Outside, Meaning, ScriptCourse, commands_of, course_behind, report_meaning, report_text, seen_at, line_meaning, lines_meaning, settings_meaning, system_opened_by, opening_meaning, records_meaning, script_meaning}
+use Rattle.pf_cli.specs.Meaning.{End, BadRecord, ScriptCourse, Meaning, text_unless, commands_of, course_behind, report_meaning, report_text, seen_at, line_meaning, lines_meaning, settings_meaning, system_opened_by, opening_meaning, records_meaning, script_meaning}
 use Rattle.pf_cli.proofs.Openings.{short_meaning}
 
 -- at a bad record of this number, or at none
@@ -26,14 +26,13 @@ abbrev pub EndsBy : Format → Option ℕ → End → Type 0
 EndsBy format None end = EndsWhole format end
 EndsBy format (Some number) end = end ≡ BadRecord number
 
--- the report ends well, or its range is not within the slots
+-- the report ends well, or its range can't be shown
 report_end : (format : Format) (seen : Seen) → EndsWhole format (report_meaning format seen).end
-report_end format seen = by (is_within (range_of format) seen.state.now) refl
+report_end format seen = by (range_fault format seen.state.now) refl
   where
-    by : (b : Bool) → is_within (range_of format) seen.state.now ≡ b
-        → EndsWhole format (if◌then◌else◌ {A = Meaning} b (record { text = report_text format seen; end = Done }) (record { text = []; end = Outside seen.state.now })).end
-    by true within = inl refl
-    by false outside = inr (seen.state.now, refl, outside)
+    by : (fault : Option RangeFault) → range_fault format seen.state.now ≡ fault → EndsWhole format (text_unless fault (report_text format seen)).end
+    by None fits = inl refl
+    by (Some fault) is = inr (seen.state.now, fault, refl, is)
 
 line_end : (format : Format) (version : Version) (number : ℕ) (c : ScriptCourse) (records : List (List (List ℕ))) (line : Option Line)
     → ((d : ScriptCourse) → EndsBy format (check.bad_line version (number + 1) records) (lines_meaning format version (number + 1) d records).end)

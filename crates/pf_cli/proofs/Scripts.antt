@@ -10,7 +10,7 @@ use Rattle.pf_script.specs.Grammar.{line_of}
 use Rattle.pf_stream.specs.Written.{TookAllBut, TookFront}
 use Rattle.pf_stream.proofs.Sending.{so-far-finished, so-far-unfinished, took-before}
 use Rattle.pf_cli.specs.declared.fault.RunFault.{RunFault}
-use Rattle.pf_cli.specs.declared.fault.RunFault.TheVariants.{BadLine, ReadFault, WriteFault, ScriptTooLong, NotWithin, NoMemory}
+use Rattle.pf_cli.specs.declared.fault.RunFault.TheVariants.{BadLine, ReadFault, WriteFault, ScriptTooLong, BadRange, NoMemory}
 use Rattle.pf_cli.specs.declared.output_fault.OutputFault.{OutputFault}
 use Rattle.pf_cli.specs.declared.output_fault.OutputFault.TheVariants.{Write, Memory}
 use Rattle.pf_words.specs.declared.format.Format.{Format}
@@ -116,7 +116,7 @@ pub rest_answers : {A : Type 0} (s : BatchingSession) (rest whole : Meaning) (re
 rest_answers s rest whole (Ok done) start mid new left past a = (sym left.end ∙ a.0, so-far-finished start mid new _ _ left.text a.1)
 rest_answers s rest whole (Err (BadLine number)) start mid new left past a = (sym left.end ∙ a.0, so-far-finished start mid new _ _ left.text a.1)
 rest_answers s rest whole (Err ScriptTooLong) start mid new left past a = (sym left.end ∙ a.0, so-far-finished start mid new _ _ left.text a.1)
-rest_answers s rest whole (Err (NotWithin now)) start mid new left past a = (sym left.end ∙ a.0, so-far-finished start mid new _ _ left.text a.1)
+rest_answers s rest whole (Err (BadRange range)) start mid new left past a = (sym left.end ∙ a.0, so-far-finished start mid new _ _ left.text a.1)
 rest_answers s rest whole (Err ReadFault) start mid new left past a = absurd past
 rest_answers s rest whole (Err WriteFault) start mid new left past a = so-far-unfinished start mid new _ _ left.text a
 rest_answers s rest whole (Err NoMemory) start mid new left past a = so-far-unfinished start mid new _ _ left.text a
@@ -154,7 +154,7 @@ pub answers_behind : {A : Type 0} (m : Meaning) (result : Result A RunFault) (wa
 answers_behind m (Ok done) waiting text old mid new h past a = (a.0, appends_on waiting text m.text old mid new h a.1)
 answers_behind m (Err (BadLine number)) waiting text old mid new h past a = (a.0, appends_on waiting text m.text old mid new h a.1)
 answers_behind m (Err ScriptTooLong) waiting text old mid new h past a = (a.0, appends_on waiting text m.text old mid new h a.1)
-answers_behind m (Err (NotWithin now)) waiting text old mid new h past a = (a.0, appends_on waiting text m.text old mid new h a.1)
+answers_behind m (Err (BadRange range)) waiting text old mid new h past a = (a.0, appends_on waiting text m.text old mid new h a.1)
 answers_behind m (Err ReadFault) waiting text old mid new h past a = absurd past
 answers_behind m (Err WriteFault) waiting text old mid new h past a = front_on waiting text m.text old mid new h a
 answers_behind m (Err NoMemory) waiting text old mid new h past a = front_on waiting text m.text old mid new h a

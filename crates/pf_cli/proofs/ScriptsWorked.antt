@@ -45,7 +45,7 @@ whole = record { tables = refl; schedule = refl; second_version = refl }
 
 ranges : Ranges
 unfolding digits escaped fields_text is_blank next_record records_from strip_bom release_of deadline_of bit_of group_of priority_cmp row_of run_cmp events_of done in_force inside load_of count_of shift_of member_of ready course_of rows_in denials_in schedule_part_text number_of is_word is_heading settings_of opening_of join_of_fields event_of strike_of alter_of change_of steps_of edit_of line_of reply_line report_text script_meaning
-ranges = record { one = refl; from = refl; to = refl; empty = refl; beyond = refl; behind = refl; turned = refl; bad = refl }
+ranges = record { one = refl; from = refl; to = refl; empty = refl; beyond = refl; behind = refl; turned = refl; picture = refl; bad = refl }
 
 pub worked_scripts : WorkedScripts
 worked_scripts = record { whole = whole; ranges = ranges; bad = bad }

@@ -5,7 +5,7 @@ use Rattle.pf_stream.specs.declared.reading.ReadingFault.{ReadingFault}
 use Rattle.pf_stream.specs.declared.reading.ReadingFault.TheVariants as reading
 use Rattle.pf_stream.specs.Written.{TookFront}
 use Rattle.pf_cli.specs.declared.fault.RunFault.{RunFault}
-use Rattle.pf_cli.specs.declared.fault.RunFault.TheVariants.{BadLine, ReadFault, WriteFault, ScriptTooLong, NotWithin, NoMemory}
+use Rattle.pf_cli.specs.declared.fault.RunFault.TheVariants.{BadLine, ReadFault, WriteFault, ScriptTooLong, BadRange, NoMemory}
 use Rattle.pf_cli.specs.declared.output_fault.OutputFault.{OutputFault}
 use Rattle.pf_cli.specs.declared.output_fault.OutputFault.TheVariants as output
 use Rattle.pf_cli.specs.Meaning.{Meaning, Done, BadRecord, TooLong, Outside}
@@ -16,7 +16,7 @@ abbrev pub Answers : {A : Type 0} → Meaning → Result A RunFault → Option (
 Answers m (Ok done) old new = (m.end ≡ Done) × Appends old new m.text
 Answers m (Err (BadLine number)) old new = (m.end ≡ BadRecord number) × Appends old new m.text
 Answers m (Err ScriptTooLong) old new = (m.end ≡ TooLong) × Appends old new m.text
-Answers m (Err (NotWithin now)) old new = (m.end ≡ Outside now) × Appends old new m.text
+Answers m (Err (BadRange fault)) old new = (m.end ≡ Outside fault) × Appends old new m.text
 Answers m (Err ReadFault) old new = Keeps old new
 Answers m (Err WriteFault) old new = TookFront old new m.text
 Answers m (Err NoMemory) old new = TookFront old new m.text
@@ -30,9 +30,9 @@ abbrev pub CountsWrites : {A : Type 0} → Result A RunFault → ℕ → ℕ →
 CountsWrites (Err WriteFault) old new = new ≡ old + 1
 CountsWrites result old new = new ≡ old
 
--- the range of the format was not within the slots stepped
+-- the range of the format can't be shown
 abbrev pub IsOutside : {A : Type 0} → Result A RunFault → Type 0
-IsOutside (Err (NotWithin now)) = ⊤
+IsOutside (Err (BadRange fault)) = ⊤
 IsOutside result = ⊥
 
 -- the reader didn't fail

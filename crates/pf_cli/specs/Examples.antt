@@ -1,7 +1,8 @@
 -- Worked examples of what scripts mean.
 use Rattle.std.specs.Prelude.{◌≡◌, ℕ, List, [], ◌++◌, Option, Some, None, codes}
 use Rattle.pf_words.specs.declared.format.Format.{Format}
-use Rattle.pf_words.specs.declared.format.Format.TheVariants.{Schedule, Tables}
+use Rattle.pf_words.specs.declared.format.Format.TheVariants.{Schedule, Tables, Svg}
+use Rattle.pf_words.specs.declared.range_fault.RangeFault.TheVariants.{NotWithin}
 use Rattle.pf_words.specs.Ranges.{whole}
 use Rattle.pf_cli.specs.Meaning.{End, Done, BadRecord, Outside, script_meaning}
 
@@ -41,9 +42,10 @@ pub record Ranges : Type 0 where
   pub from : Means (schedule_of (Some 2) None) three_tasks_script (codes "slot,p0,p1\n2,2/2,3/2\n") Done
   pub to : Means (schedule_of None (Some 1)) three_tasks_script (codes "slot,p0,p1\n0,1/1,2/1\n") Done
   pub empty : Means (schedule_of (Some 3) (Some 3)) three_tasks_script (codes "slot,p0,p1\n") Done
-  pub beyond : Means (schedule_of None (Some 4)) three_tasks_script [] (Outside 3)
-  pub behind : Means (schedule_of (Some 4) None) three_tasks_script [] (Outside 3)
-  pub turned : Means (schedule_of (Some 2) (Some 1)) three_tasks_script [] (Outside 3)
+  pub beyond : Means (schedule_of None (Some 4)) three_tasks_script [] (Outside (NotWithin 3))
+  pub behind : Means (schedule_of (Some 4) None) three_tasks_script [] (Outside (NotWithin 3))
+  pub turned : Means (schedule_of (Some 2) (Some 1)) three_tasks_script [] (Outside (NotWithin 3))
+  pub picture : Means (Svg (record { from = None; to = Some 4 }) 20) three_tasks_script [] (Outside (NotWithin 3))
   -- a bad record comes first
   pub bad : Means (schedule_of None (Some 4)) (codes "settings,1,2,2,1\nstep\njoin,0,1") [] (BadRecord 3)
 

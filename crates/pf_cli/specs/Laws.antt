@@ -1,15 +1,15 @@
 -- The laws of checks and runs.
-use Rattle.std.specs.Prelude.{ℕ, ◌≡◌, ◌≤◌, ◌⊎◌, false, List, [], ◌∷◌, length}
+use Rattle.std.specs.Prelude.{ℕ, ◌≡◌, ◌≤◌, ◌⊎◌, Some, List, [], ◌∷◌, length}
 use Rattle.pf_words.specs.declared.format.Format.{Format}
-use Rattle.pf_words.specs.Formats.{range_of}
-use Rattle.pf_words.specs.Ranges.{is_within}
+use Rattle.pf_words.specs.declared.range_fault.RangeFault.{RangeFault}
+use Rattle.pf_words.specs.Formats.{range_fault}
 use Rattle.pf_stream.specs.Reading.{longest_script}
 use Rattle.pf_check.specs.Reports.{Report, reports}
 use Rattle.pf_cli.specs.Meaning.{End, Done, BadRecord, Outside, script_meaning}
 
--- a script without a bad record ends well, but where the range of its format is not within the slots stepped
+-- a script without a bad record ends well, but where the range of its format can't be shown
 abbrev pub EndsWhole : Format → End → Type 0
-EndsWhole format end = (end ≡ Done) ⊎ ((now : ℕ) × (end ≡ Outside now) × (is_within (range_of format) now ≡ false))
+EndsWhole format end = (end ≡ Done) ⊎ ((now : ℕ) × (fault : RangeFault) × (end ≡ Outside fault) × (range_fault format now ≡ Some fault))
 
 -- how a script ends in which a check finds these faults: at the record of the first one
 abbrev pub EndsAt : Format → List Report → End → Type 0
@@ -21,7 +21,7 @@ abbrev pub RunsEndAtTheFirstFault : Type 0
 RunsEndAtTheFirstFault = (format : Format) (bytes : List ℕ) → length bytes ≤ longest_script →
     EndsAt format (reports bytes) (script_meaning format bytes).end
 
--- a script has no text where the range of its format is not within the slots stepped
+-- a script has no text where the range of its format can't be shown
 abbrev pub NothingIsWrittenOutside : Type 0
-NothingIsWrittenOutside = (format : Format) (bytes : List ℕ) (now : ℕ) → (script_meaning format bytes).end ≡ Outside now →
+NothingIsWrittenOutside = (format : Format) (bytes : List ℕ) (fault : RangeFault) → (script_meaning format bytes).end ≡ Outside fault →
     (script_meaning format bytes).text ≡ []

@@ -14,6 +14,7 @@ use Rattle.pf_report.specs.Json.{json_text}
 use Rattle.pf_stats.specs.Processors.{processors_text}
 use Rattle.pf_stats.specs.Stats.{stats_text}
 use Rattle.pf_chart.specs.Chart.{chart_text_of}
+use Rattle.pf_picture.specs.Picture.{picture_text_of}
 use Rattle.pf_script.specs.declared.version.Version.{Version}
 use Rattle.pf_script.specs.declared.version.Version.TheVariants.{First, Second}
 use Rattle.pf_script.specs.declared.line.Line.{Line}
@@ -23,18 +24,19 @@ use Rattle.pf_stream.specs.Reading.{longest_script}
 use Rattle.pf_script.specs.Script.{script_records}
 use Rattle.pf_script.specs.Grammar.{horizon_of, is_heading, opening_of, line_of}
 use Rattle.pf_words.specs.declared.format.Format.{Format}
-use Rattle.pf_words.specs.declared.format.Format.TheVariants.{Schedule, Tables, Json, Report, Replies, Lags, Misses, Denials, Events, Processors, Stats, Chart}
-use Rattle.pf_words.specs.Formats.{has_replies, range_of}
-use Rattle.pf_words.specs.Ranges.{end_of, first_of, is_within}
+use Rattle.pf_words.specs.declared.format.Format.TheVariants.{Schedule, Tables, Json, Report, Replies, Lags, Misses, Denials, Events, Processors, Stats, Chart, Svg}
+use Rattle.pf_words.specs.declared.range_fault.RangeFault.{RangeFault}
+use Rattle.pf_words.specs.Formats.{has_replies, range_fault}
+use Rattle.pf_words.specs.Ranges.{end_of, first_of}
 use Rattle.pf_cli.specs.Replies.{reply_line, line_end}
 
--- how a script ends: well, at a bad record of this number, because it is too long, or because the range of its format is
--- not within the slots stepped, which are so many
+-- how a script ends: well, at a bad record of this number, because it is too long, or because the range of its format
+-- can't be shown of the slots stepped
 pub data End : Type 0 where
   Done : End
   BadRecord : ℕ → End
   TooLong : End
-  Outside : ℕ → End
+  Outside : RangeFault → End
 
 pub record Meaning : Type 0 where
   pub text : List ℕ
@@ -109,12 +111,16 @@ report_text Events seen = events_text seen
 report_text Processors seen = processors_text seen
 report_text Stats seen = stats_text seen
 report_text (Chart range) seen = chart_text_of seen (first_of range) (end_of range seen.state.now)
+report_text (Svg range cell) seen = picture_text_of seen (first_of range) (end_of range seen.state.now) cell
 
--- the report, where the range is within the slots stepped, and else nothing
+-- the text, or nothing where there is a fault of the range
+abbrev pub text_unless : Option RangeFault → List ℕ → Meaning
+text_unless None text = record { text = text; end = Done }
+text_unless (Some fault) text = record { text = []; end = Outside fault }
+
+-- the report, where the format can be shown of the slots stepped, and else nothing
 abbrev pub report_meaning : Format → Seen → Meaning
-report_meaning format seen =
-    if is_within (range_of format) seen.state.now then record { text = report_text format seen; end = Done }
-    else record { text = []; end = Outside seen.state.now }
+report_meaning format seen = text_unless (range_fault format seen.state.now) (report_text format seen)
 
 -- the record is this line, or it is bad
 abbrev pub line_meaning : Format → ℕ → ScriptCourse → (ScriptCourse → Meaning) → Option Line → Meaning

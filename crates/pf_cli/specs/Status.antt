@@ -2,7 +2,7 @@
 use Rattle.std.specs.Prelude.{ℕ, ◌≡◌, ◌+◌, List, Option, Some, None, IfSome, Result, Ok, Err, ◌==◌, if◌then◌else◌, ◌⊎◌}
 use Rattle.std.specs.Io.KnownBytes.{Appends, Keeps}
 use Rattle.pf_cli.specs.declared.fault.RunFault.{RunFault}
-use Rattle.pf_cli.specs.declared.fault.RunFault.TheVariants.{BadLine, ReadFault, WriteFault, ScriptTooLong, NotWithin, NoMemory}
+use Rattle.pf_cli.specs.declared.fault.RunFault.TheVariants.{BadLine, ReadFault, WriteFault, ScriptTooLong, BadRange, NoMemory}
 use Rattle.pf_words.specs.declared.format.Format.{Format}
 use Rattle.pf_words.specs.declared.request.WordsFault.{WordsFault}
 use Rattle.pf_words.specs.declared.request.WordsFault.TheVariants as words
@@ -14,13 +14,12 @@ use Rattle.pf_cli.specs.Answers.{Answers, CountsReads, CountsWrites, IsOutside}
 use Rattle.pf_cli.specs.Checks.{ChecksBytes}
 use Rattle.pf_cli.specs.Meaning.{script_meaning}
 
--- 0 done, 1 a script that is bad or too long, 2 a range that is not within the slots stepped, 3 a stream that failed, 4 no
--- memory
+-- 0 done, 1 a script that is bad or too long, 2 a range that can't be shown, 3 a stream that failed, 4 no memory
 abbrev pub status_of : {A : Type 0} → Result A RunFault → ℕ
 status_of (Ok done) = 0
 status_of (Err (BadLine number)) = 1
 status_of (Err ScriptTooLong) = 1
-status_of (Err (NotWithin now)) = 2
+status_of (Err (BadRange fault)) = 2
 status_of (Err ReadFault) = 3
 status_of (Err WriteFault) = 3
 status_of (Err NoMemory) = 4
@@ -49,8 +48,8 @@ abbrev pub seen_streams : Option (List ℕ) → ℕ → Option (List ℕ) → �
 seen_streams input failed_reads output failed_writes =
     record { input = input; failed_reads = failed_reads; output = output; failed_writes = failed_writes }
 
--- this answer is one to what the script means; the streams failed as it says, a reader that fails and a range that is not
--- within the slots stepped leave the writer as it was, and of a longer input at most a byte more than a script may have is taken
+-- this answer is one to what the script means; the streams failed as it says, a reader that fails and a range that can't be
+-- shown leave the writer as it was, and of a longer input at most a byte more than a script may have is taken
 pub record IsAnswer {A : Type 0} (format : Format) (answer : Result A RunFault) (old new : Streams) : Type 0 where
   pub meaning : IfSome old.input (λ bytes. Answers (script_meaning format bytes) answer old.output new.output)
   pub reads : CountsReads answer old.failed_reads new.failed_reads

@@ -121,12 +121,11 @@ impl BatchingSession {
         Ok(())
     }
 
-    /// Answers the edits that wait, puts the report where the range of the format is within the slots stepped, and writes
-    /// what waits.
+    /// Answers the edits that wait, puts the report where the format can be shown of the slots stepped, and writes what waits.
     ///
     /// # Errors
     ///
-    /// `NotWithin` where the range is not within them: what waits is written, and no report. `WriteFault` and `NoMemory`:
+    /// `BadRange` where it can't be shown of them: what waits is written, and no report. `WriteFault` and `NoMemory`:
     /// the writer has a front of the text.
     pub fn report<W: Sink>(self, alloc: Global, writer: &mut W) -> Result<(), RunFault>
         requires plain { All IsPlain self.waiting.items }

@@ -4,6 +4,7 @@ ghost use Rattle.pf_cli.specs.Answers.{fault_of_reading, fault_of_output};
 
 use crate::output_fault::OutputFault;
 use pf_stream::reading::ReadingFault;
+use pf_words::range_fault::RangeFault;
 use std::alloc::AllocError;
 use thiserror::Error;
 
@@ -22,9 +23,9 @@ pub enum RunFault {
     /// The script has more than 16,777,216 bytes.
     #[error("the script is longer than 16777216 bytes")]
     ScriptTooLong,
-    /// The range of the format is not within the slots stepped, which are so many.
-    #[error("range not within {0} slots")]
-    NotWithin(u64),
+    /// The range of the format can't be shown of the slots stepped.
+    #[error("{0}")]
+    BadRange(RangeFault),
     /// Memory was refused.
     #[error("out of memory")]
     NoMemory,

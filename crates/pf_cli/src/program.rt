@@ -29,7 +29,7 @@ const NO_TEXT: &str = "error: invalid UTF-8 was detected in one or more argument
 /// checks it and writes what it finds there, or writes help or the version. The script is that of the file that the words
 /// name, and else the reader's. Without words the script is run in the format `Tables`. The text of a fault goes to `faults`, whose own faults are passed over. Answers
 /// the status to exit with: 0 where the script was done, a check found no fault, or help was shown, 1 where the script has
-/// a bad record or is too long, 2 where the words are refused or mistaken, or ask for slots that were not stepped, 3 where the reader or the writer failed or
+/// a bad record or is too long, 2 where the words are refused or mistaken, or ask for slots that can't be shown, 3 where the reader or the writer failed or
 /// the file can't be opened or read, 4 where memory was refused. Words that ask for a run or a check and name no file, and no others,
 /// have the reader read; with any other the reader is as before. The counts of failures of reader and writer must be below `u64::MAX` before the call.
 pub fn main_words<H: AllocGlobal + Files, S: AsStr, R: Source, W: Sink, F: Write>(
@@ -49,8 +49,10 @@ pub fn main_words<H: AllocGlobal + Files, S: AsStr, R: Source, W: Sink, F: Write
 {
     let alloc = rt.alloc();
     match read_words(alloc, words) {
-        Ok(Request::Run(format, None)) => run_told(alloc, format, reader, writer, faults),
-        Ok(Request::Run(format, Some(file))) => run_file(rt, format, file.as_str(), writer, faults),
+        Ok(Request::Run(format, file)) => match file {
+            None => run_told(alloc, format, reader, writer, faults),
+            Some(file) => run_file(rt, format, file.as_str(), writer, faults),
+        },
         Ok(Request::Check(None)) => check_told(alloc, reader, writer, faults),
         Ok(Request::Check(Some(file))) => check_file(rt, file.as_str(), writer, faults),
         Ok(Request::Show(text)) => show(text.as_str(), writer, faults),
@@ -200,7 +202,7 @@ fn tell_outcome<F: Write>(outcome: Result<(), RunFault>, faults: &mut F) -> u8
     tell(&fault, faults);
     match fault {
         RunFault::BadLine(_) | RunFault::ScriptTooLong => 1,
-        RunFault::NotWithin(_) => 2,
+        RunFault::BadRange(_) => 2,
         RunFault::ReadFault | RunFault::WriteFault => 3,
         RunFault::NoMemory => 4,
     }

@@ -1,10 +1,12 @@
-ghost use Rattle.std.specs.Prelude.{◌≡◌, ◌-◌, ◌^◌, ◌<◌, ◌++◌, true, IfOk, OnOk, OnErr};
+ghost use Rattle.std.specs.Prelude.{◌≡◌, ◌-◌, ◌^◌, ◌<◌, ◌≤◌, ◌++◌, true, None, IfOk, OnOk, OnErr};
 ghost use Rattle.pf_chart.specs.Chart.{chart_text_of};
+ghost use Rattle.pf_picture.specs.Picture.{picture_text_of};
 ghost use Rattle.pf_report.specs.Json.{json_text};
 ghost use Rattle.pf_report.specs.Part.{schedule_part_text};
 ghost use Rattle.pf_stream.specs.Written.{TookAllBut, TookFront};
-ghost use Rattle.pf_words.specs.Formats.{range_of};
-ghost use Rattle.pf_words.specs.Ranges.{end_of, first_of, is_within};
+ghost use Rattle.pf_words.specs.declared.format.TheConstants.{MOST_SLOTS};
+ghost use Rattle.pf_words.specs.Formats.{range_fault};
+ghost use Rattle.pf_words.specs.Ranges.{end_of, first_of, is_within, slots_of};
 ghost use Rattle.pf_cli.specs.Answers.{CountsOutput};
 ghost use Rattle.pf_cli.specs.Meaning.{report_text, tables_text, text_under_title};
 ghost use Rattle.pf_cli.specs.Replies.{line_end};
@@ -12,6 +14,7 @@ ghost use Rattle.pf_cli.specs.Replies.{line_end};
 use crate::output_fault::OutputFault;
 use pf_chart::chart::{ChartPieces, chart_pieces};
 use pf_desk::snapshot::Snapshot;
+use pf_picture::picture::{PicturePieces, picture_pieces};
 use pf_report::denials::{DenialPieces, denial_pieces};
 use pf_report::events::events_csv;
 use pf_report::json::{JsonPieces, json_pieces};
@@ -24,12 +27,13 @@ use pf_stats::processors::processors_csv;
 use pf_stats::stats::stats_csv;
 use pf_stream::sink::Sink;
 use pf_stream::text_buffer::TextBuffer;
+use pf_words::cell::Cell;
 use pf_words::format::Format;
 use pf_words::slot_range::SlotRange;
 use std::alloc::{AllocError, Global};
 
-/// Puts what stands behind all replies, piece by piece. The range of the format is within the slots stepped. The writer's count of failures must be below `u64::MAX` before
-/// the call.
+/// Puts what stands behind all replies, piece by piece. The format can be shown of the slots stepped. The writer's count of
+/// failures must be below `u64::MAX` before the call.
 ///
 /// # Errors
 ///
@@ -42,7 +46,7 @@ pub fn put_report<W: Sink>(
     text: &mut TextBuffer,
     writer: &mut W,
 ) -> Result<(), OutputFault>
-    requires within { is_within (range_of format) snapshot.now.state.now ≡ true }
+    requires showable { range_fault format snapshot.now.state.now ≡ None }
     requires writes { W.failed writer.old < 2 ^ 64 - 1 }
     ensures ok { OnOk result
         (TookAllBut text.new (W.contents writer.old) (W.contents writer.new) (text.old ++ report_text format snapshot.now)) }
@@ -77,6 +81,12 @@ pub fn put_report<W: Sink>(
         Format::Chart(range) => {
             put_pieces(alloc, chart_of(alloc, snapshot, range)?, text, writer)
         }
+        Format::Svg(range, cell) => put_pieces(
+            alloc,
+            picture_of(alloc, snapshot, range, cell)?,
+            text,
+            writer,
+        ),
     }
 }
 
@@ -104,6 +114,22 @@ fn chart_of(
         (λ pieces. pieces ≡ chart_text_of snapshot.now (first_of range) (end_of range snapshot.now.state.now)) }
 {
     chart_pieces(alloc, snapshot, range.first(), range.end(snapshot.now()))
+}
+
+/// The picture of a range of slots, in pieces.
+fn picture_of(
+    alloc: Global,
+    snapshot: &Snapshot,
+    range: SlotRange,
+    cell: Cell,
+) -> Result<PicturePieces<'_>, AllocError>
+    requires within { is_within range snapshot.now.state.now ≡ true }
+    requires short { slots_of range snapshot.now.state.now ≤ MOST_SLOTS }
+    ensures { IfOk result
+        (λ pieces. pieces ≡ picture_text_of snapshot.now (first_of range) (end_of range snapshot.now.state.now) cell) }
+{
+    let to = range.end(snapshot.now());
+    picture_pieces(alloc, snapshot, range.first(), to, cell.get())
 }
 
 /// Puts pieces, one after another.

@@ -33,8 +33,8 @@ use std::alloc::Global;
 /// # Errors
 ///
 /// `BadLine` at a record that is none of the script's, behind the replies to the records before it. `ReadFault` where the
-/// reader fails and `ScriptTooLong` where it has more bytes than a script may: nothing was written. `NotWithin` where no record
-/// is bad and the range of the format is not within the slots stepped, whose number it tells: nothing was written, as a
+/// reader fails and `ScriptTooLong` where it has more bytes than a script may: nothing was written. `BadRange` where no record
+/// is bad and the range of the format can't be shown of the slots stepped, and it tells why: nothing was written, as a
 /// format with a range has no replies. `WriteFault` where the writer fails or takes nothing, and `NoMemory` where memory is refused: a front of the text was written.
 pub fn run<R: Source, W: Sink>(
     alloc: Global,

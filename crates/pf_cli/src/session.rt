@@ -1,12 +1,11 @@
-ghost use Rattle.std.specs.Prelude.{◌≡◌, ◌-◌, ◌^◌, ◌<◌, ◌≤◌, ◌++◌, [], ◌∷◌, true, All, codes, replicate, IfOk, OnOk, OnErr};
+ghost use Rattle.std.specs.Prelude.{◌≡◌, ◌-◌, ◌^◌, ◌<◌, ◌≤◌, ◌++◌, [], ◌∷◌, None, All, codes, replicate, IfOk, OnOk, OnErr};
 ghost use Rattle.std.specs.Io.KnownBytes.{Appends};
 ghost use Rattle.pf_desk.specs.declared.command.Command.TheVariants.{Step};
 ghost use Rattle.pf_desk.specs.Plain.{IsPlain};
 ghost use Rattle.pf_scenario.specs.Scenario.{slot_touched};
 ghost use Rattle.pf_timeline.specs.Checkpoints.{largest_distance};
 ghost use Rattle.pf_stream.specs.Written.{TookAllBut, TookFront};
-ghost use Rattle.pf_words.specs.Formats.{range_of};
-ghost use Rattle.pf_words.specs.Ranges.{is_within};
+ghost use Rattle.pf_words.specs.Formats.{range_fault};
 ghost use Rattle.pf_cli.specs.Answers.{Answers, CountsOutput, CountsWrites, IsPastReading};
 ghost use Rattle.pf_cli.specs.Meaning.{text_and_then, text_if_replies, commands_of, seen_at, report_meaning, report_text};
 ghost use Rattle.pf_cli.specs.Replies.{line_end};
@@ -176,11 +175,11 @@ impl Session {
         }
     }
 
-    /// Puts the report where the range of the format is within the slots stepped, and writes what waits.
+    /// Puts the report where the format can be shown of the slots stepped, and writes what waits.
     ///
     /// # Errors
     ///
-    /// `NotWithin` where the range is not within them: what waits is written, and no report. `WriteFault` and `NoMemory`:
+    /// `BadRange` where it can't be shown of them: what waits is written, and no report. `WriteFault` and `NoMemory`:
     /// the writer has a front of the text.
     pub fn report<W: Sink>(self, alloc: Global, writer: &mut W) -> Result<(), RunFault>
         requires { W.failed writer.old < 2 ^ 64 - 1 }
@@ -189,18 +188,17 @@ impl Session {
         ensures read { IsPastReading result }
         ensures writes { CountsWrites result (W.failed writer.old) (W.failed writer.new) }
     {
-        let now = self.desk.now();
-        if !self.format.range().is_within(now) {
+        if let Some(fault) = self.format.range_fault(self.desk.now()) {
             self.finish(writer)?;
-            return Err(RunFault::NotWithin(now));
+            return Err(RunFault::BadRange(fault));
         }
         self.report_within(alloc, writer)?;
         Ok(())
     }
 
-    /// Puts the report, the range of the format being within the slots stepped, and writes what waits.
+    /// Puts the report, which can be shown of the slots stepped, and writes what waits.
     fn report_within<W: Sink>(self, alloc: Global, writer: &mut W) -> Result<(), OutputFault>
-        requires within { is_within (range_of self.format) self.desk.state.now ≡ true }
+        requires showable { range_fault self.format self.desk.state.now ≡ None }
         requires writes { W.failed writer.old < 2 ^ 64 - 1 }
         ensures ok { OnOk result
             (Appends (W.contents writer.old) (W.contents writer.new) (self.lines ++ report_text self.format (seen_at (course_at self.desk)))) }

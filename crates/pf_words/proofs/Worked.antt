@@ -5,7 +5,7 @@ use Rattle.clap.specs.declared.error.kind.ErrorKind.TheVariants as kind
 use Rattle.pf_words.specs.CommandLine.{kinds_of}
 use Rattle.pf_words.specs.Asked.{IsShown, task_asked, file_asked}
 use Rattle.pf_script.specs.Fields.{number_of}
-use Rattle.pf_words.specs.Examples.{Runs, Ranged, Files, WorkedWords}
+use Rattle.pf_words.specs.Examples.{Runs, Ranged, Pictured, Files, Showable, WorkedWords}
 
 runs : Runs
 unfolding clap_on_literals kinds_of task_asked
@@ -15,9 +15,26 @@ ranged : Ranged
 unfolding clap_on_literals kinds_of task_asked number_of
 ranged = record { both = refl; from = refl; turned = refl; unranged = (refl, refl); tables = (refl, refl); no_number = (refl, refl) }
 
+pictured : Pictured
+unfolding clap_on_literals kinds_of task_asked number_of
+pictured = record {
+  usual = refl;
+  cell = refl;
+  least = refl;
+  most = refl;
+  narrow = (refl, refl);
+  wide = (refl, refl);
+  no_number = (refl, refl);
+  chart = (refl, refl);
+  tables = (refl, refl);
+}
+
 files : Files
 unfolding clap_on_literals kinds_of file_asked
 files = record { run = refl; before = refl; check = refl; dash = refl; none = refl }
+
+showable : Showable
+showable = record { most = refl; too_many = refl; part = refl; chart = refl; behind = refl; turned = refl }
 
 unknown_is_not_shown : ¬ IsShown kind.UnknownArgument
 unknown_is_not_shown (inl help) = cc
@@ -28,7 +45,9 @@ unfolding clap_on_literals kinds_of task_asked
 worked_words = record {
   runs = runs;
   ranged = ranged;
+  pictured = pictured;
   files = files;
+  showable = showable;
   check = refl;
   unknown = (refl, refl);
   option_alone = (kind.UnknownArgument, unknown_is_not_shown, inl refl);

@@ -14,9 +14,10 @@ use Rattle.pf_words.specs.declared.request.Request.TheVariants.{Run, Check, Show
 use Rattle.pf_words.specs.declared.request.WordsFault.{WordsFault}
 use Rattle.pf_words.specs.declared.request.WordsFault.TheVariants.{Refused, Mistaken, NoMemory}
 use Rattle.pf_words.specs.declared.mistake.Mistake.{Mistake}
-use Rattle.pf_words.specs.declared.mistake.Mistake.TheVariants.{UnknownFormat, BadNumber, NoRange}
+use Rattle.pf_words.specs.declared.mistake.Mistake.TheVariants.{UnknownFormat, BadNumber, NoRange, BadCell, NoCell}
 use Rattle.pf_words.specs.declared.slot_range.SlotRange.{SlotRange}
-use Rattle.pf_words.specs.Formats.{format_named, format_within}
+use Rattle.pf_words.specs.Cells.{cell_of}
+use Rattle.pf_words.specs.Formats.{format_named, format_with_cell, format_within}
 use Rattle.pf_words.specs.CommandLine.{file_behind, is_check, kinds_of, program, text_behind_run}
 use Rattle.pf_script.specs.Fields.{number_of}
 
@@ -52,11 +53,42 @@ format_given None range = Err UnknownFormat
 format_given (Some format) (Err mistake) = Err mistake
 format_given (Some format) (Ok range) = format_in_range (format_within format range)
 
--- the format of a run, by what was found of a subcommand
-abbrev pub format_of : Option (Text × List Row) → Result Format Mistake
-format_of found =
+-- the format of a run, of the slots that are asked for, by what was found of a subcommand
+abbrev pub format_found : Option (Text × List Row) → Result Format Mistake
+format_found found =
     format_given (format_or_tables (text_behind_run (codes "format") found))
     (range_given (number_given (text_behind_run (codes "from") found)) (number_given (text_behind_run (codes "to") found)))
+
+-- the width, where it is one that a slot may have
+abbrev pub cell_allowed : Option ℕ → Result (Option ℕ) Mistake
+cell_allowed None = Err BadCell
+cell_allowed (Some cell) = Ok (Some cell)
+
+-- the width that a text is
+abbrev pub cell_read : Option ℕ → Result (Option ℕ) Mistake
+cell_read None = Err BadCell
+cell_read (Some width) = cell_allowed (cell_of width)
+
+-- the width that is the text of an option, and none where the option is left out
+abbrev pub cell_given : Option Text → Result (Option ℕ) Mistake
+cell_given None = Ok None
+cell_given (Some text) = cell_read (number_of text)
+
+-- the format, where it has a width
+abbrev pub format_of_width : Option Format → Result Format Mistake
+format_of_width None = Err NoCell
+format_of_width (Some format) = Ok format
+
+-- the format in slots of a width, where one is given
+abbrev pub format_in_cells : Result Format Mistake → Result (Option ℕ) Mistake → Result Format Mistake
+format_in_cells (Err mistake) cell = Err mistake
+format_in_cells (Ok format) (Err mistake) = Err mistake
+format_in_cells (Ok format) (Ok None) = Ok format
+format_in_cells (Ok format) (Ok (Some cell)) = format_of_width (format_with_cell format cell)
+
+-- the format of a run, by what was found of a subcommand
+abbrev pub format_of : Option (Text × List Row) → Result Format Mistake
+format_of found = format_in_cells (format_found found) (cell_given (text_behind_run (codes "cell") found))
 
 -- what the program can be asked to do with a script: to run it in a format, or to check it
 pub data Task : Type 0 where
@@ -68,8 +100,8 @@ abbrev pub run_given : Result Format Mistake → Result Task Mistake
 run_given (Err mistake) = Err mistake
 run_given (Ok format) = Ok (RunsIn format)
 
--- what a subcommand asks for, and none: the format is a name of one, the ends of the range are numbers, and the format
--- has that range, or the words are mistaken
+-- what a subcommand asks for, and none: the format is a name of one, the ends of the range are numbers, the format has
+-- that range, and the width is one that a slot of the format may have, or the words are mistaken
 abbrev pub task_of : Option (Text × List Row) → Result Task Mistake
 task_of found = if is_check found then Ok Checks else run_given (format_of found)
 

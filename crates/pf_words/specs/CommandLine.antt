@@ -21,13 +21,18 @@ from_option = record (new_rule (codes "from")) { long = Some (codes "from"); val
 abbrev pub to_option : Rule
 to_option = record (new_rule (codes "to")) { long = Some (codes "to"); value_names = 1; action = Some Set }
 
+-- the option `--cell`, with one text
+abbrev pub cell_option : Rule
+cell_option = record (new_rule (codes "cell")) { long = Some (codes "cell"); value_names = 1; action = Some Set }
+
 -- FILE, a text without a name
 abbrev pub file_argument : Rule
 file_argument = record (new_rule (codes "file")) { value_names = 1; action = Some Set }
 
 -- `run`, which may have these options and FILE
 abbrev pub run_command : App
-run_command = with_rule (with_rule (with_rule (with_rule (new_app (codes "run")) format_option) from_option) to_option) file_argument
+run_command =
+    with_rule (with_rule (with_rule (with_rule (with_rule (new_app (codes "run")) format_option) from_option) to_option) cell_option) file_argument
 
 -- `check`, which may have FILE
 abbrev pub check_command : App

@@ -1,8 +1,10 @@
 -- Worked examples of what words ask for.
 use Rattle.std.specs.Prelude.{◌≡◌, ℕ, [], ◌∷◌, Option, Some, None, codes}
-use Rattle.pf_words.specs.declared.format.Format.TheVariants.{Schedule, Tables, Json, Lags, Chart}
-use Rattle.pf_words.specs.declared.mistake.Mistake.TheVariants.{UnknownFormat, BadNumber, NoRange}
+use Rattle.pf_words.specs.declared.format.Format.TheVariants.{Schedule, Tables, Json, Lags, Chart, Svg}
+use Rattle.pf_words.specs.declared.mistake.Mistake.TheVariants.{UnknownFormat, BadNumber, NoRange, BadCell, NoCell}
 use Rattle.pf_words.specs.declared.slot_range.SlotRange.{SlotRange}
+use Rattle.pf_words.specs.declared.range_fault.RangeFault.TheVariants.{NotWithin, TooLong}
+use Rattle.pf_words.specs.Formats.{range_fault}
 use Rattle.pf_words.specs.Ranges.{whole}
 use Rattle.pf_words.specs.Asked.{RunsIn, Checks, task_asked, file_asked, AsksHelp, AsksVersion, IsRefused, AreMistaken}
 
@@ -29,6 +31,19 @@ pub record Ranged : Type 0 where
   pub tables : AreMistaken (codes "run" ∷ codes "--to" ∷ codes "3" ∷ []) NoRange
   pub no_number : AreMistaken (codes "run" ∷ codes "-f" ∷ codes "chart" ∷ codes "--from" ∷ codes "x" ∷ []) BadNumber
 
+-- words that ask for a picture
+pub record Pictured : Type 0 where
+  pub usual : task_asked (codes "run" ∷ codes "-f" ∷ codes "svg" ∷ []) ≡ Some (RunsIn (Svg whole 20))
+  pub cell : task_asked (codes "run" ∷ codes "--cell" ∷ codes "9" ∷ codes "-f" ∷ codes "svg" ∷ codes "--to" ∷ codes "4" ∷ []) ≡ Some (RunsIn (Svg (slots None (Some 4)) 9))
+  pub least : task_asked (codes "run" ∷ codes "-f" ∷ codes "svg" ∷ codes "--cell=6" ∷ []) ≡ Some (RunsIn (Svg whole 6))
+  pub most : task_asked (codes "run" ∷ codes "-f" ∷ codes "svg" ∷ codes "--cell=40" ∷ []) ≡ Some (RunsIn (Svg whole 40))
+  -- too narrow, too wide, no number, and a format without a width
+  pub narrow : AreMistaken (codes "run" ∷ codes "-f" ∷ codes "svg" ∷ codes "--cell" ∷ codes "5" ∷ []) BadCell
+  pub wide : AreMistaken (codes "run" ∷ codes "-f" ∷ codes "svg" ∷ codes "--cell" ∷ codes "41" ∷ []) BadCell
+  pub no_number : AreMistaken (codes "run" ∷ codes "-f" ∷ codes "svg" ∷ codes "--cell" ∷ codes "x" ∷ []) BadCell
+  pub chart : AreMistaken (codes "run" ∷ codes "-f" ∷ codes "chart" ∷ codes "--cell" ∷ codes "9" ∷ []) NoCell
+  pub tables : AreMistaken (codes "run" ∷ codes "--cell" ∷ codes "9" ∷ []) NoCell
+
 -- words that name a file, and words that name none
 pub record Files : Type 0 where
   pub run : file_asked (codes "run" ∷ codes "-f" ∷ codes "lags" ∷ codes "plan.csv" ∷ []) ≡ Some (codes "plan.csv")
@@ -37,10 +52,21 @@ pub record Files : Type 0 where
   pub dash : file_asked (codes "run" ∷ codes "-" ∷ []) ≡ None
   pub none : file_asked (codes "check" ∷ []) ≡ None
 
+-- what can be shown of so many slots
+pub record Showable : Type 0 where
+  pub most : range_fault (Svg whole 20) 4096 ≡ None
+  pub too_many : range_fault (Svg whole 20) 4097 ≡ Some TooLong
+  pub part : range_fault (Svg (slots (Some 1) None) 6) 4097 ≡ None
+  pub chart : range_fault (Chart whole) 4097 ≡ None
+  pub behind : range_fault (Svg (slots None (Some 5000)) 20) 4999 ≡ Some (NotWithin 4999)
+  pub turned : range_fault (Svg (slots (Some 2) (Some 1)) 20) 4 ≡ Some (NotWithin 4)
+
 pub record WorkedWords : Type 0 where
   pub runs : Runs
   pub ranged : Ranged
+  pub pictured : Pictured
   pub files : Files
+  pub showable : Showable
   pub check : task_asked (codes "check" ∷ []) ≡ Some Checks
   -- a name of no format
   pub unknown : AreMistaken (codes "run" ∷ codes "--format" ∷ codes "xml" ∷ []) UnknownFormat

@@ -1,12 +1,16 @@
--- The names of the formats, and which have replies or a range.
-use Rattle.std.specs.Prelude.{ℕ, Bool, true, false, if◌then◌else◌, List, Option, Some, None, codes}
+-- The names of the formats, which have replies, a range or a width, and which can be shown.
+use Rattle.std.specs.Prelude.{ℕ, Bool, true, false, not, nat_lt, if◌then◌else◌, List, Option, Some, None, codes}
 use Rattle.std.specs.Str.{bytes_eq}
 use Rattle.pf_words.specs.declared.format.Format.{Format}
-use Rattle.pf_words.specs.declared.format.Format.TheVariants.{Schedule, Tables, Json, Report, Replies, Lags, Misses, Denials, Events, Processors, Stats, Chart}
+use Rattle.pf_words.specs.declared.format.Format.TheVariants.{Schedule, Tables, Json, Report, Replies, Lags, Misses, Denials, Events, Processors, Stats, Chart, Svg}
+use Rattle.pf_words.specs.declared.format.TheConstants.{MOST_SLOTS}
+use Rattle.pf_words.specs.declared.range_fault.RangeFault.{RangeFault}
+use Rattle.pf_words.specs.declared.range_fault.RangeFault.TheVariants.{NotWithin, TooLong}
 use Rattle.pf_words.specs.declared.slot_range.SlotRange.{SlotRange}
-use Rattle.pf_words.specs.Ranges.{is_whole, whole}
+use Rattle.pf_words.specs.Cells.{usual_cell}
+use Rattle.pf_words.specs.Ranges.{is_whole, is_within, slots_of, whole}
 
--- the format of this name, of all slots
+-- the format of this name, of all slots and of the usual width
 abbrev pub format_named : List ℕ → Option Format
 format_named name =
     if bytes_eq name (codes "schedule") then Some (Schedule whole)
@@ -21,6 +25,7 @@ format_named name =
     else if bytes_eq name (codes "processors") then Some Processors
     else if bytes_eq name (codes "stats") then Some Stats
     else if bytes_eq name (codes "chart") then Some (Chart whole)
+    else if bytes_eq name (codes "svg") then Some (Svg whole usual_cell)
     else None
 
 -- the formats that have reply lines
@@ -30,14 +35,33 @@ has_replies Json = true
 has_replies Replies = true
 has_replies format = false
 
--- the format with the slots of a range alone; any other than these two has no range
+-- the format with the slots of a range alone; any other than these three has no range
 abbrev pub format_within : Format → SlotRange → Option Format
 format_within (Schedule all) range = Some (Schedule range)
 format_within (Chart all) range = Some (Chart range)
+format_within (Svg all cell) range = Some (Svg range cell)
 format_within format range = if is_whole range then Some format else None
+
+-- the format in slots of a width; any other than this one has none
+abbrev pub format_with_cell : Format → ℕ → Option Format
+format_with_cell (Svg range usual) cell = Some (Svg range cell)
+format_with_cell format cell = None
 
 -- its slots: all of them where it has no range
 abbrev pub range_of : Format → SlotRange
 range_of (Schedule range) = range
 range_of (Chart range) = range
+range_of (Svg range cell) = range
 range_of format = whole
+
+-- a picture of more slots than one may show, where n slots were stepped
+abbrev pub is_too_long : Format → ℕ → Bool
+is_too_long (Svg range cell) n = nat_lt MOST_SLOTS (slots_of range n)
+is_too_long format n = false
+
+-- why the format can't be shown of n slots: its range is not within them, or it is a picture of too many
+abbrev pub range_fault : Format → ℕ → Option RangeFault
+range_fault format n =
+    if not (is_within (range_of format) n) then Some (NotWithin n)
+    else if is_too_long format n then Some TooLong
+    else None

@@ -1,4 +1,5 @@
 pub mod Asked
+pub mod Cells
 pub mod CommandLine
 pub mod Examples
 pub mod Formats

@@ -1,5 +1,5 @@
 -- The slots of a range, and the formats that have one.
-use Rattle.std.specs.Prelude.{ℕ, Bool, ◌&&◌, nat_le, not, is_some, None}
+use Rattle.std.specs.Prelude.{ℕ, ◌-◌, Bool, ◌&&◌, nat_le, not, is_some, None}
 use Rattle.std.specs.Option.{unwrap_or}
 use Rattle.pf_words.specs.declared.slot_range.SlotRange.{SlotRange}
 
@@ -14,6 +14,10 @@ first_of range = unwrap_or range.from 0
 -- the slot at which it ends, where n slots were stepped
 abbrev pub end_of : SlotRange → ℕ → ℕ
 end_of range n = unwrap_or range.to n
+
+-- how many slots are in it
+abbrev pub slots_of : SlotRange → ℕ → ℕ
+slots_of range n = end_of range n - first_of range
 
 -- its ends are in order, and none is above n
 abbrev pub is_within : SlotRange → ℕ → Bool

@@ -1,7 +1,7 @@
 ghost use Rattle.std.specs.Prelude.{◌≡◌, IfOk, false, codes};
 ghost use Rattle.clap.specs.Words.{app_of, new_app, with_rule};
 ghost use Rattle.clap.specs.declared.builder.command.Command.TheViews.{out-Command};
-ghost use Rattle.pf_words.specs.CommandLine.{program, as_program, check_command, file_argument, format_option, from_option, run_command, to_option};
+ghost use Rattle.pf_words.specs.CommandLine.{program, as_program, cell_option, check_command, file_argument, format_option, from_option, run_command, to_option};
 
 use clap::{Arg, ArgAction, Command};
 use std::alloc::{AllocError, Global};
@@ -49,6 +49,7 @@ Formats:
   processors  how many quanta each processor gave, how long it was idle, how often its task changed
   stats       the figures of each task: how often it ran, moved and was put off, how soon, how late, its lag
   chart       a picture in characters: who runs where, each task's windows, its lag, what is late or denied
+  svg         the same as SVG, for a browser; --cell W (6 to 40) tells how wide each slot is
 
 `check` tells of each record that the format does not allow, and where and why, and carries nothing out.
 
@@ -90,12 +91,13 @@ fn with_file<'a>(alloc: Global, command: Command<'a>) -> Result<Command<'a>, All
     command.arg(file)
 }
 
-/// `run`, with the options `--format`, `--from` and `--to`, each with a text, and FILE.
+/// `run`, with the options `--format`, `--from`, `--to` and `--cell`, each with a text, and FILE.
 fn run_command<'a>(alloc: Global) -> Result<Command<'a>, AllocError>
     ensures shape { IfOk result (λ c. app_of c ≡ run_command) }
     ensures globals { IfOk result (λ c. (out-Command c).has_globals ≡ false) }
 {
-    let run = with_range(alloc, bare_run(alloc)?)?;
+    let ranged = with_range(alloc, bare_run(alloc)?)?;
+    let run = with_cell(alloc, ranged)?;
     with_file(alloc, run)
 }
 
@@ -135,7 +137,7 @@ fn with_from<'a>(alloc: Global, command: Command<'a>) -> Result<Command<'a>, All
     let from = Arg::new(alloc, "from")
         .long("from")
         .value_name("F")
-        .help("schedule and chart: the first slot that is shown [default: 0]")
+        .help("schedule, chart and svg: the first slot that is shown [default: 0]")
         .action(ArgAction::Set);
     command.arg(from)
 }
@@ -149,9 +151,25 @@ fn with_to<'a>(alloc: Global, command: Command<'a>) -> Result<Command<'a>, Alloc
     let to = Arg::new(alloc, "to")
         .long("to")
         .value_name("T")
-        .help("schedule and chart: the slots below T are shown [default: all that were stepped]")
+        .help(
+            "schedule, chart and svg: the slots below T are shown [default: all that were stepped]",
+        )
         .action(ArgAction::Set);
     command.arg(to)
+}
+
+/// The command with `--cell` and a text.
+fn with_cell<'a>(alloc: Global, command: Command<'a>) -> Result<Command<'a>, AllocError>
+    requires { (out-Command command).has_globals ≡ false }
+    ensures shape { IfOk result (λ c. app_of c ≡ with_rule (app_of command.entry) cell_option) }
+    ensures globals { IfOk result (λ c. (out-Command c).has_globals ≡ false) }
+{
+    let cell = Arg::new(alloc, "cell")
+        .long("cell")
+        .value_name("W")
+        .help("svg: how wide each slot is, 6 to 40 [default: 20]")
+        .action(ArgAction::Set);
+    command.arg(cell)
 }
 
 /// `check`, with FILE.

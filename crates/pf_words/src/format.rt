@@ -1,7 +1,12 @@
 ghost use Rattle.std.specs.Prelude.{◌≡◌};
-ghost use Rattle.pf_words.specs.Formats.{format_named, format_within, has_replies, range_of};
+ghost use Rattle.pf_words.specs.Formats.{format_named, format_with_cell, format_within, has_replies, is_too_long, range_fault, range_of};
 
+use crate::cell::Cell;
+use crate::range_fault::RangeFault;
 use crate::slot_range::SlotRange;
+
+/// The most slots that a picture may show.
+pub const MOST_SLOTS: u64 = 4_096;
 
 /// What stands behind the replies.
 #[derive(Clone, Copy, Debug, PartialEq, Eq)]
@@ -30,11 +35,13 @@ pub enum Format {
     Stats,
     /// The schedule of these slots as a chart in characters.
     Chart(SlotRange),
+    /// The schedule of these slots as a picture in SVG, each slot so wide.
+    Svg(SlotRange, Cell),
 }
 
 impl Format {
     /// The format of this name: `schedule`, `tables`, `json`, `report`, `replies`, `lags`, `misses`, `denials`,
-    /// `events`, `processors`, `stats` or `chart`, of all slots. `None` where the text is none of these.
+    /// `events`, `processors`, `stats`, `chart` or `svg`, of all slots and of the usual width. `None` where the text is none of these.
     pub fn named(name: &str) -> Option<Format>
         ensures { result ≡ format_named name.now }
     {
@@ -51,11 +58,12 @@ impl Format {
             "processors" => Some(Format::Processors),
             "stats" => Some(Format::Stats),
             "chart" => Some(Format::Chart(SlotRange::whole())),
+            "svg" => Some(Format::Svg(SlotRange::whole(), Cell::usual())),
             _ => None,
         }
     }
 
-    /// The same format of the slots of a range alone, where it is one of `schedule` and `chart`. Any other has no range:
+    /// The same format of the slots of a range alone, where it is one of `schedule`, `chart` and `svg`. Any other has no range:
     /// it is as before where both ends are left out, and else `None`.
     pub fn within(self, range: SlotRange) -> Option<Format>
         ensures { result ≡ format_within self range }
@@ -63,6 +71,7 @@ impl Format {
         match self {
             Format::Schedule(_) => Some(Format::Schedule(range)),
             Format::Chart(_) => Some(Format::Chart(range)),
+            Format::Svg(_, cell) => Some(Format::Svg(range, cell)),
             other => {
                 if !range.is_whole() {
                     return None;
@@ -72,13 +81,47 @@ impl Format {
         }
     }
 
-    /// Its slots: all of them where it has no range.
-    pub fn range(self) -> SlotRange
-        ensures { result ≡ range_of self }
+    /// The same format in slots of this width, where it is `svg`; else `None`.
+    pub fn with_cell(self, cell: Cell) -> Option<Format>
+        ensures { result ≡ format_with_cell self cell }
     {
         match self {
-            Format::Schedule(range) | Format::Chart(range) => range,
+            Format::Svg(range, _) => Some(Format::Svg(range, cell)),
+            _ => None,
+        }
+    }
+
+    /// Its slots: all of them where it has no range.
+    pub fn range(&self) -> SlotRange
+        ensures { result ≡ range_of self.now }
+    {
+        match *self {
+            Format::Schedule(range) | Format::Chart(range) | Format::Svg(range, _) => range,
             _ => SlotRange::whole(),
+        }
+    }
+
+    /// Why it can't be shown where so many slots were stepped: its range is not within them, or else it is a picture of
+    /// more than 4,096 slots. `None` where it can be shown.
+    pub fn range_fault(&self, now: u64) -> Option<RangeFault>
+        ensures { result ≡ range_fault self.now now }
+    {
+        if !self.range().is_within(now) {
+            return Some(RangeFault::NotWithin(now));
+        }
+        if self.is_too_long(now) {
+            return Some(RangeFault::TooLong);
+        }
+        None
+    }
+
+    /// Whether it is a picture of more slots than one may show.
+    fn is_too_long(&self, now: u64) -> bool
+        ensures { result ≡ is_too_long self.now now }
+    {
+        match *self {
+            Format::Svg(range, _) => range.slots(now) > MOST_SLOTS,
+            _ => false,
         }
     }
 

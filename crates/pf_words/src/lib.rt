@@ -3,10 +3,12 @@
 //! for all words; want of memory may come in its place.
 #![tactic(auto)]
 
+pub mod cell;
 mod command_line;
 pub mod format;
 pub mod laws;
 pub mod mistake;
+pub mod range_fault;
 pub mod request;
 pub mod slot_range;
 pub mod words;

@@ -10,6 +10,12 @@ pub enum Mistake {
     #[error("--from and --to take a number of 1 to 15 digits")]
     BadNumber,
     /// `--from` or `--to` stands beside a format that has no range.
-    #[error("--from and --to are for the formats schedule and chart")]
+    #[error("--from and --to are for the formats schedule, chart and svg")]
     NoRange,
+    /// The text of `--cell` is no number of 6 to 40.
+    #[error("--cell takes a number of 6 to 40")]
+    BadCell,
+    /// `--cell` stands beside a format other than `svg`.
+    #[error("--cell is for the format svg")]
+    NoCell,
 }

@@ -1,5 +1,5 @@
 ghost use Rattle.std.specs.Prelude.{◌≡◌};
-ghost use Rattle.pf_words.specs.Ranges.{end_of, first_of, is_whole, is_within, whole};
+ghost use Rattle.pf_words.specs.Ranges.{end_of, first_of, is_whole, is_within, slots_of, whole};
 
 /// A range of slots, by its ends, each of which may be left out.
 #[derive(Clone, Copy, Debug, PartialEq, Eq)]
@@ -40,6 +40,13 @@ impl SlotRange {
         ensures { result ≡ end_of self now }
     {
         self.to.unwrap_or(now)
+    }
+
+    /// How many slots are in it, where so many were stepped.
+    pub fn slots(self, now: u64) -> u64
+        ensures { result ≡ slots_of self now }
+    {
+        self.end(now).saturating_sub(self.first())
     }
 
     /// Whether it lies within so many slots that were stepped: its ends are in order, and none is above that.

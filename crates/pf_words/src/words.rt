@@ -1,8 +1,9 @@
 ghost use Rattle.std.specs.Prelude.{◌≡◌, codes, map, option_map, IfOk};
 ghost use Rattle.clap.specs.Words.{kind_of, subcommand_rows_of};
 ghost use Rattle.pf_words.specs.CommandLine.{file_behind, is_check, text_behind_run};
-ghost use Rattle.pf_words.specs.Asked.{IsAsked, IsRequest, ShowsError, file_of, format_of, format_or_tables, name_of, number_given, range_given};
+ghost use Rattle.pf_words.specs.Asked.{IsAsked, IsRequest, ShowsError, cell_given, file_of, format_found, format_of, format_or_tables, name_of, number_given, range_given};
 
+use crate::cell::Cell;
 use crate::command_line::program;
 use crate::format::Format;
 use crate::mistake::Mistake;
@@ -16,10 +17,10 @@ use std::convert::AsStr;
 
 /// What the program's words ask for, its own name not among them. No words ask for a run with tables, and so does
 /// `run` alone; `run --format NAME` asks for one in the format of that name, of the slots from `--from` on and below
-/// `--to`, and `check` for a check. A file may stand behind each, for the script to be read from; `-` is standard input, as
+/// `--to`, in slots of the width `--cell`, and `check` for a check. A file may stand behind each, for the script to be read from; `-` is standard input, as
 /// no file is. Answers `Refused` where the words are not the program's, `Mistaken` where the text of `--format` names no
-/// format, where that of `--from` or `--to` is no number, and where the format has no range, the first of these; and
-/// `NoMemory`, in place of any answer, where memory was refused.
+/// format, where that of `--from` or `--to` is no number, where the format has no range, where the text of `--cell` is no
+/// number of 6 to 40, and where the format has no width, the first of these; and `NoMemory`, in place of any answer, where memory was refused.
 pub fn read_words<S: AsStr>(alloc: Global, words: &[S]) -> Result<Request, WordsFault>
     ensures { IsAsked (map S.text words.now) result }
 {
@@ -68,9 +69,23 @@ fn asks_check(matches: &ArgMatches<'_>) -> bool
     matches.subcommand_matches("check").is_some()
 }
 
-/// The format of a run, of the slots that they ask for.
+/// The format of a run, of the slots and of the width that they ask for.
 fn read_format(matches: &ArgMatches<'_>) -> Result<Format, Mistake>
     ensures { result ≡ format_of (subcommand_rows_of matches.now) }
+{
+    let format = read_ranged(matches)?;
+    let Some(cell) = read_cell(matches)? else {
+        return Ok(format);
+    };
+    match format.with_cell(cell) {
+        Some(format) => Ok(format),
+        None => Err(Mistake::NoCell),
+    }
+}
+
+/// The format of a run, of the slots that they ask for.
+fn read_ranged(matches: &ArgMatches<'_>) -> Result<Format, Mistake>
+    ensures { result ≡ format_found (subcommand_rows_of matches.now) }
 {
     let Some(format) = read_name(matches) else {
         return Err(Mistake::UnknownFormat);
@@ -99,6 +114,22 @@ fn read_range(matches: &ArgMatches<'_>) -> Result<SlotRange, Mistake>
     let from = read_number(matches, "from")?;
     let to = read_number(matches, "to")?;
     Ok(SlotRange { from, to })
+}
+
+/// The width of a slot; none where `--cell` is left out.
+fn read_cell(matches: &ArgMatches<'_>) -> Result<Option<Cell>, Mistake>
+    ensures { result ≡ cell_given (text_behind_run (codes "cell") (subcommand_rows_of matches.now)) }
+{
+    let Some(text) = option_text(matches, "cell") else {
+        return Ok(None);
+    };
+    let Some(width) = parse_number(text.as_bytes()) else {
+        return Err(Mistake::BadCell);
+    };
+    match Cell::new(width) {
+        Some(cell) => Ok(Some(cell)),
+        None => Err(Mistake::BadCell),
+    }
 }
 
 /// The number that is the text of an option behind `run`; none where it is left out.

@@ -57,3 +57,8 @@ pub returns-in_ok-chart_of-in-Chart-clause-err : goal.returns-in_ok-chart_of-in-
 unfolding report_text
 returns-in_ok-chart_of-in-Chart-clause-err g c =
     err_at c.put_pieces-in-Chart.result _ _ c.args.text.now _ _ (c.in_ok-chart_of-in-Chart.ensures ∙ sym (ap (λ f. report_text f c.args.snapshot.now) c.in-Chart.is)) c.put_pieces-in-Chart.ensures.err
+
+pub returns-in_ok-picture_of-in-Svg-clause-err : goal.returns-in_ok-picture_of-in-Svg-clause-err
+unfolding report_text
+returns-in_ok-picture_of-in-Svg-clause-err g c =
+    err_at c.put_pieces-in-Svg.result _ _ c.args.text.now _ _ (c.in_ok-picture_of-in-Svg.ensures ∙ sym (ap (λ f. report_text f c.args.snapshot.now) c.in-Svg.is)) c.put_pieces-in-Svg.ensures.err
