@@ -1,0 +1,5 @@
+use Rattle.shared_first.specs.Handed.{Took}
+use Rattle.shared_first.proofs.dispatcher.dispatch.Given as goal
+
+abbrev pub invariant-loop : goal.invariant-loop
+invariant-loop g l = Took g.N.Naming.board.id l.quanta.items l.pass
