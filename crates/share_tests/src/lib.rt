@@ -9,6 +9,14 @@ mod calls;
 #[cfg(test)]
 mod examples;
 #[cfg(test)]
+mod growths;
+#[cfg(test)]
+mod limits;
+#[cfg(test)]
 mod passes;
 #[cfg(test)]
 mod planners;
+#[cfg(test)]
+mod race;
+#[cfg(test)]
+mod refused;
