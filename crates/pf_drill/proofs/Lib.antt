@@ -1,0 +1,9 @@
+mod Crews
+mod Ends
+mod Entered
+mod Issued
+mod Legal
+mod Limits
+mod Rows
+mod Scripts
+mod Worked

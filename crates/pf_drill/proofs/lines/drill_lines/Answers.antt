@@ -1,0 +1,27 @@
+use Rattle.std.proofs.Common.{ap, ◌∙◌, sym, subst, []}
+use Rattle.pf_share.specs.Locked.{origin_of}
+use Rattle.pf_drill.specs.Asked.{lines_asked}
+use Rattle.pf_drill.specs.Drilled.{Stops}
+use Rattle.pf_drill.specs.Rounds.{commands_given}
+use Rattle.pf_drill.proofs.Crews.{viewer_of}
+use Rattle.pf_drill.proofs.Scripts.{finished, stopped_if}
+use Rattle.pf_drill.proofs.lines.drill_lines.Goals as goal
+
+pub crew_of-requires : goal.crew_of-requires
+crew_of-requires g c = c.start-shared.ensures.0 ∙ c.requires.passes
+
+pub finish-requires-clause-viewer : goal.finish-requires-clause-viewer
+finish-requires-clause-viewer g c =
+    viewer_of (origin_of g.N.Naming.board g.N.Naming.book) _ _ c.pop.result _ (c.start-shared.ensures.1 ∙ c.requires.viewers) c.pop.ensures.items c.in-Some.is
+
+pub returns-in-Err-clause-stopped : goal.returns-in-Err-clause-stopped
+returns-in-Err-clause-stopped g c =
+    subst (λ cs. Stops (lines_asked c.args.version g.N.Naming.board.terms c.args.first cs c.args.script) c.in-Err.fault) c.in-Ok.ensures.given c.in-Err.ensures.stopped
+
+pub returns-clause-drilled : goal.returns-clause-drilled
+returns-clause-drilled g c =
+    finished (λ v. v.items) (lines_asked c.args.version g.N.Naming.board.terms c.args.first [] c.args.script) g.N.Naming.board.terms (commands_given c.take_lines.new.crew) c.finish.result
+    (ap (λ cs. lines_asked c.args.version g.N.Naming.board.terms c.args.first cs c.args.script) (sym c.in-Ok.ensures.given) ∙ c.in-Ok-take_lines.ensures.whole) c.finish.ensures.drilled
+
+pub returns-clause-stopped : goal.returns-clause-stopped
+returns-clause-stopped g c = stopped_if _ c.finish.result c.finish.ensures.halt

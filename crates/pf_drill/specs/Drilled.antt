@@ -1,0 +1,92 @@
+-- The text of a drill, and what its answers say.
+use Rattle.std.specs.Prelude.{ℕ, ◌≡◌, ◌+◌, ◌<◌, ⊤, List, ◌++◌, length, map, codes, Option, Result, Ok, Err}
+use Rattle.std.specs.Io.KnownBytes.{Appends, Keeps}
+use Rattle.pf_scenario.specs.System.{System}
+use Rattle.pf_run.specs.RunRows.{rows_in, denials_in}
+use Rattle.pf_desk.specs.declared.command.Command.{Command}
+use Rattle.pf_desk.specs.declared.entry.Entry.{Entry}
+use Rattle.pf_desk.specs.Machine.{State}
+use Rattle.pf_desk.specs.History.{IsLegal, last_state}
+use Rattle.pf_desk.specs.Desk.{Seen}
+use Rattle.pf_report.specs.Tables.{schedule_text}
+use Rattle.pf_board.specs.declared.quantum.Quantum.{Quantum}
+use Rattle.pf_board.specs.Quanta.{issues}
+use Rattle.pf_share.specs.Histories.{numbered, quanta_of}
+use Rattle.pf_stream.specs.declared.reading.ReadingFault.{ReadingFault}
+use Rattle.pf_stream.specs.declared.reading.ReadingFault.TheVariants as reading
+use Rattle.pf_stream.specs.Reading.{longest_script}
+use Rattle.pf_stream.specs.Written.{TookFront}
+use Rattle.pf_drill.specs.declared.fault.DrillFault.{DrillFault}
+use Rattle.pf_drill.specs.declared.fault.DrillFault.TheVariants.{BadLine, ReadFault, WriteFault, ScriptTooLong, GateShut, NoViewer, Unread, NoMemory}
+use Rattle.pf_drill.specs.Asked.{Asked, Whole, BadRecord, script_asked}
+use Rattle.pf_drill.specs.Taken.{taken_text_of}
+
+-- what a desk shows that is in this state after so many entries
+abbrev pub seen_in : ℕ → State → Seen
+seen_in entries st = record { version = entries; state = st; rows = rows_in st.plan st.now; denials = denials_in st.plan st.now }
+
+-- the schedule that was seen and what was taken, each behind a line with its name
+abbrev pub drill_text : Seen → List Quantum → List ℕ
+drill_text seen taken = (codes "schedule\n" ++ schedule_text seen) ++ (codes "taken\n" ++ taken_text_of taken)
+
+-- The text is that of a drill with these settings and commands: of the one history in which the commands are answered as
+-- the desk machine does, it has the schedule at the end, and the quanta of all steps, by slot, then by processor.
+pub record IsDrill (settings : System) (commands : List Command) (text : List ℕ) : Type 0 where
+  pub history : List Entry
+  pub is_legal : IsLegal settings history
+  pub commands_are : map (λ e. e.command) history ≡ commands
+  pub text_is : text ≡ drill_text (seen_in (length history) (last_state settings history)) (issues quanta_of (numbered history))
+
+-- the text is that of the drill of what was asked for
+abbrev pub Drills : Asked → List ℕ → Type 0
+Drills (Whole settings commands) text = IsDrill settings commands text
+Drills (BadRecord number) text = ⊥
+
+-- a fault that tells nothing of the script, and that comes before anything is written
+abbrev pub IsHalt : DrillFault → Type 0
+IsHalt (BadLine number) = ⊥
+IsHalt ReadFault = ⊥
+IsHalt WriteFault = ⊥
+IsHalt ScriptTooLong = ⊥
+IsHalt GateShut = ⊤
+IsHalt NoViewer = ⊤
+IsHalt Unread = ⊤
+IsHalt NoMemory = ⊤
+
+-- the drill of what was asked for was stopped: by the first bad record, or by a halt
+abbrev pub Stops : Asked → DrillFault → Type 0
+Stops asked (BadLine number) = asked ≡ BadRecord number
+Stops asked fault = IsHalt fault
+
+-- the answer to a script of these bytes, and what the writer took: the text of its drill, a front of it where the writer
+-- failed, and else nothing
+abbrev pub AnswersDrill : {A : Type 0} → List ℕ → Result A DrillFault → Option (List ℕ) → Option (List ℕ) → Type 0
+AnswersDrill bytes (Ok done) old new = (text : List ℕ) × Drills (script_asked bytes) text × Appends old new text
+AnswersDrill bytes (Err (BadLine number)) old new = (script_asked bytes ≡ BadRecord number) × Keeps old new
+AnswersDrill bytes (Err WriteFault) old new = (text : List ℕ) × Drills (script_asked bytes) text × TookFront old new text
+AnswersDrill bytes (Err ScriptTooLong) old new = (longest_script < length bytes) × Keeps old new
+AnswersDrill bytes (Err ReadFault) old new = Keeps old new
+AnswersDrill bytes (Err GateShut) old new = Keeps old new
+AnswersDrill bytes (Err NoViewer) old new = Keeps old new
+AnswersDrill bytes (Err Unread) old new = Keeps old new
+AnswersDrill bytes (Err NoMemory) old new = Keeps old new
+
+-- what a drill answers where no script was read
+abbrev pub fault_of_reading : ReadingFault → DrillFault
+fault_of_reading reading.Read = ReadFault
+fault_of_reading reading.TooLong = ScriptTooLong
+fault_of_reading reading.Memory = NoMemory
+
+-- a fault that comes before anything is written
+abbrev pub IsUnwritten : DrillFault → Type 0
+IsUnwritten WriteFault = ⊥
+IsUnwritten fault = ⊤
+
+-- the reader failed once where the answer is `ReadFault`, and else not at all; the writer alike
+abbrev pub CountsReads : {A : Type 0} → Result A DrillFault → ℕ → ℕ → Type 0
+CountsReads (Err ReadFault) old new = new ≡ old + 1
+CountsReads result old new = new ≡ old
+
+abbrev pub CountsWrites : {A : Type 0} → Result A DrillFault → ℕ → ℕ → Type 0
+CountsWrites (Err WriteFault) old new = new ≡ old + 1
+CountsWrites result old new = new ≡ old

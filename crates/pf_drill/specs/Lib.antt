@@ -1,0 +1,4 @@
+pub mod Asked
+pub mod Drilled
+pub mod Rounds
+pub mod Taken

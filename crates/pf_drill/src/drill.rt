@@ -1,0 +1,139 @@
+ghost use Rattle.std.specs.Prelude.{◌≡◌, ◌+◌, ◌-◌, ◌^◌, ◌<◌, ◌≤◌, length, IfOk, IfErr, IfSome};
+ghost use Rattle.std.specs.Io.KnownBytes.{Keeps};
+ghost use Rattle.csv.specs.Records.{fields_of};
+ghost use Rattle.pf_drill.specs.Asked.{script_asked, settings_asked, system_of, system_opened_by};
+ghost use Rattle.pf_drill.specs.Drilled.{AnswersDrill, CountsReads, CountsWrites, Drills, IsUnwritten, Stops};
+ghost use Rattle.pf_script.specs.Grammar.{opening_of};
+ghost use Rattle.pf_stream.specs.Reading.{longest_script, TakesAtMost};
+
+use crate::fault::DrillFault;
+use crate::gate::Gate;
+use crate::lines::drill_lines;
+use csv::ByteRecord;
+use pf_scenario::settings::Settings;
+use pf_script::fields::Fields;
+use pf_script::grammar::{read_heading, read_opening};
+use pf_script::line::Opening;
+use pf_script::script::Script;
+use pf_script::version::Version;
+use pf_share::blank::Blank;
+use pf_share::fault::OpenFault;
+use pf_stream::reading::read_script;
+use pf_stream::sink::Sink;
+use pf_stream::source::Source;
+use pf_stream::writing::write_out;
+use pf_timeline::timeline::LARGEST_DISTANCE;
+use std::alloc::Global;
+use std::marker::Brand;
+use std::sync::Wait;
+use std::thread::Threads;
+
+/// Reads a whole script, carries it out on a shared desk with a worker for each processor, and writes the schedule of the
+/// script and the quanta of its steps, each of which the worker of its processor took: after each step every worker, in a
+/// thread of its own, takes the quantum of its processor and arrives with it at the gate, and all are back before the next step or record. Refused
+/// commands are passed over. The text is that of the script's own commands alone, and is made before it is written. The call waits for the workers, and so
+/// for the gate. The counts of failures of reader and writer must be below `u64::MAX` before the call.
+///
+/// # Errors
+///
+/// `WriteFault` where the writer fails or takes nothing: a front of the text was written. After each other one nothing was
+/// written. `BadLine` at the first record that is none of the script's. `ReadFault` where the reader fails and
+/// `ScriptTooLong` where it has more bytes than a script may. `GateShut` where the gate was shut to a worker, once all
+/// are back. `NoViewer` and `Unread` where the readers' table gives no place or no entry. `NoMemory` where memory is refused.
+pub fn drill<R: Threads + Wait + Sync, S: Source, W: Sink, G: Gate + Sync>(
+    rt: &R,
+    alloc: Global,
+    reader: &mut S,
+    writer: &mut W,
+    gate: &G,
+) -> Result<(), DrillFault>
+    requires reads { S.failed reader.old < 2 ^ 64 - 1 }
+    requires writes { W.failed writer.old < 2 ^ 64 - 1 }
+    ensures answer { IfSome (S.remaining reader.old)
+        (λ bytes. AnswersDrill bytes result (W.contents writer.old) (W.contents writer.new)) }
+    ensures unwritten { IfErr result (λ fault. IsUnwritten fault → Keeps (W.contents writer.old) (W.contents writer.new)) }
+    ensures taken { TakesAtMost (S.remaining reader.old) (S.remaining reader.new) (longest_script + 1) }
+    ensures reads { CountsReads result (S.failed reader.old) (S.failed reader.new) }
+    ensures writes { CountsWrites result (W.failed writer.old) (W.failed writer.new) }
+{
+    let bytes = read_script(alloc, reader)?;
+    let text = match drill_script(rt, alloc, &bytes, gate) {
+        Ok(text) => text,
+        Err(fault) => return Err(fault),
+    };
+    match write_out(writer, &text) {
+        Ok(()) => Ok(()),
+        Err(_) => Err(DrillFault::WriteFault),
+    }
+}
+
+/// The text of the drill of a script of these bytes.
+fn drill_script<R: Threads + Wait + Sync, G: Gate + Sync>(
+    rt: &R,
+    alloc: Global,
+    bytes: &[u8],
+    gate: &G,
+) -> Result<Vec<u8>, DrillFault>
+    requires short { length bytes.now ≤ longest_script }
+    ensures drilled { IfOk result (λ text. Drills (script_asked bytes.now) text.items) }
+    ensures stopped { IfErr result (Stops (script_asked bytes.now)) }
+{
+    let mut script = Script::new(alloc, bytes);
+    let mut row = ByteRecord::new(alloc);
+    if !script.next(&mut row)? {
+        return Err(DrillFault::BadLine(1));
+    }
+    if !read_heading(&Fields::new(&row)) {
+        return drill_from(rt, alloc, script, row, gate, Version::First, 1);
+    }
+    if !script.next(&mut row)? {
+        return Err(DrillFault::BadLine(2));
+    }
+    drill_from(rt, alloc, script, row, gate, Version::Second, 2)
+}
+
+/// The text of the drill of a script from the record in `row` on, which has this number and is to be the settings.
+fn drill_from<R: Threads + Wait + Sync, G: Gate + Sync>(
+    rt: &R,
+    alloc: Global,
+    script: Script,
+    row: ByteRecord,
+    gate: &G,
+    version: Version,
+    number: u64,
+) -> Result<Vec<u8>, DrillFault>
+    requires counted { number + length script < 2 ^ 64 - 1 }
+    ensures drilled { IfOk result
+        (λ text. Drills (settings_asked version number script.entry (system_opened_by version (opening_of (fields_of row)))) text.items) }
+    ensures stopped { IfErr result
+        (Stops (settings_asked version number script.entry (system_opened_by version (opening_of (fields_of row))))) }
+{
+    let Some(opening) = read_opening(&Fields::new(&row)) else {
+        return Err(DrillFault::BadLine(number));
+    };
+    let Some(settings) = settings(version, opening) else {
+        return Err(DrillFault::BadLine(number));
+    };
+    let passes = u64::from(settings.processors()) + 1;
+    let blank = match Blank::open(rt, alloc, settings, opening.every, passes, 1) {
+        Ok(blank) => blank,
+        Err(OpenFault::BadSettings) => unreachable!(),
+        Err(OpenFault::NoViewer) => return Err(DrillFault::NoViewer),
+        Err(OpenFault::NoMemory) => return Err(DrillFault::NoMemory),
+    };
+    drill_lines::<Brand, _, _, _>(rt, alloc, blank, script, row, gate, version, number + 1)
+}
+
+/// The settings of an opening, where its numbers are within their limits.
+fn settings(version: Version, opening: Opening) -> Option<Settings>
+    ensures { result ≡ system_of version opening }
+{
+    if opening.every == 0 || opening.every > LARGEST_DISTANCE {
+        return None;
+    }
+    let (m, h, cap) = (opening.processors, opening.base, opening.cap);
+    match version {
+        Version::First => Settings::new(m, h, cap).ok(),
+        Version::Second => Settings::wide(m, h, cap).ok(),
+    }
+}

@@ -1,0 +1,12 @@
+//! Drills: a script on a shared desk, with a worker thread for each processor. The one contract of this crate: what a drill
+//! writes is the schedule of the script, and the quanta of its steps, each of which the worker of its processor took.
+#![tactic(auto)]
+
+pub mod crew;
+pub mod drill;
+pub mod fault;
+pub mod gate;
+mod lines;
+mod output;
+pub mod taken;
+pub mod worker;
