@@ -48,9 +48,10 @@ def owner_of(line):
     parameters, rest = bracketed(line[begins.end() :])
     trait, _, kind = rest.rpartition(" for ")
     words = [re.search(r"[\w:]+", kind)[0], *re.findall(r"\(\)|[\w:]+", trait)]
-    # A destructor has the name of its type alone, and the impl's own parameters stand in no name.
-    left_out = {"Drop", *re.findall(r"(?:^|,)\s*(\w+)", without_brackets(parameters))}
-    return "".join("Unit" if it == "()" else it.split("::")[-1] for it in words if it not in left_out)
+    first, *others = ("Unit" if it == "()" else it.split("::")[-1] for it in words)
+    # A destructor has the name of its type alone. No name has the impl's own parameters, nor the type for its trait's.
+    left_out = {"Drop", first, *re.findall(r"(?:^|,)\s*(\w+)", without_brackets(parameters))}
+    return first + "".join(it for it in others if it not in left_out)
 
 
 def module_of(crate, path):
