@@ -27,11 +27,13 @@ const NO_TEXT: &str = "error: invalid UTF-8 was detected in one or more argument
 
 /// Does what the program's words say, its own name not among them: runs a script and writes its answer to the writer, or
 /// checks it and writes what it finds there, or writes help or the version. The script is that of the file that the words
-/// name, and else the reader's. Without words the script is run in the format `Tables`. The text of a fault goes to `faults`, whose own faults are passed over. Answers
-/// the status to exit with: 0 where the script was done, a check found no fault, or help was shown, 1 where the script has
-/// a bad record or is too long, 2 where the words are refused or mistaken, or ask for slots that can't be shown, 3 where the reader or the writer failed or
-/// the file can't be opened or read, 4 where memory was refused. Words that ask for a run or a check and name no file, and no others,
-/// have the reader read; with any other the reader is as before. The counts of failures of reader and writer must be below `u64::MAX` before the call.
+/// name, and else the reader's. Without words the script is run in the format `Tables`. The text of a fault goes to
+/// `faults`, whose own faults are passed over. Answers the status to exit with: 0 where the script was done, a check found
+/// no fault, or help was shown, 1 where the script has a bad record or is too long, 2 where the words are refused or
+/// mistaken, or ask for slots that can't be shown, 3 where the reader or the writer failed or the file can't be opened or
+/// read, 4 where memory was refused. Words that ask for a run or a check and name no file, and no others, have the reader
+/// read; with any other the reader is as before. The counts of failures of reader and writer must be below `u64::MAX`
+/// before the call.
 pub fn main_words<H: AllocGlobal + Files, S: AsStr, R: Source, W: Sink, F: Write>(
     rt: &H,
     words: &[S],

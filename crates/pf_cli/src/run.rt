@@ -25,17 +25,18 @@ use pf_timeline::timeline::LARGEST_DISTANCE;
 use pf_words::format::Format;
 use std::alloc::Global;
 
-/// Reads a whole script, carries it out, and writes its replies and its report in the format: what it writes, and how
-/// it ends, is what the script's bytes mean. Plain edits that follow one another, from the first of them that touches a slot
-/// that was stepped, are replayed together, 1,024 at most. Of a reader that has more than a script may, one byte more is taken. The
-/// counts of failures of reader and writer must be below `u64::MAX` before the call.
+/// Reads a whole script, carries it out, and writes its replies and its report in the format: what it writes, and how it
+/// ends, is what the script's bytes mean. Plain edits that follow one another, from the first of them that touches a slot
+/// that was stepped, are replayed together, 1,024 at most. Of a reader that has more than a script may, one byte more is
+/// taken. The counts of failures of reader and writer must be below `u64::MAX` before the call.
 ///
 /// # Errors
 ///
 /// `BadLine` at a record that is none of the script's, behind the replies to the records before it. `ReadFault` where the
-/// reader fails and `ScriptTooLong` where it has more bytes than a script may: nothing was written. `BadRange` where no record
-/// is bad and the range of the format can't be shown of the slots stepped, and it tells why: nothing was written, as a
-/// format with a range has no replies. `WriteFault` where the writer fails or takes nothing, and `NoMemory` where memory is refused: a front of the text was written.
+/// reader fails and `ScriptTooLong` where it has more bytes than a script may: nothing was written. `BadRange` where no
+/// record is bad and the range of the format can't be shown of the slots stepped, and it tells why: nothing was written, as
+/// a format with a range has no replies. `WriteFault` where the writer fails or takes nothing, and `NoMemory` where memory
+/// is refused: a front of the text was written.
 pub fn run<R: Source, W: Sink>(
     alloc: Global,
     reader: &mut R,

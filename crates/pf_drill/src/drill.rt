@@ -30,9 +30,10 @@ use std::thread::Threads;
 
 /// Reads a whole script, carries it out on a shared desk with a worker for each processor, and writes the schedule of the
 /// script and the quanta of its steps, each of which the worker of its processor took: after each step every worker, in a
-/// thread of its own, takes the quantum of its processor and arrives with it at the gate, and all are back before the next step or record. Refused
-/// commands are passed over. The text is that of the script's own commands alone, and is made before it is written. The call waits for the workers, and so
-/// for the gate. The counts of failures of reader and writer must be below `u64::MAX` before the call.
+/// thread of its own, takes the quantum of its processor and arrives with it at the gate, and all are back before the next
+/// step or record. Refused commands are passed over. The text is that of the script's own commands alone, and is made
+/// before it is written. The call waits for the workers, and so for the gate. The counts of failures of reader and writer
+/// must be below `u64::MAX` before the call.
 ///
 /// # Errors
 ///

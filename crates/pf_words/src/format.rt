@@ -40,8 +40,9 @@ pub enum Format {
 }
 
 impl Format {
-    /// The format of this name: `schedule`, `tables`, `json`, `report`, `replies`, `lags`, `misses`, `denials`,
-    /// `events`, `processors`, `stats`, `chart` or `svg`, of all slots and of the usual width. `None` where the text is none of these.
+    /// The format of this name: `schedule`, `tables`, `json`, `report`, `replies`, `lags`, `misses`, `denials`, `events`,
+    /// `processors`, `stats`, `chart` or `svg`, of all slots and of the usual width. `None` where the text is none of
+    /// these.
     pub fn named(name: &str) -> Option<Format>
         ensures { result ≡ format_named name.now }
     {

@@ -15,12 +15,13 @@ use pf_script::fields::parse_number;
 use std::alloc::{AllocError, Global};
 use std::convert::AsStr;
 
-/// What the program's words ask for, its own name not among them. No words ask for a run with tables, and so does
-/// `run` alone; `run --format NAME` asks for one in the format of that name, of the slots from `--from` on and below
-/// `--to`, in slots of the width `--cell`, and `check` for a check. A file may stand behind each, for the script to be read from; `-` is standard input, as
-/// no file is. Answers `Refused` where the words are not the program's, `Mistaken` where the text of `--format` names no
-/// format, where that of `--from` or `--to` is no number, where the format has no range, where the text of `--cell` is no
-/// number of 6 to 40, and where the format has no width, the first of these; and `NoMemory`, in place of any answer, where memory was refused.
+/// What the program's words ask for, its own name not among them. No words ask for a run with tables, and so does `run`
+/// alone; `run --format NAME` asks for one in the format of that name, of the slots from `--from` on and below `--to`, in
+/// slots of the width `--cell`, and `check` for a check. A file may stand behind each, for the script to be read from; `-`
+/// is standard input, as no file is. Answers `Refused` where the words are not the program's, `Mistaken` where the text of
+/// `--format` names no format, where that of `--from` or `--to` is no number, where the format has no range, where the text
+/// of `--cell` is no number of 6 to 40, and where the format has no width, the first of these; and `NoMemory`, in place of
+/// any answer, where memory was refused.
 pub fn read_words<S: AsStr>(alloc: Global, words: &[S]) -> Result<Request, WordsFault>
     ensures { IsAsked (map S.text words.now) result }
 {
