@@ -1,18 +1,14 @@
-//! The worked example, many calls beside a plain list, and what is left after memory was refused.
+//! The worked example, and what is left after memory was refused.
 ghost use Rattle.std.specs.Prelude.{◌≡◌, ◌+◌, ◌≤◌, OnOk};
 ghost use Rattle.pf_weight.specs.declared.task.TheConstants.{LARGEST_TASK};
 
-mod twin;
-
-use crate::draws::Draws;
-use crate::keys::{drawn, key, unshifted};
+use crate::keys::{key, unshifted};
 use pf_calendar::calendar::Calendar;
 use pf_order::key::Key;
 use pf_order::meter::Meter;
 use std::alloc::{AllocError, Global};
 use std::process::Abort;
 use std::test::Fail;
-use twin::Twin;
 
 /// Puts a key of a task that isn't held.
 fn put(
@@ -78,25 +74,6 @@ fn three_keys(rt: HostRuntime) -> Result<(), Fail> {
     drain(&rt, &mut calendar, &mut meter, &[2]);
     copy.advance(&mut meter, 5);
     drain(&rt, &mut copy, &mut meter, &[3, 2, 1]);
-    Ok(())
-}
-
-#[test]
-fn beside_a_plain_list(rt: HostRuntime) -> Result<(), Fail> {
-    let mut meter = Meter::new();
-    let mut draws = Draws::new(7);
-    let mut twin = Twin::new(rt.alloc())?;
-    for now in 0..10_000 {
-        match draws.below(8) {
-            0 => twin.advance(&mut meter, now / 10),
-            1..=3 => twin.pop(&rt, &mut meter),
-            _ => {
-                let slot = now / 10 + u64::from(draws.below(8));
-                let task = draws.below(50) + 1;
-                twin.turn(&rt, &mut meter, slot, drawn(&mut draws, task)?)?;
-            }
-        }
-    }
     Ok(())
 }
 

@@ -1,18 +1,14 @@
-//! The worked examples, many calls beside plain lists, and what is left after memory was refused.
-ghost use Rattle.std.specs.Prelude.{◌≡◌, ◌≢◌, ◌+◌, ◌-◌, ◌<◌, ◌≤◌, ◌^◌, length, IfOk, OnOk, OnErr, []};
+//! The worked examples, and what is left after memory was refused.
+ghost use Rattle.std.specs.Prelude.{◌≡◌, ◌+◌, ◌-◌, ◌<◌, ◌≤◌, ◌^◌, length, IfOk, OnOk, OnErr, []};
 ghost use Rattle.pf_weight.specs.declared.task.TheConstants.{LARGEST_TASK};
 
-mod twin;
-
-use crate::draws::Draws;
-use crate::keys::{drawn, key, unshifted};
+use crate::keys::{key, unshifted};
 use pf_heap::arena::{Arena, HeapId};
 use pf_order::key::Key;
 use pf_order::meter::Meter;
 use std::alloc::{AllocError, Global};
 use std::process::Abort;
 use std::test::Fail;
-use twin::Twin;
 
 /// Adds a heap.
 fn heap(arena: &mut Arena) -> Result<HeapId, AllocError>
@@ -131,94 +127,6 @@ fn fifteen_keys(rt: HostRuntime) -> Result<(), Fail> {
     drain(&rt, &mut arena, &mut meter, only, &tasks);
     let after = meter.compared();
     assert!(rt; before <= after && after - before <= 120);
-    Ok(())
-}
-
-/// Inserts a key of the task, if it isn't held.
-fn insert(
-    arena: &mut Arena,
-    meter: &mut Meter,
-    draws: &mut Draws,
-    one: &mut Twin,
-    task: u32,
-) -> Result<(), Fail>
-    requires some { 1 ≤ task }
-    requires within { task ≤ 4095 }
-    requires heap { one.old.heap < length arena.old.lists }
-    ensures same { one.new.heap ≡ one.old.heap }
-    ensures lists { length arena.new.lists ≡ length arena.old.lists }
-{
-    arena.reserve_task(task)?;
-    if arena.holds(task) {
-        return Ok(());
-    }
-    let key = drawn(draws, task)?;
-    arena.reserve(1)?;
-    one.insert(arena, meter, key)?;
-    Ok(())
-}
-
-/// Some call on heap `one`, or on it and the other: the plain lists answer alike.
-fn call(
-    rt: &impl Abort,
-    arena: &mut Arena,
-    meter: &mut Meter,
-    draws: &mut Draws,
-    one: &mut Twin,
-    other: &mut Twin,
-) -> Result<(), Fail>
-    requires heap { one.old.heap < length arena.old.lists }
-    requires other { other.old.heap < length arena.old.lists }
-    requires differ { one.old.heap ≢ other.old.heap }
-    ensures same { one.new.heap ≡ one.old.heap }
-    ensures same_other { other.new.heap ≡ other.old.heap }
-    ensures lists { length arena.new.lists ≡ length arena.old.lists }
-{
-    let task = draws.below(60) + 1;
-    match draws.below(16) {
-        0 => one.meld(arena, meter, other)?,
-        1..=3 => one.pop(rt, arena, meter),
-        4..=6 => one.remove(rt, arena, meter, task),
-        7 => one.least(rt, arena, meter),
-        _ => insert(arena, meter, draws, one, task)?,
-    }
-    Ok(())
-}
-
-#[test]
-fn beside_plain_lists(rt: HostRuntime) -> Result<(), Fail> {
-    let mut meter = Meter::new();
-    let mut draws = Draws::new(7);
-    let mut arena = Arena::new(rt.alloc())?;
-    let mut first = Twin::new(rt.alloc(), heap(&mut arena)?);
-    let mut second = Twin::new(rt.alloc(), heap(&mut arena)?);
-    let mut third = Twin::new(rt.alloc(), heap(&mut arena)?);
-    for _call in 0..10_000 {
-        let task = draws.below(60) + 1;
-        let is_held = first.has(task) || second.has(task) || third.has(task);
-        assert_eq!(rt; arena.holds(task), is_held);
-        match draws.below(3) {
-            0 => call(
-                &rt,
-                &mut arena,
-                &mut meter,
-                &mut draws,
-                &mut first,
-                &mut second,
-            )?,
-            1 => call(
-                &rt,
-                &mut arena,
-                &mut meter,
-                &mut draws,
-                &mut second,
-                &mut third,
-            )?,
-            _ => call(
-                &rt, &mut arena, &mut meter, &mut draws, &mut third, &mut first,
-            )?,
-        }
-    }
     Ok(())
 }
 
