@@ -439,10 +439,10 @@ def settings_of(fields, version):
 # The desk
 
 class Desk:
-    """A scenario, the slots stepped, and the commands answered."""
+    """A scenario, the slots stepped, the commands answered, and the quanta of each slot as its step told them."""
 
     def __init__(self, settings):
-        self.scenario, self.now, self.entries = Scenario(settings), 0, 0
+        self.scenario, self.now, self.entries, self.taken = Scenario(settings), 0, 0, []
 
     def replies(self, command):
         if isinstance(command, Change):
@@ -466,6 +466,7 @@ class Desk:
     def step(self, steps):
         before, self.now = self.now, min(self.now + steps, self.scenario.settings.horizon)
         rows = run_of(self.scenario, self.now).rows
+        self.taken += [(t, p, *place) for t in range(before, self.now) for p, place in enumerate(rows[t]) if place]
         lines = [f"slot {t}: " + " ".join(name(place) or "-" for place in rows[t]) for t in range(before, self.now)]
         return lines + [refusal(30)] * (steps - len(lines))
 
@@ -486,13 +487,14 @@ class Desk:
             "processors": lambda: processors_table(placed),
             "chart": lambda: chart(placed, NAMES, first, end),
             "svg": lambda: picture(placed, NAMES, first, end, view.cell()),
+            "drill": lambda: "schedule\n" + schedule(placed, first, end) + "taken\n" + taken_table(self.taken),
         }
         return reports[view.form]()
 
 
 @dataclass(frozen=True)
 class View:
-    """A format, and whether a part of the slots is asked for."""
+    """A format, or `drill`, and whether a part of the slots is asked for."""
     form: str
     is_part: bool = False
 
@@ -507,6 +509,8 @@ class View:
 
     def words(self, script):
         """The words that ask for it."""
+        if self.form == "drill":
+            return ["drill"]
         told, _ = answers(script)
         first, end = self.range(told.now if isinstance(told, Desk) else 0)
         part = ["--from", str(first), "--to", str(end)] if self.is_part else []
@@ -549,6 +553,10 @@ def denials_table(placed):
 def tables(placed):
     return ("schedule\n" + schedule(placed, 0, len(placed.rows)) + "lags\n" + lags_table(placed)
             + "misses\n" + misses_table(placed) + "denials\n" + denials_table(placed))
+
+
+def taken_table(taken):
+    return table(("slot", "processor", "task", "sub"), taken)
 
 
 def events_table(scenario):
@@ -640,7 +648,7 @@ def json_report(placed, entries):
 # The program
 
 def meaning(script, view):
-    """What `pfair run` with the view's words writes for the script, what it tells of a fault, and its status."""
+    """What `pfair` with the view's words writes for the script, what it tells of a fault, and its status."""
     if len(script) > LONGEST_SCRIPT:
         return b"", b"the script is longer than 16777216 bytes\n", 1
     told, lines = answers(script)

@@ -1,7 +1,8 @@
 """Runs a program with one of its allocations refused.
 
 A library that counts the calls of the C library that give memory (malloc, calloc, realloc, reallocarray, aligned_alloc,
-memalign and posix_memalign), and refuses one of them, is loaded before the C library. It is compiled here, by `cc`.
+memalign and posix_memalign) or make a thread (pthread_create), and refuses one of them, is loaded before the C library. It is
+compiled here, by `cc`.
 """
 import itertools
 import os
@@ -15,6 +16,7 @@ SOURCE = r"""
 #include <dlfcn.h>
 #include <errno.h>
 #include <fcntl.h>
+#include <pthread.h>
 #include <stdatomic.h>
 #include <stdlib.h>
 #include <unistd.h>
@@ -76,6 +78,11 @@ void *memalign(size_t alignment, size_t size) {
 int posix_memalign(void **place, size_t alignment, size_t size) {
     int (*give)(void **, size_t, size_t) = real("posix_memalign");
     return is_refused() ? ENOMEM : give(place, alignment, size);
+}
+
+int pthread_create(pthread_t *thread, const pthread_attr_t *how, void *(*start)(void *), void *given) {
+    int (*make)(pthread_t *, const pthread_attr_t *, void *(*)(void *), void *) = real("pthread_create");
+    return is_refused() ? EAGAIN : make(thread, how, start, given);
 }
 """
 

@@ -6,12 +6,14 @@ use Rattle.std.proofs.KnownBytes.{Keeps-refl, Consumes-nil}
 use Rattle.pf_words.specs.declared.format.Format.{Format}
 use Rattle.pf_words.specs.declared.request.WordsFault.{WordsFault}
 use Rattle.pf_words.specs.declared.request.WordsFault.TheVariants as fault
-use Rattle.pf_words.specs.Asked.{AsksHelp, AsksVersion, AreMistaken, Checks, IsAsked, IsRefused, RunsIn, Task, file_asked, task_asked}
+use Rattle.pf_words.specs.Asked.{AsksHelp, AsksVersion, AreMistaken, Checks, Drills, IsAsked, IsRefused, RunsIn, Task, file_asked, task_asked}
 use Rattle.pf_words.specs.declared.mistake.Mistake.{Mistake}
 use Rattle.pf_words.proofs.Unasked.{mistaken_asks_none, untaken_asks_none}
 use Rattle.pf_cli.specs.declared.fault.RunFault.TheVariants.{NoMemory, ReadFault}
 use Rattle.pf_stream.specs.Written.{TookFront}
 use Rattle.pf_stream.specs.Reading.{longest_script, TakesAtMost}
+use Rattle.pf_drill.specs.declared.fault.DrillFault.TheVariants as drill
+use Rattle.pf_drill.specs.Drilled.{AnswersDrill}
 use Rattle.pf_cli.specs.Answers.{Answers}
 use Rattle.pf_cli.specs.Checks.{ChecksBytes}
 use Rattle.pf_cli.specs.Meaning.{script_meaning}
@@ -87,6 +89,21 @@ no_memory old Checks = (
     none_checked : (input output : Option (List ℕ)) → IfSome input (λ bytes. ChecksBytes bytes (Err NoMemory) output output)
     none_checked None output = tt
     none_checked (Some bytes) output = record { text = none_written output _; faults = tt }
+no_memory old Drills = (
+  Err drill.NoMemory,
+  refl,
+  record {
+    meaning = none_drilled old.input old.output;
+    reads = refl;
+    writes = refl;
+    unwritten = λ kept. Keeps-refl old.output;
+    taken = none_taken old.input;
+  },
+)
+  where
+    none_drilled : (input output : Option (List ℕ)) → IfSome input (λ bytes. AnswersDrill {A = Unit {0}} bytes (Err drill.NoMemory) output output)
+    none_drilled None output = tt
+    none_drilled (Some bytes) output = Keeps-refl output
 
 -- and to all words
 memory_answers : (words : List (List ℕ)) (old : Streams) (asked : Option Task) (file : Option (List ℕ)) → AnswersAsked words asked file 4 old old

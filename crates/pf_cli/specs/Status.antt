@@ -1,15 +1,18 @@
 -- The status that the program ends with, and what it did to its streams.
-use Rattle.std.specs.Prelude.{ℕ, ◌≡◌, ◌+◌, List, Option, Some, None, IfSome, Result, Ok, Err, ◌==◌, if◌then◌else◌, ◌⊎◌}
+use Rattle.std.specs.Prelude.{ℕ, ◌≡◌, ◌+◌, List, Option, Some, None, IfSome, IfErr, Result, Ok, Err, ◌==◌, if◌then◌else◌, ◌⊎◌}
 use Rattle.std.specs.Io.KnownBytes.{Appends, Keeps}
 use Rattle.pf_cli.specs.declared.fault.RunFault.{RunFault}
 use Rattle.pf_cli.specs.declared.fault.RunFault.TheVariants.{BadLine, ReadFault, WriteFault, ScriptTooLong, BadRange, NoMemory}
 use Rattle.pf_words.specs.declared.format.Format.{Format}
 use Rattle.pf_words.specs.declared.request.WordsFault.{WordsFault}
 use Rattle.pf_words.specs.declared.request.WordsFault.TheVariants as words
-use Rattle.pf_words.specs.Asked.{Task, RunsIn, Checks, task_asked, file_asked, AsksHelp, AsksVersion, IsRefused, AreMistaken}
+use Rattle.pf_words.specs.Asked.{Task, RunsIn, Checks, Drills, task_asked, file_asked, AsksHelp, AsksVersion, IsRefused, AreMistaken}
 use Rattle.pf_words.specs.declared.mistake.Mistake.{Mistake}
 use Rattle.pf_stream.specs.Written.{TookFront}
 use Rattle.pf_stream.specs.Reading.{longest_script, TakesAtMost}
+use Rattle.pf_drill.specs.declared.fault.DrillFault.{DrillFault}
+use Rattle.pf_drill.specs.declared.fault.DrillFault.TheVariants as drill
+use Rattle.pf_drill.specs.Drilled as drilled
 use Rattle.pf_cli.specs.Answers.{Answers, CountsReads, CountsWrites, IsOutside}
 use Rattle.pf_cli.specs.Checks.{ChecksBytes}
 use Rattle.pf_cli.specs.Meaning.{script_meaning}
@@ -28,6 +31,18 @@ status_of (Err NoMemory) = 4
 abbrev pub status_of_check : Result ℕ RunFault → ℕ
 status_of_check (Ok faults) = if faults == 0 then 0 else 1
 status_of_check (Err fault) = status_of {A = ℕ} (Err fault)
+
+-- the same of a drill: 4 also where the readers' table has no place, and 5 a gate that stayed shut
+abbrev pub status_of_drill : {A : Type 0} → Result A DrillFault → ℕ
+status_of_drill (Ok done) = 0
+status_of_drill (Err (drill.BadLine number)) = 1
+status_of_drill (Err drill.ScriptTooLong) = 1
+status_of_drill (Err drill.ReadFault) = 3
+status_of_drill (Err drill.WriteFault) = 3
+status_of_drill (Err drill.NoMemory) = 4
+status_of_drill (Err drill.NoViewer) = 4
+status_of_drill (Err drill.Unread) = 4
+status_of_drill (Err drill.GateShut) = 5
 
 -- 2 words that are refused or mistaken, 4 no memory
 abbrev pub status_of_words : WordsFault → ℕ
@@ -76,6 +91,20 @@ abbrev pub ChecksScript : ℕ → Streams → Streams → Type 0
 ChecksScript status old new =
     (answer : Result ℕ RunFault) × (status ≡ status_of_check answer) × IsCheck answer old new
 
+-- this answer is one to the drill of the script, and the streams are as behind a run; after each fault but that of the
+-- writer the writer is as it was
+pub record IsDrilled (answer : Result (Unit {0}) DrillFault) (old new : Streams) : Type 0 where
+  pub meaning : IfSome old.input (λ bytes. drilled.AnswersDrill bytes answer old.output new.output)
+  pub reads : drilled.CountsReads answer old.failed_reads new.failed_reads
+  pub writes : drilled.CountsWrites answer old.failed_writes new.failed_writes
+  pub unwritten : IfErr answer (λ fault. drilled.IsUnwritten fault → Keeps old.output new.output)
+  pub taken : TakesAtMost old.input new.input (longest_script + 1)
+
+-- a script was drilled, and the status is that of the answer
+abbrev pub DrillsScript : ℕ → Streams → Streams → Type 0
+DrillsScript status old new =
+    (answer : Result (Unit {0}) DrillFault) × (status ≡ status_of_drill answer) × IsDrilled answer old new
+
 -- how the program ends where it reads no script: help or the version was asked for, and was written (0) or could not be
 -- (3), the words were refused or are mistaken (2), or memory was refused (4)
 abbrev pub EndsUnread : List (List ℕ) → ℕ → Type 0
@@ -95,10 +124,11 @@ pub record ReadsNothing (words : List (List ℕ)) (status : ℕ) (old new : Stre
   pub cut : status ≡ 3 → (text : List ℕ) × TookFront old.output new.output text
   pub unwritten : (status ≡ 2) ⊎ (status ≡ 4) → Keeps old.output new.output
 
--- a script was run in the format, or checked
+-- a script was run in the format, checked, or drilled
 abbrev pub Does : Task → ℕ → Streams → Streams → Type 0
 Does (RunsIn format) status old new = RunsScript format status old new
 Does Checks status old new = ChecksScript status old new
+Does Drills status old new = DrillsScript status old new
 
 -- something was done with a file in place of the reader, of whose bytes nothing is said; one that can't be opened is a
 -- reader that failed
@@ -112,8 +142,8 @@ pub record DoesWithFile (task : Task) (status : ℕ) (old new : Streams) : Type 
   pub reads : new.failed_reads ≡ old.failed_reads
   pub does : WithFile (Does task status) old.output old.failed_writes new.output new.failed_writes
 
--- words that ask for a run in a format have the script run in it, and those that ask for a check have it checked: that
--- of the file that they name, and else the reader's; where they ask for nothing, nothing is read
+-- words that ask for a run in a format have the script run in it, those that ask for a check have it checked, and those
+-- that ask for a drill drilled: that of the file that they name, and else the reader's; where they ask for nothing, nothing is read
 abbrev pub AnswersAsked : List (List ℕ) → Option Task → Option (List ℕ) → ℕ → Streams → Streams → Type 0
 AnswersAsked words (Some task) None status old new = Does task status old new
 AnswersAsked words (Some task) (Some file) status old new = DoesWithFile task status old new

@@ -3,11 +3,14 @@ ghost use Rattle.std.specs.IoError.{error_kind};
 ghost use Rattle.std.specs.Io.KnownBytes.{Appends, Keeps};
 ghost use Rattle.pf_stream.specs.Written.{TookFront};
 ghost use Rattle.pf_words.specs.Asked.{file_asked, task_asked};
-ghost use Rattle.pf_cli.specs.Status.{status_of, status_of_words, seen_streams, AnswersWords, ChecksScript, RunsScript, WithFile};
+ghost use Rattle.pf_cli.specs.Status.{status_of, status_of_drill, status_of_words, seen_streams, AnswersWords, ChecksScript, DrillsScript, RunsScript, WithFile};
 
 use crate::check::check;
 use crate::fault::RunFault;
+use crate::open_gate::OpenGate;
 use crate::run::run;
+use pf_drill::drill::drill;
+use pf_drill::fault::DrillFault;
 use pf_stream::sink::Sink;
 use pf_stream::source::{CountedReader, Source};
 use pf_stream::writing::write_out;
@@ -21,26 +24,30 @@ use std::fs::File;
 use std::io;
 use std::io::{ErrorKind, Write};
 use std::rt::Files;
+use std::sync::Wait;
+use std::thread::Threads;
 
 // What is told where a word is no text.
 const NO_TEXT: &str = "error: invalid UTF-8 was detected in one or more arguments";
 
 /// Does what the program's words say, its own name not among them: runs a script and writes its answer to the writer, or
-/// checks it and writes what it finds there, or writes help or the version. The script is that of the file that the words
-/// name, and else the reader's. Without words the script is run in the format `Tables`. The text of a fault goes to
-/// `faults`, whose own faults are passed over. Answers the status to exit with: 0 where the script was done, a check found
-/// no fault, or help was shown, 1 where the script has a bad record or is too long, 2 where the words are refused or
-/// mistaken, or ask for slots that can't be shown, 3 where the reader or the writer failed or the file can't be opened or
-/// read, 4 where memory was refused. Words that ask for a run or a check and name no file, and no others, have the reader
-/// read; with any other the reader is as before. The counts of failures of reader and writer must be below `u64::MAX`
-/// before the call.
-pub fn main_words<H: AllocGlobal + Files, S: AsStr, R: Source, W: Sink, F: Write>(
-    rt: &H,
-    words: &[S],
-    reader: &mut R,
-    writer: &mut W,
-    faults: &mut F,
-) -> u8
+/// checks it and writes what it finds there, or drills it at gates that are always open and writes what came of that, or
+/// writes help or the version. The script is that of the file that the words name, and else the reader's; a drill's is
+/// always the reader's. Without words the script is run in the format `Tables`. The text of a fault goes to `faults`, whose
+/// own faults are passed over. Answers the status to exit with: 0 where the script was done, a check found no fault, or
+/// help was shown, 1 where the script has a bad record or is too long, 2 where the words are refused or mistaken, or ask for
+/// slots that can't be shown, 3 where the reader or the writer failed or the file can't be opened or read, 4 where memory
+/// was refused, or a drill has no place for a reader, 5 where a gate stayed shut. Words that ask for a run or a check and
+/// name no file, or for a drill, and no others, have the reader read; with any other the reader is as before. Where the
+/// words ask for a drill, and only there, threads are started, and the call waits for them. The counts of failures of
+/// reader and writer must be below `u64::MAX` before the call.
+pub fn main_words<
+    H: AllocGlobal + Files + Threads + Wait + Sync,
+    S: AsStr,
+    R: Source,
+    W: Sink,
+    F: Write,
+>(rt: &H, words: &[S], reader: &mut R, writer: &mut W, faults: &mut F) -> u8
     requires reads { R.failed reader.old < 2 ^ 64 - 1 }
     requires writes { W.failed writer.old < 2 ^ 64 - 1 }
     ensures streams { AnswersWords (map S.text words.now) result
@@ -57,6 +64,7 @@ pub fn main_words<H: AllocGlobal + Files, S: AsStr, R: Source, W: Sink, F: Write
         },
         Ok(Request::Check(None)) => check_told(alloc, reader, writer, faults),
         Ok(Request::Check(Some(file))) => check_file(rt, file.as_str(), writer, faults),
+        Ok(Request::Drill) => drill_told(rt, alloc, reader, writer, faults),
         Ok(Request::Show(text)) => show(text.as_str(), writer, faults),
         Err(fault) => refuse(&fault, faults),
     }
@@ -157,6 +165,25 @@ fn check_told<R: Source, W: Sink, F: Write>(
     }
 }
 
+/// Drills the script at gates that are always open, and answers the status.
+fn drill_told<H: Threads + Wait + Sync, R: Source, W: Sink, F: Write>(
+    rt: &H,
+    alloc: Global,
+    reader: &mut R,
+    writer: &mut W,
+    faults: &mut F,
+) -> u8
+    requires reads { R.failed reader.old < 2 ^ 64 - 1 }
+    requires writes { W.failed writer.old < 2 ^ 64 - 1 }
+    ensures streams { DrillsScript result
+        (seen_streams (R.remaining reader.old) (R.failed reader.old) (W.contents writer.old) (W.failed writer.old))
+        (seen_streams (R.remaining reader.new) (R.failed reader.new) (W.contents writer.new) (W.failed writer.new)) }
+    ensures quiet { result ≡ 0 → Keeps (F.contents faults.old) (F.contents faults.new) }
+{
+    let outcome = drill(rt, alloc, reader, writer, &OpenGate);
+    tell_drill(outcome, faults)
+}
+
 /// Writes a text that was asked for, and answers the status.
 fn show<W: Sink, F: Write>(text: &str, writer: &mut W, faults: &mut F) -> u8
     requires { W.failed writer.old < 2 ^ 64 - 1 }
@@ -207,6 +234,23 @@ fn tell_outcome<F: Write>(outcome: Result<(), RunFault>, faults: &mut F) -> u8
         RunFault::BadRange(_) => 2,
         RunFault::ReadFault | RunFault::WriteFault => 3,
         RunFault::NoMemory => 4,
+    }
+}
+
+/// Tells a fault of a drill, and answers the status.
+fn tell_drill<F: Write>(outcome: Result<(), DrillFault>, faults: &mut F) -> u8
+    ensures status { result ≡ status_of_drill outcome }
+    ensures quiet { IsOk outcome → Keeps (F.contents faults.old) (F.contents faults.new) }
+{
+    let Err(fault) = outcome else {
+        return 0;
+    };
+    tell(&fault, faults);
+    match fault {
+        DrillFault::BadLine(_) | DrillFault::ScriptTooLong => 1,
+        DrillFault::ReadFault | DrillFault::WriteFault => 3,
+        DrillFault::NoMemory | DrillFault::NoViewer | DrillFault::Unread => 4,
+        DrillFault::GateShut => 5,
     }
 }
 

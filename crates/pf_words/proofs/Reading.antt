@@ -8,11 +8,11 @@ use Rattle.clap.specs.Words.{IsAmong, Row, Text, fault_of, first_of, is_simple, 
 use Rattle.clap.specs.declared.error.kind.ErrorKind.{ErrorKind}
 use Rattle.clap.specs.declared.error.kind.ErrorKind.TheVariants.{OutOfMemory}
 use Rattle.pf_words.specs.declared.request.Request.{Request}
-use Rattle.pf_words.specs.declared.request.Request.TheVariants.{Run, Check, Show}
+use Rattle.pf_words.specs.declared.request.Request.TheVariants.{Run, Check, Drill, Show}
 use Rattle.pf_words.specs.declared.request.WordsFault.{WordsFault}
 use Rattle.pf_words.specs.declared.request.WordsFault.TheVariants.{Refused, Mistaken, NoMemory}
-use Rattle.pf_words.specs.CommandLine.{file_behind, is_check, kinds_of, program, text_behind_run}
-use Rattle.pf_words.specs.Asked.{IsAsked, IsRequest, IsShown, ShowsError, file_asked, file_of, task_asked, task_of}
+use Rattle.pf_words.specs.CommandLine.{file_behind, is_named, kinds_of, program, text_behind_run}
+use Rattle.pf_words.specs.Asked.{IsAsked, IsRequest, IsShown, ShowsError, file_asked, file_found, task_asked, task_of}
 
 -- one function after another over what may be there
 pub option_map-option_map : {X Y Z : Type 0} (f : Y → Z) (g : X → Y) (o : Option X) → option_map f (option_map g o) ≡ option_map (λ x. f (g x)) o
@@ -53,7 +53,7 @@ taken_task words found taken is = rw (taken, is) refl
 
 -- the file that is named, by the same
 taken_file : (words : List Text) (found : Option (Text × List Row)) → kinds_of words ≡ [] → found ≡ subcommand_of program words
-    → file_of (file_behind found) ≡ file_asked words
+    → file_found found ≡ file_asked words
 unfolding file_asked
 taken_file words found taken is = rw (taken, is) refl
 
@@ -62,24 +62,26 @@ pub taken_words : (words : List Text) (found : Option (Text × List Row)) (answe
     → found ≡ subcommand_of program words → IsRequest found answer → IsAsked words answer
 taken_words words found (Ok (Run format file)) taken is asks = (taken_task words found taken is ∙ ap result_ok asks.0, asks.1 ∙ taken_file words found taken is)
 taken_words words found (Ok (Check file)) taken is asks = (taken_task words found taken is ∙ ap result_ok asks.0, asks.1 ∙ taken_file words found taken is)
+taken_words words found (Ok Drill) taken is asks = (taken_task words found taken is ∙ ap result_ok asks.0, sym (taken_file words found taken is) ∙ asks.1)
 taken_words words found (Ok (Show text)) taken is asks = absurd asks
 taken_words words found (Err (Refused text)) taken is asks = absurd asks
 taken_words words found (Err (Mistaken mistake)) taken is asks = (taken, ap task_of (sym is) ∙ asks)
 taken_words words found (Err NoMemory) taken is asks = tt
 
--- whether the subcommand is `check`, by its name
-pub check_named : (found : Option (Text × List Row)) (here : Bool) → ((here ≡ true) ↔ (option_map (λ p. p.0) found ≡ Some (codes "check"))) → here ≡ is_check found
-check_named None here named = by here named
+-- whether the subcommand has this name
+pub has_name : (name : Text) (found : Option (Text × List Row)) (here : Bool) → ((here ≡ true) ↔ (option_map (λ p. p.0) found ≡ Some name))
+    → here ≡ is_named name found
+has_name name None here named = by here named
   where
-    by : (b : Bool) → ((b ≡ true) ↔ (option_map (λ (p : Text × List Row). p.0) None ≡ Some (codes "check"))) → b ≡ false
-    by true named = let never : None ≡ Some (codes "check") = named.0 refl in cc
+    by : (b : Bool) → ((b ≡ true) ↔ (option_map (λ (p : Text × List Row). p.0) None ≡ Some name)) → b ≡ false
+    by true named = let never : None ≡ Some name = named.0 refl in cc
     by false named = refl
-check_named (Some p) here named = by here (is_check (Some p)) named (bytes_eq-Decides p.0 (codes "check"))
+has_name name (Some p) here named = by here (is_named name (Some p)) named (bytes_eq-Decides p.0 name)
   where
-    by : (b c : Bool) → ((b ≡ true) ↔ (Some p.0 ≡ Some (codes "check"))) → Decides c (p.0 ≡ codes "check") → b ≡ c
+    by : (b c : Bool) → ((b ≡ true) ↔ (Some p.0 ≡ Some name)) → Decides c (p.0 ≡ name) → b ≡ c
     by true true named tells = refl
     by false false named tells = refl
-    by true false named tells = let same : p.0 ≡ codes "check" = let e = named.0 refl in cc in sym (tells.1 same)
+    by true false named tells = let same : p.0 ≡ name = let e = named.0 refl in cc in sym (tells.1 same)
     by false true named tells = named.1 (ap (λ (t : Text). Some t) (tells.0 refl))
 
 -- want of memory shows nothing
@@ -92,6 +94,7 @@ pub untaken_words : (words : List Text) (kind : ErrorKind) (answer : Result Requ
     → (kind ≡ OutOfMemory) ⊎ IsAmong kind (kinds_of words) → ShowsError kind answer → IsAsked words answer
 untaken_words words kind (Ok (Run format file)) among shows = absurd shows
 untaken_words words kind (Ok (Check file)) among shows = absurd shows
+untaken_words words kind (Ok Drill) among shows = absurd shows
 untaken_words words kind (Ok (Show text)) among shows = elim among [
   | inl memory ↦ absurd (not_shown kind memory shows)
   | inr here ↦ elim shows [

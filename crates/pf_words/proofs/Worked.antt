@@ -5,7 +5,7 @@ use Rattle.clap.specs.declared.error.kind.ErrorKind.TheVariants as kind
 use Rattle.pf_words.specs.CommandLine.{kinds_of}
 use Rattle.pf_words.specs.Asked.{IsShown, task_asked, file_asked}
 use Rattle.pf_script.specs.Fields.{number_of}
-use Rattle.pf_words.specs.Examples.{Runs, Ranged, Pictured, Files, Showable, WorkedWords}
+use Rattle.pf_words.specs.Examples.{Runs, Ranged, Pictured, Files, Drilled, Showable, WorkedWords}
 
 runs : Runs
 unfolding clap_on_literals kinds_of task_asked
@@ -40,6 +40,16 @@ unknown_is_not_shown : ¬ IsShown kind.UnknownArgument
 unknown_is_not_shown (inl help) = cc
 unknown_is_not_shown (inr version) = cc
 
+drilled : Drilled
+unfolding clap_on_literals kinds_of task_asked file_asked
+drilled = record {
+  alone = refl;
+  none = refl;
+  of_file = (kind.UnknownArgument, unknown_is_not_shown, inl refl);
+  in_format = (kind.UnknownArgument, unknown_is_not_shown, inl refl);
+  help = inl refl;
+}
+
 pub worked_words : WorkedWords
 unfolding clap_on_literals kinds_of task_asked
 worked_words = record {
@@ -47,11 +57,11 @@ worked_words = record {
   ranged = ranged;
   pictured = pictured;
   files = files;
+  drilled = drilled;
   showable = showable;
   check = refl;
   unknown = (refl, refl);
   option_alone = (kind.UnknownArgument, unknown_is_not_shown, inl refl);
-  drill = (kind.UnknownArgument, unknown_is_not_shown, inl refl);
   alone = (kind.UnknownArgument, unknown_is_not_shown, inl refl);
   twice = (kind.UnknownArgument, unknown_is_not_shown, inl refl);
   check_format = (kind.UnknownArgument, unknown_is_not_shown, inl refl);

@@ -10,7 +10,7 @@ use Rattle.clap.specs.declared.error.kind.ErrorKind.TheVariants.{DisplayHelp, Di
 use Rattle.pf_words.specs.declared.format.Format.{Format}
 use Rattle.pf_words.specs.declared.format.Format.TheVariants.{Tables}
 use Rattle.pf_words.specs.declared.request.Request.{Request}
-use Rattle.pf_words.specs.declared.request.Request.TheVariants.{Run, Check, Show}
+use Rattle.pf_words.specs.declared.request.Request.TheVariants.{Run, Check, Drill, Show}
 use Rattle.pf_words.specs.declared.request.WordsFault.{WordsFault}
 use Rattle.pf_words.specs.declared.request.WordsFault.TheVariants.{Refused, Mistaken, NoMemory}
 use Rattle.pf_words.specs.declared.mistake.Mistake.{Mistake}
@@ -18,7 +18,7 @@ use Rattle.pf_words.specs.declared.mistake.Mistake.TheVariants.{UnknownFormat, B
 use Rattle.pf_words.specs.declared.slot_range.SlotRange.{SlotRange}
 use Rattle.pf_words.specs.Cells.{cell_of}
 use Rattle.pf_words.specs.Formats.{format_named, format_with_cell, format_within}
-use Rattle.pf_words.specs.CommandLine.{file_behind, is_check, kinds_of, program, text_behind_run}
+use Rattle.pf_words.specs.CommandLine.{file_behind, is_check, is_drill, kinds_of, program, text_behind_run}
 use Rattle.pf_script.specs.Fields.{number_of}
 
 -- without a name the format is `tables`
@@ -90,10 +90,11 @@ format_in_cells (Ok format) (Ok (Some cell)) = format_of_width (format_with_cell
 abbrev pub format_of : Option (Text × List Row) → Result Format Mistake
 format_of found = format_in_cells (format_found found) (cell_given (text_behind_run (codes "cell") found))
 
--- what the program can be asked to do with a script: to run it in a format, or to check it
+-- what the program can be asked to do with a script: to run it in a format, to check it, or to drill it
 pub data Task : Type 0 where
   RunsIn : Format → Task
   Checks : Task
+  Drills : Task
 
 -- to run it in that format
 abbrev pub run_given : Result Format Mistake → Result Task Mistake
@@ -103,7 +104,10 @@ run_given (Ok format) = Ok (RunsIn format)
 -- what a subcommand asks for, and none: the format is a name of one, the ends of the range are numbers, the format has
 -- that range, and the width is one that a slot of the format may have, or the words are mistaken
 abbrev pub task_of : Option (Text × List Row) → Result Task Mistake
-task_of found = if is_check found then Ok Checks else run_given (format_of found)
+task_of found =
+    if is_drill found then Ok Drills
+    else if is_check found then Ok Checks
+    else run_given (format_of found)
 
 -- what the words ask for: nothing where the grammar does not take them, and where they are mistaken
 unfoldable pub task_asked : List Text → Option Task
@@ -114,9 +118,13 @@ abbrev pub file_of : Option Text → Option Text
 file_of None = None
 file_of (Some text) = if bytes_eq text (codes "-") then None else Some text
 
+-- the file that is named behind a subcommand; a drill has none
+abbrev pub file_found : Option (Text × List Row) → Option Text
+file_found found = if is_drill found then None else file_of (file_behind found)
+
 -- the file that the words name, which is read in place of standard input
 unfoldable pub file_asked : List Text → Option Text
-file_asked words = if is_empty (kinds_of words) then file_of (file_behind (subcommand_of program words)) else None
+file_asked words = if is_empty (kinds_of words) then file_found (subcommand_of program words) else None
 
 -- the text of a file's name
 abbrev pub name_of : Option (String Global) → Option Text
@@ -146,6 +154,7 @@ AreMistaken words mistake = (kinds_of words ≡ []) × (task_of (subcommand_of p
 abbrev pub IsAsked : List Text → Result Request WordsFault → Type 0
 IsAsked words (Ok (Run format file)) = (task_asked words ≡ Some (RunsIn format)) × (name_of file ≡ file_asked words)
 IsAsked words (Ok (Check file)) = (task_asked words ≡ Some Checks) × (name_of file ≡ file_asked words)
+IsAsked words (Ok Drill) = (task_asked words ≡ Some Drills) × (file_asked words ≡ None)
 IsAsked words (Ok (Show text)) = AsksHelp words ⊎ AsksVersion words
 IsAsked words (Err (Refused text)) = IsRefused words
 IsAsked words (Err (Mistaken mistake)) = AreMistaken words mistake
@@ -153,8 +162,9 @@ IsAsked words (Err NoMemory) = Unit {0}
 
 -- this answer is what words ask for that the grammar takes, by what was found of a subcommand
 abbrev pub IsRequest : Option (Text × List Row) → Result Request WordsFault → Type 0
-IsRequest found (Ok (Run format file)) = (task_of found ≡ Ok (RunsIn format)) × (name_of file ≡ file_of (file_behind found))
-IsRequest found (Ok (Check file)) = (task_of found ≡ Ok Checks) × (name_of file ≡ file_of (file_behind found))
+IsRequest found (Ok (Run format file)) = (task_of found ≡ Ok (RunsIn format)) × (name_of file ≡ file_found found)
+IsRequest found (Ok (Check file)) = (task_of found ≡ Ok Checks) × (name_of file ≡ file_found found)
+IsRequest found (Ok Drill) = (task_of found ≡ Ok Drills) × (file_found found ≡ None)
 IsRequest found (Ok (Show text)) = ⊥
 IsRequest found (Err (Refused text)) = ⊥
 IsRequest found (Err (Mistaken mistake)) = task_of found ≡ Err mistake
@@ -164,6 +174,7 @@ IsRequest found (Err NoMemory) = Unit {0}
 abbrev pub ShowsError : ErrorKind → Result Request WordsFault → Type 0
 ShowsError kind (Ok (Run format file)) = ⊥
 ShowsError kind (Ok (Check file)) = ⊥
+ShowsError kind (Ok Drill) = ⊥
 ShowsError kind (Ok (Show text)) = IsShown kind
 ShowsError kind (Err (Refused text)) = (kind ≢ OutOfMemory) × ¬ IsShown kind
 ShowsError kind (Err (Mistaken mistake)) = ⊥

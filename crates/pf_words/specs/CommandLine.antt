@@ -38,13 +38,18 @@ run_command =
 abbrev pub check_command : App
 check_command = with_rule (new_app (codes "check")) file_argument
 
+-- `drill`, which takes nothing
+abbrev pub drill_command : App
+drill_command = new_app (codes "drill")
+
 -- the program's own name is not among the words, and it tells its version
 abbrev pub as_program : App → App
 as_program = on_top (λ s. record s { no_binary_name = true; has_version = true })
 
--- `pfair`, with the subcommands `run` and `check`
+-- `pfair`, with the subcommands `run`, `check` and `drill`
 abbrev pub program : App
-program = with_subcommand (with_subcommand (as_program (new_app (codes "pfair"))) run_command.top) check_command.top
+program =
+    with_subcommand (with_subcommand (with_subcommand (as_program (new_app (codes "pfair"))) run_command.top) check_command.top) drill_command.top
 
 -- the kinds of error by which the grammar does not take the words; it takes them where there is none
 unfoldable pub kinds_of : List Text → Kinds
@@ -60,7 +65,15 @@ abbrev pub file_behind : Option (Text × List Row) → Option Text
 file_behind None = None
 file_behind (Some found) = first_of (codes "file") found.1
 
+-- whether the subcommand has this name
+abbrev pub is_named : Text → Option (Text × List Row) → Bool
+is_named name None = false
+is_named name (Some found) = bytes_eq found.0 name
+
 -- whether the subcommand is `check`
 abbrev pub is_check : Option (Text × List Row) → Bool
-is_check None = false
-is_check (Some found) = bytes_eq found.0 (codes "check")
+is_check found = is_named (codes "check") found
+
+-- whether the subcommand is `drill`
+abbrev pub is_drill : Option (Text × List Row) → Bool
+is_drill found = is_named (codes "drill") found

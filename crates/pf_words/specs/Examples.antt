@@ -6,7 +6,7 @@ use Rattle.pf_words.specs.declared.slot_range.SlotRange.{SlotRange}
 use Rattle.pf_words.specs.declared.range_fault.RangeFault.TheVariants.{NotWithin, TooLong}
 use Rattle.pf_words.specs.Formats.{range_fault}
 use Rattle.pf_words.specs.Ranges.{whole}
-use Rattle.pf_words.specs.Asked.{RunsIn, Checks, task_asked, file_asked, AsksHelp, AsksVersion, IsRefused, AreMistaken}
+use Rattle.pf_words.specs.Asked.{RunsIn, Checks, Drills, task_asked, file_asked, AsksHelp, AsksVersion, IsRefused, AreMistaken}
 
 -- words that ask for a run
 pub record Runs : Type 0 where
@@ -52,6 +52,14 @@ pub record Files : Type 0 where
   pub dash : file_asked (codes "run" ∷ codes "-" ∷ []) ≡ None
   pub none : file_asked (codes "check" ∷ []) ≡ None
 
+-- words that ask for a drill, which takes no file and no option
+pub record Drilled : Type 0 where
+  pub alone : task_asked (codes "drill" ∷ []) ≡ Some Drills
+  pub none : file_asked (codes "drill" ∷ []) ≡ None
+  pub of_file : IsRefused (codes "drill" ∷ codes "x" ∷ [])
+  pub in_format : IsRefused (codes "drill" ∷ codes "--format" ∷ codes "json" ∷ [])
+  pub help : AsksHelp (codes "drill" ∷ codes "--help" ∷ [])
+
 -- what can be shown of so many slots
 pub record Showable : Type 0 where
   pub most : range_fault (Svg whole 20) 4096 ≡ None
@@ -66,13 +74,13 @@ pub record WorkedWords : Type 0 where
   pub ranged : Ranged
   pub pictured : Pictured
   pub files : Files
+  pub drilled : Drilled
   pub showable : Showable
   pub check : task_asked (codes "check" ∷ []) ≡ Some Checks
   -- a name of no format
   pub unknown : AreMistaken (codes "run" ∷ codes "--format" ∷ codes "xml" ∷ []) UnknownFormat
   -- the option without `run`, a word that is none of the program's, and a word too many
   pub option_alone : IsRefused (codes "--format" ∷ codes "json" ∷ [])
-  pub drill : IsRefused (codes "drill" ∷ [])
   pub alone : IsRefused (codes "plan.csv" ∷ [])
   pub twice : IsRefused (codes "run" ∷ codes "plan.csv" ∷ codes "plan.csv" ∷ [])
   pub check_format : IsRefused (codes "check" ∷ codes "-f" ∷ codes "lags" ∷ [])

@@ -1,7 +1,7 @@
 ghost use Rattle.std.specs.Prelude.{◌≡◌, IfOk, false, codes};
 ghost use Rattle.clap.specs.Words.{app_of, new_app, with_rule};
 ghost use Rattle.clap.specs.declared.builder.command.Command.TheViews.{out-Command};
-ghost use Rattle.pf_words.specs.CommandLine.{program, as_program, cell_option, check_command, file_argument, format_option, from_option, run_command, to_option};
+ghost use Rattle.pf_words.specs.CommandLine.{program, as_program, cell_option, check_command, drill_command, file_argument, format_option, from_option, run_command, to_option};
 
 use clap::{Arg, ArgAction, Command};
 use std::alloc::{AllocError, Global};
@@ -52,9 +52,12 @@ Formats:
   svg         the same as SVG, for a browser; --cell W (6 to 40) tells how wide each slot is
 
 `check` tells of each record that the format does not allow, and where and why, and carries nothing out.
+`drill` carries out the script of standard input with a thread for each processor, which takes its quanta, and writes the
+schedule and what was taken.
 
 Status: 0 done, 1 a bad record or a script that is too long, 2 words that are not understood or a range of slots that
-were not stepped, 3 a fault of reading or writing, 4 out of memory. What is wrong is told on standard error.";
+were not stepped, 3 a fault of reading or writing, 4 out of memory, or no place for the reader of a drill.
+What is wrong is told on standard error.";
 
 /// The words that the program knows.
 pub(crate) fn program<'a>(alloc: Global) -> Result<Command<'a>, AllocError>
@@ -63,7 +66,8 @@ pub(crate) fn program<'a>(alloc: Global) -> Result<Command<'a>, AllocError>
     let run = run_command(alloc)?;
     let check = check_command(alloc)?;
     let program = bare_program(alloc)?.subcommand(run)?;
-    program.subcommand(check)
+    let program = program.subcommand(check)?;
+    program.subcommand(drill_command(alloc))
 }
 
 /// The program without its subcommands.
@@ -181,4 +185,14 @@ fn check_command<'a>(alloc: Global) -> Result<Command<'a>, AllocError>
         .about("Checks the script: a line for each record that is none, and where and why")
         .after_help(LESSON);
     with_file(alloc, check)
+}
+
+/// `drill`, which takes nothing.
+fn drill_command<'a>(alloc: Global) -> Command<'a>
+    ensures shape { app_of result ≡ drill_command }
+    ensures globals { (out-Command result).has_globals ≡ false }
+{
+    Command::new(alloc, "drill")
+        .about("Carries the script of standard input out with a thread for each processor")
+        .after_help(LESSON)
 }

@@ -13,6 +13,8 @@ pub enum Request {
     Run(Format, Option<String>),
     /// To check the script of this file, or of standard input.
     Check(Option<String>),
+    /// To drill the script of standard input.
+    Drill,
     /// To show this text: help, or the version.
     Show(String),
 }

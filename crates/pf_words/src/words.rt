@@ -1,6 +1,6 @@
 ghost use Rattle.std.specs.Prelude.{◌≡◌, codes, map, option_map, IfOk};
 ghost use Rattle.clap.specs.Words.{kind_of, subcommand_rows_of};
-ghost use Rattle.pf_words.specs.CommandLine.{file_behind, is_check, text_behind_run};
+ghost use Rattle.pf_words.specs.CommandLine.{file_behind, is_named, text_behind_run};
 ghost use Rattle.pf_words.specs.Asked.{IsAsked, IsRequest, ShowsError, cell_given, file_of, format_found, format_of, format_or_tables, name_of, number_given, range_given};
 
 use crate::cell::Cell;
@@ -18,10 +18,10 @@ use std::convert::AsStr;
 /// What the program's words ask for, its own name not among them. No words ask for a run with tables, and so does `run`
 /// alone; `run --format NAME` asks for one in the format of that name, of the slots from `--from` on and below `--to`, in
 /// slots of the width `--cell`, and `check` for a check. A file may stand behind each, for the script to be read from; `-`
-/// is standard input, as no file is. Answers `Refused` where the words are not the program's, `Mistaken` where the text of
-/// `--format` names no format, where that of `--from` or `--to` is no number, where the format has no range, where the text
-/// of `--cell` is no number of 6 to 40, and where the format has no width, the first of these; and `NoMemory`, in place of
-/// any answer, where memory was refused.
+/// is standard input, as no file is. `drill` asks for a drill of standard input. Answers `Refused` where the words are not
+/// the program's, `Mistaken` where the text of `--format` names no format, where that of `--from` or `--to` is no number,
+/// where the format has no range, where the text of `--cell` is no number of 6 to 40, and where the format has no width, the
+/// first of these; and `NoMemory`, in place of any answer, where memory was refused.
 pub fn read_words<S: AsStr>(alloc: Global, words: &[S]) -> Result<Request, WordsFault>
     ensures { IsAsked (map S.text words.now) result }
 {
@@ -35,8 +35,11 @@ pub fn read_words<S: AsStr>(alloc: Global, words: &[S]) -> Result<Request, Words
 fn read_matches(alloc: Global, matches: &ArgMatches<'_>) -> Result<Request, WordsFault>
     ensures { IsRequest (subcommand_rows_of matches.now) result }
 {
+    if is_asked(matches, "drill") {
+        return Ok(Request::Drill);
+    }
     let file = read_file(alloc, matches)?;
-    if asks_check(matches) {
+    if is_asked(matches, "check") {
         return Ok(Request::Check(file));
     }
     let format = read_format(matches)?;
@@ -63,11 +66,11 @@ fn file_name<'a>(matches: &ArgMatches<'a>) -> Option<&'a str>
     matches.subcommand()?.1.get_str("file")
 }
 
-/// Whether they ask for a check.
-fn asks_check(matches: &ArgMatches<'_>) -> bool
-    ensures { result ≡ is_check (subcommand_rows_of matches.now) }
+/// Whether they ask for the subcommand of this name.
+fn is_asked(matches: &ArgMatches<'_>, name: &str) -> bool
+    ensures { result ≡ is_named name.now (subcommand_rows_of matches.now) }
 {
-    matches.subcommand_matches("check").is_some()
+    matches.subcommand_matches(name).is_some()
 }
 
 /// The format of a run, of the slots and of the width that they ask for.

@@ -45,8 +45,9 @@ fn is_refused(rt: &HostRuntime, words: &[&str]) -> Result<bool, AllocError> {
 
 #[test]
 fn other_words_are_refused(rt: HostRuntime) -> Result<(), AllocError> {
-    let cases: [&[&str]; 9] = [
-        &["drill"],
+    let cases: [&[&str]; 10] = [
+        &["drill", "x"],
+        &["drill", "--format", "json"],
         &["plan.csv"],
         &["--format", "json"],
         &[""],
@@ -105,17 +106,36 @@ fn help_is_shown(rt: HostRuntime) -> Result<(), AllocError> {
     let usage = "Usage: pfair [COMMAND]\n";
     assert!(rt; shows_help(&rt, &["--help"], usage)?);
     assert!(rt; shows_help(&rt, &["help"], usage)?);
+    let usage = "Usage: pfair drill\n";
+    assert!(rt; shows_help(&rt, &["drill", "--help"], usage)?);
     let usage = "Usage: pfair run [OPTIONS] [FILE]\n";
     assert!(rt; shows_help(&rt, &["run", "--help"], usage)?);
     assert!(rt; shows_help(&rt, &["help", "run"], usage)?);
     Ok(())
 }
 
+// Three tasks on two processors, and what a drill of them writes.
+const THREE_TASKS: &[u8] =
+    b"settings,2,3,6,2\njoin,0,1,2,3,0\njoin,0,2,2,3,0\njoin,0,3,2,3,0\nstep,3\n";
+
+const DRILLED: &[u8] = b"schedule\nslot,p0,p1\n0,1/1,2/1\n1,1/2,3/1\n2,2/2,3/2\n\
+taken\nslot,processor,task,sub\n0,0,1,1\n0,1,2,1\n1,0,1,2\n1,1,3,1\n2,0,2,2\n2,1,3,2\n";
+
+#[test]
+fn a_drill_writes_what_was_taken(rt: HostRuntime) -> Result<(), AllocError> {
+    let ending = end_of(&rt, &["drill"], THREE_TASKS)?;
+    assert_eq!(rt; ending.status, 0);
+    assert_eq!(rt; ending.written.as_slice(), DRILLED);
+    assert!(rt; ending.told.is_empty());
+    Ok(())
+}
+
 #[test]
 fn a_bad_record_is_told(rt: HostRuntime) -> Result<(), AllocError> {
-    let cases: [&[&str]; 5] = [
+    let cases: [&[&str]; 6] = [
         &[],
         &["run"],
+        &["drill"],
         &["run", "--format", "schedule"],
         &["run", "--format=tables"],
         &["run", "--format", "json"],
