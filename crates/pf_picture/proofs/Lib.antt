@@ -1,4 +1,5 @@
 pub mod Steps
+pub mod Owners
 pub mod Noted
 pub mod Parts
 pub mod Greatest

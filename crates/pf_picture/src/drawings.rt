@@ -1,8 +1,10 @@
-ghost use Rattle.std.specs.Prelude.{◌≡◌, filter, find, map, IfOk};
+ghost use Rattle.std.specs.Prelude.{◌≡◌, find, map, IfOk};
 ghost use Rattle.pf_table.specs.Lists.{noted_of};
-ghost use Rattle.pf_picture.specs.Drawing.{asked_by, asked_of, drawing_by, drawings_of, is_denial_of, is_join_below};
+ghost use Rattle.pf_picture.specs.Drawing.{asked_by, asked_of, drawings_of, is_join_below};
+ghost use Rattle.pf_picture.specs.Denials.{drawing_with};
 
 use crate::asked::Asked;
+use crate::denials::denials_by_task;
 use crate::drawing::Drawing;
 use pf_chart::listed::Listed;
 use pf_chart::listings::listings;
@@ -65,59 +67,35 @@ fn asked_of(own: &[Numbered], now: u64, task: u64) -> Option<Asked>
     }
 }
 
-/// Whether the denied event is one of these.
-fn is_denial_of(own: &[Numbered], denied: Denied) -> bool
-    ensures { result ≡ is_denial_of own.now denied }
-{
-    own.iter().any(|numbered| numbered.id == denied.id)
-}
-
-/// Those of the denied events that are among these.
-fn denials_of(
+/// What a picture tells of a listed task with these events of its own, of which these are denied.
+fn drawing_with(
     alloc: Global,
     own: &[Numbered],
-    denials: &[Denied],
-) -> Result<Vec<Denied>, AllocError>
-    ensures { IfOk result (λ v. v.items ≡ filter (is_denial_of own.now) denials.now) }
-{
-    let mut denied = Vec::new(alloc);
-    for denial in denials {
-        if is_denial_of(own, *denial) {
-            denied.push(*denial)?;
-        }
-    }
-    Ok(denied)
-}
-
-/// What a picture tells of a listed task with these events of its own.
-fn drawing_by(
-    alloc: Global,
-    own: &[Numbered],
+    denied: &[Denied],
     now: u64,
-    denials: &[Denied],
     listed: Listed,
 ) -> Result<Drawing, AllocError>
-    ensures { IfOk result (λ drawing. drawing ≡ drawing_by own.now now denials.now listed) }
+    ensures { IfOk result (λ drawing. drawing ≡ drawing_with own.now denied.now now listed) }
 {
-    let denied = denials_of(alloc, own, denials)?;
+    let denied = Vec::from_slice(alloc, denied)?;
     let asked = asked_of(own, now, u64::from(listed.task()));
     Ok(Drawing::new(listed, asked, denied))
 }
 
-/// What a picture tells of these listed tasks, where of each task its own events are in the lists.
+/// What a picture tells of these listed tasks, where of each task its own events and those of its denials are in the lists.
 fn drawings_by(
     alloc: Global,
     listed: Vec<Listed>,
     own: &Lists<Numbered>,
+    denied: &Lists<Denied>,
     now: u64,
-    denials: &[Denied],
 ) -> Result<Vec<Drawing>, AllocError>
-    ensures { IfOk result (λ v. v.items ≡ map (λ l. drawing_by (noted_of own.now l.task) now denials.now l) listed.items) }
+    ensures { IfOk result (λ v. v.items ≡ map (λ l. drawing_with (noted_of own.now l.task) (noted_of denied.now l.task) now l) listed.items) }
 {
     let mut drawings = Vec::new(alloc);
     for task in listed {
-        let events = own.get(u64::from(task.task()));
-        drawings.push(drawing_by(alloc, events, now, denials, task)?)?;
+        let number = u64::from(task.task());
+        drawings.push(drawing_with(alloc, own.get(number), denied.get(number), now, task)?)?;
     }
     Ok(drawings)
 }
@@ -141,8 +119,10 @@ fn held_events(alloc: Global, snapshot: &Snapshot) -> Result<Vec<Numbered>, Allo
 pub fn drawings(alloc: Global, snapshot: &Snapshot) -> Result<Vec<Drawing>, AllocError>
     ensures { IfOk result (λ v. v.items ≡ drawings_of snapshot.now) }
 {
+    let now = snapshot.now();
     let listed = listings(alloc, snapshot)?;
     let held = held_events(alloc, snapshot)?;
     let own = diaries_by_task(alloc, &held)?;
-    drawings_by(alloc, listed, &own, snapshot.now(), snapshot.denials())
+    let denied = denials_by_task(alloc, &held, snapshot.denials())?;
+    drawings_by(alloc, listed, &own, &denied, now)
 }

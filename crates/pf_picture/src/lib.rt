@@ -5,6 +5,7 @@
 pub mod asked;
 mod boxes;
 mod brackets;
+mod denials;
 pub mod drawing;
 pub mod drawings;
 mod element;

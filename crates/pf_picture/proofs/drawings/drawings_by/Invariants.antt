@@ -1,7 +1,7 @@
 use Rattle.std.proofs.Common.{◌≡◌, map}
 use Rattle.pf_table.specs.Lists.{noted_of}
-use Rattle.pf_picture.specs.Drawing.{drawing_by}
+use Rattle.pf_picture.specs.Denials.{drawing_with}
 use Rattle.pf_picture.proofs.drawings.drawings_by.Given as goal
 
 abbrev pub invariant-loop-task : goal.invariant-loop-task
-invariant-loop-task l = l.drawings.items ≡ map (λ x. drawing_by (noted_of l.own x.task) l.now l.denials x) l.yielded
+invariant-loop-task l = l.drawings.items ≡ map (λ x. drawing_with (noted_of l.own x.task) (noted_of l.denied x.task) l.now x) l.yielded
