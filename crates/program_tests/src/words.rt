@@ -3,6 +3,9 @@ use pf_cli::program::{main_words, tell_unread};
 use pf_cli::sink::CountedWriter;
 use pf_cli::source::CountedReader;
 use std::alloc::AllocError;
+use std::rt::Files;
+use std::sync::Wait;
+use std::thread::Threads;
 use std::{io, str};
 
 // How the program ended, what it wrote, and what it told.
@@ -21,7 +24,11 @@ impl Ending {
 }
 
 /// Does what the words say over a script. Ends with the want of memory where the program does.
-fn end_of(rt: &HostRuntime, words: &[&str], script: &[u8]) -> Result<Ending, AllocError> {
+fn end_of<H: AllocGlobal + Files + Threads + Wait + Sync>(
+    rt: &H,
+    words: &[&str],
+    script: &[u8],
+) -> Result<Ending, AllocError> {
     let mut reader = CountedReader::new(script);
     let mut writer = CountedWriter::new(Vec::with_capacity(rt.alloc(), 8192)?);
     let mut told = Vec::with_capacity(rt.alloc(), 1024)?;
@@ -37,7 +44,10 @@ fn end_of(rt: &HostRuntime, words: &[&str], script: &[u8]) -> Result<Ending, All
 }
 
 /// Whether clap refuses these words, with its own text.
-fn is_refused(rt: &HostRuntime, words: &[&str]) -> Result<bool, AllocError> {
+fn is_refused<H: AllocGlobal + Files + Threads + Wait + Sync>(
+    rt: &H,
+    words: &[&str],
+) -> Result<bool, AllocError> {
     let ending = end_of(rt, words, b"")?;
     let refused = ending.status == 2 && ending.written.is_empty();
     Ok(refused && ending.told.starts_with(b"error: ") && ending.told.ends_with(b"\n"))
@@ -92,7 +102,11 @@ fn another_format_is_unknown(rt: HostRuntime) -> Result<(), AllocError> {
 }
 
 /// Whether these words show a help that has this usage and the example.
-fn shows_help(rt: &HostRuntime, words: &[&str], usage: &str) -> Result<bool, AllocError> {
+fn shows_help<H: AllocGlobal + Files + Threads + Wait + Sync>(
+    rt: &H,
+    words: &[&str],
+    usage: &str,
+) -> Result<bool, AllocError> {
     let ending = end_of(rt, words, b"")?;
     let Ok(text) = str::from_utf8(&ending.written) else {
         return Ok(false);
@@ -156,7 +170,9 @@ fn is_told(told: &Told, status: u8, text: &[u8]) -> bool {
 }
 
 /// Over a script that is too long.
-fn told_too_long(rt: &HostRuntime) -> Result<Told, AllocError> {
+fn told_too_long<H: AllocGlobal + Files + Threads + Wait + Sync>(
+    rt: &H,
+) -> Result<Told, AllocError> {
     let mut reader = CountedReader::new(Plenty { left: 16_777_217 });
     let mut writer = CountedWriter::new(Vec::new(rt.alloc()));
     let mut told = Vec::with_capacity(rt.alloc(), 1024)?;
@@ -173,7 +189,9 @@ fn a_script_too_long_is_told(rt: HostRuntime) -> Result<(), AllocError> {
 }
 
 /// Where the reader fails at its third call.
-fn told_of_reader(rt: &HostRuntime) -> Result<Told, AllocError> {
+fn told_of_reader<H: AllocGlobal + Files + Threads + Wait + Sync>(
+    rt: &H,
+) -> Result<Told, AllocError> {
     let mut reader = CountedReader::new(OneByOne {
         bytes: b"settings,1,1,1,1\n",
         calls: 0,
@@ -187,7 +205,10 @@ fn told_of_reader(rt: &HostRuntime) -> Result<Told, AllocError> {
 }
 
 /// Where the writer fails at its third call.
-fn told_of_writer(rt: &HostRuntime, word: &str) -> Result<Told, AllocError> {
+fn told_of_writer<H: AllocGlobal + Files + Threads + Wait + Sync>(
+    rt: &H,
+    word: &str,
+) -> Result<Told, AllocError> {
     let mut reader = CountedReader::new(b"settings,1,1,1,1\n".as_slice());
     let mut writer = CountedWriter::new(Reluctant {
         got: Vec::with_capacity(rt.alloc(), 2)?,

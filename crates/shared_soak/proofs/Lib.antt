@@ -1,0 +1,3 @@
+mod Boarded
+pub mod Kept
+mod Seating

@@ -1,0 +1,80 @@
+ghost use Rattle.std.specs.Prelude.{◌<◌, length, IfSome};
+
+use crate::fault::Fault;
+use crate::replay::MOST_PROCESSORS;
+use pf_board::quantum::Quantum;
+use pf_desk::entry::Entry;
+use pf_desk::reply::Reply;
+use pf_place::row::Row;
+use std::alloc::{AllocError, Global};
+
+/// Lists the quanta of a slot's row.
+fn list_row(quanta: &mut Vec<Quantum>, slot: u64, row: &Row) -> Result<(), AllocError> {
+    for processor in 0..MOST_PROCESSORS {
+        if let Some(pick) = row.get(processor) {
+            quanta.push(Quantum {
+                slot,
+                processor,
+                task: pick.task,
+                sub: pick.sub,
+            })?;
+        }
+    }
+    Ok(())
+}
+
+/// The quanta of all rows that were answered.
+fn list_all(alloc: Global, history: &[Entry]) -> Result<Vec<Quantum>, AllocError> {
+    let mut quanta = Vec::new(alloc);
+    for entry in history {
+        if let Reply::Stepped { slot, row } = &entry.reply {
+            list_row(&mut quanta, *slot, row)?;
+        }
+    }
+    Ok(quanta)
+}
+
+/// Where the quantum is listed.
+fn find(quanta: &[Quantum], wanted: Quantum) -> Option<usize>
+    ensures { IfSome result (λ at. at < length quanta.now) }
+{
+    for at in 0..quanta.len() {
+        if quanta[at] == wanted {
+            return Some(at);
+        }
+    }
+    None
+}
+
+/// Strikes these quanta from those that were issued and not yet struck.
+fn strike_all(issued: &mut Vec<Quantum>, quanta: &[Quantum]) -> Result<(), Fault> {
+    for quantum in quanta {
+        match find(issued, *quantum) {
+            Some(at) => {
+                let _ = issued.swap_remove(at);
+            }
+            None => return Err(Fault::Twice(*quantum)),
+        }
+    }
+    Ok(())
+}
+
+/// Whether the quanta that were got and those that are left are those that the history issued, each once. The answer is the
+/// number of these.
+pub(crate) fn account(
+    alloc: Global,
+    history: &[Entry],
+    got: &[Quantum],
+    left: &[Quantum],
+) -> Result<usize, Fault> {
+    let Ok(mut issued) = list_all(alloc, history) else {
+        return Err(Fault::NoMemory);
+    };
+    let count = issued.len();
+    strike_all(&mut issued, got)?;
+    strike_all(&mut issued, left)?;
+    match issued.first() {
+        Some(quantum) => Err(Fault::Lost(*quantum)),
+        None => Ok(count),
+    }
+}
