@@ -113,7 +113,7 @@ fn carry_out_from<W: Sink>(
 }
 
 /// The settings of an opening, where its numbers are within their limits.
-fn settings(version: Version, opening: Opening) -> Option<Settings>
+pub fn settings(version: Version, opening: Opening) -> Option<Settings>
     ensures { result ≡ system_of version opening }
 {
     if opening.every == 0 || opening.every > LARGEST_DISTANCE {

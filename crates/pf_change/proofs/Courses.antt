@@ -1,0 +1,96 @@
+-- The course of a desk on which lines are carried out.
+use Rattle.std.proofs.Common.{◌≡◌, ◌<◌, ◌≤◌, ℕ, ◌+◌, List, [], ◌∷◌, ◌++◌, length, take, drop, get_or, Option, Result, Ok, Err, sym, ap, ap₂, ◌∙◌, replicate}
+use Rattle.std.specs.Prelude.{IfOk, OnOk}
+use Rattle.std.specs.List.{flat_map}
+use Rattle.std.proofs.lemmas.List.{at_drop_all, at_drop_more, replicate_more, take-append-drop}
+use Rattle.std.proofs.lemmas.Grind.{flat_map-append}
+use Rattle.pf_scenario.specs.System.{System}
+use Rattle.pf_desk.specs.declared.command.Command.{Command}
+use Rattle.pf_desk.specs.declared.command.Command.TheVariants.{Step}
+use Rattle.pf_desk.specs.declared.reply.Reply.{Reply}
+use Rattle.pf_desk.specs.Desk.{Shown, AnswersAll, AnswersCaller, Seen, StandsForHistory}
+use Rattle.pf_diff.specs.Diff.{diff_text_of}
+use Rattle.pf_script.specs.declared.line.Line.{Line}
+use Rattle.pf_script.specs.declared.line.Line.TheVariants.{Steps}
+use Rattle.pf_cli.specs.Meaning.{ScriptCourse, commands_of, course_behind, seen_at}
+use Rattle.pf_cli.specs.Session.{course_at, opening_course}
+use Rattle.pf_cli.proofs.Batches.{answered_course}
+use Rattle.pf_cli.proofs.Sessions.{course_behind-append, course_entered, seen_there}
+use Rattle.pf_change.specs.Change.{change_text, lines_before, seen_behind}
+
+-- what follows from what a call did
+pub on_ok : {A E : Type 0} (r : Result A E) (P Q : Type 0) → (P → Q) → OnOk r P → OnOk r Q
+on_ok (Ok x) P Q then h = then h
+on_ok (Err e) P Q then h = tt
+
+pub ok_anyway : {A E : Type 0} (r : Result A E) (P : Type 0) → P → OnOk r P
+ok_anyway (Ok x) P h = h
+ok_anyway (Err e) P h = tt
+
+-- Use: one step more was taken.
+pub step_more : (caller turn : ℕ) (c : ScriptCourse) (before after : Shown) (reply : Reply) → AnswersCaller caller Step before reply after
+    → course_at before ≡ course_behind c (replicate turn Step) → course_at after ≡ course_behind c (replicate (turn + 1) Step)
+step_more caller turn c before after reply h is =
+    course_entered caller Step before after reply h
+    ∙ ap (λ d. course_behind d (Step ∷ [])) is
+    ∙ sym (course_behind-append c (replicate turn Step) (Step ∷ []))
+    ∙ ap (course_behind c) (replicate_more turn Step)
+
+-- Use: one edit more waits.
+pub edit_more : (c : ScriptCourse) (edits more : List Command) (edit : Command) (line : Line) → more ≡ edits ++ edit ∷ [] → commands_of line ≡ edit ∷ []
+    → course_behind c more ≡ course_behind (course_behind c edits) (commands_of line)
+edit_more c edits more edit line is of_line =
+    ap (course_behind c) is ∙ course_behind-append c edits (edit ∷ []) ∙ ap (course_behind (course_behind c edits)) (sym of_line)
+
+-- Use: the edits that wait were answered, and then steps were taken.
+pub steps_behind : {A E : Type 0} (r : Result A E) (caller count : ℕ) (given edits none : List Command) (a b d : Shown) → AnswersAll caller given a b
+    → given ≡ edits → none ≡ [] → OnOk r (course_at d ≡ course_behind (course_at b) (replicate count Step))
+    → OnOk r (course_behind (course_at d) none ≡ course_behind (course_behind (course_at a) edits) (commands_of (Steps count)))
+steps_behind r caller count given edits none a b d h same is taken =
+    on_ok r _ _ (λ t. ap (course_behind (course_at d)) is ∙ t
+    ∙ ap (λ c. course_behind c (replicate count Step)) (answered_course caller given a b h ∙ ap (course_behind (course_at a)) same)) taken
+
+-- Use: of the lines left the first was taken.
+pub next_line : (c d : ScriptCourse) (lines : List Line) (i : ℕ) (z : Line) → i < length lines → d ≡ course_behind c (commands_of (get_or lines i z))
+    → course_behind d (flat_map commands_of (drop (i + 1) lines)) ≡ course_behind c (flat_map commands_of (drop i lines))
+next_line c d lines i z within taken =
+    let rest = flat_map commands_of (drop (i + 1) lines) in
+    ap (λ x. course_behind x rest) taken
+    ∙ sym (course_behind-append c (commands_of (get_or lines i z)) rest)
+    ∙ sym (at_drop_more (λ xs. course_behind c (flat_map commands_of xs)) lines i z within)
+
+-- Use: no line is left, and the edits that wait were answered.
+pub all_taken : {A E : Type 0} (r : Result A E) (caller : ℕ) (given edits : List Command) (a b : Shown) (lines : List Line) (i : ℕ) (whole : ScriptCourse)
+    → given ≡ edits → length lines ≤ i → course_behind (course_behind (course_at a) edits) (flat_map commands_of (drop i lines)) ≡ whole
+    → OnOk r (AnswersAll caller given a b) → OnOk r (course_at b ≡ whole)
+all_taken r caller given edits a b lines i whole same none left answered =
+    on_ok r _ _ (λ h. answered_course caller given a b h ∙ ap (course_behind (course_at a)) same
+    ∙ sym (at_drop_all (λ xs. course_behind (course_behind (course_at a) edits) (flat_map commands_of xs)) lines i none) ∙ left) answered
+
+-- Use: an equal text in its place.
+pub made_at : {V F : Type 0} (items : V → List ℕ) (r : Result V F) (x y : List ℕ) → x ≡ y → IfOk r (λ v. items v ≡ x) → IfOk r (λ v. items v ≡ y)
+made_at items (Ok v) x y same h = h ∙ same
+made_at items (Err e) x y same h = tt
+
+-- Use: what a snapshot of a desk shows that is there.
+pub shown_there : {E : Type 0} (r : Result Seen E) (d : Shown) (c : ScriptCourse) → course_at d ≡ c → IfOk r (λ s. StandsForHistory d.history s)
+    → IfOk r (λ s. s ≡ record { version = length d.history; state = d.state; rows = d.rows; denials = d.denials }) → IfOk r (λ s. s ≡ seen_at c)
+shown_there (Ok s) d c is stands shows = seen_there d s stands shows ∙ ap seen_at is
+shown_there (Err e) d c is stands shows = tt
+
+-- Use: the desk before a record and at the end.
+module _ (since : Option ℕ) (number k : ℕ) (settings : System) (lines first rest : List Line) (c d : ScriptCourse) (before after : Seen)
+    (opened : c ≡ opening_course settings) (is_first : first ≡ take k lines) (is_rest : rest ≡ drop k lines)
+    (is_before : take k lines ≡ lines_before since number lines) where
+  pub both_shown : before ≡ seen_at (course_behind c (flat_map commands_of first)) → d ≡ course_behind c (flat_map commands_of first)
+      → after ≡ seen_at (course_behind d (flat_map commands_of rest)) → diff_text_of before after ≡ change_text since number settings lines
+  both_shown shown_before on shown_after =
+      let front : before ≡ seen_behind settings (lines_before since number lines) =
+      shown_before ∙ ap₂ (λ x xs. seen_at (course_behind x (flat_map commands_of xs))) opened (is_first ∙ is_before) in
+      let whole : first ++ rest ≡ lines = ap₂ (λ x y. x ++ y) is_first is_rest ∙ take-append-drop k lines in
+      let behind : course_behind d (flat_map commands_of rest) ≡ course_behind (opening_course settings) (flat_map commands_of lines) =
+      ap (λ x. course_behind x (flat_map commands_of rest)) on
+      ∙ sym (course_behind-append c (flat_map commands_of first) (flat_map commands_of rest))
+      ∙ ap (course_behind c) (sym (flat_map-append commands_of first rest))
+      ∙ ap₂ (λ x xs. course_behind x (flat_map commands_of xs)) opened whole in
+      ap₂ diff_text_of front (shown_after ∙ ap seen_at behind)
