@@ -494,6 +494,16 @@ impl Desk {
         self.timeline.now()
     }
 
+    /// How far the desk's checkpoints lie apart, in slots.
+    pub fn distance(&self) -> u64
+        ensures value { result ≡ self.now.every }
+        ensures desk { IsDesk self.now }
+    {
+        // A field is read, so that what holds of every desk is known.
+        let _ = &self.history;
+        self.timeline.distance()
+    }
+
     /// The rows of the slots below now.
     pub fn schedule(&self) -> &Rows
         ensures value { result.now ≡ self.now.rows }

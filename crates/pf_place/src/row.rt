@@ -1,6 +1,13 @@
 ghost use Rattle.std.specs.Prelude.{◌≡◌, ◌≤◌, [], length, IfOk};
+ghost use Rattle.std.specs.Cmp.{partial_equiv_from_equiv};
+ghost use Rattle.std.specs.Cmp.Lexicographic.{pointwise, options_equiv};
+ghost use Rattle.std.specs.Cmp.Rules.{comparing};
+ghost use Rattle.std.specs.Option.{option_eq};
+ghost use Rattle.std.proofs.Common.{rules};
+ghost use Rattle.std.proofs.lemmas.Cmp.{lists_equiv};
 ghost use Rattle.std.specs.List.Sorted.{IsPermutation};
 ghost use Rattle.pf_place.specs.Lent.{lent_row};
+ghost use Rattle.pf_place.specs.Same.{same_pick};
 ghost use Rattle.pf_place.specs.Occupancy.{sitter, sitters, NoTaskTwice, row_of, idle_row};
 
 use crate::row_view::RowView;
@@ -22,6 +29,21 @@ impl Model for Row {
     ghost Value = { List (Option Pick) };
 
     ghost view = { λ row. row.places.items };
+}
+
+// Rows are equal where each processor runs the same subtask, or is idle, in both.
+impl PartialEq for Row {
+    ghost eq = { pointwise (option_eq same_pick) };
+
+    ghost laws = { partial_equiv_from_equiv (lists_equiv (options_equiv (Prim.search (comparing, rules)))) };
+
+    fn eq(&self, other: &Row) -> bool {
+        self.places == other.places
+    }
+}
+
+impl Eq for Row {
+    ghost laws = { lists_equiv (options_equiv (Prim.search (comparing, rules))) };
 }
 
 impl Row {

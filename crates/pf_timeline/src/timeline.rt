@@ -269,6 +269,13 @@ impl Timeline {
     {
         self.engine.now()
     }
+
+    /// How far its checkpoints lie apart, in slots.
+    pub fn distance(&self) -> u64
+        ensures { result ≡ self.now.every }
+    {
+        self.checkpoints.every()
+    }
 }
 
 /// The first rows, as many as `count`.

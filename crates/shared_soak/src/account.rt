@@ -38,12 +38,7 @@ fn list_all(alloc: Global, history: &[Entry]) -> Result<Vec<Quantum>, AllocError
 fn find(quanta: &[Quantum], wanted: Quantum) -> Option<usize>
     ensures { IfSome result (λ at. at < length quanta.now) }
 {
-    for at in 0..quanta.len() {
-        if quanta[at] == wanted {
-            return Some(at);
-        }
-    }
-    None
+    quanta.iter().position(|quantum| *quantum == wanted)
 }
 
 /// Strikes these quanta from those that were issued and not yet struck.
