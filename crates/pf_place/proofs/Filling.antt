@@ -1,5 +1,5 @@
 -- Free places are taken from a list, in order.
-use Rattle.std.proofs.Common.{add_comm, add-one, ◌≡◌, ℕ, zero, suc, ◌+◌, ◌<◌, ◌≤◌, true, false, inl, inr, Option, Some, None, List, [], ◌∷◌, ◌++◌, length, get_or, set, take, count_by, ap, sym, ◌∙◌, refl, cond, ltb, arith}
+use Rattle.std.proofs.Common.{add_comm, add-one, ◌≡◌, ℕ, zero, suc, ◌<◌, ◌≤◌, true, false, inl, inr, Option, Some, None, List, [], ◌∷◌, ◌++◌, length, get_or, set, take, count_by, ap, sym, ◌∙◌, refl, cond, ltb, arith}
 use Rattle.std.specs.List.{slice_get, filter_map, position, position_or_len}
 use Rattle.std.specs.List.Sorted.{IsPermutation}
 use Rattle.std.specs.Option.{is_none, option_or}

@@ -1,9 +1,10 @@
 ghost use Rattle.std.specs.Prelude.{◌≡◌, ◌<◌, ◌≤◌, ◌+◌, ◌-◌, ◌++◌, [], ◌∷◌, length, take, slice_range, slice_index, IfOk, OnOk, OnErr};
-ghost use Rattle.std.specs.List.{slice_get};
+ghost use Rattle.std.specs.List.{All, slice_get};
 ghost use Rattle.pf_place.specs.Lent.{places_lent, lent_row};
 ghost use Rattle.pf_place.specs.Occupancy.{row_of, idle_row};
 ghost use Rattle.pf_place.specs.RunRows.{last_row, but_last};
 
+use crate::place::Place;
 use crate::row_view::RowView;
 use crate::seating::seat;
 use pf_order::pick::Pick;
@@ -13,7 +14,7 @@ use std::marker::Model;
 /// Rows of any lengths, in two pieces of memory: their places one behind another, and where each row ends.
 #[derive(Debug, Drop)]
 pub(crate) struct Block {
-    places: Vec<Option<Pick>>,
+    places: Vec<Place>,
     ends: Vec<usize>,
 }
 
@@ -126,7 +127,7 @@ impl Block {
         self.ends.reserve(1)?;
         self.places.reserve(m)?;
         let end = self.places.len() + m;
-        match self.places.resize(end, None) {
+        match self.places.resize(end, Place::idle()) {
             Ok(()) => {}
             Err(_) => unreachable!(),
         }
@@ -147,7 +148,7 @@ impl Block {
     }
 
     /// Puts another row of as many places in place of the last one; it takes no memory.
-    pub(crate) fn assign_last(&mut self, row: &[Option<Pick>])
+    pub(crate) fn assign_last(&mut self, row: &[Place])
         requires some { 0 < length self.old.rows }
         requires long { length row.now ≡ length (last_row [] self.old.rows) }
         ensures rows { self.new.rows ≡ but_last self.old.rows ++ row.now ∷ [] }
@@ -160,9 +161,10 @@ impl Block {
 
     /// Makes the last row the one that `picks` place behind the row before it, or behind `above` where it is the only
     /// one; it takes no memory.
-    pub(crate) fn seat_last(&mut self, above: &[Option<Pick>], count: usize, picks: &[Pick])
+    pub(crate) fn seat_last(&mut self, above: &[Place], count: usize, picks: &[Pick])
         requires some { 0 < length self.old.rows }
         requires in_use { count ≤ length (last_row [] self.old.rows) }
+        requires numbered { All (λ pick. 1 ≤ pick.task) picks.now }
         ensures rows { self.new.rows ≡ but_last self.old.rows
             ++ row_of (length (last_row [] self.old.rows)) count (last_row above.now (but_last self.old.rows)) picks.now ∷ [] }
         ensures room { KeepsRoom self.old self.new }
@@ -179,7 +181,7 @@ impl Block {
 }
 
 /// The row from `start` to `end`.
-fn row_between(places: &[Option<Pick>], start: usize, end: usize) -> RowView<'_>
+fn row_between(places: &[Place], start: usize, end: usize) -> RowView<'_>
     requires start { start ≤ end }
     requires end { end ≤ length places.now }
     ensures { lent_row result ≡ slice_range places.now start end }
@@ -196,7 +198,7 @@ fn start_of(ends: &[usize], k: usize) -> usize
 }
 
 /// Puts the row on the places from `start` on.
-fn assign_from(places: &mut [Option<Pick>], start: usize, row: &[Option<Pick>])
+fn assign_from(places: &mut [Place], start: usize, row: &[Place])
     requires { start + length row.now ≡ length places.old }
     ensures { places.new ≡ take start places.old ++ row.now }
 {
@@ -204,16 +206,11 @@ fn assign_from(places: &mut [Option<Pick>], start: usize, row: &[Option<Pick>])
 }
 
 /// Makes the places from `start` on the row that `picks` place behind the row from `before` to `start`.
-fn seat_behind(
-    places: &mut [Option<Pick>],
-    before: usize,
-    start: usize,
-    count: usize,
-    picks: &[Pick],
-)
+fn seat_behind(places: &mut [Place], before: usize, start: usize, count: usize, picks: &[Pick])
     requires before { before ≤ start }
     requires start { start ≤ length places.old }
     requires in_use { count ≤ length places.old - start }
+    requires numbered { All (λ pick. 1 ≤ pick.task) picks.now }
     ensures { places.new ≡ take start places.old
         ++ row_of (length places.old - start) count (slice_range places.old before start) picks.now }
 {

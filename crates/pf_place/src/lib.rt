@@ -3,6 +3,7 @@
 #![tactic(auto)]
 
 mod block;
+mod place;
 pub mod row;
 pub mod row_view;
 pub mod rows;

@@ -5,11 +5,13 @@ ghost use Rattle.std.specs.Cmp.Rules.{comparing};
 ghost use Rattle.std.specs.Option.{option_eq};
 ghost use Rattle.std.proofs.Common.{rules};
 ghost use Rattle.std.proofs.lemmas.Cmp.{lists_equiv};
+ghost use Rattle.std.specs.List.{All};
 ghost use Rattle.std.specs.List.Sorted.{IsPermutation};
 ghost use Rattle.pf_place.specs.Lent.{lent_row};
 ghost use Rattle.pf_place.specs.Same.{same_pick};
 ghost use Rattle.pf_place.specs.Occupancy.{sitter, sitters, NoTaskTwice, row_of, idle_row};
 
+use crate::place::Place;
 use crate::row_view::RowView;
 use crate::seating::seat;
 use pf_order::pick::Pick;
@@ -19,7 +21,7 @@ use std::marker::Model;
 /// Who runs where in one slot: a place for each processor, numbered from 0, that holds a pick or is idle.
 #[derive(Debug, Drop)]
 pub struct Row {
-    places: Vec<Option<Pick>>,
+    places: Vec<Place>,
 }
 
 impl Model for Row {
@@ -56,7 +58,7 @@ impl Row {
         ensures row { IfOk result (λ row. row ≡ idle_row m) }
         ensures empty { IfOk result (λ row. sitters row ≡ []) }
     {
-        let places = vec![in alloc; None; m as usize]?;
+        let places = vec![in alloc; Place::idle(); m as usize]?;
         Ok(Row { places })
     }
 
@@ -64,8 +66,8 @@ impl Row {
     /// slot before. A task that ran there keeps its processor where that is in use; the other picks, in order, take
     /// the lowest free ones in use.
     ///
-    /// `count` must be at most m, `before` a row of m processors, and the picks at most `count`; neither the picks nor
-    /// `before` may have a task twice.
+    /// `count` must be at most m, `before` a row of m processors, and the picks at most `count`; their tasks are
+    /// numbered from 1. Neither the picks nor `before` may have a task twice.
     ///
     /// # Errors
     ///
@@ -81,6 +83,7 @@ impl Row {
         requires places { length before.now ≡ m }
         requires few { length picks.now ≤ count }
         requires picks { NoTaskTwice picks.now }
+        requires numbered { All (λ pick. 1 ≤ pick.task) picks.now }
         requires before { NoTaskTwice (sitters before.now) }
         ensures row { IfOk result (λ row. row ≡ row_of m count before.now picks.now) }
         ensures long { IfOk result (λ row. length row ≡ m) }
@@ -89,7 +92,7 @@ impl Row {
         ensures seated { IfOk result (λ row. IsPermutation picks.now (sitters row)) }
         ensures once { IfOk result (λ row. NoTaskTwice (sitters row)) }
     {
-        let mut places = vec![in alloc; None; m as usize]?;
+        let mut places = vec![in alloc; Place::idle(); m as usize]?;
         seat(&mut places, count as usize, &before.places, picks);
         Ok(Row { places })
     }

@@ -1,4 +1,4 @@
-ghost use Rattle.std.specs.Prelude.{◌≡◌, ◌==◌, ◌<◌, ◌-◌, [], ◌∷◌, ◌++◌, length, IfOk, OnOk, OnErr};
+ghost use Rattle.std.specs.Prelude.{◌≡◌, ◌==◌, ◌<◌, ◌≤◌, ◌-◌, [], ◌∷◌, ◌++◌, length, IfOk, OnOk, OnErr};
 ghost use Rattle.std.specs.List.{All, slice_get};
 ghost use Rattle.std.specs.List.Sorted.{IsPermutation};
 ghost use Rattle.pf_place.specs.Blocks.{all_rows_of};
@@ -9,6 +9,7 @@ ghost use Rattle.pf_place.specs.RunRows.{last_row, but_last, row_before};
 ghost use Rattle.pf_place.specs.Turns.{IsTurn, IsRow};
 
 use crate::block::Block;
+use crate::place::Place;
 use crate::row::Row;
 use crate::row_view::RowView;
 use pf_order::pick::Pick;
@@ -118,10 +119,11 @@ impl Rows {
     /// behind the row before it, or an idle one where it is the only row. It takes no memory.
     ///
     /// There must be a row. Its processors are m: `count` must be at most m, the row before it of m processors, and the
-    /// picks at most `count`; neither the picks nor the row before may have a task twice.
+    /// picks at most `count`, with tasks numbered from 1; neither the picks nor the row before may have a task twice.
     pub fn seat_last(&mut self, count: u32, picks: &[Pick])
         requires some { 0 < length self.old }
         requires turn { IsTurn (length (last_row [] self.old)) count picks.now }
+        requires numbered { All (λ pick. 1 ≤ pick.task) picks.now }
         requires before { IsRow (length (last_row [] self.old)) (row_before self.old) }
         ensures rows { self.new ≡ but_last self.old
             ++ row_of (length (last_row [] self.old)) count (row_before self.old) picks.now ∷ [] }
@@ -217,7 +219,7 @@ fn close(full: &mut Vec<Arc<Block>>, last: &mut Block, next: Block) -> Result<()
 }
 
 /// The last row of these blocks; no places where there are none.
-fn last_places(full: &[Arc<Block>]) -> &[Option<Pick>]
+fn last_places(full: &[Arc<Block>]) -> &[Place]
     requires { All (λ rows. length rows ≡ 256) (rows_of_each full.now) }
     ensures { result.now ≡ last_row [] (all_rows_of (rows_of_each full.now)) }
 {

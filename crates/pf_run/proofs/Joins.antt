@@ -111,7 +111,7 @@ unfolding inside
 inside_differ base xs once =
     AllPairs-filter (λ a b. a.task ≢ b.task) (λ j. not (has_left xs j.task)) (filter_map (join_of base) xs) (joined_differ base xs once)
 
-key_task : (t : ℕ) (r : List Slot) (xs : List Numbered) (j : Joined) (k : Priority) →
+pub key_task : (t : ℕ) (r : List Slot) (xs : List Numbered) (j : Joined) (k : Priority) →
     ready_key t j.task (member_of r xs j) ≡ Some k → k.task ≡ j.task
 key_task t r xs j k is = ap (λ k. k.task) (sym (cond_some (nat_le (eligible_from (member_of r xs j)) t) (next_key j.task (member_of r xs j)) k is).1)
 

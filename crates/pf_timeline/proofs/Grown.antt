@@ -1,5 +1,5 @@
 -- What a timeline keeps of a scenario's run, and the slot that its engine takes next.
-use Rattle.std.proofs.Common.{◌≡◌, ℕ, suc, ◌+◌, ◌<◌, ◌≤◌, Option, Some, None, List, [], ◌∷◌, ◌++◌, length, refl, sym, ap, ap₂, ◌∙◌, subst, arith, append_assoc, length-append}
+use Rattle.std.proofs.Common.{◌≡◌, ℕ, suc, ◌+◌, ◌<◌, ◌≤◌, Option, Some, None, List, [], ◌∷◌, ◌++◌, length, All, refl, sym, ap, ap₂, ◌∙◌, subst, arith, append_assoc, length-append}
 use Rattle.std.proofs.lemmas.List.{length-replicate}
 use Rattle.pf_order.specs.declared.pick.Pick.{Pick}
 use Rattle.pf_place.specs.Occupancy.{row_of, idle_row}
@@ -22,7 +22,7 @@ use Rattle.pf_run.specs.Computed.{course_of, run_of}
 use Rattle.pf_engine.specs.Fits.{Kept, kept_after, Fits, Taken, CanTake, TakesSlot}
 use Rattle.pf_run.specs.RunRows.{AreOfRun, count_in_last, turns_behind, turns_of, rows_in, denials_in}
 use Rattle.pf_run.proofs.Judged.{length_snoc, denials_of_snoc, along_run}
-use Rattle.pf_run.proofs.Seating.{next_is_turn}
+use Rattle.pf_run.proofs.Seating.{next_is_turn, next_numbered}
 use Rattle.pf_run.proofs.Runs.{one_run, run_more, run_is_computed, computed_length}
 use Rattle.pf_timeline.specs.Keeping.{KeepsRun}
 
@@ -209,6 +209,10 @@ module _ (s : Plan) (n : ℕ) (rows : List (List (Option Pick))) (denials : List
     taken_turn =
         subst (λ count. IsTurn s.settings.processors count taken.slot.picks) (sym count_is)
         (next_is_turn s (run_of s n) taken.slot keeps.of_run.scenario next.next)
+
+    -- Use: its picks have tasks numbered from 1.
+    pub taken_numbered : All (λ pick. 1 ≤ pick.task) taken.slot.picks
+    taken_numbered = next_numbered s (run_of s n) taken.slot keeps.of_run.scenario next.next
 
     -- Use: the run is one slot longer.
     pub run_grown : run_of s (n + 1) ≡ run_of s n ++ taken.slot ∷ []

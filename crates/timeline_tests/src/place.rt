@@ -1,6 +1,7 @@
 //! Worked examples of places, and rows.
 
 ghost use Rattle.std.specs.Prelude.{◌≡◌, ◌≤◌, length, IfOk};
+ghost use Rattle.std.specs.List.{All};
 ghost use Rattle.pf_place.specs.Occupancy.{NoTaskTwice};
 
 mod growths;
@@ -26,8 +27,10 @@ const TWO: Pick = Pick { task: 2, sub: 3 };
 fn placed(alloc: Global, earlier: &[Pick], picks: &[Pick]) -> Result<Row, AllocError>
     requires few_earlier { length earlier.now ≤ 3 }
     requires earlier { NoTaskTwice earlier.now }
+    requires numbered_earlier { All (λ pick. 1 ≤ pick.task) earlier.now }
     requires few { length picks.now ≤ 3 }
     requires picks { NoTaskTwice picks.now }
+    requires numbered { All (λ pick. 1 ≤ pick.task) picks.now }
     ensures { IfOk result (λ row. length row ≡ 3) }
 {
     let idle = Row::idle(alloc, 3)?;
@@ -91,7 +94,9 @@ fn two_rows(rows: &Rows) -> (usize, Option<Pick>, Option<Pick>, Option<Pick>) {
 }
 
 /// The row of one processor, on which the task runs.
-fn row_of_task(alloc: Global, task: u32) -> Result<Row, AllocError> {
+fn row_of_task(alloc: Global, task: u32) -> Result<Row, AllocError>
+    requires { 1 ≤ task }
+{
     let idle = Row::idle(alloc, 1)?;
     Row::place(alloc, 1, 1, &idle, &[Pick { task, sub: 1 }])
 }

@@ -17,7 +17,7 @@ loop-q-preserved c =
           w.places-is ∙ w.keeper.ensures ∙ ap (λ b. cond b (next_pick picks (sitter before q)) None) (sym in_use)
       | else-q-count w ↦
           let unused : ltb q c.args.count ≡ false = le-ltb q c.args.count w.if-q-count.false in
-          w.places-is ∙ ap (λ b. cond b (next_pick picks (sitter before q)) None) (sym unused)
+          w.places-is ∙ w.idle.ensures ∙ ap (λ b. cond b (next_pick picks (sitter before q)) None) (sym unused)
     ] in
     below_more _ _
     (λ k l. get_or-set_other c.loop-q.places q k c.if-q-count.places None (omega arith) ∙ c.loop-q.invariant k l)

@@ -1,4 +1,4 @@
-use Rattle.std.proofs.Common.{◌≡◌, ◌++◌, min, take, drop, ap, ◌∙◌, length}
+use Rattle.std.proofs.Common.{◌≡◌, ◌++◌, take, drop, ap, ◌∙◌, length}
 use Rattle.std.proofs.lemmas.List.{take_min}
 use Rattle.pf_place.specs.Occupancy.{others}
 use Rattle.pf_place.specs.Seating.{seats_filled_with}
@@ -12,4 +12,4 @@ returns c =
     ap (λ n. take n before) c.min.ensures ∙ take_min c.args.count before in
     let seated = c.seat_others.ensures ∙ ap (λ sat. seats_filled_with (take c.args.count c.keep.new.places) (others sat c.args.picks.now)) earlier in
     ap (λ front. front ++ drop c.args.count c.keep.new.places) seated
-    ∙ row_from_kept c.args.count before c.args.picks.now (length c.args.places.now) c.keep.new.places c.requires c.keep.ensures
+    ∙ row_from_kept c.args.count before c.args.picks.now (length c.args.places.now) c.keep.new.places c.requires.in_use c.keep.ensures

@@ -1,4 +1,4 @@
-use Rattle.std.proofs.Common.{◌≡◌, sym, ◌∙◌}
+use Rattle.std.proofs.Common.{sym, ◌∙◌}
 use Rattle.pf_order.specs.declared.pick.Pick.{Pick}
 use Rattle.pf_place.proofs.Seats.{seated_more, seated_less, seated_all}
 use Rattle.pf_place.proofs.seating.seat_others.Goals as goal

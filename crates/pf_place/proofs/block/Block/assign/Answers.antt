@@ -1,4 +1,4 @@
-use Rattle.std.proofs.Common.{◌≤◌, ◌∙◌, length, subst, ap, sym, arith}
+use Rattle.std.proofs.Common.{◌≤◌, length, subst, sym, arith}
 use Rattle.pf_place.specs.Blocks.{Held, AreCutAt}
 use Rattle.pf_place.proofs.Blocks.{ends_from_cut}
 use Rattle.pf_place.proofs.block.Block.assign.Goals as goal

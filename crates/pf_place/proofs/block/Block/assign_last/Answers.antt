@@ -1,4 +1,4 @@
-use Rattle.std.proofs.Common.{◌-◌, ◌∷◌, ◌∙◌, get_or, length, subst, ap, sym, arith}
+use Rattle.std.proofs.Common.{◌-◌, ◌∷◌, ◌∙◌, get_or, length, subst, ap, arith}
 use Rattle.pf_place.specs.Blocks.{Held, AreCutAt}
 use Rattle.pf_place.proofs.Blocks.{last_is_rest, cut_other, cut_from_cut, rows_from_cut, written_back}
 use Rattle.pf_place.proofs.block.Block.assign_last.Goals as goal

@@ -1,4 +1,4 @@
-use Rattle.std.proofs.Common.{◌≡◌, subst, ap, sym, ◌∙◌, arith}
+use Rattle.std.proofs.Common.{subst, ◌∙◌}
 use Rattle.pf_place.specs.Blocks.{Held, AreCutAt}
 use Rattle.pf_place.proofs.Blocks.{ends_from_cut}
 use Rattle.pf_place.proofs.block.Block.len.Goals as goal

@@ -1,4 +1,4 @@
-use Rattle.std.proofs.Common.{◌≡◌, ◌-◌, length, take, get_or, ◌∷◌, subst, ap, sym, ◌∙◌, arith}
+use Rattle.std.proofs.Common.{◌-◌, get_or, ◌∷◌, subst, ap, ◌∙◌}
 use Rattle.pf_place.specs.Blocks.{Held, AreCutAt}
 use Rattle.pf_place.proofs.Blocks.{cut_popped, cut_from_cut, rows_from_cut}
 use Rattle.pf_place.proofs.block.Block.pop.Goals as goal

@@ -12,9 +12,9 @@ invariant_of-self-2 c =
     let cut = subst (λ (v : Held). AreCutAt v.rows inside.ends.items inside.places.items) c.self.view_is c.self.invariant in
     let places : c.resize.new.self.items ≡ inside.places.items ++ idle_row c.args.m =
     c.in-Ok.ensures.items
-    ∙ ap₂ (λ front n. front ++ replicate n None)
+    ∙ rw c.idle.ensures (ap₂ (λ front n. front ++ replicate n None)
     (take_all (c.len.result + c.args.m) c.reserve-2.new.self.items (omega (arith, c.len.ensures, c.reserve-2.new.self.ok.0)) ∙ c.in_ok-reserve-2.ensures.items)
-    (omega (arith, c.len.ensures)) in
+    (omega (arith, c.len.ensures))) in
     let ends : c.push_reserved.new.self.items ≡ inside.ends.items ++ (length inside.places.items + length (idle_row c.args.m)) ∷ [] =
     c.push_reserved.ensures.items
     ∙ ap₂ (λ ends n. ends ++ n ∷ []) c.in_ok-reserve.ensures.items
@@ -28,9 +28,9 @@ returns-clause-ok c =
     let cut = subst (λ (v : Held). AreCutAt v.rows inside.ends.items inside.places.items) c.self.view_is c.self.invariant in
     let places : c.resize.new.self.items ≡ inside.places.items ++ idle_row c.args.m =
     c.in-Ok.ensures.items
-    ∙ ap₂ (λ front n. front ++ replicate n None)
+    ∙ rw c.idle.ensures (ap₂ (λ front n. front ++ replicate n None)
     (take_all (c.len.result + c.args.m) c.reserve-2.new.self.items (omega (arith, c.len.ensures, c.reserve-2.new.self.ok.0)) ∙ c.in_ok-reserve-2.ensures.items)
-    (omega (arith, c.len.ensures)) in
+    (omega (arith, c.len.ensures))) in
     let ends : c.push_reserved.new.self.items ≡ inside.ends.items ++ (length inside.places.items + length (idle_row c.args.m)) ∷ [] =
     c.push_reserved.ensures.items
     ∙ ap₂ (λ ends n. ends ++ n ∷ []) c.in_ok-reserve.ensures.items

@@ -1,4 +1,4 @@
-use Rattle.std.proofs.Common.{◌≡◌, ◌<◌, ◌+◌, [], ◌∷◌, ◌∙◌, Some, get_or, length, subst, ap, sym, arith}
+use Rattle.std.proofs.Common.{◌<◌, ◌+◌, [], ◌∷◌, ◌∙◌, Some, get_or, length, subst, ap, sym, arith}
 use Rattle.pf_place.specs.Blocks.{Held, AreCutAt}
 use Rattle.std.specs.List.{slice_range}
 use Rattle.std.proofs.lemmas.Option.{slice_get_past, slice_get-get_or}

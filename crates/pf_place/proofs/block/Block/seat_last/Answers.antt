@@ -1,4 +1,4 @@
-use Rattle.std.proofs.Common.{◌-◌, ◌∷◌, ◌++◌, ◌∙◌, get_or, length, take, subst, ap, sym, arith}
+use Rattle.std.proofs.Common.{◌-◌, ◌∷◌, ◌++◌, ◌∙◌, get_or, length, take, subst, ap, arith}
 use Rattle.pf_place.specs.Blocks.{Held, AreCutAt}
 use Rattle.std.specs.List.{slice_range}
 use Rattle.pf_place.specs.Occupancy.{row_of}

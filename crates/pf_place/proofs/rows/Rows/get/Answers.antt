@@ -1,4 +1,4 @@
-use Rattle.std.proofs.Common.{◌≡◌, ◌+◌, ◌*◌, ◌/◌, ◌%◌, ◌-◌, ◌<◌, ◌≤◌, get_or, length, ap, ap₂, sym, ◌∙◌, arith}
+use Rattle.std.proofs.Common.{◌≡◌, ◌+◌, ◌*◌, ◌/◌, ◌%◌, ◌-◌, ◌<◌, ◌≤◌, length, ap, ap₂, sym, ◌∙◌, arith}
 use Rattle.pf_place.specs.Filed.{rows_of_each}
 use Rattle.std.specs.List.{slice_get}
 use Rattle.pf_place.specs.Blocks.{Held}

@@ -1,4 +1,4 @@
-use Rattle.std.proofs.Common.{◌≡◌, ◌*◌, ◌+◌, length, length-append, ap, sym, ◌∙◌, arith}
+use Rattle.std.proofs.Common.{length, length-append, ap, arith}
 use Rattle.pf_place.specs.Filed.{rows_of_each}
 use Rattle.pf_place.specs.Blocks.{all_rows_of}
 use Rattle.pf_place.proofs.Filed.{length-full, count_blocks}

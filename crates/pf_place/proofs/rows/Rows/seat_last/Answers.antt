@@ -1,4 +1,4 @@
-use Rattle.std.proofs.Common.{◌≡◌, ◌≤◌, ◌++◌, [], ◌∷◌, length, ap, ap₂, sym, subst, ◌∙◌, arith}
+use Rattle.std.proofs.Common.{◌++◌, [], ◌∷◌, length, ap, ◌∙◌, arith}
 use Rattle.pf_place.specs.Filed.{rows_of_each}
 use Rattle.pf_place.specs.Blocks.{all_rows_of}
 use Rattle.pf_place.specs.Occupancy.{row_of}

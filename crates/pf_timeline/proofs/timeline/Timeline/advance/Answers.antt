@@ -3,7 +3,7 @@ use Rattle.std.proofs.Common.{◌+◌, length, sym, ap, ◌∙◌, arith}
 use Rattle.pf_scenario.specs.Scenario.{events_of}
 use Rattle.pf_timeline.specs.Keeping.{KeepsRun}
 use Rattle.pf_timeline.specs.Timeline.{past_below}
-use Rattle.pf_timeline.proofs.Grown.{keeps_now, kept_now, keeps_more, takes_next, takes_slot, taken_turn, few_denials, last_stands, idle_width}
+use Rattle.pf_timeline.proofs.Grown.{keeps_now, kept_now, keeps_more, takes_next, takes_slot, taken_turn, taken_numbered, few_denials, last_stands, idle_width}
 use Rattle.pf_place.proofs.Blocks.{but_last_behind}
 use Rattle.pf_timeline.proofs.Comparing.{slot_compared}
 use Rattle.pf_timeline.proofs.Past.{keeps_standing, stands_kept}
@@ -23,6 +23,12 @@ seat_last-requires-clause-turn c =
     let events = c.deref.ensures.value ∙ c.in_ok-events.ensures.value ∙ ap (events_of c.args.scenario.now) c.now.ensures in
     rw (c.in_ok-push_idle.ensures.ok, idle_width, c.processors.ensures.value, c.settings.ensures.value, c.count.ensures, c.picks.ensures)
     (taken_turn _ _ _ _ _ keeps _ _ (takes_slot _ _ _ _ _ keeps _ events _ _ c.in-Ok.ensures.slot))
+
+pub seat_last-requires-clause-numbered : goal.seat_last-requires-clause-numbered
+seat_last-requires-clause-numbered c =
+    let keeps = keeps_standing _ _ _ _ _ _ _ _ c.self.invariant.run c.self.view_is c.requires.stands in
+    let events = c.deref.ensures.value ∙ c.in_ok-events.ensures.value ∙ ap (events_of c.args.scenario.now) c.now.ensures in
+    rw c.picks.ensures (taken_numbered _ _ _ _ _ keeps _ _ (takes_slot _ _ _ _ _ keeps _ events _ _ c.in-Ok.ensures.slot))
 
 pub seat_last-requires-clause-before : goal.seat_last-requires-clause-before
 seat_last-requires-clause-before c =
