@@ -47,7 +47,7 @@ shift_behind shift hs zero = shift
 shift_behind shift [] (suc k) = shift
 shift_behind shift (h ∷ hs) (suc k) = shift_behind (h.shift + h.by) hs k
 
-none_counted : (i : ℕ) (hs : List Held) → All (λ h. nat_le h.sub i ≡ false) hs → sum_by (hold_of i) hs ≡ 0
+pub none_counted : (i : ℕ) (hs : List Held) → All (λ h. nat_le h.sub i ≡ false) hs → sum_by (hold_of i) hs ≡ 0
 none_counted i [] none = refl
 none_counted i (h ∷ hs) none =
     omega (

@@ -35,7 +35,7 @@ count_from_cut p (x ∷ xs) (suc i) within first last =
       count_from_cut p xs i (omega arith) (λ k d below. first (suc k) d (omega arith)) (λ k d above below. last (suc k) d (omega arith) (omega arith)),
     )
 
-held_push : (next : ℕ → ℕ) (j : Joined) (shift : ℕ) (xs : List Numbered) (x : Numbered) →
+pub held_push : (next : ℕ → ℕ) (j : Joined) (shift : ℕ) (xs : List Numbered) (x : Numbered) →
     held_from next j shift (xs ++ x ∷ []) ≡ held_from next j shift xs ++ held_by next j (shift + sum_by (λ x. delay_from j x.event) xs) x.event
 held_push next j shift [] x = append-nil (held_by next j shift x.event) ∙ ap (λ n. held_by next j n x.event) (let z : shift ≡ shift + 0 = omega arith in z)
 held_push next j shift (y ∷ ys) x =

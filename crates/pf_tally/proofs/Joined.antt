@@ -1,7 +1,7 @@
 -- What is known of the tasks that the events of a log bring.
 use Rattle.std.proofs.Common.{◌≡◌, ℕ, ◌*◌, ◌/◌, ◌%◌, ◌^◌, ◌<◌, ◌≤◌, ◌==◌, None, Some, List, length, get_or, filter_map, All, Contains, refl, ap, subst, arith}
 use Rattle.std.proofs.Math.Nat.{mul-le-mul_right, mul-le-mul_left}
-use Rattle.std.proofs.lemmas.List.Elements.{All-contains}
+use Rattle.std.proofs.lemmas.List.Elements.{All-contains, Contains-get_or}
 use Rattle.pf_weight.specs.Share.{IsShare, IsBase, share_of}
 use Rattle.pf_weight.specs.Weighed.{weight_fault}
 use Rattle.pf_weight.specs.declared.task.TheConstants.{LARGEST_TASK}
@@ -19,7 +19,10 @@ use Rattle.pf_run.specs.Record.{Slot, runs}
 use Rattle.pf_run.specs.Inside.{Joined, joined_by, join_of, has_left, inside}
 use Rattle.pf_run.proofs.Containing.{from_filter}
 use Rattle.pf_run.proofs.Limits.{join_task, join_weight, delay_by, weight_parts}
+use Rattle.pf_run.proofs.Joins.{joined_differ}
 use Rattle.pf_run.proofs.Within.{held_cond, horizon_within}
+use Rattle.pf_scenario.specs.declared.settings.TheConstants.{WIDE_HORIZON}
+use Rattle.pf_tally.specs.Walk.{AreApart}
 use Rattle.pf_tally.specs.Log.{IsLog}
 use Rattle.pf_tally.specs.Held.{delay_from, CanTally}
 use Rattle.pf_tally.specs.Quanta.{slots_of}
@@ -62,7 +65,7 @@ joined_is system (Leave slot task) j of_system within is = cc
 joined_is system (Delay slot task by) j of_system within is = cc
 joined_is system (Limit slot count) j of_system within is = cc
 
-delay_short : (system : System) (j : Joined) (event : Event) → IsEvent system event → delay_from j event ≤ LONGEST_DELAY
+pub delay_short : (system : System) (j : Joined) (event : Event) → IsEvent system event → delay_from j event ≤ LONGEST_DELAY
 delay_short system j (Delay slot task by) within = held_cond (task == j.task) by (delay_by system slot task by within)
 delay_short system j (Join slot task cost period early) within = omega arith
 delay_short system j (Leave slot task) within = omega arith
@@ -87,6 +90,33 @@ can_tally system n xs j r ran log at long of_ran =
       rise = log.rise;
       delays = record { joined = omega (arith, join.slot, log.within); short = short; few = log.few };
     }
+
+-- Use: the tasks of a log have numbers of their own.
+pub log_apart : (system : System) (n : ℕ) (xs : List Numbered) → IsLog system n xs → AreApart (filter_map (join_of system.base) xs)
+log_apart system n xs log =
+    record {
+      numbers = λ k d within. (one_within (get_or (filter_map (join_of system.base) xs) k d) (Contains-get_or (filter_map (join_of system.base) xs) k d within)).0;
+      joined = λ k d within. (one_within (get_or (filter_map (join_of system.base) xs) k d) (Contains-get_or (filter_map (join_of system.base) xs) k d within)).1;
+      apart = joined_differ system.base xs log.joins_once;
+    }
+  where
+    one_within : (j : Joined) → Contains (filter_map (join_of system.base) xs) j → (j.task ≤ LARGEST_TASK) × (j.slot ≤ WIDE_HORIZON)
+    one_within j at =
+        let g = from_filter_map (join_of system.base) xs j at in
+        let join = joined_is system g.giver.event j log.settings (All-contains (λ x. IsEvent system x.event) xs g.giver log.limits g.stands) g.gives in
+        let before : slot_of g.giver.event < n = All-contains (λ x. slot_of x.event < n) xs g.giver log.below g.stands in
+        let most = horizon_within system log.settings in
+        (join.number, omega (arith, join.slot, log.within, most, before))
+
+-- Use: they ask for a share of a processor.
+pub log_shares : (system : System) (n : ℕ) (xs : List Numbered) → IsLog system n xs → All (λ j. IsShare j.weight) (filter_map (join_of system.base) xs)
+log_shares system n xs log = λ k d within. share_at (get_or (filter_map (join_of system.base) xs) k d) (Contains-get_or (filter_map (join_of system.base) xs) k d within)
+  where
+    share_at : (j : Joined) → Contains (filter_map (join_of system.base) xs) j → IsShare j.weight
+    share_at j at =
+        let g = from_filter_map (join_of system.base) xs j at in
+        let join = joined_is system g.giver.event j log.settings (All-contains (λ x. IsEvent system x.event) xs g.giver log.limits g.stands) g.gives in
+        join.share
 
 -- those inside have joined
 pub inside_joined : (base : ℕ) (xs : List Numbered) (j : Joined) → Contains (inside base xs) j → Contains (filter_map (join_of base) xs) j

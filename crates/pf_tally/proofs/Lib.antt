@@ -18,3 +18,5 @@ pub mod Seats
 pub mod Ranges
 pub mod Jobs
 pub mod Figured
+pub mod Walks
+pub mod Journals

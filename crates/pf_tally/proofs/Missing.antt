@@ -1,5 +1,5 @@
 -- The misses of a task: which they are, and in which order.
-use Rattle.std.proofs.Common.{◌≡◌, ◌≢◌, ℕ, zero, suc, ◌+◌, ◌-◌, ◌<◌, ◌≤◌, ◌⊎◌, Bool, true, false, ◌&&◌, nat_le, cond, None, Some, List, [], ◌∷◌, ◌++◌, length, map, get_or, filter, find, All, AllPairs, Contains, IsPermutation, inl, inr, ⊎_elim, refl, sym, ap, ap₂, ◌∙◌, subst, arith}
+use Rattle.std.proofs.Common.{◌≡◌, ◌≢◌, ℕ, zero, suc, ◌+◌, ◌-◌, ◌<◌, ◌≤◌, ◌⊎◌, Bool, true, false, ◌&&◌, nat_le, cond, None, Some, List, [], ◌∷◌, ◌++◌, length, take, map, get_or, filter, find, All, AllPairs, Contains, IsPermutation, inl, inr, ⊎_elim, refl, sym, ap, ap₂, ◌∙◌, subst, arith}
 use Rattle.std.specs.List.{slice_get, range_with_len, flat_map}
 use Rattle.std.specs.List.Sorted.{IsSortedBy}
 use Rattle.std.specs.Option.{option_map_or}
@@ -9,8 +9,8 @@ use Rattle.std.specs.Cmp.{IsTotalOrder, nat_cmp_total}
 use Rattle.std.proofs.lemmas.Cmp.{on_total, then_total}
 use Rattle.std.proofs.lemmas.Bool.{cases_Bool, cond-true, cond-false, le-leb, lt-leb, leb-true, and_left, and_right, and_from}
 use Rattle.std.proofs.lemmas.Bool.Decides.{nat_tests}
-use Rattle.std.proofs.lemmas.List.{append-nil, append_assoc, map-append, length-map, get_or-map}
-use Rattle.std.proofs.lemmas.Option.{cond_some}
+use Rattle.std.proofs.lemmas.List.{append-nil, append_assoc, map-append, length-map, get_or-map, length-take-le, take_more}
+use Rattle.std.proofs.lemmas.Option.{cond_some, slice_get-get_or, slice_get_past}
 use Rattle.std.proofs.lemmas.List.Elements.{filter-append, Contains-append_cases}
 use Rattle.std.proofs.lemmas.List.FromFn.{length-range_with_len, get_or-range_with_len}
 use Rattle.std.proofs.lemmas.List.Kept.{AllPairs-filter}
@@ -33,11 +33,13 @@ use Rattle.pf_tally.specs.Held.{held_from}
 use Rattle.pf_tally.specs.Late.{hold_of, due_at, is_late, late_miss, late_misses, miss_if}
 use Rattle.pf_tally.specs.Misses.{due_of, ran_in, leaves_after, is_missed, miss_of, misses_of_task, miss_cmp, in_miss_order}
 use Rattle.pf_tally.specs.Quanta.{slots_of}
+use Rattle.pf_tally.specs.Walk.{late_quantum, late_quanta}
 use Rattle.pf_tally.specs.declared.held.Held.{Held}
 use Rattle.pf_tally.specs.declared.miss.Miss.{Miss}
 use Rattle.pf_tally.proofs.Chains.{all_counted, range_more}
 use Rattle.pf_tally.proofs.Sorts.{NoTies, one_sorted}
 use Rattle.pf_tally.proofs.Subs.{ran_is}
+use Rattle.pf_tally.proofs.Walks.{late_push}
 use Rattle.pf_tally.proofs.Windows.{deadlines_rise}
 
 -- later subtasks are due later
@@ -55,7 +57,7 @@ dues_rise j held i k share below =
 
 -- one more subtask, and none once one is due after the last slot
 module _ (j : Joined) (ran : List ℕ) (held : List Held) (last : ℕ) where
-  late_step : (n : ℕ) → late_misses j ran held last (n + 1) ≡ late_misses j ran held last n ++ cond (is_late j ran held last (1 + n)) (late_miss j ran held (1 + n) ∷ []) []
+  pub late_step : (n : ℕ) → late_misses j ran held last (n + 1) ≡ late_misses j ran held last n ++ cond (is_late j ran held last (1 + n)) (late_miss j ran held (1 + n) ∷ []) []
   late_step n =
       ap (λ ks. map (late_miss j ran held) (filter (is_late j ran held last) ks)) (range_more 1 n)
       ∙ ap (map (late_miss j ran held)) (filter-append (is_late j ran held last) (range_with_len 1 n) ((1 + n) ∷ []))
@@ -244,3 +246,40 @@ leave_passes task (Limit slot count) is none = cc
 
 pub only_leaves : (task : ℕ) (xs : List Numbered) (x : Numbered) → Some x ≡ find (λ x. is_leave_of task x.event) xs → ((a b : ℕ) → x.event ≡ Leave a b → ⊥) → ⊥
 only_leaves task xs x found none = leave_passes task x.event (found_counted (λ x. is_leave_of task x.event) xs x (sym found)).1 none
+
+-- The windows that ran late are the misses among the first subtasks.
+due_and_late : (b c : Bool) (m : Miss) (p : Miss → Bool) → p m ≡ b → filter p (cond c (m ∷ []) []) ≡ cond (b && c) (m ∷ []) []
+due_and_late true true m p is = cond-true (p m) (m ∷ []) [] is
+due_and_late true false m p is = refl
+due_and_late false true m p is = cond-false (p m) (m ∷ []) [] is
+due_and_late false false m p is = refl
+
+pub late_found : (j : Joined) (ran : List ℕ) (held : List Held) (last n : ℕ) → n ≤ length ran →
+    filter (λ m. nat_le m.deadline last) (late_quanta j held 1 (take n ran)) ≡ late_misses j ran held last n
+late_found j ran held last zero within = refl
+late_found j ran held last (suc n) within =
+    let p = λ (m : Miss). nat_le m.deadline last in
+    let t = get_or ran n 0 in
+    let due = due_at j held (1 + n) in
+    let inside : n < length ran = omega arith in
+    let long : length (take n ran) ≡ n = length-take-le n ran (let h : n ≤ length ran = omega arith in h) in
+    let more : take (suc n) ran ≡ take n ran ++ t ∷ [] = ap (λ k. take k ran) (let z : suc n ≡ n + 1 = omega arith in z) ∙ take_more ran n 0 inside in
+    let got : slice_get ran ((1 + n) - 1) ≡ Some t = ap (slice_get ran) (let z : (1 + n) - 1 ≡ n = omega arith in z) ∙ slice_get-get_or ran n 0 inside in
+    let m : Miss = record { task = j.task; sub = 1 + n; deadline = due; ran = Some t } in
+    ap (λ ts. filter p (late_quanta j held 1 ts)) more
+    ∙ ap (filter p) (late_push j held 1 t (take n ran) ∙ ap (λ k. late_quanta j held 1 (take n ran) ++ late_quantum j.task (1 + k) (due_at j held (1 + k)) t) long)
+    ∙ filter-append p (late_quanta j held 1 (take n ran)) (late_quantum j.task (1 + n) due t)
+    ∙ ap₂ (λ ms ks. ms ++ ks) (late_found j ran held last n (omega arith))
+    (due_and_late (nat_le due last) (nat_le due t) m p refl
+    ∙ ap (λ o. cond (nat_le due last && option_map_or (λ t. nat_le due t) o true) (let k : Miss = record { task = j.task; sub = 1 + n; deadline = due; ran = o } in k ∷ []) []) (sym got))
+    ∙ sym (late_step j ran held last n)
+    ∙ ap (late_misses j ran held last) (let z : n + 1 ≡ suc n = omega arith in z)
+
+-- A window that did not run is missed once it is due.
+pub unrun_late : (j : Joined) (ran : List ℕ) (held : List Held) (last due i : ℕ) → due ≡ due_at j held i → due ≤ last → length ran < i →
+    (is_late j ran held last i ≡ true) × ((let m : Miss = record { task = j.task; sub = i; deadline = due; ran = None } in m) ≡ late_miss j ran held i)
+unrun_late j ran held last due i of_due within past =
+    let none : slice_get ran (i - 1) ≡ None = slice_get_past ran (i - 1) (omega arith) in (
+      and_from _ _ (le-leb (due_at j held i) last (omega arith)) (ap (λ o. option_map_or (λ t. nat_le (due_at j held i) t) o true) none),
+      ap₂ (λ d o. let m : Miss = record { task = j.task; sub = i; deadline = d; ran = o } in m) of_due (sym none),
+    )

@@ -22,7 +22,7 @@ sits_among (Some q ∷ row) zero pick within is = let same : q ≡ pick = cc in 
 sits_among (None ∷ row) (suc p) pick within is = sits_among row p pick (omega arith) is
 sits_among (Some q ∷ row) (suc p) pick within is = contains_tail q (sitters row) pick (sits_among row p pick (omega arith) is)
 
-not_before : (row : List (Option Pick)) (p : ℕ) (pick : Pick) → NoTaskTwice (sitters row) → p < length row → get_or row p None ≡ Some pick →
+pub not_before : (row : List (Option Pick)) (p : ℕ) (pick : Pick) → NoTaskTwice (sitters row) → p < length row → get_or row p None ≡ Some pick →
     is_seated (take p row) pick.task ≡ false
 not_before row zero pick once within is = refl
 not_before [] (suc p) pick once within is = refl
@@ -35,7 +35,7 @@ not_before (Some q ∷ row) (suc p) pick once within is =
 pub none_noted : (table : List (List ℕ)) (row : List (Option Pick)) (t : ℕ) → AreNoted table table (take 0 row) t
 none_noted table row t = record { each = λ task. sym (append-nil (noted_of table task)) }
 
-seated_more : (row : List (Option Pick)) (p : ℕ) (o : Option Pick) (task : ℕ) → p < length row → get_or row p None ≡ o →
+pub seated_more : (row : List (Option Pick)) (p : ℕ) (o : Option Pick) (task : ℕ) → p < length row → get_or row p None ≡ o →
     is_seated (take (p + 1) row) task ≡ (is_seated (take p row) task || option_map_or (λ q. q.task == task) o false)
 seated_more row p o task within is =
     list_any_more (λ place. option_map_or (λ q. q.task == task) place false) row p None within

@@ -1,5 +1,5 @@
 -- Of a task only its own events count: for its shifts, its clock, its leave and its misses.
-use Rattle.std.proofs.Common.{◌≡◌, ℕ, ◌+◌, ◌-◌, ◌*◌, ◌^◌, ◌<◌, ◌≤◌, Bool, true, false, ◌&&◌, ◌==◌, nat_le, not, cond, Option, None, Some, List, [], ◌∷◌, ◌++◌, length, take, get_or, map, filter, find, count_by, sum_by, All, ⊎_elim, refl, sym, ap, ap₂, ◌∙◌, subst, arith}
+use Rattle.std.proofs.Common.{◌≡◌, ℕ, ◌+◌, ◌-◌, ◌*◌, ◌<◌, ◌≤◌, Bool, true, false, ◌&&◌, ◌==◌, nat_le, not, cond, Option, None, Some, List, [], ◌∷◌, ◌++◌, length, take, get_or, map, filter, find, count_by, sum_by, All, ⊎_elim, refl, sym, ap, ap₂, ◌∙◌, subst, arith}
 use Rattle.std.specs.Prelude.{pos, ◌-ℤ◌}
 use Rattle.std.specs.List.{range_with_len}
 use Rattle.std.specs.Option.{option_map_or}

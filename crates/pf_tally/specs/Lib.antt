@@ -19,7 +19,9 @@ pub mod Log
 pub mod Noted
 pub mod Own
 pub mod Ledger
+pub mod Journal
 pub mod Late
 pub mod Figures
 pub mod Told
 pub mod Ranges
+pub mod Walk

@@ -3,9 +3,8 @@ ghost use Rattle.pf_run.specs.RunRows.{AreOfRun};
 ghost use Rattle.pf_tally.specs.Ledger.{IsLedger};
 
 use crate::admitted::Admitted;
-use crate::diary::diaries_by_task;
+use crate::journal::{Journal, make_journal};
 use crate::quanta::quanta_by_task;
-use crate::standing::standing_events;
 use pf_place::rows::Rows;
 use pf_run::denied::Denied;
 use pf_scenario::event::Numbered;
@@ -56,10 +55,12 @@ pub fn make_ledger(
     requires { AreOfRun scenario.now (length rows.now) rows.now denials.now }
     ensures { IfOk result (λ ledger. IsLedger scenario.now (length rows.now) ledger) }
 {
-    let settings = scenario.settings();
-    let now = rows.len() as u64;
-    let events = standing_events(alloc, scenario, now, denials)?;
-    let diaries = diaries_by_task(alloc, &events)?;
+    let Journal {
+        settings,
+        now,
+        events,
+        diaries,
+    } = make_journal(alloc, scenario, rows, denials)?;
     let quanta = quanta_by_task(alloc, settings.processors(), rows)?;
     Ok(Ledger {
         settings,

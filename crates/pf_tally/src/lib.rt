@@ -1,8 +1,9 @@
 //! How far each task is from its fair share, and which windows are missed. Its one contract: `lags` and `misses` are
 //! those of the scenario's run.
 //!
-//! What they rest on is open to other tallies of a run: the ledger, with each task's own events and the slots in which it
-//! ran, its delays and its shifts.
+//! Both come from one walk over a run, which keeps by task how far it has come. What the figures of a task rest on is open
+//! to other tallies of a run: the ledger, with each task's own events and the slots in which it ran, its delays and its
+//! shifts.
 #![tactic(auto)]
 
 pub mod admitted;
@@ -12,6 +13,7 @@ pub mod extremes;
 pub mod figures;
 pub mod held;
 mod inside;
+mod journal;
 pub mod lag;
 pub mod lags;
 pub mod late;
@@ -21,9 +23,12 @@ pub mod miss;
 pub mod misses;
 mod moves;
 pub mod processors;
+mod progress;
 mod quanta;
 mod range;
 mod responses;
 pub mod standing;
 mod tardiness;
 pub mod task_figures;
+mod task_misses;
+mod walk;

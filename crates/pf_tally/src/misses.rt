@@ -1,86 +1,60 @@
-ghost use Rattle.std.specs.Prelude.{◌≡◌, ◌++◌, ◌≤◌, length, IfOk, OnOk};
-ghost use Rattle.pf_weight.specs.declared.task.TheConstants.{LARGEST_TASK};
-ghost use Rattle.pf_scenario.specs.Scenario.{Plan};
-ghost use Rattle.pf_scenario.specs.Edit.{IsScenario};
+ghost use Rattle.std.specs.Prelude.{◌≡◌, ◌++◌, ◌≤◌, ℕ, nat_le, List, length, filter, IfOk, OnOk};
 ghost use Rattle.pf_run.specs.Computed.{run_of};
 ghost use Rattle.pf_run.specs.RunRows.{AreOfRun};
-ghost use Rattle.pf_tally.specs.Held.{CanTally};
-ghost use Rattle.pf_tally.specs.Quanta.{slots_of};
-ghost use Rattle.pf_tally.specs.Late.{late_misses, miss_if, CanMiss};
-ghost use Rattle.pf_tally.specs.Misses.{misses_of_task, misses_of};
+ghost use Rattle.pf_tally.specs.Late.{late_misses, CanMiss};
+ghost use Rattle.pf_tally.specs.Misses.{misses_of};
 
 use crate::admitted::{Admitted, admitted_tasks};
-use crate::held::{Held, held_delays};
+use crate::held::Held;
+use crate::journal::make_journal;
 use crate::late::{due_of, last_due};
-use crate::ledger::make_ledger;
 use crate::miss::Miss;
+use crate::walk::walk_run;
 use pf_place::rows::Rows;
 use pf_run::denied::Denied;
-use pf_scenario::event::Numbered;
 use pf_scenario::scenario::Scenario;
 use std::alloc::{AllocError, Global};
 
-/// The miss of subtask i of a task that ran in the slots `ran`, where it is due in the slot `due` and did not run
-/// before.
-fn miss_of(task: Admitted, ran: &[u64], due: u64, i: u32) -> Option<Miss>
-    requires number { task.task ≤ LARGEST_TASK }
-    requires first { 1 ≤ i }
-    ensures { result ≡ miss_if task ran.now due i }
+/// Appends those of the windows that ran late which are due by the slot `last`.
+fn note_late(misses: &mut Vec<Miss>, late: &[Miss], last: u64) -> Result<(), AllocError>
+    ensures { OnOk result (misses.new.items ≡ misses.old.items ++ filter (λ m. nat_le m.deadline last) late.now) }
 {
-    let ran_in = ran.get(i as usize - 1).copied();
-    if let Some(t) = ran_in {
-        if t < due {
-            return None;
-        }
-    }
-    Some(Miss {
-        task: task.task as u32,
-        sub: i,
-        deadline: due,
-        ran: ran_in,
-    })
-}
-
-/// Appends the misses of the task among its first `now` subtasks. Those due after `last` are none.
-fn note_misses(
-    misses: &mut Vec<Miss>,
-    task: Admitted,
-    ran: &[u64],
-    delays: &[Held],
-    last: u64,
-    now: u32,
-) -> Result<(), AllocError>
-    requires { CanMiss task delays.now now }
-    ensures { OnOk result (misses.new.items ≡ misses.old.items ++ late_misses task ran.now delays.now last now) }
-{
-    for i in 1..now + 1 {
-        let due = due_of(task, delays, i);
-        if due > last {
-            return Ok(());
-        }
-        if let Some(miss) = miss_of(task, ran, due, i) {
-            misses.push(miss)?;
+    for miss in late {
+        if miss.deadline <= last {
+            misses.push(*miss)?;
         }
     }
     Ok(())
 }
 
-/// Appends the misses, after `now` slots, of a task that ran in the slots `ran` and whose own events these are.
-pub(crate) fn note_task(
-    alloc: Global,
+/// Appends the windows of the task that did not run, up to subtask `now`, and are due by the slot `last`: those behind
+/// its first `received` subtasks.
+fn note_unrun(
     misses: &mut Vec<Miss>,
     task: Admitted,
-    ran: &[u64],
-    events: &[Numbered],
-    now: u64,
+    delays: &[Held],
+    last: u64,
+    received: u32,
+    now: u32,
 ) -> Result<(), AllocError>
-    requires { CanTally task ran.now events.now now }
-    ensures { (s : Plan) → IsScenario s → length (run_of s now) ≡ now → ran.now ≡ slots_of (run_of s now) task.task
-        → OnOk result (misses.new.items ≡ misses.old.items ++ misses_of_task (run_of s now) events.now task) }
+    requires can { CanMiss task delays.now now }
+    requires received { received ≤ now }
+    ensures { OnOk result ((ran : List ℕ) (start : List Miss) → length ran ≡ received →
+        misses.old.items ≡ start ++ late_misses task ran delays.now last received → misses.new.items ≡ start ++ late_misses task ran delays.now last now) }
 {
-    let delays = held_delays(alloc, task, ran, events)?;
-    let last = last_due(events, task, now);
-    note_misses(misses, task, ran, &delays, last, now as u32)?;
+    let number = task.task as u32;
+    for i in received + 1..now + 1 {
+        let due = due_of(task, delays, i);
+        if due > last {
+            return Ok(());
+        }
+        misses.push(Miss {
+            task: number,
+            sub: i,
+            deadline: due,
+            ran: None,
+        })?;
+    }
     Ok(())
 }
 
@@ -99,13 +73,23 @@ pub fn misses(
     requires { AreOfRun scenario.now (length rows.now) rows.now denials.now }
     ensures { IfOk result (λ v. v.items ≡ misses_of scenario.now (run_of scenario.now (length rows.now))) }
 {
-    let ledger = make_ledger(alloc, scenario, rows, denials)?;
-    let tasks = admitted_tasks(alloc, ledger.settings, &ledger.events)?;
+    let journal = make_journal(alloc, scenario, rows, denials)?;
+    let walk = walk_run(alloc, journal.settings, &journal.events, rows)?;
+    let tasks = admitted_tasks(alloc, journal.settings, &journal.events)?;
+    let now = journal.now;
     let mut misses = Vec::new(alloc);
     for task in &tasks {
-        let ran = ledger.quanta(*task);
-        let diary = ledger.diary(*task);
-        note_task(alloc, &mut misses, *task, ran, diary, ledger.now)?;
+        let last = last_due(journal.diary(*task), *task, now);
+        note_late(&mut misses, walk.late(*task), last)?;
+        let received = walk.received(*task) as u32;
+        note_unrun(
+            &mut misses,
+            *task,
+            walk.delays(*task),
+            last,
+            received,
+            now as u32,
+        )?;
     }
     misses.sort_unstable_by_key(|miss| (miss.deadline, miss.task));
     Ok(misses)

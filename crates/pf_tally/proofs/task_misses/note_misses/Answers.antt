@@ -1,7 +1,7 @@
 use Rattle.std.proofs.Common.{arith, refl}
 use Rattle.pf_tally.proofs.Missing.{late_yes, late_no, late_over, some_late, none_late}
-use Rattle.pf_tally.proofs.misses.note_misses.Goals as goal
-use Rattle.pf_tally.proofs.misses.note_misses.Goals.{in-Some+in_ok-push, in_default}
+use Rattle.pf_tally.proofs.task_misses.note_misses.Goals as goal
+use Rattle.pf_tally.proofs.task_misses.note_misses.Goals.{in-Some+in_ok-push, in_default}
 
 pub returns-then-due-last : goal.returns-then-due-last
 returns-then-due-last c =

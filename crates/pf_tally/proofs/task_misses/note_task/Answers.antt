@@ -1,6 +1,6 @@
 use Rattle.std.proofs.Common.{◌∙◌}
 use Rattle.pf_tally.proofs.Ledgers.{can_miss, task_noted}
-use Rattle.pf_tally.proofs.misses.note_task.Goals as goal
+use Rattle.pf_tally.proofs.task_misses.note_task.Goals as goal
 
 pub note_misses-requires : goal.note_misses-requires
 note_misses-requires c =
