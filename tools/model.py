@@ -483,6 +483,7 @@ class Desk:
             "misses": lambda: misses_table(placed),
             "denials": lambda: denials_table(placed),
             "events": lambda: events_table(self.scenario),
+            "script": lambda: script(self),
             "stats": lambda: stats_table(placed),
             "processors": lambda: processors_table(placed),
             "chart": lambda: chart(placed, NAMES, first, end),
@@ -494,7 +495,7 @@ class Desk:
 
 @dataclass(frozen=True)
 class View:
-    """A format, or `drill`, and whether a part of the slots is asked for."""
+    """A format, `diff` or `drill`, and whether a part is asked for: some of the slots, or more records than the last one."""
     form: str
     is_part: bool = False
 
@@ -504,6 +505,10 @@ class View:
     def cell(self):
         return 9 if self.is_part else 20
 
+    def since(self, records):
+        """The record from which on a diff tells what changed: of a part one in the middle, else the last one."""
+        return max(1, len(records) // 2) if self.is_part else len(records)
+
     def has_replies(self):
         return self.form in ("tables", "json", "replies")
 
@@ -511,6 +516,8 @@ class View:
         """The words that ask for it."""
         if self.form == "drill":
             return ["drill"]
+        if self.form == "diff":
+            return ["diff", "--since", str(self.since(records(script)))] if self.is_part else ["diff"]
         told, _ = answers(script)
         first, end = self.range(told.now if isinstance(told, Desk) else 0)
         part = ["--from", str(first), "--to", str(end)] if self.is_part else []
@@ -654,11 +661,22 @@ def meaning(script, view):
     told, lines = answers(script)
     text = "".join(line + "\n" for line in lines) if view.has_replies() else ""
     if isinstance(told, Desk):
+        if view.form == "diff":
+            return diff_since(script, view.since(records(script))).encode(), b"", 0
         first, end = view.range(told.now)
         if view.form == "svg" and end - first > MOST_DRAWN:
             return b"", b"range too long\n", 2
         return (text + told.report(view)).encode(), b"", 0
     return text.encode(), f"bad record {told}\n".encode(), 1
+
+
+def diff_since(script, since):
+    """What the records of a good script from one on changed: the desk before it, which has its settings at least, beside
+    the desk at the end."""
+    read = records(script)
+    version = 2 if read[0] == ["pfair", "2"] else 1
+    desks = (replies(read[:max(since - 1, version)], []), replies(read, []))
+    return diff(*(run_of(desk.scenario, desk.now) for desk in desks))
 
 
 @lru_cache(maxsize=1)

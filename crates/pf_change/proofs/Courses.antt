@@ -4,7 +4,6 @@ use Rattle.std.specs.Prelude.{IfOk, OnOk}
 use Rattle.std.specs.List.{flat_map}
 use Rattle.std.proofs.lemmas.List.{at_drop_all, at_drop_more, replicate_more, take-append-drop}
 use Rattle.std.proofs.lemmas.Grind.{flat_map-append}
-use Rattle.pf_scenario.specs.System.{System}
 use Rattle.pf_desk.specs.declared.command.Command.{Command}
 use Rattle.pf_desk.specs.declared.command.Command.TheVariants.{Step}
 use Rattle.pf_desk.specs.declared.reply.Reply.{Reply}
@@ -13,7 +12,7 @@ use Rattle.pf_diff.specs.Diff.{diff_text_of}
 use Rattle.pf_script.specs.declared.line.Line.{Line}
 use Rattle.pf_script.specs.declared.line.Line.TheVariants.{Steps}
 use Rattle.pf_cli.specs.Meaning.{ScriptCourse, commands_of, course_behind, seen_at}
-use Rattle.pf_cli.specs.Session.{course_at, opening_course}
+use Rattle.pf_cli.specs.Session.{course_at}
 use Rattle.pf_cli.proofs.Batches.{answered_course}
 use Rattle.pf_cli.proofs.Sessions.{course_behind-append, course_entered, seen_there}
 use Rattle.pf_change.specs.Change.{change_text, lines_before, seen_behind}
@@ -79,16 +78,16 @@ shown_there (Ok s) d c is stands shows = seen_there d s stands shows ∙ ap seen
 shown_there (Err e) d c is stands shows = tt
 
 -- Use: the desk before a record and at the end.
-module _ (since : Option ℕ) (number k : ℕ) (settings : System) (lines first rest : List Line) (c d : ScriptCourse) (before after : Seen)
-    (opened : c ≡ opening_course settings) (is_first : first ≡ take k lines) (is_rest : rest ≡ drop k lines)
+module _ (since : Option ℕ) (number k : ℕ) (start : ScriptCourse) (lines first rest : List Line) (c d : ScriptCourse) (before after : Seen)
+    (opened : c ≡ start) (is_first : first ≡ take k lines) (is_rest : rest ≡ drop k lines)
     (is_before : take k lines ≡ lines_before since number lines) where
   pub both_shown : before ≡ seen_at (course_behind c (flat_map commands_of first)) → d ≡ course_behind c (flat_map commands_of first)
-      → after ≡ seen_at (course_behind d (flat_map commands_of rest)) → diff_text_of before after ≡ change_text since number settings lines
+      → after ≡ seen_at (course_behind d (flat_map commands_of rest)) → diff_text_of before after ≡ change_text since number start lines
   both_shown shown_before on shown_after =
-      let front : before ≡ seen_behind settings (lines_before since number lines) =
+      let front : before ≡ seen_behind start (lines_before since number lines) =
       shown_before ∙ ap₂ (λ x xs. seen_at (course_behind x (flat_map commands_of xs))) opened (is_first ∙ is_before) in
       let whole : first ++ rest ≡ lines = ap₂ (λ x y. x ++ y) is_first is_rest ∙ take-append-drop k lines in
-      let behind : course_behind d (flat_map commands_of rest) ≡ course_behind (opening_course settings) (flat_map commands_of lines) =
+      let behind : course_behind d (flat_map commands_of rest) ≡ course_behind start (flat_map commands_of lines) =
       ap (λ x. course_behind x (flat_map commands_of rest)) on
       ∙ sym (course_behind-append c (flat_map commands_of first) (flat_map commands_of rest))
       ∙ ap (course_behind c) (sym (flat_map-append commands_of first rest))

@@ -1,7 +1,6 @@
 -- What a script's first records changed.
 use Rattle.std.proofs.Common.{◌≡◌, ◌≤◌, ℕ, ◌+◌, true, false, List, [], ◌∷◌, ◌++◌, length, Option, Some, None, Result, Ok, Err, refl, ap, sym, subst, ◌∙◌, rules, tests}
 use Rattle.std.specs.Prelude.{nat_lt, IfOk, IfErr}
-use Rattle.pf_scenario.specs.System.{System}
 use Rattle.pf_script.specs.declared.line.Line.{Line}
 use Rattle.pf_script.specs.declared.version.Version.{Version}
 use Rattle.pf_script.specs.declared.version.Version.TheVariants.{First, Second}
@@ -9,7 +8,7 @@ use Rattle.pf_script.specs.Grammar.{is_heading, line_of, opening_of}
 use Rattle.pf_script.specs.Script.{script_records}
 use Rattle.pf_cli.specs.declared.fault.RunFault.{RunFault}
 use Rattle.pf_cli.specs.declared.fault.RunFault.TheVariants.{BadLine, ReadFault, WriteFault, ScriptTooLong, BadRange, NoMemory}
-use Rattle.pf_cli.specs.Meaning.{Meaning, Done, bad_record, system_opened_by}
+use Rattle.pf_cli.specs.Meaning.{Meaning, Done, ScriptCourse, bad_record, course_opened_by}
 use Rattle.pf_change.specs.Change.{Lines, BadLineAt, lines_told, change_text, change_opened, change_among, change_meaning}
 use Rattle.pf_change.specs.Made.{Stops, StopsReading}
 
@@ -23,7 +22,7 @@ no_record since bytes short none = short_change since bytes short ∙ ap (change
 
 pub no_heading : (since : Option ℕ) (bytes : List ℕ) (fields : List (List ℕ)) (rest : List (List (List ℕ))) → length bytes ≤ 16777216
     → script_records bytes ≡ fields ∷ rest → is_heading fields ≡ false
-    → change_meaning since bytes ≡ change_opened since First 1 rest (system_opened_by First (opening_of fields))
+    → change_meaning since bytes ≡ change_opened since First 1 rest (course_opened_by First (opening_of fields))
 no_heading since bytes fields rest short first plain = rw (short_change since bytes short, first, plain) refl
 
 pub heading_alone : (since : Option ℕ) (bytes : List ℕ) (fields : List (List ℕ)) (rest : List (List (List ℕ))) → length bytes ≤ 16777216
@@ -32,7 +31,7 @@ heading_alone since bytes fields rest short first heading none = rw (short_chang
 
 pub heading_first : (since : Option ℕ) (bytes : List ℕ) (fields opening : List (List ℕ)) (rest records : List (List (List ℕ))) → length bytes ≤ 16777216
     → script_records bytes ≡ fields ∷ rest → is_heading fields ≡ true → rest ≡ opening ∷ records
-    → change_meaning since bytes ≡ change_opened since Second 2 records (system_opened_by Second (opening_of opening))
+    → change_meaning since bytes ≡ change_opened since Second 2 records (course_opened_by Second (opening_of opening))
 heading_first since bytes fields opening rest records short first heading second = rw (short_change since bytes short, first, heading, second) refl
 
 -- Use: of the records left the first is a line, or a bad one, or there is none.
@@ -59,8 +58,8 @@ pub stops_same : {V : Type 0} (a b : Meaning) (r : Result V RunFault) → b ≡ 
 stops_same a b r is stops = subst (λ x. IfErr r (Stops x)) (sym is) stops
 
 -- Use: the settings, and what the records behind them are.
-module _ (since : Option ℕ) (version : Version) (number : ℕ) (records : List (List (List ℕ))) (opened : Option System) (settings : System) (is : opened ≡ Some settings) where
-  pub lines_made : (lines : List Line) (text : List ℕ) → lines_told version (number + 1) [] records ≡ Lines lines → text ≡ change_text since number settings lines
+module _ (since : Option ℕ) (version : Version) (number : ℕ) (records : List (List (List ℕ))) (opened : Option ScriptCourse) (c : ScriptCourse) (is : opened ≡ Some c) where
+  pub lines_made : (lines : List Line) (text : List ℕ) → lines_told version (number + 1) [] records ≡ Lines lines → text ≡ change_text since number c lines
       → change_opened since version number records opened ≡ record { text = text; end = Done }
   lines_made lines text told made = rw (is, told, made) refl
 

@@ -1,7 +1,6 @@
 -- What a script's records from one of them on changed: a text and an end.
 use Rattle.std.specs.Prelude.{ℕ, ◌+◌, ◌-◌, nat_lt, if◌then◌else◌, Option, None, Some, List, [], ◌∷◌, ◌++◌, length, take}
 use Rattle.std.specs.List.{flat_map}
-use Rattle.pf_scenario.specs.System.{System}
 use Rattle.pf_desk.specs.Desk.{Seen}
 use Rattle.pf_diff.specs.Diff.{diff_text_of}
 use Rattle.pf_script.specs.declared.version.Version.{Version}
@@ -10,8 +9,7 @@ use Rattle.pf_script.specs.declared.line.Line.{Line}
 use Rattle.pf_script.specs.Script.{script_records}
 use Rattle.pf_script.specs.Grammar.{is_heading, opening_of, line_of}
 use Rattle.pf_stream.specs.Reading.{longest_script}
-use Rattle.pf_cli.specs.Meaning.{Meaning, Done, TooLong, bad_record, commands_of, course_behind, seen_at, system_opened_by}
-use Rattle.pf_cli.specs.Session.{opening_course}
+use Rattle.pf_cli.specs.Meaning.{Meaning, Done, ScriptCourse, TooLong, bad_record, commands_of, course_behind, course_opened_by, seen_at}
 
 -- records behind the settings: lines, or the number of the first that is none
 pub data Told : Type 0 where
@@ -29,9 +27,9 @@ lines_told version number lines [] = Lines lines
 lines_told version number lines (fields ∷ records) =
     line_told number lines (λ more. lines_told version (number + 1) more records) (line_of version fields)
 
--- what the desk with these settings shows once these lines are carried out
-abbrev pub seen_behind : System → List Line → Seen
-seen_behind settings lines = seen_at (course_behind (opening_course settings) (flat_map commands_of lines))
+-- what a desk at this course shows once these lines are carried out
+abbrev pub seen_behind : ScriptCourse → List Line → Seen
+seen_behind c lines = seen_at (course_behind c (flat_map commands_of lines))
 
 -- the number of the record that is asked for, or else of the last one, where the settings are the record of this number
 abbrev pub record_asked : Option ℕ → ℕ → List Line → ℕ
@@ -43,25 +41,25 @@ abbrev pub lines_before : Option ℕ → ℕ → List Line → List Line
 lines_before since number lines = take (record_asked since number lines - (number + 1)) lines
 
 -- the desk before the record beside the desk at the end
-abbrev pub change_text : Option ℕ → ℕ → System → List Line → List ℕ
-change_text since number settings lines =
-    diff_text_of (seen_behind settings (lines_before since number lines)) (seen_behind settings lines)
+abbrev pub change_text : Option ℕ → ℕ → ScriptCourse → List Line → List ℕ
+change_text since number c lines =
+    diff_text_of (seen_behind c (lines_before since number lines)) (seen_behind c lines)
 
-abbrev pub told_meaning : Option ℕ → ℕ → System → Told → Meaning
-told_meaning since number settings (BadLineAt bad) = bad_record bad
-told_meaning since number settings (Lines lines) = record { text = change_text since number settings lines; end = Done }
+abbrev pub told_meaning : Option ℕ → ℕ → ScriptCourse → Told → Meaning
+told_meaning since number c (BadLineAt bad) = bad_record bad
+told_meaning since number c (Lines lines) = record { text = change_text since number c lines; end = Done }
 
--- the settings, which are the record of this number, and the records behind them
-abbrev pub change_opened : Option ℕ → Version → ℕ → List (List (List ℕ)) → Option System → Meaning
+-- the settings, which are the record of this number and open a desk at this course, and the records behind them
+abbrev pub change_opened : Option ℕ → Version → ℕ → List (List (List ℕ)) → Option ScriptCourse → Meaning
 change_opened since version number records None = bad_record number
-change_opened since version number records (Some settings) =
-    told_meaning since number settings (lines_told version (number + 1) [] records)
+change_opened since version number records (Some c) =
+    told_meaning since number c (lines_told version (number + 1) [] records)
 
 -- the records from the one of this number on, which is to be the settings; a script needs one
 abbrev pub change_from : Option ℕ → Version → ℕ → List (List (List ℕ)) → Meaning
 change_from since version number [] = bad_record number
 change_from since version number (fields ∷ records) =
-    change_opened since version number records (system_opened_by version (opening_of fields))
+    change_opened since version number records (course_opened_by version (opening_of fields))
 
 -- a script of version 2 begins with its heading
 abbrev pub change_among : Option ℕ → List (List (List ℕ)) → Meaning

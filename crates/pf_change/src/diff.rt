@@ -5,8 +5,8 @@ ghost use Rattle.pf_timeline.specs.Checkpoints.{largest_distance};
 ghost use Rattle.pf_script.specs.Grammar.{opening_of};
 ghost use Rattle.pf_stream.specs.Reading.{longest_script, TakesAtMost};
 ghost use Rattle.pf_cli.specs.Answers.{Answers, CountsReads, CountsWrites};
-ghost use Rattle.pf_cli.specs.Meaning.{Meaning, Done, system_opened_by};
-ghost use Rattle.pf_cli.specs.Session.{course_at, opening_course};
+ghost use Rattle.pf_cli.specs.Meaning.{Meaning, Done, course_opened_by, opening_course};
+ghost use Rattle.pf_cli.specs.Session.{course_at};
 ghost use Rattle.pf_change.specs.Change.{change_meaning, change_opened, change_text, record_asked};
 ghost use Rattle.pf_change.specs.Made.{IsUnwritten, Stops};
 
@@ -99,9 +99,9 @@ fn diff_from(
 ) -> Result<Vec<u8>, RunFault>
     requires { number + length script < 2 ^ 64 - 1 }
     ensures made { IfOk result
-        (λ text. change_opened since version number script.entry (system_opened_by version (opening_of (fields_of row))) ≡ record { text = text.items; end = Done }) }
+        (λ text. change_opened since version number script.entry (course_opened_by version (opening_of (fields_of row))) ≡ record { text = text.items; end = Done }) }
     ensures stopped { IfErr result
-        (Stops (change_opened since version number script.entry (system_opened_by version (opening_of (fields_of row))))) }
+        (Stops (change_opened since version number script.entry (course_opened_by version (opening_of (fields_of row))))) }
 {
     let Some(opening) = read_opening(&Fields::new(&row)) else {
         return Err(RunFault::BadLine(number));
@@ -131,7 +131,7 @@ fn diff_lines(
     requires some { 1 ≤ every }
     requires within { every ≤ largest_distance }
     requires counted { number + 1 + length lines.now < 2 ^ 64 }
-    ensures { IfOk result (λ text. text.items ≡ change_text since number settings lines.now) }
+    ensures { IfOk result (λ text. text.items ≡ change_text since number (opening_course every settings) lines.now) }
 {
     let mut desk = open_desk(alloc, settings, every)?;
     let (first, rest) = lines.split_at(count_before(lines, since, number));
@@ -144,7 +144,7 @@ fn diff_lines(
 fn open_desk(alloc: Global, settings: Settings, every: u64) -> Result<Desk, AllocError>
     requires some { 1 ≤ every }
     requires within { every ≤ largest_distance }
-    ensures { IfOk result (λ desk. course_at desk ≡ opening_course settings) }
+    ensures { IfOk result (λ desk. course_at desk ≡ opening_course every settings) }
 {
     match Desk::open(alloc, settings, every) {
         Ok(desk) => Ok(desk),

@@ -30,28 +30,28 @@ use Rattle.pf_cli.specs.Session.{HasAnswered, course_at, replies_of}
 use Rattle.pf_cli.proofs.Replying.{edit_takes_none}
 use Rattle.pf_cli.proofs.Sessions.{all_but_at, course_behind-append, front_at, replies_of_none, shown_lines-append, shown_whole, text_if_replies-nil}
 
--- a course of so many entries
-abbrev course_of : ℕ → State → ScriptCourse
-course_of n st = record { state = st; entries = n }
+-- a course of so many entries, where the checkpoints lie so far apart
+abbrev course_of : ℕ → ℕ → State → ScriptCourse
+course_of every n st = record { state = st; entries = n; every = every }
 
 -- the course behind the entries of a legal history
-entered_course : (st : State) (n : ℕ) (es : List Entry) → IsLegalFrom st es
-    → course_of (n + length es) (state_behind st es) ≡ course_behind (course_of n st) (map (λ e. e.command) es)
-entered_course st n [] h = let none : n + 0 ≡ n = omega arith in ap (λ k. course_of k st) none
-entered_course st n (e ∷ es) h =
+entered_course : (every : ℕ) (st : State) (n : ℕ) (es : List Entry) → IsLegalFrom st es
+    → course_of every (n + length es) (state_behind st es) ≡ course_behind (course_of every n st) (map (λ e. e.command) es)
+entered_course every st n [] h = let none : n + 0 ≡ n = omega arith in ap (λ k. course_of every k st) none
+entered_course every st n (e ∷ es) h =
     let more : n + length (e ∷ es) ≡ n + 1 + length es = omega arith in
-    ap (λ k. course_of k (state_behind (state_after st e.command e.reply) es)) more
-    ∙ entered_course (state_after st e.command e.reply) (n + 1) es h.1
-    ∙ ap (λ r. course_behind (course_of (n + 1) (state_after st e.command r)) (map (λ e. e.command) es)) h.0
+    ap (λ k. course_of every k (state_behind (state_after st e.command e.reply) es)) more
+    ∙ entered_course every (state_after st e.command e.reply) (n + 1) es h.1
+    ∙ ap (λ r. course_behind (course_of every (n + 1) (state_after st e.command r)) (map (λ e. e.command) es)) h.0
 
 -- the lines of their replies
-entered_lines : (st : State) (n : ℕ) (es : List Entry) → IsLegalFrom st es
-    → flat_map (λ e. reply_line e.reply) es ≡ reply_lines (course_of n st) (map (λ e. e.command) es)
-entered_lines st n [] h = refl
-entered_lines st n (e ∷ es) h =
+entered_lines : (every : ℕ) (st : State) (n : ℕ) (es : List Entry) → IsLegalFrom st es
+    → flat_map (λ e. reply_line e.reply) es ≡ reply_lines (course_of every n st) (map (λ e. e.command) es)
+entered_lines every st n [] h = refl
+entered_lines every st n (e ∷ es) h =
     ap₂ (λ a b. a ++ b) (ap reply_line h.0)
-    (entered_lines (state_after st e.command e.reply) (n + 1) es h.1
-    ∙ ap (λ r. reply_lines (course_of (n + 1) (state_after st e.command r)) (map (λ e. e.command) es)) h.0)
+    (entered_lines every (state_after st e.command e.reply) (n + 1) es h.1
+    ∙ ap (λ r. reply_lines (course_of every (n + 1) (state_after st e.command r)) (map (λ e. e.command) es)) h.0)
 
 -- a plain edit takes no slot
 plain_takes_none : (st : State) (command : Command) (reply : Reply) → reply ≡ reply_to st command → IsPlain command → HasFewPlaces reply
@@ -75,12 +75,12 @@ module _ (caller : ℕ) (commands : List Command) (a b : Shown) (h : AnswersAll 
   pub answered_course : course_at b ≡ course_behind (course_at a) commands
   answered_course =
       let long : length b.history ≡ length a.history + length h.entries = ap length h.entered ∙ length-append a.history h.entries in
-      ap₂ course_of long h.state ∙ entered_course a.state (length a.history) h.entries h.answers
+      (λ i. course_of (h.every i) (long i) (h.state i)) ∙ entered_course a.every a.state (length a.history) h.entries h.answers
       ∙ ap (course_behind (course_at a)) h.commands_in_order
 
   pub answered_lines : flat_map (λ e. reply_line e.reply) (drop (length a.history) b.history) ≡ reply_lines (course_at a) commands
   answered_lines =
-      ap (flat_map (λ e. reply_line e.reply)) new_entries ∙ entered_lines a.state (length a.history) h.entries h.answers
+      ap (flat_map (λ e. reply_line e.reply)) new_entries ∙ entered_lines a.every a.state (length a.history) h.entries h.answers
       ∙ ap (reply_lines (course_at a)) h.commands_in_order
 
   pub answered_places : All IsPlain commands → All (λ e. HasFewPlaces e.reply) (drop (length a.history) b.history)

@@ -1,6 +1,6 @@
 -- How a script ends, by the number of its first bad record.
 use Rattle.std.proofs.Common.{◌≡◌, ◌+◌, ℕ, Bool, true, false, List, [], ◌∷◌, Option, Some, None, refl, sym, subst, inl, inr}
-use Rattle.std.specs.Prelude.{is_some, if◌then◌else◌}
+use Rattle.std.specs.Prelude.{is_some, option_map, if◌then◌else◌}
 use Rattle.std.specs.Option.{option_map_or}
 use Rattle.pf_scenario.specs.System.{System}
 use Rattle.pf_script.specs.declared.line.Line.{Line}
@@ -12,13 +12,11 @@ use Rattle.pf_script.specs.Script.{script_records}
 use Rattle.pf_words.specs.declared.format.Format.{Format}
 use Rattle.pf_words.specs.declared.range_fault.RangeFault.{RangeFault}
 use Rattle.pf_words.specs.Formats.{range_fault}
-use Rattle.pf_desk.specs.Desk.{Seen}
-use Rattle.pf_desk.specs.Machine.{opening_state}
 use Rattle.pf_check.specs.Laws as check
 use Rattle.pf_check.specs.Reports.{Report, reports}
 use Rattle.pf_check.proofs.FirstFaults.{first_fault_ends_reading}
 use Rattle.pf_cli.specs.Laws.{RunsEndAtTheFirstFault, EndsAt, EndsWhole}
-use Rattle.pf_cli.specs.Meaning.{End, BadRecord, ScriptCourse, Meaning, text_unless, commands_of, course_behind, report_meaning, report_text, seen_at, line_meaning, lines_meaning, settings_meaning, system_opened_by, opening_meaning, records_meaning, script_meaning}
+use Rattle.pf_cli.specs.Meaning.{End, BadRecord, ScriptCourse, Meaning, text_unless, commands_of, course_behind, report_meaning, report_text, seen_at, line_meaning, lines_meaning, settings_meaning, course_opened_by, opening_course, opening_meaning, records_meaning, script_meaning}
 use Rattle.pf_cli.proofs.Openings.{short_meaning}
 
 -- at a bad record of this number, or at none
@@ -27,12 +25,13 @@ EndsBy format None end = EndsWhole format end
 EndsBy format (Some number) end = end ≡ BadRecord number
 
 -- the report ends well, or its range can't be shown
-report_end : (format : Format) (seen : Seen) → EndsWhole format (report_meaning format seen).end
-report_end format seen = by (range_fault format seen.state.now) refl
+report_end : (format : Format) (c : ScriptCourse) → EndsWhole format (report_meaning format c).end
+report_end format c = by (range_fault format c.state.now) refl
   where
-    by : (fault : Option RangeFault) → range_fault format seen.state.now ≡ fault → EndsWhole format (text_unless fault (report_text format seen)).end
+    by : (fault : Option RangeFault) → range_fault format c.state.now ≡ fault
+        → EndsWhole format (text_unless fault (report_text format c.every (seen_at c))).end
     by None fits = inl refl
-    by (Some fault) is = inr (seen.state.now, fault, refl, is)
+    by (Some fault) is = inr (c.state.now, fault, refl, is)
 
 line_end : (format : Format) (version : Version) (number : ℕ) (c : ScriptCourse) (records : List (List (List ℕ))) (line : Option Line)
     → ((d : ScriptCourse) → EndsBy format (check.bad_line version (number + 1) records) (lines_meaning format version (number + 1) d records).end)
@@ -43,22 +42,22 @@ line_end format version number c records (Some line) rest = rest (course_behind 
 
 lines_end : (format : Format) (version : Version) (number : ℕ) (c : ScriptCourse) (records : List (List (List ℕ)))
     → EndsBy format (check.bad_line version number records) (lines_meaning format version number c records).end
-lines_end format version number c [] = report_end format (seen_at c)
+lines_end format version number c [] = report_end format c
 lines_end format version number c (fields ∷ records) =
     line_end format version number c records (line_of version fields) (λ d. lines_end format version (number + 1) d records)
 
 -- settings within their limits or not
-settings_end : (format : Format) (version : Version) (number : ℕ) (records : List (List (List ℕ))) (fits : Bool) (settings : System)
+settings_end : (format : Format) (version : Version) (number : ℕ) (records : List (List (List ℕ))) (fits : Bool) (every : ℕ) (settings : System)
     → EndsBy format (if fits then check.bad_line version (number + 1) records else Some number)
-    (settings_meaning format version number records (if fits then Some settings else None)).end
-settings_end format version number records true settings = lines_end format version (number + 1) (record { state = opening_state settings; entries = 0 }) records
-settings_end format version number records false settings = refl
+    (settings_meaning format version number records (option_map (opening_course every) (if fits then Some settings else None))).end
+settings_end format version number records true every settings = lines_end format version (number + 1) (opening_course every settings) records
+settings_end format version number records false every settings = refl
 
 opened_end : (format : Format) (version : Version) (number : ℕ) (records : List (List (List ℕ))) (opening : Option Opening)
     → EndsBy format (if option_map_or check.is_in_limits opening false then check.bad_line version (number + 1) records else Some number)
-    (settings_meaning format version number records (system_opened_by version opening)).end
+    (settings_meaning format version number records (course_opened_by version opening)).end
 opened_end format version number records None = refl
-opened_end format version number records (Some o) = settings_end format version number records (check.is_in_limits o)
+opened_end format version number records (Some o) = settings_end format version number records (check.is_in_limits o) o.every
     (record { processors = o.processors; base = o.base; cap = o.cap; horizon = horizon_of version })
 
 opening_end : (format : Format) (version : Version) (number : ℕ) (records : List (List (List ℕ)))

@@ -9,4 +9,3 @@ pub mod Reporting
 pub mod Scripts
 pub mod ScriptsWorked
 pub mod Sessions
-pub mod WordsAnswered

@@ -5,7 +5,7 @@ use Rattle.pf_script.specs.declared.version.Version.TheVariants.{First, Second}
 use Rattle.pf_script.specs.Grammar.{is_heading, opening_of}
 use Rattle.pf_script.specs.Script.{script_records}
 use Rattle.pf_words.specs.declared.format.Format.{Format}
-use Rattle.pf_cli.specs.Meaning.{bad_record, records_meaning, settings_meaning, system_opened_by, script_meaning}
+use Rattle.pf_cli.specs.Meaning.{bad_record, records_meaning, settings_meaning, course_opened_by, script_meaning}
 
 pub short_meaning : (format : Format) (bytes : List ℕ) → length bytes ≤ 16777216 → script_meaning format bytes ≡ records_meaning format (script_records bytes)
 unfolding script_meaning
@@ -17,7 +17,7 @@ no_record format bytes short none = short_meaning format bytes short ∙ ap (rec
 
 pub no_heading : (format : Format) (bytes : List ℕ) (fields : List (List ℕ)) (rest : List (List (List ℕ))) → length bytes ≤ 16777216
     → script_records bytes ≡ fields ∷ rest → is_heading fields ≡ false
-    → script_meaning format bytes ≡ settings_meaning format First 1 rest (system_opened_by First (opening_of fields))
+    → script_meaning format bytes ≡ settings_meaning format First 1 rest (course_opened_by First (opening_of fields))
 no_heading format bytes fields rest short first plain = rw (short_meaning format bytes short, first, plain) refl
 
 pub heading_alone : (format : Format) (bytes : List ℕ) (fields : List (List ℕ)) (rest : List (List (List ℕ))) → length bytes ≤ 16777216
@@ -26,5 +26,5 @@ heading_alone format bytes fields rest short first heading none = rw (short_mean
 
 pub heading_first : (format : Format) (bytes : List ℕ) (fields opening : List (List ℕ)) (rest records : List (List (List ℕ))) → length bytes ≤ 16777216
     → script_records bytes ≡ fields ∷ rest → is_heading fields ≡ true → rest ≡ opening ∷ records
-    → script_meaning format bytes ≡ settings_meaning format Second 2 records (system_opened_by Second (opening_of opening))
+    → script_meaning format bytes ≡ settings_meaning format Second 2 records (course_opened_by Second (opening_of opening))
 heading_first format bytes fields opening rest records short first heading second = rw (short_meaning format bytes short, first, heading, second) refl

@@ -4,7 +4,6 @@ use Rattle.std.specs.Prelude.{if◌then◌else◌, length, nat_lt}
 use Rattle.std.specs.Io.KnownBytes.{Appends, Keeps}
 use Rattle.std.proofs.lemmas.Bool.{le-leb}
 use Rattle.std.proofs.lemmas.List.{append-nil}
-use Rattle.pf_scenario.specs.System.{System}
 use Rattle.pf_script.specs.declared.line.Line.{Line}
 use Rattle.pf_script.specs.declared.version.Version.{Version}
 use Rattle.pf_script.specs.declared.version.Version.TheVariants.{First, Second}
@@ -12,7 +11,7 @@ use Rattle.pf_script.specs.Grammar.{is_heading, line_of, opening_of}
 use Rattle.pf_script.specs.Script.{script_records}
 use Rattle.pf_stream.specs.Reading.{longest_script}
 use Rattle.pf_words.specs.declared.format.Format.{Format}
-use Rattle.pf_words.specs.declared.format.Format.TheVariants.{Schedule, Tables, Json, Report, Replies, Lags, Misses, Denials, Events, Processors, Stats, Chart, Svg}
+use Rattle.pf_words.specs.declared.format.Format.TheVariants.{Schedule, Tables, Json, Report, Replies, Lags, Misses, Denials, Events, Script, Processors, Stats, Chart, Svg}
 use Rattle.pf_words.specs.declared.range_fault.RangeFault.{RangeFault}
 use Rattle.pf_words.specs.Formats.{has_replies, range_fault}
 use Rattle.pf_words.specs.Ranges.{is_within, whole}
@@ -21,7 +20,7 @@ use Rattle.pf_cli.specs.declared.fault.RunFault.{RunFault}
 use Rattle.pf_cli.specs.declared.fault.RunFault.TheVariants.{BadLine, ReadFault, WriteFault, ScriptTooLong, BadRange, NoMemory}
 use Rattle.pf_cli.specs.Answers.{Answers, IsOutside}
 use Rattle.pf_cli.specs.Laws.{NothingIsWrittenOutside}
-use Rattle.pf_cli.specs.Meaning.{Meaning, Done, BadRecord, TooLong, Outside, ScriptCourse, commands_of, course_behind, line_meaning, lines_meaning, opening_meaning, records_meaning, report_text, script_meaning, seen_at, settings_meaning, system_opened_by, text_unless}
+use Rattle.pf_cli.specs.Meaning.{Meaning, Done, BadRecord, TooLong, Outside, ScriptCourse, commands_of, course_behind, line_meaning, lines_meaning, opening_meaning, records_meaning, report_text, script_meaning, seen_at, settings_meaning, course_opened_by, text_unless}
 use Rattle.pf_cli.proofs.Ends.{EndsBy, records_end}
 
 -- all slots are within them
@@ -38,6 +37,7 @@ silent Lags now fault is = refl
 silent Misses now fault is = refl
 silent Denials now fault is = refl
 silent Events now fault is = refl
+silent Script now fault is = refl
 silent Processors now fault is = refl
 silent Stats now fault is = refl
 silent Tables now fault is = let never : None ≡ Some fault = rw (whole_is_within now) at is in cc
@@ -57,21 +57,21 @@ module _ (format : Format) (fault : RangeFault) (hides : has_replies format ≡ 
   silent_lines : (version : Version) (number : ℕ) (c : ScriptCourse) (records : List (List (List ℕ))) → IsSilent fault (lines_meaning format version number c records)
   silent_lines version number c [] = by (range_fault format c.state.now)
     where
-      by : (found : Option RangeFault) → IsSilent fault (text_unless found (report_text format (seen_at c)))
+      by : (found : Option RangeFault) → IsSilent fault (text_unless found (report_text format c.every (seen_at c)))
       by None = λ outside. let never : Done ≡ Outside fault = outside in cc
       by (Some other) = λ outside. refl
   silent_lines version number c (fields ∷ records) =
       silent_line number c (λ d. lines_meaning format version (number + 1) d records) (line_of version fields)
       (λ d. silent_lines version (number + 1) d records)
 
-  silent_settings : (version : Version) (number : ℕ) (records : List (List (List ℕ))) (settings : Option System)
-      → IsSilent fault (settings_meaning format version number records settings)
+  silent_settings : (version : Version) (number : ℕ) (records : List (List (List ℕ))) (opened : Option ScriptCourse)
+      → IsSilent fault (settings_meaning format version number records opened)
   silent_settings version number records None = λ outside. refl
-  silent_settings version number records (Some settings) = λ outside. rw hides (silent_lines version (number + 1) _ records outside)
+  silent_settings version number records (Some c) = λ outside. rw hides (silent_lines version (number + 1) c records outside)
 
   silent_opening : (version : Version) (number : ℕ) (records : List (List (List ℕ))) → IsSilent fault (opening_meaning format version number records)
   silent_opening version number [] = λ outside. refl
-  silent_opening version number (fields ∷ records) = silent_settings version number records (system_opened_by version (opening_of fields))
+  silent_opening version number (fields ∷ records) = silent_settings version number records (course_opened_by version (opening_of fields))
 
   silent_heading : (heading : Bool) (fields : List (List ℕ)) (records : List (List (List ℕ)))
       → IsSilent fault (if heading then opening_meaning format Second 2 records else opening_meaning format First 1 (fields ∷ records))

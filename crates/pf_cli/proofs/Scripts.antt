@@ -17,11 +17,10 @@ use Rattle.pf_words.specs.declared.format.Format.{Format}
 use Rattle.pf_cli.specs.declared.batching.BatchingSession.{BatchingSession}
 use Rattle.pf_cli.specs.declared.session.Session.{Session}
 use Rattle.pf_cli.specs.Answers.{Answers, CountsOutput, CountsWrites, IsPastReading, fault_of_output}
-use Rattle.pf_cli.specs.Meaning.{Meaning, BadRecord, text_and_then, commands_of, course_behind, line_meaning, lines_meaning, settings_meaning, text_if_replies, report_meaning, seen_at}
+use Rattle.pf_cli.specs.Meaning.{Meaning, BadRecord, ScriptCourse, text_and_then, commands_of, course_behind, line_meaning, lines_meaning, settings_meaning, text_if_replies, report_meaning}
 use Rattle.pf_cli.specs.Replies.{line_end}
 use Rattle.pf_cli.specs.Session.{course_at, HasAnswered, HasPut, Opened}
 use Rattle.pf_cli.specs.Batching.{IsUnbatched, HasTaken, course_to_be, replies_to_be, text_to_be}
-use Rattle.pf_scenario.specs.System.{System}
 use Rattle.pf_cli.proofs.Batches.{none_awaited, none_waits}
 use Rattle.pf_cli.proofs.Sessions.{on_the_way, stopped_on_the_way, all_to_come}
 
@@ -102,7 +101,7 @@ bad_left version number s records fields rest start mid whole is_first is_none w
 -- no record is left: the report is the rest
 pub report_left : (version : Version) (number : ℕ) (s : BatchingSession) (records : List (List (List ℕ))) (start mid : Option (List ℕ)) (whole : Meaning)
     → records ≡ [] → IsUnderWay version number s records start mid whole
-    → IsLeft s (report_meaning s.session.format (seen_at (course_to_be s))) start mid whole
+    → IsLeft s (report_meaning s.session.format (course_to_be s)) start mid whole
 report_left version number s records start mid whole none way =
     let same = ap (left_to_do version number s) none in
     record {
@@ -162,11 +161,11 @@ answers_behind m (Err NoMemory) waiting text old mid new h past a = front_on wai
 -- Use: the edits that wait were answered, and then the report was put.
 pub reported_then : {A : Type 0} (result : Result A RunFault) (a : BatchingSession) (m : Session) (old mid new : Option (List ℕ))
     → HasAnswered a.waiting.items a.session m old mid → IsPastReading result
-    → Answers (text_and_then m.lines (report_meaning m.format (seen_at (course_at m.desk)))) result mid new
-    → Answers (text_and_then (text_to_be a) (report_meaning a.session.format (seen_at (course_to_be a)))) result old new
+    → Answers (text_and_then m.lines (report_meaning m.format (course_at m.desk))) result mid new
+    → Answers (text_and_then (text_to_be a) (report_meaning a.session.format (course_to_be a))) result old new
 reported_then result a m old mid new h past answers =
-    answers_behind (report_meaning a.session.format (seen_at (course_to_be a))) result m.lines (text_to_be a) old mid new h.text past
-    (subst (λ r. Answers (text_and_then m.lines r) result mid new) (ap₂ (λ f c. report_meaning f (seen_at c)) h.format h.course) answers)
+    answers_behind (report_meaning a.session.format (course_to_be a)) result m.lines (text_to_be a) old mid new h.text past
+    (subst (λ r. Answers (text_and_then m.lines r) result mid new) (ap₂ report_meaning h.format h.course) answers)
 
 -- the text so far is a front of the whole
 pub front_under_way : (version : Version) (number : ℕ) (s : BatchingSession) (records : List (List (List ℕ))) (start now : Option (List ℕ)) (whole : Meaning)
@@ -185,38 +184,38 @@ is_none true script fields rest e none_found = cc
 is_none false script fields rest e none_found = e
 
 -- a bad opening
-pub bad_opening : (A : Type 0) (format : Format) (version : Version) (number : ℕ) (records : List (List (List ℕ))) (settings : Option System) (x : Option (List ℕ))
-    → settings ≡ None → Answers {A = A} (settings_meaning format version number records settings) (Err (BadLine number)) x x
-bad_opening A format version number records settings x none = rw none (refl, Appends-nil x)
+pub bad_opening : (A : Type 0) (format : Format) (version : Version) (number : ℕ) (records : List (List (List ℕ))) (opened : Option ScriptCourse) (x : Option (List ℕ))
+    → opened ≡ None → Answers {A = A} (settings_meaning format version number records opened) (Err (BadLine number)) x x
+bad_opening A format version number records opened x none = rw none (refl, Appends-nil x)
 
 -- a good one: the session begins, and says that it is ready
-pub opened_meaning : (format : Format) (version : Version) (number : ℕ) (records : List (List (List ℕ))) (settings : Option System) (system : System) (before after : Session)
-    (old mid : Option (List ℕ)) → settings ≡ Some system → Opened system format before → HasPut (codes "ready" ++ line_end) before after old mid
-    → settings_meaning format version number records settings
+pub opened_meaning : (format : Format) (version : Version) (number : ℕ) (records : List (List (List ℕ))) (opened : Option ScriptCourse) (c : ScriptCourse) (before after : Session)
+    (old mid : Option (List ℕ)) → opened ≡ Some c → Opened c format before → HasPut (codes "ready" ++ line_end) before after old mid
+    → settings_meaning format version number records opened
     ≡ text_and_then (text_if_replies before.format (codes "ready" ++ line_end)) (to_come version (number + 1) after records)
-opened_meaning format version number records settings system before after old mid is opening put =
+opened_meaning format version number records opened c before after old mid is opening put =
     ap (settings_meaning format version number records) is
     ∙ (λ i. text_and_then (text_if_replies (sym opening.format i) (codes "ready" ++ line_end)) (lines_meaning (sym (put.format ∙ opening.format) i) version (number + 1) (sym (ap course_at put.desk ∙ opening.course) i) records))
 
 -- Use: the answer to the lines is the answer to the settings and the lines.
-pub opened_answers : (A : Type 0) (format : Format) (version : Version) (number : ℕ) (records : List (List (List ℕ))) (settings : Option System) (system : System)
-    (before after : Session) (result : Result A RunFault) (old mid new : Option (List ℕ)) → settings ≡ Some system → Opened system format before
+pub opened_answers : (A : Type 0) (format : Format) (version : Version) (number : ℕ) (records : List (List (List ℕ))) (opened : Option ScriptCourse) (c : ScriptCourse)
+    (before after : Session) (result : Result A RunFault) (old mid new : Option (List ℕ)) → opened ≡ Some c → Opened c format before
     → HasPut (codes "ready" ++ line_end) before after old mid → IsPastReading result
     → Answers (text_and_then after.lines (to_come version (number + 1) after records)) result mid new
-    → Answers (settings_meaning format version number records settings) result old new
-opened_answers A format version number records settings system before after result old mid new is opening put past answers =
+    → Answers (settings_meaning format version number records opened) result old new
+opened_answers A format version number records opened c before after result old mid new is opening put past answers =
     let none : before.lines ++ text_if_replies before.format (codes "ready" ++ line_end) ≡ text_if_replies before.format (codes "ready" ++ line_end) =
     ap (λ t. t ++ text_if_replies before.format (codes "ready" ++ line_end)) opening.lines in
-    subst (λ m. Answers m result old new) (sym (opened_meaning format version number records settings system before after old mid is opening put))
+    subst (λ m. Answers m result old new) (sym (opened_meaning format version number records opened c before after old mid is opening put))
     (answers_behind (to_come version (number + 1) after records) result after.lines (text_if_replies before.format (codes "ready" ++ line_end)) old mid new
     (subst (λ t. TookAllBut after.lines old mid t) none put.text) past answers)
 
 -- and where its writing stopped there
-pub opened_stopped : (format : Format) (version : Version) (number : ℕ) (records : List (List (List ℕ))) (settings : Option System) (system : System)
-    (before : Session) (old mid : Option (List ℕ)) → settings ≡ Some system → Opened system format before
+pub opened_stopped : (format : Format) (version : Version) (number : ℕ) (records : List (List (List ℕ))) (opened : Option ScriptCourse) (c : ScriptCourse)
+    (before : Session) (old mid : Option (List ℕ)) → opened ≡ Some c → Opened c format before
     → TookFront old mid (before.lines ++ text_if_replies before.format (codes "ready" ++ line_end))
-    → TookFront old mid (settings_meaning format version number records settings).text
-opened_stopped format version number records settings system before old mid is opening h =
+    → TookFront old mid (settings_meaning format version number records opened).text
+opened_stopped format version number records opened c before old mid is opening h =
     let none : before.lines ++ text_if_replies before.format (codes "ready" ++ line_end) ≡ text_if_replies format (codes "ready" ++ line_end) =
     ap (λ t. t ++ text_if_replies before.format (codes "ready" ++ line_end)) opening.lines ∙ ap (λ f. text_if_replies f (codes "ready" ++ line_end)) opening.format in
     rw is (took-before old mid (text_if_replies format (codes "ready" ++ line_end)) _ (subst (λ t. TookFront old mid t) none h))

@@ -111,7 +111,7 @@ pub course_entered : (caller : ℕ) (command : Command) (before after : Shown) (
 course_entered caller command before after reply h =
     let entries : length after.history ≡ length before.history + 1 = ap length h.entered ∙ length-append before.history _ in
     let state = h.state ∙ ap (state_after before.state command) h.answer in
-    λ i. record { state = state i; entries = entries i }
+    λ i. record { state = state i; entries = entries i; every = h.every i }
 
 -- the one reply of a command
 pub replies_of_one : (s : Session) (command : Command) → has_replies s.format ≡ true
@@ -212,7 +212,7 @@ steps_end count turn s start new whole none way =
     subst (λ t. TookAllBut t start new whole) same way
 
 -- the report at the session's course
-pub report_is : (s : Session) (seen : Seen) (text : List ℕ) → StandsForHistory s.desk.history seen
+pub report_is : (s : Session) (every : ℕ) (seen : Seen) (text : List ℕ) → every ≡ s.desk.every → StandsForHistory s.desk.history seen
     → seen ≡ record { version = length s.desk.history; state = s.desk.state; rows = s.desk.rows; denials = s.desk.denials }
-    → text ≡ report_text s.format seen → text ≡ report_text s.format (seen_at (course_at s.desk))
-report_is s seen text stands shows is = is ∙ ap (report_text s.format) (seen_there s.desk seen stands shows)
+    → text ≡ report_text s.format every seen → text ≡ report_text s.format s.desk.every (seen_at (course_at s.desk))
+report_is s every seen text same stands shows is = is ∙ ap₂ (report_text s.format) same (seen_there s.desk seen stands shows)

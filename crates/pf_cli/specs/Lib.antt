@@ -2,8 +2,6 @@ pub use Rattle.pf_stream.specs.Counted
 pub use Rattle.pf_stream.specs.Failing
 pub use Rattle.pf_stream.specs.Written
 pub use Rattle.pf_stream.specs.Reading
-pub use Rattle.pf_words.specs.Asked
-pub use Rattle.pf_words.specs.CommandLine
 pub use Rattle.pf_words.specs.Formats
 pub use Rattle.pf_script.specs.Fields
 pub use Rattle.pf_script.specs.Grammar
@@ -19,4 +17,3 @@ pub mod Laws
 pub mod Meaning
 pub mod Replies
 pub mod Session
-pub mod Status

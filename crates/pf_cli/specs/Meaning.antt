@@ -1,5 +1,5 @@
 -- What a script means: a text and an end.
-use Rattle.std.specs.Prelude.{ℕ, ◌+◌, ◌^◌, Bool, ◌&&◌, nat_le, nat_lt, if◌then◌else◌, Option, None, Some, List, [], ◌∷◌, ◌++◌, codes, length, replicate}
+use Rattle.std.specs.Prelude.{ℕ, ◌+◌, ◌^◌, Bool, ◌&&◌, nat_le, nat_lt, if◌then◌else◌, Option, None, Some, option_map, List, [], ◌∷◌, ◌++◌, codes, length, replicate}
 use Rattle.pf_scenario.specs.System.{System}
 use Rattle.pf_run.specs.RunRows.{rows_in, denials_in}
 use Rattle.pf_timeline.specs.Checkpoints.{largest_distance}
@@ -10,6 +10,7 @@ use Rattle.pf_desk.specs.Desk.{Seen}
 use Rattle.pf_report.specs.Tables.{schedule_text, lags_text, misses_text, denials_text}
 use Rattle.pf_report.specs.Part.{schedule_part_text}
 use Rattle.pf_report.specs.Events.{events_text}
+use Rattle.pf_report.specs.Script.{script_text_of}
 use Rattle.pf_report.specs.Json.{json_text}
 use Rattle.pf_stats.specs.Processors.{processors_text}
 use Rattle.pf_stats.specs.Stats.{stats_text}
@@ -24,7 +25,7 @@ use Rattle.pf_stream.specs.Reading.{longest_script}
 use Rattle.pf_script.specs.Script.{script_records}
 use Rattle.pf_script.specs.Grammar.{horizon_of, is_heading, opening_of, line_of}
 use Rattle.pf_words.specs.declared.format.Format.{Format}
-use Rattle.pf_words.specs.declared.format.Format.TheVariants.{Schedule, Tables, Json, Report, Replies, Lags, Misses, Denials, Events, Processors, Stats, Chart, Svg}
+use Rattle.pf_words.specs.declared.format.Format.TheVariants.{Schedule, Tables, Json, Report, Replies, Lags, Misses, Denials, Events, Script, Processors, Stats, Chart, Svg}
 use Rattle.pf_words.specs.declared.range_fault.RangeFault.{RangeFault}
 use Rattle.pf_words.specs.Formats.{has_replies, range_fault}
 use Rattle.pf_words.specs.Ranges.{end_of, first_of}
@@ -50,13 +51,23 @@ text_and_then text m = record { text = text ++ m.text; end = m.end }
 abbrev pub bad_record : ℕ → Meaning
 bad_record number = record { text = []; end = BadRecord number }
 
--- how far a script is: the state of the desk machine, and how many commands it has answered
+-- how far a script is: the state of the desk machine, how many commands it has answered, and how far the checkpoints lie
+-- apart in slots
 pub record ScriptCourse : Type 0 where
   pub state : State
   pub entries : ℕ
+  pub every : ℕ
+
+-- the course of a desk that was opened and has answered no command
+abbrev pub opening_course : ℕ → System → ScriptCourse
+opening_course every settings = record { state = opening_state settings; entries = 0; every = every }
 
 abbrev pub course_after : ScriptCourse → Command → ScriptCourse
-course_after c command = record { state = state_after c.state command (reply_to c.state command); entries = c.entries + 1 }
+course_after c command = record {
+  state = state_after c.state command (reply_to c.state command);
+  entries = c.entries + 1;
+  every = c.every;
+}
 
 abbrev pub course_behind : ScriptCourse → List Command → ScriptCourse
 course_behind c [] = c
@@ -97,21 +108,22 @@ tables_text seen =
     ++ text_under_title (codes "misses") (misses_text seen)
     ++ text_under_title (codes "denials") (denials_text seen)
 
--- what stands behind all replies
-unfoldable pub report_text : Format → Seen → List ℕ
-report_text (Schedule range) seen = schedule_part_text seen (first_of range) (end_of range seen.state.now)
-report_text Tables seen = tables_text seen
-report_text Json seen = json_text seen ++ line_end
-report_text Report seen = json_text seen ++ line_end
-report_text Replies seen = []
-report_text Lags seen = lags_text seen
-report_text Misses seen = misses_text seen
-report_text Denials seen = denials_text seen
-report_text Events seen = events_text seen
-report_text Processors seen = processors_text seen
-report_text Stats seen = stats_text seen
-report_text (Chart range) seen = chart_text_of seen (first_of range) (end_of range seen.state.now)
-report_text (Svg range cell) seen = picture_text_of seen (first_of range) (end_of range seen.state.now) cell
+-- what stands behind all replies, where the checkpoints lie so far apart
+unfoldable pub report_text : Format → ℕ → Seen → List ℕ
+report_text (Schedule range) every seen = schedule_part_text seen (first_of range) (end_of range seen.state.now)
+report_text Tables every seen = tables_text seen
+report_text Json every seen = json_text seen ++ line_end
+report_text Report every seen = json_text seen ++ line_end
+report_text Replies every seen = []
+report_text Lags every seen = lags_text seen
+report_text Misses every seen = misses_text seen
+report_text Denials every seen = denials_text seen
+report_text Events every seen = events_text seen
+report_text Script every seen = script_text_of every seen
+report_text Processors every seen = processors_text seen
+report_text Stats every seen = stats_text seen
+report_text (Chart range) every seen = chart_text_of seen (first_of range) (end_of range seen.state.now)
+report_text (Svg range cell) every seen = picture_text_of seen (first_of range) (end_of range seen.state.now) cell
 
 -- the text, or nothing where there is a fault of the range
 abbrev pub text_unless : Option RangeFault → List ℕ → Meaning
@@ -119,8 +131,8 @@ text_unless None text = record { text = text; end = Done }
 text_unless (Some fault) text = record { text = []; end = Outside fault }
 
 -- the report, where the format can be shown of the slots stepped, and else nothing
-abbrev pub report_meaning : Format → Seen → Meaning
-report_meaning format seen = text_unless (range_fault format seen.state.now) (report_text format seen)
+abbrev pub report_meaning : Format → ScriptCourse → Meaning
+report_meaning format c = text_unless (range_fault format c.state.now) (report_text format c.every (seen_at c))
 
 -- the record is this line, or it is bad
 abbrev pub line_meaning : Format → ℕ → ScriptCourse → (ScriptCourse → Meaning) → Option Line → Meaning
@@ -130,7 +142,7 @@ line_meaning format number c next (Some line) =
 
 -- the records behind the settings, the first of them of this number
 abbrev pub lines_meaning : Format → Version → ℕ → ScriptCourse → List (List (List ℕ)) → Meaning
-lines_meaning format version number c [] = report_meaning format (seen_at c)
+lines_meaning format version number c [] = report_meaning format c
 lines_meaning format version number c (fields ∷ records) =
     line_meaning format number c (λ d. lines_meaning format version (number + 1) d records) (line_of version fields)
 
@@ -145,21 +157,21 @@ system_of version o =
     then Some (record { processors = o.processors; base = o.base; cap = o.cap; horizon = horizon_of version })
     else None
 
-abbrev pub settings_meaning : Format → Version → ℕ → List (List (List ℕ)) → Option System → Meaning
-settings_meaning format version number records None = bad_record number
-settings_meaning format version number records (Some settings) =
-    text_and_then (text_if_replies format (codes "ready" ++ line_end))
-    (lines_meaning format version (number + 1) (record { state = opening_state settings; entries = 0 }) records)
+-- the course that a script begins with, where its settings are within their limits
+abbrev pub course_opened_by : Version → Option Opening → Option ScriptCourse
+course_opened_by version None = None
+course_opened_by version (Some opening) = option_map (opening_course opening.every) (system_of version opening)
 
-abbrev pub system_opened_by : Version → Option Opening → Option System
-system_opened_by version None = None
-system_opened_by version (Some opening) = system_of version opening
+abbrev pub settings_meaning : Format → Version → ℕ → List (List (List ℕ)) → Option ScriptCourse → Meaning
+settings_meaning format version number records None = bad_record number
+settings_meaning format version number records (Some c) =
+    text_and_then (text_if_replies format (codes "ready" ++ line_end)) (lines_meaning format version (number + 1) c records)
 
 -- the records from the one of this number on, which is to be the settings; a script needs one
 abbrev pub opening_meaning : Format → Version → ℕ → List (List (List ℕ)) → Meaning
 opening_meaning format version number [] = bad_record number
 opening_meaning format version number (fields ∷ records) =
-    settings_meaning format version number records (system_opened_by version (opening_of fields))
+    settings_meaning format version number records (course_opened_by version (opening_of fields))
 
 -- a script of version 2 begins with its heading
 abbrev pub records_meaning : Format → List (List (List ℕ)) → Meaning

@@ -1,8 +1,6 @@
 -- A script that is being carried out.
 use Rattle.std.specs.Prelude.{ℕ, nat_lt, Bool, false, ◌≡◌, List, [], ◌++◌, length, Option, None, Some}
-use Rattle.pf_scenario.specs.System.{System}
 use Rattle.pf_desk.specs.declared.command.Command.{Command}
-use Rattle.pf_desk.specs.Machine.{opening_state}
 use Rattle.pf_desk.specs.Desk.{Shown}
 use Rattle.pf_stream.specs.Written.{TookAllBut}
 use Rattle.pf_words.specs.declared.format.Format.{Format}
@@ -11,21 +9,17 @@ use Rattle.pf_cli.specs.Meaning.{ScriptCourse, course_behind, text_if_replies, r
 
 -- how far a desk is
 abbrev pub course_at : Shown → ScriptCourse
-course_at d = record { state = d.state; entries = length d.history }
-
--- the course of a desk that was opened and has answered no command
-abbrev pub opening_course : System → ScriptCourse
-opening_course settings = record { state = opening_state settings; entries = 0 }
+course_at d = record { state = d.state; entries = length d.history; every = d.every }
 
 -- whether there is a slot, and it was stepped
 abbrev pub is_before : ℕ → Option ℕ → Bool
 is_before now None = false
 is_before now (Some slot) = nat_lt slot now
 
--- a session of this format, at the opening of its desk, with no text yet
-pub record Opened (settings : System) (asked : Format) (s : Session) : Type 0 where
+-- a session of this format, whose desk is at this course, with no text yet
+pub record Opened (c : ScriptCourse) (asked : Format) (s : Session) : Type 0 where
   pub format : s.format ≡ asked
-  pub course : course_at s.desk ≡ opening_course settings
+  pub course : course_at s.desk ≡ c
   pub lines : s.lines ≡ []
 
 -- the session put a text, where its format has replies: the writer took the front of what waited and of the text, and the

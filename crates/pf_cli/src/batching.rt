@@ -4,7 +4,7 @@ ghost use Rattle.pf_desk.specs.Plain.{IsPlain};
 ghost use Rattle.pf_stream.specs.Written.{TookFront};
 ghost use Rattle.pf_cli.specs.Answers.{Answers, CountsOutput, CountsWrites, IsPastReading};
 ghost use Rattle.pf_cli.specs.Batching.{HasTaken, IsUnbatched, course_to_be, replies_to_be, text_to_be};
-ghost use Rattle.pf_cli.specs.Meaning.{commands_of, report_meaning, seen_at, text_and_then};
+ghost use Rattle.pf_cli.specs.Meaning.{commands_of, report_meaning, text_and_then};
 
 use crate::fault::RunFault;
 use crate::output_fault::OutputFault;
@@ -130,7 +130,7 @@ impl BatchingSession {
     pub fn report<W: Sink>(self, alloc: Global, writer: &mut W) -> Result<(), RunFault>
         requires plain { All IsPlain self.waiting.items }
         requires writes { W.failed writer.old < 2 ^ 64 - 1 }
-        ensures meaning { Answers (text_and_then (text_to_be self) (report_meaning self.session.format (seen_at (course_to_be self)))) result
+        ensures meaning { Answers (text_and_then (text_to_be self) (report_meaning self.session.format (course_to_be self))) result
             (W.contents writer.old) (W.contents writer.new) }
         ensures read { IsPastReading result }
         ensures writes { CountsWrites result (W.failed writer.old) (W.failed writer.new) }

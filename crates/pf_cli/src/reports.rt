@@ -3,6 +3,7 @@ ghost use Rattle.pf_chart.specs.Chart.{chart_text_of};
 ghost use Rattle.pf_picture.specs.Picture.{picture_text_of};
 ghost use Rattle.pf_report.specs.Json.{json_text};
 ghost use Rattle.pf_report.specs.Part.{schedule_part_text};
+ghost use Rattle.pf_report.specs.Script.{script_text_of};
 ghost use Rattle.pf_stream.specs.Written.{TookAllBut, TookFront};
 ghost use Rattle.pf_words.specs.declared.format.TheConstants.{MOST_SLOTS};
 ghost use Rattle.pf_words.specs.Formats.{range_fault};
@@ -23,6 +24,7 @@ use pf_report::misses::{MissPieces, miss_pieces};
 use pf_report::pieces::{Chain, Pieces, Whole};
 use pf_report::schedule::{SchedulePieces, schedule_pieces};
 use pf_report::schedule_part::{PartPieces, schedule_part_pieces};
+use pf_report::script::script_pieces;
 use pf_stats::processors::processors_csv;
 use pf_stats::stats::stats_csv;
 use pf_stream::sink::Sink;
@@ -32,8 +34,8 @@ use pf_words::format::Format;
 use pf_words::slot_range::SlotRange;
 use std::alloc::{AllocError, Global};
 
-/// Puts what stands behind all replies, piece by piece. The format can be shown of the slots stepped. The writer's count of
-/// failures must be below `u64::MAX` before the call.
+/// Puts what stands behind all replies, piece by piece. The format can be shown of the slots stepped, and `every` is the
+/// distance of checkpoints in slots. The writer's count of failures must be below `u64::MAX` before the call.
 ///
 /// # Errors
 ///
@@ -42,6 +44,7 @@ use std::alloc::{AllocError, Global};
 pub fn put_report<W: Sink>(
     alloc: Global,
     snapshot: &Snapshot,
+    every: u64,
     format: Format,
     text: &mut TextBuffer,
     writer: &mut W,
@@ -49,9 +52,9 @@ pub fn put_report<W: Sink>(
     requires showable { range_fault format snapshot.now.state.now ≡ None }
     requires writes { W.failed writer.old < 2 ^ 64 - 1 }
     ensures ok { OnOk result
-        (TookAllBut text.new (W.contents writer.old) (W.contents writer.new) (text.old ++ report_text format snapshot.now)) }
+        (TookAllBut text.new (W.contents writer.old) (W.contents writer.new) (text.old ++ report_text format every snapshot.now)) }
     ensures err { OnErr result
-        (TookFront (W.contents writer.old) (W.contents writer.new) (text.old ++ report_text format snapshot.now)) }
+        (TookFront (W.contents writer.old) (W.contents writer.new) (text.old ++ report_text format every snapshot.now)) }
     ensures count { CountsOutput result (W.failed writer.old) (W.failed writer.new) }
 {
     match format {
@@ -71,6 +74,7 @@ pub fn put_report<W: Sink>(
             text,
             writer,
         ),
+        Format::Script => put_pieces(alloc, script_pieces(alloc, snapshot, every)?, text, writer),
         Format::Processors => put_pieces(
             alloc,
             Whole::new(processors_csv(alloc, snapshot)?),

@@ -5,7 +5,7 @@ ghost use Rattle.pf_stream.specs.Reading.{longest_script, TakesAtMost};
 ghost use Rattle.pf_script.specs.Grammar.{opening_of};
 ghost use Rattle.pf_cli.specs.declared.fault.RunFault.TheVariants.{ReadFault};
 ghost use Rattle.pf_cli.specs.Answers.{Answers, CountsReads, CountsWrites, IsOutside, IsPastReading};
-ghost use Rattle.pf_cli.specs.Meaning.{script_meaning, settings_meaning, lines_meaning, text_and_then, system_opened_by, system_of};
+ghost use Rattle.pf_cli.specs.Meaning.{script_meaning, settings_meaning, lines_meaning, text_and_then, course_opened_by, system_of};
 ghost use Rattle.pf_cli.specs.Session.{course_at};
 
 use crate::batching::BatchingSession;
@@ -96,7 +96,7 @@ fn carry_out_from<W: Sink>(
 ) -> Result<(), RunFault>
     requires counted { number + length script < 2 ^ 64 - 1 }
     requires writes { W.failed writer.old < 2 ^ 64 - 1 }
-    ensures meaning { Answers (settings_meaning format version number script.entry (system_opened_by version (opening_of (fields_of row)))) result
+    ensures meaning { Answers (settings_meaning format version number script.entry (course_opened_by version (opening_of (fields_of row)))) result
         (W.contents writer.old) (W.contents writer.new) }
     ensures read { IsPastReading result }
     ensures writes { CountsWrites result (W.failed writer.old) (W.failed writer.new) }

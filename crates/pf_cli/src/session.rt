@@ -7,7 +7,7 @@ ghost use Rattle.pf_timeline.specs.Checkpoints.{largest_distance};
 ghost use Rattle.pf_stream.specs.Written.{TookAllBut, TookFront};
 ghost use Rattle.pf_words.specs.Formats.{range_fault};
 ghost use Rattle.pf_cli.specs.Answers.{Answers, CountsOutput, CountsWrites, IsPastReading};
-ghost use Rattle.pf_cli.specs.Meaning.{text_and_then, text_if_replies, commands_of, seen_at, report_meaning, report_text};
+ghost use Rattle.pf_cli.specs.Meaning.{text_and_then, text_if_replies, commands_of, opening_course, seen_at, report_meaning, report_text};
 ghost use Rattle.pf_cli.specs.Replies.{line_end};
 ghost use Rattle.pf_cli.specs.Session.{Opened, HasPut, HasAnswered, course_at, is_before, replies_of};
 
@@ -52,7 +52,7 @@ impl Session {
     ) -> Result<Self, AllocError>
         requires some { 1 ≤ every }
         requires within { every ≤ largest_distance }
-        ensures { IfOk result (λ session. Opened settings format session) }
+        ensures { IfOk result (λ session. Opened (opening_course every settings) format session) }
     {
         let desk = match Desk::open(alloc, settings, every) {
             Ok(desk) => desk,
@@ -183,7 +183,7 @@ impl Session {
     /// the writer has a front of the text.
     pub fn report<W: Sink>(self, alloc: Global, writer: &mut W) -> Result<(), RunFault>
         requires { W.failed writer.old < 2 ^ 64 - 1 }
-        ensures meaning { Answers (text_and_then self.lines (report_meaning self.format (seen_at (course_at self.desk)))) result
+        ensures meaning { Answers (text_and_then self.lines (report_meaning self.format (course_at self.desk))) result
             (W.contents writer.old) (W.contents writer.new) }
         ensures read { IsPastReading result }
         ensures writes { CountsWrites result (W.failed writer.old) (W.failed writer.new) }
@@ -201,14 +201,15 @@ impl Session {
         requires showable { range_fault self.format self.desk.state.now ≡ None }
         requires writes { W.failed writer.old < 2 ^ 64 - 1 }
         ensures ok { OnOk result
-            (Appends (W.contents writer.old) (W.contents writer.new) (self.lines ++ report_text self.format (seen_at (course_at self.desk)))) }
+            (Appends (W.contents writer.old) (W.contents writer.new) (self.lines ++ report_text self.format self.desk.every (seen_at (course_at self.desk)))) }
         ensures err { OnErr result
-            (TookFront (W.contents writer.old) (W.contents writer.new) (self.lines ++ report_text self.format (seen_at (course_at self.desk)))) }
+            (TookFront (W.contents writer.old) (W.contents writer.new) (self.lines ++ report_text self.format self.desk.every (seen_at (course_at self.desk)))) }
         ensures count { CountsOutput result (W.failed writer.old) (W.failed writer.new) }
     {
         let snapshot = self.desk.snapshot()?;
+        let every = self.desk.distance();
         let mut lines = self.lines;
-        put_report(alloc, &snapshot, self.format, &mut lines, writer)?;
+        put_report(alloc, &snapshot, every, self.format, &mut lines, writer)?;
         lines.finish(writer)?;
         Ok(())
     }

@@ -123,20 +123,20 @@ module _ (every : ℕ) (seen : Seen) (can : CanBeWritten every seen) where
   of_version true is = sym (grind (arith, nat_tests, is))
   of_version false is = ⊎_elim (λ near. absurd (grind (arith, nat_tests, is, near))) (λ wide. sym wide) can.scenario.settings.horizon
 
-  horizon_is : horizon_of (version_of settings) ≡ settings.horizon
+  pub horizon_is : horizon_of (version_of settings) ≡ settings.horizon
   horizon_is = of_version (settings.horizon == near_horizon) refl
 
-  least_horizon : settings.horizon ≤ 2 ^ 22
+  pub least_horizon : settings.horizon ≤ 2 ^ 22
   least_horizon = ⊎_elim (λ near. omega (arith, near)) (λ wide. omega (arith, wide)) can.scenario.settings.horizon
 
-  short : All (λ x. AreShort x.event) seen.state.plan.events
+  pub short : All (λ x. AreShort x.event) seen.state.plan.events
   short = λ k d within. short_from settings (get_or seen.state.plan.events k d).event limits least_horizon (can.scenario.limits k d within)
 
   allowed_in : (b : Bool) → (settings.horizon == near_horizon) ≡ b → All (λ x. IsAllowed (if b then First else Second) x.event) seen.state.plan.events
   allowed_in true is = can.limits (grind (arith, nat_tests, is))
   allowed_in false is = λ k d within. tt
 
-  lines_again : map (line_of (version_of settings)) (insert_records seen.state.plan.events ++ step_records seen.state.now)
+  pub lines_again : map (line_of (version_of settings)) (insert_records seen.state.plan.events ++ step_records seen.state.now)
       ≡ map (λ line. Some line) (insert_lines seen.state.plan.events ++ step_lines seen.state.now)
   lines_again =
       let version = version_of settings in

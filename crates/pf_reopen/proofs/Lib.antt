@@ -1,4 +1,14 @@
 pub mod Numbers
 pub mod Lines
 pub mod Again
+pub mod Asked
+pub mod Lengths
 pub mod Taken
+pub mod Maps
+pub mod Renumbering
+pub mod Rows
+pub mod Tallied
+pub mod Anew
+pub mod Whole
+pub mod Examples
+pub mod Desks

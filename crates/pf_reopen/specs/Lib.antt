@@ -1,2 +1,6 @@
 pub mod Reopen
 pub mod Taken
+pub mod Renumbered
+pub mod Whole
+pub mod Examples
+pub mod Asked

@@ -3,15 +3,16 @@ use Rattle.std.proofs.Common.{◌≡◌, ◌⊎◌, ◌∙◌, refl, sym, ap, su
 use Rattle.std.specs.Prelude.{◌↔◌}
 use Rattle.std.specs.Bool.{Decides}
 use Rattle.std.specs.Result.{result_ok}
+use Rattle.std.specs.Str.{bytes_eq}
 use Rattle.std.proofs.lemmas.Slice.Eq.{bytes_eq-Decides}
 use Rattle.clap.specs.Words.{IsAmong, Row, Text, fault_of, first_of, is_simple, is_simple_and_free, subcommand_of}
 use Rattle.clap.specs.declared.error.kind.ErrorKind.{ErrorKind}
 use Rattle.clap.specs.declared.error.kind.ErrorKind.TheVariants.{OutOfMemory}
 use Rattle.pf_words.specs.declared.request.Request.{Request}
-use Rattle.pf_words.specs.declared.request.Request.TheVariants.{Run, Check, Drill, Show}
+use Rattle.pf_words.specs.declared.request.Request.TheVariants.{Run, Check, Diff, Drill, Show}
 use Rattle.pf_words.specs.declared.request.WordsFault.{WordsFault}
 use Rattle.pf_words.specs.declared.request.WordsFault.TheVariants.{Refused, Mistaken, NoMemory}
-use Rattle.pf_words.specs.CommandLine.{file_behind, is_named, kinds_of, program, text_behind_run}
+use Rattle.pf_words.specs.CommandLine.{file_behind, is_named, kinds_of, program, text_behind}
 use Rattle.pf_words.specs.Asked.{IsAsked, IsRequest, IsShown, ShowsError, file_asked, file_found, task_asked, task_of}
 
 -- one function after another over what may be there
@@ -19,14 +20,15 @@ pub option_map-option_map : {X Y Z : Type 0} (f : Y → Z) (g : X → Y) (o : Op
 option_map-option_map f g None = refl
 option_map-option_map f g (Some x) = refl
 
--- where the subcommand is `run`, the text is that of its rows
-pub behind_run : (option : Text) (found : Option (Text × List Row)) (rows : List Row) → option_map (λ p. p.0) found ≡ Some (codes "run")
-    → option_map (λ p. p.1) found ≡ Some rows → first_of option rows ≡ text_behind_run option found
-behind_run option None rows name here = cc
-behind_run option (Some p) rows name here =
-    let is_run : p.0 ≡ codes "run" = cc in
+-- where the subcommand has this name, the text is that of its rows
+pub behind_named : (name option : Text) (found : Option (Text × List Row)) (rows : List Row) → option_map (λ p. p.0) found ≡ Some name
+    → option_map (λ p. p.1) found ≡ Some rows → first_of option rows ≡ text_behind name option found
+behind_named name option None rows named here = cc
+behind_named name option (Some p) rows named here =
+    let is_name : p.0 ≡ name = cc in
+    let same : bytes_eq p.0 name ≡ true = (bytes_eq-Decides p.0 name).1 is_name in
     let is_rows : p.1 ≡ rows = cc in
-    rw (is_run, is_rows) refl
+    rw (same, is_rows) refl
 
 -- the text of FILE is that of the subcommand's rows
 pub behind_any : (found : Option (Text × List Row)) (rows : List Row) → option_map (λ p. p.1) found ≡ Some rows
@@ -62,6 +64,7 @@ pub taken_words : (words : List Text) (found : Option (Text × List Row)) (answe
     → found ≡ subcommand_of program words → IsRequest found answer → IsAsked words answer
 taken_words words found (Ok (Run format file)) taken is asks = (taken_task words found taken is ∙ ap result_ok asks.0, asks.1 ∙ taken_file words found taken is)
 taken_words words found (Ok (Check file)) taken is asks = (taken_task words found taken is ∙ ap result_ok asks.0, asks.1 ∙ taken_file words found taken is)
+taken_words words found (Ok (Diff since file)) taken is asks = (taken_task words found taken is ∙ ap result_ok asks.0, asks.1 ∙ taken_file words found taken is)
 taken_words words found (Ok Drill) taken is asks = (taken_task words found taken is ∙ ap result_ok asks.0, sym (taken_file words found taken is) ∙ asks.1)
 taken_words words found (Ok (Show text)) taken is asks = absurd asks
 taken_words words found (Err (Refused text)) taken is asks = absurd asks
@@ -94,6 +97,7 @@ pub untaken_words : (words : List Text) (kind : ErrorKind) (answer : Result Requ
     → (kind ≡ OutOfMemory) ⊎ IsAmong kind (kinds_of words) → ShowsError kind answer → IsAsked words answer
 untaken_words words kind (Ok (Run format file)) among shows = absurd shows
 untaken_words words kind (Ok (Check file)) among shows = absurd shows
+untaken_words words kind (Ok (Diff since file)) among shows = absurd shows
 untaken_words words kind (Ok Drill) among shows = absurd shows
 untaken_words words kind (Ok (Show text)) among shows = elim among [
   | inl memory ↦ absurd (not_shown kind memory shows)

@@ -5,11 +5,11 @@ use Rattle.clap.specs.declared.error.kind.ErrorKind.TheVariants as kind
 use Rattle.pf_words.specs.CommandLine.{kinds_of}
 use Rattle.pf_words.specs.Asked.{IsShown, task_asked, file_asked}
 use Rattle.pf_script.specs.Fields.{number_of}
-use Rattle.pf_words.specs.Examples.{Runs, Ranged, Pictured, Files, Drilled, Showable, WorkedWords}
+use Rattle.pf_words.specs.Examples.{Runs, Ranged, Pictured, Files, Drilled, Differences, Showable, WorkedWords}
 
 runs : Runs
 unfolding clap_on_literals kinds_of task_asked
-runs = record { none = refl; run = refl; tables = refl; json = refl; schedule = refl; lags = refl; of_file = refl }
+runs = record { none = refl; run = refl; tables = refl; json = refl; schedule = refl; lags = refl; script = refl; of_file = refl }
 
 ranged : Ranged
 unfolding clap_on_literals kinds_of task_asked number_of
@@ -50,6 +50,20 @@ drilled = record {
   help = inl refl;
 }
 
+differences : Differences
+unfolding clap_on_literals kinds_of task_asked file_asked number_of
+differences = record {
+  last = refl;
+  since = refl;
+  of_file = refl;
+  dash = refl;
+  no_number = (refl, refl);
+  no_record = (refl, refl);
+  in_format = (kind.UnknownArgument, unknown_is_not_shown, inl refl);
+  of_a_run = (kind.UnknownArgument, unknown_is_not_shown, inl refl);
+  help = inl refl;
+}
+
 pub worked_words : WorkedWords
 unfolding clap_on_literals kinds_of task_asked
 worked_words = record {
@@ -58,6 +72,7 @@ worked_words = record {
   pictured = pictured;
   files = files;
   drilled = drilled;
+  differences = differences;
   showable = showable;
   check = refl;
   unknown = (refl, refl);

@@ -1,5 +1,5 @@
 -- What the words ask for.
-use Rattle.std.specs.Prelude.{◌≡◌, ◌≢◌, ◌⊎◌, ℕ, if◌then◌else◌, List, [], Option, Some, None, option_map, Result, Ok, Err, codes, String, string_bytes}
+use Rattle.std.specs.Prelude.{◌≡◌, ◌≢◌, ◌⊎◌, ◌==◌, ℕ, if◌then◌else◌, List, [], Option, Some, None, option_map, Result, Ok, Err, codes, String, string_bytes}
 use Rattle.std.specs.Result.{result_ok}
 use Rattle.std.specs.Str.{bytes_eq}
 use Rattle.std.specs.declared.alloc.Global.{Global}
@@ -10,15 +10,15 @@ use Rattle.clap.specs.declared.error.kind.ErrorKind.TheVariants.{DisplayHelp, Di
 use Rattle.pf_words.specs.declared.format.Format.{Format}
 use Rattle.pf_words.specs.declared.format.Format.TheVariants.{Tables}
 use Rattle.pf_words.specs.declared.request.Request.{Request}
-use Rattle.pf_words.specs.declared.request.Request.TheVariants.{Run, Check, Drill, Show}
+use Rattle.pf_words.specs.declared.request.Request.TheVariants.{Run, Check, Diff, Drill, Show}
 use Rattle.pf_words.specs.declared.request.WordsFault.{WordsFault}
 use Rattle.pf_words.specs.declared.request.WordsFault.TheVariants.{Refused, Mistaken, NoMemory}
 use Rattle.pf_words.specs.declared.mistake.Mistake.{Mistake}
-use Rattle.pf_words.specs.declared.mistake.Mistake.TheVariants.{UnknownFormat, BadNumber, NoRange, BadCell, NoCell}
+use Rattle.pf_words.specs.declared.mistake.Mistake.TheVariants.{UnknownFormat, BadNumber, NoRange, BadCell, NoCell, BadSince}
 use Rattle.pf_words.specs.declared.slot_range.SlotRange.{SlotRange}
 use Rattle.pf_words.specs.Cells.{cell_of}
 use Rattle.pf_words.specs.Formats.{format_named, format_with_cell, format_within}
-use Rattle.pf_words.specs.CommandLine.{file_behind, is_check, is_drill, kinds_of, program, text_behind_run}
+use Rattle.pf_words.specs.CommandLine.{file_behind, is_check, is_diff, is_drill, kinds_of, program, text_behind, text_behind_run}
 use Rattle.pf_script.specs.Fields.{number_of}
 
 -- without a name the format is `tables`
@@ -90,10 +90,22 @@ format_in_cells (Ok format) (Ok (Some cell)) = format_of_width (format_with_cell
 abbrev pub format_of : Option (Text × List Row) → Result Format Mistake
 format_of found = format_in_cells (format_found found) (cell_given (text_behind_run (codes "cell") found))
 
--- what the program can be asked to do with a script: to run it in a format, to check it, or to drill it
+-- the record that a number names: they are counted from 1
+abbrev pub since_read : Option ℕ → Result (Option ℕ) Mistake
+since_read None = Err BadSince
+since_read (Some number) = if number == 0 then Err BadSince else Ok (Some number)
+
+-- the record that is the text of an option, and none where the option is left out
+abbrev pub since_given : Option Text → Result (Option ℕ) Mistake
+since_given None = Ok None
+since_given (Some text) = since_read (number_of text)
+
+-- what the program can be asked to do with a script: to run it in a format, to check it, to tell what its records from one
+-- on changed, or the last one where none is given, or to drill it
 pub data Task : Type 0 where
   RunsIn : Format → Task
   Checks : Task
+  Diffs : Option ℕ → Task
   Drills : Task
 
 -- to run it in that format
@@ -101,12 +113,19 @@ abbrev pub run_given : Result Format Mistake → Result Task Mistake
 run_given (Err mistake) = Err mistake
 run_given (Ok format) = Ok (RunsIn format)
 
+-- to tell what the records from that one on changed
+abbrev pub diff_given : Result (Option ℕ) Mistake → Result Task Mistake
+diff_given (Err mistake) = Err mistake
+diff_given (Ok since) = Ok (Diffs since)
+
 -- what a subcommand asks for, and none: the format is a name of one, the ends of the range are numbers, the format has
--- that range, and the width is one that a slot of the format may have, or the words are mistaken
+-- that range, and the width is one that a slot of the format may have, and the number of a record is one, or the words are
+-- mistaken
 abbrev pub task_of : Option (Text × List Row) → Result Task Mistake
 task_of found =
     if is_drill found then Ok Drills
     else if is_check found then Ok Checks
+    else if is_diff found then diff_given (since_given (text_behind (codes "diff") (codes "since") found))
     else run_given (format_of found)
 
 -- what the words ask for: nothing where the grammar does not take them, and where they are mistaken
@@ -154,6 +173,7 @@ AreMistaken words mistake = (kinds_of words ≡ []) × (task_of (subcommand_of p
 abbrev pub IsAsked : List Text → Result Request WordsFault → Type 0
 IsAsked words (Ok (Run format file)) = (task_asked words ≡ Some (RunsIn format)) × (name_of file ≡ file_asked words)
 IsAsked words (Ok (Check file)) = (task_asked words ≡ Some Checks) × (name_of file ≡ file_asked words)
+IsAsked words (Ok (Diff since file)) = (task_asked words ≡ Some (Diffs since)) × (name_of file ≡ file_asked words)
 IsAsked words (Ok Drill) = (task_asked words ≡ Some Drills) × (file_asked words ≡ None)
 IsAsked words (Ok (Show text)) = AsksHelp words ⊎ AsksVersion words
 IsAsked words (Err (Refused text)) = IsRefused words
@@ -164,6 +184,7 @@ IsAsked words (Err NoMemory) = Unit {0}
 abbrev pub IsRequest : Option (Text × List Row) → Result Request WordsFault → Type 0
 IsRequest found (Ok (Run format file)) = (task_of found ≡ Ok (RunsIn format)) × (name_of file ≡ file_found found)
 IsRequest found (Ok (Check file)) = (task_of found ≡ Ok Checks) × (name_of file ≡ file_found found)
+IsRequest found (Ok (Diff since file)) = (task_of found ≡ Ok (Diffs since)) × (name_of file ≡ file_found found)
 IsRequest found (Ok Drill) = (task_of found ≡ Ok Drills) × (file_found found ≡ None)
 IsRequest found (Ok (Show text)) = ⊥
 IsRequest found (Err (Refused text)) = ⊥
@@ -174,6 +195,7 @@ IsRequest found (Err NoMemory) = Unit {0}
 abbrev pub ShowsError : ErrorKind → Result Request WordsFault → Type 0
 ShowsError kind (Ok (Run format file)) = ⊥
 ShowsError kind (Ok (Check file)) = ⊥
+ShowsError kind (Ok (Diff since file)) = ⊥
 ShowsError kind (Ok Drill) = ⊥
 ShowsError kind (Ok (Show text)) = IsShown kind
 ShowsError kind (Err (Refused text)) = (kind ≢ OutOfMemory) × ¬ IsShown kind

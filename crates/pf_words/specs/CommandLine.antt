@@ -38,6 +38,14 @@ run_command =
 abbrev pub check_command : App
 check_command = with_rule (new_app (codes "check")) file_argument
 
+-- the option `--since`, with one text
+abbrev pub since_option : Rule
+since_option = record (new_rule (codes "since")) { long = Some (codes "since"); value_names = 1; action = Some Set }
+
+-- `diff`, which may have this option and FILE
+abbrev pub diff_command : App
+diff_command = with_rule (with_rule (new_app (codes "diff")) since_option) file_argument
+
 -- `drill`, which takes nothing
 abbrev pub drill_command : App
 drill_command = new_app (codes "drill")
@@ -46,19 +54,23 @@ drill_command = new_app (codes "drill")
 abbrev pub as_program : App → App
 as_program = on_top (λ s. record s { no_binary_name = true; has_version = true })
 
--- `pfair`, with the subcommands `run`, `check` and `drill`
+-- `pfair`, with the subcommands `run`, `check`, `diff` and `drill`
 abbrev pub program : App
 program =
-    with_subcommand (with_subcommand (with_subcommand (as_program (new_app (codes "pfair"))) run_command.top) check_command.top) drill_command.top
+    with_subcommand (with_subcommand (with_subcommand (with_subcommand (as_program (new_app (codes "pfair"))) run_command.top) check_command.top) diff_command.top) drill_command.top
 
 -- the kinds of error by which the grammar does not take the words; it takes them where there is none
 unfoldable pub kinds_of : List Text → Kinds
 kinds_of words = fault_of program words
 
--- the text of an option behind `run`, in what clap found of a subcommand
+-- the text of an option behind the subcommand of a name, in what clap found of a subcommand
+abbrev pub text_behind : Text → Text → Option (Text × List Row) → Option Text
+text_behind name option None = None
+text_behind name option (Some found) = if bytes_eq found.0 name then first_of option found.1 else None
+
+-- the text of an option behind `run`
 abbrev pub text_behind_run : Text → Option (Text × List Row) → Option Text
-text_behind_run option None = None
-text_behind_run option (Some found) = if bytes_eq found.0 (codes "run") then first_of option found.1 else None
+text_behind_run option found = text_behind (codes "run") option found
 
 -- the text of FILE, in what clap found of a subcommand
 abbrev pub file_behind : Option (Text × List Row) → Option Text
@@ -73,6 +85,10 @@ is_named name (Some found) = bytes_eq found.0 name
 -- whether the subcommand is `check`
 abbrev pub is_check : Option (Text × List Row) → Bool
 is_check found = is_named (codes "check") found
+
+-- whether the subcommand is `diff`
+abbrev pub is_diff : Option (Text × List Row) → Bool
+is_diff found = is_named (codes "diff") found
 
 -- whether the subcommand is `drill`
 abbrev pub is_drill : Option (Text × List Row) → Bool

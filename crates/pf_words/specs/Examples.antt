@@ -1,12 +1,12 @@
 -- Worked examples of what words ask for.
 use Rattle.std.specs.Prelude.{◌≡◌, ℕ, [], ◌∷◌, Option, Some, None, codes}
-use Rattle.pf_words.specs.declared.format.Format.TheVariants.{Schedule, Tables, Json, Lags, Chart, Svg}
-use Rattle.pf_words.specs.declared.mistake.Mistake.TheVariants.{UnknownFormat, BadNumber, NoRange, BadCell, NoCell}
+use Rattle.pf_words.specs.declared.format.Format.TheVariants.{Schedule, Tables, Json, Lags, Script, Chart, Svg}
+use Rattle.pf_words.specs.declared.mistake.Mistake.TheVariants.{UnknownFormat, BadNumber, NoRange, BadCell, NoCell, BadSince}
 use Rattle.pf_words.specs.declared.slot_range.SlotRange.{SlotRange}
 use Rattle.pf_words.specs.declared.range_fault.RangeFault.TheVariants.{NotWithin, TooLong}
 use Rattle.pf_words.specs.Formats.{range_fault}
 use Rattle.pf_words.specs.Ranges.{whole}
-use Rattle.pf_words.specs.Asked.{RunsIn, Checks, Drills, task_asked, file_asked, AsksHelp, AsksVersion, IsRefused, AreMistaken}
+use Rattle.pf_words.specs.Asked.{RunsIn, Checks, Diffs, Drills, task_asked, file_asked, AsksHelp, AsksVersion, IsRefused, AreMistaken}
 
 -- words that ask for a run
 pub record Runs : Type 0 where
@@ -16,6 +16,7 @@ pub record Runs : Type 0 where
   pub json : task_asked (codes "run" ∷ codes "--format" ∷ codes "json" ∷ []) ≡ Some (RunsIn Json)
   pub schedule : task_asked (codes "run" ∷ codes "--format=schedule" ∷ []) ≡ Some (RunsIn (Schedule whole))
   pub lags : task_asked (codes "run" ∷ codes "-f" ∷ codes "lags" ∷ []) ≡ Some (RunsIn Lags)
+  pub script : task_asked (codes "run" ∷ codes "-fscript" ∷ []) ≡ Some (RunsIn Script)
   pub of_file : task_asked (codes "run" ∷ codes "plan.csv" ∷ []) ≡ Some (RunsIn Tables)
 
 -- words that ask for a range
@@ -60,6 +61,20 @@ pub record Drilled : Type 0 where
   pub in_format : IsRefused (codes "drill" ∷ codes "--format" ∷ codes "json" ∷ [])
   pub help : AsksHelp (codes "drill" ∷ codes "--help" ∷ [])
 
+-- words that ask what a script's last records changed
+pub record Differences : Type 0 where
+  pub last : task_asked (codes "diff" ∷ []) ≡ Some (Diffs None)
+  pub since : task_asked (codes "diff" ∷ codes "--since" ∷ codes "5" ∷ []) ≡ Some (Diffs (Some 5))
+  pub of_file : file_asked (codes "diff" ∷ codes "--since=5" ∷ codes "plan.csv" ∷ []) ≡ Some (codes "plan.csv")
+  pub dash : file_asked (codes "diff" ∷ codes "-" ∷ []) ≡ None
+  -- no number, and the number of no record
+  pub no_number : AreMistaken (codes "diff" ∷ codes "--since" ∷ codes "x" ∷ []) BadSince
+  pub no_record : AreMistaken (codes "diff" ∷ codes "--since=0" ∷ []) BadSince
+  -- an option that `run` alone has, and one that it has not
+  pub in_format : IsRefused (codes "diff" ∷ codes "-f" ∷ codes "lags" ∷ [])
+  pub of_a_run : IsRefused (codes "run" ∷ codes "--since" ∷ codes "5" ∷ [])
+  pub help : AsksHelp (codes "diff" ∷ codes "--help" ∷ [])
+
 -- what can be shown of so many slots
 pub record Showable : Type 0 where
   pub most : range_fault (Svg whole 20) 4096 ≡ None
@@ -75,6 +90,7 @@ pub record WorkedWords : Type 0 where
   pub pictured : Pictured
   pub files : Files
   pub drilled : Drilled
+  pub differences : Differences
   pub showable : Showable
   pub check : task_asked (codes "check" ∷ []) ≡ Some Checks
   -- a name of no format

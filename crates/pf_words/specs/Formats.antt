@@ -2,7 +2,7 @@
 use Rattle.std.specs.Prelude.{ℕ, Bool, true, false, not, nat_lt, if◌then◌else◌, List, Option, Some, None, codes}
 use Rattle.std.specs.Str.{bytes_eq}
 use Rattle.pf_words.specs.declared.format.Format.{Format}
-use Rattle.pf_words.specs.declared.format.Format.TheVariants.{Schedule, Tables, Json, Report, Replies, Lags, Misses, Denials, Events, Processors, Stats, Chart, Svg}
+use Rattle.pf_words.specs.declared.format.Format.TheVariants.{Schedule, Tables, Json, Report, Replies, Lags, Misses, Denials, Events, Script, Processors, Stats, Chart, Svg}
 use Rattle.pf_words.specs.declared.format.TheConstants.{MOST_SLOTS}
 use Rattle.pf_words.specs.declared.range_fault.RangeFault.{RangeFault}
 use Rattle.pf_words.specs.declared.range_fault.RangeFault.TheVariants.{NotWithin, TooLong}
@@ -22,6 +22,7 @@ format_named name =
     else if bytes_eq name (codes "misses") then Some Misses
     else if bytes_eq name (codes "denials") then Some Denials
     else if bytes_eq name (codes "events") then Some Events
+    else if bytes_eq name (codes "script") then Some Script
     else if bytes_eq name (codes "processors") then Some Processors
     else if bytes_eq name (codes "stats") then Some Stats
     else if bytes_eq name (codes "chart") then Some (Chart whole)

@@ -1,7 +1,7 @@
 ghost use Rattle.std.specs.Prelude.{◌≡◌, IfOk, false, codes};
-ghost use Rattle.clap.specs.Words.{app_of, new_app, with_rule};
+ghost use Rattle.clap.specs.Words.{app_of, new_app, with_rule, with_subcommand};
 ghost use Rattle.clap.specs.declared.builder.command.Command.TheViews.{out-Command};
-ghost use Rattle.pf_words.specs.CommandLine.{program, as_program, cell_option, check_command, drill_command, file_argument, format_option, from_option, run_command, to_option};
+ghost use Rattle.pf_words.specs.CommandLine.{program, as_program, cell_option, check_command, diff_command, drill_command, file_argument, format_option, from_option, run_command, since_option, to_option};
 
 use clap::{Arg, ArgAction, Command};
 use std::alloc::{AllocError, Global};
@@ -46,12 +46,15 @@ Formats:
   misses      the missed windows alone
   denials     the denied events alone
   events      the events held, each with its number
+  script      a script of the desk as it stands: its settings, the events held, the steps
   processors  how many quanta each processor gave, how long it was idle, how often its task changed
   stats       the figures of each task: how often it ran, moved and was put off, how soon, how late, its lag
   chart       a picture in characters: who runs where, each task's windows, its lag, what is late or denied
   svg         the same as SVG, for a browser; --cell W (6 to 40) tells how wide each slot is
 
 `check` tells of each record that the format does not allow, and where and why, and carries nothing out.
+`diff` tells what the records from RECORD on changed, or the last one where --since is left out: the desk before it beside
+the desk at the end, as the tables schedule, lags, misses and denials of what differs. Records are counted from 1.
 `drill` carries out the script of standard input with a thread for each processor, which takes its quanta, and writes the
 schedule and what was taken.
 
@@ -63,11 +66,19 @@ What is wrong is told on standard error.";
 pub(crate) fn program<'a>(alloc: Global) -> Result<Command<'a>, AllocError>
     ensures { IfOk result (λ c. app_of c ≡ program) }
 {
+    let diff = diff_command(alloc)?;
+    let program = program_of_runs(alloc)?.subcommand(diff)?;
+    program.subcommand(drill_command(alloc))
+}
+
+/// The program with `run` and `check` alone.
+fn program_of_runs<'a>(alloc: Global) -> Result<Command<'a>, AllocError>
+    ensures { IfOk result (λ c. app_of c ≡ with_subcommand (with_subcommand (as_program (new_app (codes "pfair"))) run_command.top) check_command.top) }
+{
     let run = run_command(alloc)?;
     let check = check_command(alloc)?;
     let program = bare_program(alloc)?.subcommand(run)?;
-    let program = program.subcommand(check)?;
-    program.subcommand(drill_command(alloc))
+    program.subcommand(check)
 }
 
 /// The program without its subcommands.
@@ -185,6 +196,31 @@ fn check_command<'a>(alloc: Global) -> Result<Command<'a>, AllocError>
         .about("Checks the script: a line for each record that is none, and where and why")
         .after_help(LESSON);
     with_file(alloc, check)
+}
+
+/// `diff`, with the option `--since` and a text, and FILE.
+fn diff_command<'a>(alloc: Global) -> Result<Command<'a>, AllocError>
+    ensures shape { IfOk result (λ c. app_of c ≡ diff_command) }
+    ensures globals { IfOk result (λ c. (out-Command c).has_globals ≡ false) }
+{
+    let diff = bare_diff(alloc)?;
+    with_file(alloc, diff)
+}
+
+/// `diff`, with `--since` and a text alone.
+fn bare_diff<'a>(alloc: Global) -> Result<Command<'a>, AllocError>
+    ensures shape { IfOk result (λ c. app_of c ≡ with_rule (new_app (codes "diff")) since_option) }
+    ensures globals { IfOk result (λ c. (out-Command c).has_globals ≡ false) }
+{
+    let since = Arg::new(alloc, "since")
+        .long("since")
+        .value_name("RECORD")
+        .help("the first record whose changes are told [default: the last one]")
+        .action(ArgAction::Set);
+    Command::new(alloc, "diff")
+        .about("Tells what the script's last records changed")
+        .after_help(LESSON)
+        .arg(since)
 }
 
 /// `drill`, which takes nothing.

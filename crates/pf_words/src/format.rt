@@ -29,6 +29,8 @@ pub enum Format {
     Denials,
     /// The events held, as a table.
     Events,
+    /// A script of the desk as it stands.
+    Script,
     /// How the processors were used, as a table.
     Processors,
     /// The figures of each task, as a table.
@@ -41,8 +43,8 @@ pub enum Format {
 
 impl Format {
     /// The format of this name: `schedule`, `tables`, `json`, `report`, `replies`, `lags`, `misses`, `denials`, `events`,
-    /// `processors`, `stats`, `chart` or `svg`, of all slots and of the usual width. `None` where the text is none of
-    /// these.
+    /// `script`, `processors`, `stats`, `chart` or `svg`, of all slots and of the usual width. `None` where the text is
+    /// none of these.
     pub fn named(name: &str) -> Option<Format>
         ensures { result ≡ format_named name.now }
     {
@@ -56,6 +58,7 @@ impl Format {
             "misses" => Some(Format::Misses),
             "denials" => Some(Format::Denials),
             "events" => Some(Format::Events),
+            "script" => Some(Format::Script),
             "processors" => Some(Format::Processors),
             "stats" => Some(Format::Stats),
             "chart" => Some(Format::Chart(SlotRange::whole())),

@@ -1,6 +1,6 @@
-//! What the program's words ask for: to run the script in a format, to check it, to drill it, or to show help. The words are
-//! read by clap's grammar of one command line. The one contract of this crate: what `read_words` answers is what the words
-//! ask for, for all words; want of memory may come in its place.
+//! What the program's words ask for: to run the script in a format, to check it, to tell what its last records changed, to
+//! drill it, or to show help. The words are read by clap's grammar of one command line. The one contract of this crate: what
+//! `read_words` answers is what the words ask for, for all words; want of memory may come in its place.
 #![tactic(auto)]
 
 pub mod cell;

@@ -18,4 +18,7 @@ pub enum Mistake {
     /// `--cell` stands beside a format other than `svg`.
     #[error("--cell is for the format svg")]
     NoCell,
+    /// The text of `--since` is no number of a record.
+    #[error("--since takes a number of 1 to 15 digits, from 1 on")]
+    BadSince,
 }

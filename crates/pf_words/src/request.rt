@@ -13,6 +13,9 @@ pub enum Request {
     Run(Format, Option<String>),
     /// To check the script of this file, or of standard input.
     Check(Option<String>),
+    /// To tell what the records of the script of this file, or of standard input, changed from this one on, or the last one
+    /// alone. They are counted from 1.
+    Diff(Option<u64>, Option<String>),
     /// To drill the script of standard input.
     Drill,
     /// To show this text: help, or the version.

@@ -1,7 +1,7 @@
 ghost use Rattle.std.specs.Prelude.{◌≡◌, codes, map, option_map, IfOk};
 ghost use Rattle.clap.specs.Words.{kind_of, subcommand_rows_of};
-ghost use Rattle.pf_words.specs.CommandLine.{file_behind, is_named, text_behind_run};
-ghost use Rattle.pf_words.specs.Asked.{IsAsked, IsRequest, ShowsError, cell_given, file_of, format_found, format_of, format_or_tables, name_of, number_given, range_given};
+ghost use Rattle.pf_words.specs.CommandLine.{file_behind, is_named, text_behind, text_behind_run};
+ghost use Rattle.pf_words.specs.Asked.{IsAsked, IsRequest, ShowsError, cell_given, file_of, format_found, format_of, format_or_tables, name_of, number_given, range_given, since_given};
 
 use crate::cell::Cell;
 use crate::command_line::program;
@@ -18,10 +18,11 @@ use std::convert::AsStr;
 /// What the program's words ask for, its own name not among them. No words ask for a run with tables, and so does `run`
 /// alone; `run --format NAME` asks for one in the format of that name, of the slots from `--from` on and below `--to`, in
 /// slots of the width `--cell`, and `check` for a check. A file may stand behind each, for the script to be read from; `-`
-/// is standard input, as no file is. `drill` asks for a drill of standard input. Answers `Refused` where the words are not
-/// the program's, `Mistaken` where the text of `--format` names no format, where that of `--from` or `--to` is no number,
-/// where the format has no range, where the text of `--cell` is no number of 6 to 40, and where the format has no width, the
-/// first of these; and `NoMemory`, in place of any answer, where memory was refused.
+/// is standard input, as no file is. `diff` asks what the records from `--since` on changed. `drill` asks for a drill of
+/// standard input. Answers `Refused` where the words are not the program's, `Mistaken` where the text of `--format` names no
+/// format, where that of `--from` or `--to` is no number, where the format has no range, where the text of `--cell` is no
+/// number of 6 to 40, and where the format has no width, the first of these, and where the text of `--since` is no number
+/// above 0; and `NoMemory`, in place of any answer, where memory was refused.
 pub fn read_words<S: AsStr>(alloc: Global, words: &[S]) -> Result<Request, WordsFault>
     ensures { IsAsked (map S.text words.now) result }
 {
@@ -41,6 +42,9 @@ fn read_matches(alloc: Global, matches: &ArgMatches<'_>) -> Result<Request, Word
     let file = read_file(alloc, matches)?;
     if is_asked(matches, "check") {
         return Ok(Request::Check(file));
+    }
+    if is_asked(matches, "diff") {
+        return Ok(Request::Diff(read_since(matches)?, file));
     }
     let format = read_format(matches)?;
     Ok(Request::Run(format, file))
@@ -71,6 +75,19 @@ fn is_asked(matches: &ArgMatches<'_>, name: &str) -> bool
     ensures { result ≡ is_named name.now (subcommand_rows_of matches.now) }
 {
     matches.subcommand_matches(name).is_some()
+}
+
+/// The record from which on the changes are asked for; none where `--since` is left out.
+fn read_since(matches: &ArgMatches<'_>) -> Result<Option<u64>, Mistake>
+    ensures { result ≡ since_given (text_behind (codes "diff") (codes "since") (subcommand_rows_of matches.now)) }
+{
+    let Some(text) = option_text(matches, "diff", "since") else {
+        return Ok(None);
+    };
+    match parse_number(text.as_bytes()) {
+        Some(0) | None => Err(Mistake::BadSince),
+        Some(number) => Ok(Some(number)),
+    }
 }
 
 /// The format of a run, of the slots and of the width that they ask for.
@@ -104,7 +121,7 @@ fn read_ranged(matches: &ArgMatches<'_>) -> Result<Format, Mistake>
 fn read_name(matches: &ArgMatches<'_>) -> Option<Format>
     ensures { result ≡ format_or_tables (text_behind_run (codes "format") (subcommand_rows_of matches.now)) }
 {
-    match option_text(matches, "format") {
+    match option_text(matches, "run", "format") {
         Some(name) => Format::named(name),
         None => Some(Format::Tables),
     }
@@ -124,7 +141,7 @@ fn read_range(matches: &ArgMatches<'_>) -> Result<SlotRange, Mistake>
 fn read_cell(matches: &ArgMatches<'_>) -> Result<Option<Cell>, Mistake>
     ensures { result ≡ cell_given (text_behind_run (codes "cell") (subcommand_rows_of matches.now)) }
 {
-    let Some(text) = option_text(matches, "cell") else {
+    let Some(text) = option_text(matches, "run", "cell") else {
         return Ok(None);
     };
     let Some(width) = parse_number(text.as_bytes()) else {
@@ -140,7 +157,7 @@ fn read_cell(matches: &ArgMatches<'_>) -> Result<Option<Cell>, Mistake>
 fn read_number(matches: &ArgMatches<'_>, option: &str) -> Result<Option<u64>, Mistake>
     ensures { result ≡ number_given (text_behind_run option.now (subcommand_rows_of matches.now)) }
 {
-    let Some(text) = option_text(matches, option) else {
+    let Some(text) = option_text(matches, "run", option) else {
         return Ok(None);
     };
     match parse_number(text.as_bytes()) {
@@ -149,11 +166,11 @@ fn read_number(matches: &ArgMatches<'_>, option: &str) -> Result<Option<u64>, Mi
     }
 }
 
-/// The text of an option behind `run`.
-fn option_text<'a>(matches: &ArgMatches<'a>, option: &str) -> Option<&'a str>
-    ensures { option_map (λ text. text.now) result ≡ text_behind_run option.now (subcommand_rows_of matches.now) }
+/// The text of an option behind the subcommand of this name.
+fn option_text<'a>(matches: &ArgMatches<'a>, name: &str, option: &str) -> Option<&'a str>
+    ensures { option_map (λ text. text.now) result ≡ text_behind name.now option.now (subcommand_rows_of matches.now) }
 {
-    matches.subcommand_matches("run")?.get_str(option)
+    matches.subcommand_matches(name)?.get_str(option)
 }
 
 /// What words ask for that the grammar does not take: help, the version, or nothing.

@@ -1,9 +1,9 @@
 //! The program `pfair`: hands its words and streams to `main_words`, and exits with the status that this answers.
 #![tactic(auto)]
 
-use pf_cli::program::{main_words, tell_unread};
-use pf_cli::sink::CountedWriter;
-use pf_cli::source::CountedReader;
+use pf_program::program::{main_words, tell_unread};
+use pf_program::sink::CountedWriter;
+use pf_program::source::CountedReader;
 use std::process::ExitCode;
 use std::{env, io};
 

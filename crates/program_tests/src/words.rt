@@ -1,7 +1,7 @@
 use crate::fakes::{OneByOne, Plenty, Reluctant};
-use pf_cli::program::{main_words, tell_unread};
-use pf_cli::sink::CountedWriter;
-use pf_cli::source::CountedReader;
+use pf_program::program::{main_words, tell_unread};
+use pf_program::sink::CountedWriter;
+use pf_program::source::CountedReader;
 use std::alloc::AllocError;
 use std::rt::Files;
 use std::sync::Wait;
@@ -55,8 +55,10 @@ fn is_refused<H: AllocGlobal + Files + Threads + Wait + Sync>(
 
 #[test]
 fn other_words_are_refused(rt: HostRuntime) -> Result<(), AllocError> {
-    let cases: [&[&str]; 10] = [
+    let cases: [&[&str]; 12] = [
         &["drill", "x"],
+        &["diff", "--format", "json"],
+        &["run", "--since", "5"],
         &["drill", "--format", "json"],
         &["plan.csv"],
         &["--format", "json"],
@@ -75,7 +77,7 @@ fn other_words_are_refused(rt: HostRuntime) -> Result<(), AllocError> {
 
 #[test]
 fn a_file_that_is_not_there_cannot_be_read(rt: HostRuntime) -> Result<(), AllocError> {
-    for task in ["run", "check"] {
+    for task in ["run", "check", "diff"] {
         let ending = end_of(&rt, &[task, "no/such/plan.csv"], b"settings,1,1,1,1\n")?;
         assert!(rt; ending.tells(3, b"cannot read the script\n"), "{task}");
     }
@@ -101,6 +103,16 @@ fn another_format_is_unknown(rt: HostRuntime) -> Result<(), AllocError> {
     Ok(())
 }
 
+#[test]
+fn a_number_of_no_record_is_told(rt: HostRuntime) -> Result<(), AllocError> {
+    let told = b"--since takes a number of 1 to 15 digits, from 1 on\n";
+    for number in ["", "x", "0", "000", "+1", "1234567890123456"] {
+        let ending = end_of(&rt, &["diff", "--since", number], b"")?;
+        assert!(rt; ending.tells(2, told), "{number}");
+    }
+    Ok(())
+}
+
 /// Whether these words show a help that has this usage and the example.
 fn shows_help<H: AllocGlobal + Files + Threads + Wait + Sync>(
     rt: &H,
@@ -122,6 +134,8 @@ fn help_is_shown(rt: HostRuntime) -> Result<(), AllocError> {
     assert!(rt; shows_help(&rt, &["help"], usage)?);
     let usage = "Usage: pfair drill\n";
     assert!(rt; shows_help(&rt, &["drill", "--help"], usage)?);
+    let usage = "Usage: pfair diff [OPTIONS] [FILE]\n";
+    assert!(rt; shows_help(&rt, &["diff", "--help"], usage)?);
     let usage = "Usage: pfair run [OPTIONS] [FILE]\n";
     assert!(rt; shows_help(&rt, &["run", "--help"], usage)?);
     assert!(rt; shows_help(&rt, &["help", "run"], usage)?);
@@ -145,10 +159,34 @@ fn a_drill_writes_what_was_taken(rt: HostRuntime) -> Result<(), AllocError> {
 }
 
 #[test]
+fn a_script_is_written_as_it_stands(rt: HostRuntime) -> Result<(), AllocError> {
+    let ending = end_of(&rt, &["run", "-f", "script"], THREE_TASKS)?;
+    assert_eq!(rt; (ending.status, ending.told.len()), (0, 0));
+    assert_eq!(rt; ending.written.as_slice(), THREE_TASKS);
+    Ok(())
+}
+
+// What the steps of these three tasks changed.
+const CHANGED: &[u8] = b"schedule\nslot,processor,before,after\n\
+lags\ntask,before,after\n1,,0\n2,,0\n3,,0\nmisses\ntask,sub,before,after\ndenials\nevent,slot,before,after\n";
+
+#[test]
+fn a_diff_tells_what_was_changed(rt: HostRuntime) -> Result<(), AllocError> {
+    let cases: [&[&str]; 3] = [&["diff"], &["diff", "-"], &["diff", "--since", "2"]];
+    for words in cases {
+        let ending = end_of(&rt, words, THREE_TASKS)?;
+        assert_eq!(rt; (ending.status, ending.told.len()), (0, 0));
+        assert_eq!(rt; ending.written.as_slice(), CHANGED);
+    }
+    Ok(())
+}
+
+#[test]
 fn a_bad_record_is_told(rt: HostRuntime) -> Result<(), AllocError> {
-    let cases: [&[&str]; 6] = [
+    let cases: [&[&str]; 7] = [
         &[],
         &["run"],
+        &["diff"],
         &["drill"],
         &["run", "--format", "schedule"],
         &["run", "--format=tables"],

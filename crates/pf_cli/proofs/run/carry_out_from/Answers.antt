@@ -1,8 +1,8 @@
-use Rattle.std.proofs.Common.{refl, ap, ◌∙◌, sym, subst}
+use Rattle.std.proofs.Common.{option_map, refl, ap, ◌∙◌, sym, subst}
 use Rattle.std.proofs.lemmas.Result.{err_from_is_err_and}
 use Rattle.pf_script.specs.Grammar.{opening_of}
 use Rattle.pf_cli.specs.Answers.{CountsWrites}
-use Rattle.pf_cli.specs.Meaning.{system_opened_by}
+use Rattle.pf_cli.specs.Meaning.{course_opened_by, opening_course}
 use Rattle.pf_cli.proofs.Limits.{every_of}
 use Rattle.pf_cli.proofs.Sessions.{none_written}
 use Rattle.pf_cli.proofs.Scripts.{answers_stopped, bad_opening, counts_stopped, opened_answers, opened_stopped, past_stopped}
@@ -11,12 +11,13 @@ use Rattle.pf_cli.proofs.run.carry_out_from.Goals as goal
 pub returns-in_default-clause-meaning : goal.returns-in_default-clause-meaning
 returns-in_default-clause-meaning g c =
     bad_opening (Unit {0}) c.args.format c.args.version c.args.number c.args.script _ _
-    (ap (system_opened_by c.args.version) (sym (ap opening_of c.new.ensures) ∙ sym c.in_default.ensures))
+    (ap (course_opened_by c.args.version) (sym (ap opening_of c.new.ensures) ∙ sym c.in_default.ensures))
 
 pub returns-in_default-settings-clause-meaning : goal.returns-in_default-settings-clause-meaning
 returns-in_default-settings-clause-meaning g c =
     bad_opening (Unit {0}) c.args.format c.args.version c.args.number c.args.script _ _
-    (ap (system_opened_by c.args.version) (sym (ap opening_of c.new.ensures) ∙ sym c.in-Some.ensures) ∙ sym c.in_default-settings.ensures)
+    (ap (course_opened_by c.args.version) (sym (ap opening_of c.new.ensures) ∙ sym c.in-Some.ensures)
+    ∙ ap (option_map (opening_course c.in-Some.opening.every)) (sym c.in_default-settings.ensures))
 
 pub open-requires-clause-some : goal.open-requires-clause-some
 open-requires-clause-some g c = (every_of c.args.version c.in-Some.opening c.in-Some-settings.settings (sym c.in-Some-settings.ensures)).every_some
@@ -39,9 +40,10 @@ returns-in_err-session-clause-writes g c =
 pub returns-in_err-ready-clause-meaning : goal.returns-in_err-ready-clause-meaning
 returns-in_err-ready-clause-meaning g c =
     let p = err_from_is_err_and c.from_residual-in_err-ready.result c.from_residual-in_err-ready.ensures.1 in
-    let is = ap (system_opened_by c.args.version) (sym (ap opening_of c.new.ensures) ∙ sym c.in-Some.ensures) ∙ sym c.in-Some-settings.ensures in
+    let is = ap (course_opened_by c.args.version) (sym (ap opening_of c.new.ensures) ∙ sym c.in-Some.ensures)
+    ∙ ap (option_map (opening_course c.in-Some.opening.every)) (sym c.in-Some-settings.ensures) in
     rw (p.1, p.2) (answers_stopped (Unit {0}) _ _ _ _
-    (opened_stopped c.args.format c.args.version c.args.number c.args.script _ c.in-Some-settings.settings c.in_ok-session.session _ _ is c.in_ok-session.ensures c.in_err-ready.ensures.err))
+    (opened_stopped c.args.format c.args.version c.args.number c.args.script _ (opening_course c.in-Some.opening.every c.in-Some-settings.settings) c.in_ok-session.session _ _ is c.in_ok-session.ensures c.in_err-ready.ensures.err))
 
 pub returns-in_err-ready-clause-read : goal.returns-in_err-ready-clause-read
 returns-in_err-ready-clause-read g c =
@@ -54,9 +56,10 @@ returns-in_err-ready-clause-writes g c =
 
 pub returns-clause-meaning : goal.returns-clause-meaning
 returns-clause-meaning g c =
-    let is = ap (system_opened_by c.args.version) (sym (ap opening_of c.new.ensures) ∙ sym c.in-Some.ensures) ∙ sym c.in-Some-settings.ensures in
+    let is = ap (course_opened_by c.args.version) (sym (ap opening_of c.new.ensures) ∙ sym c.in-Some.ensures)
+    ∙ ap (option_map (opening_course c.in-Some.opening.every)) (sym c.in-Some-settings.ensures) in
     let e = c.carry_out_lines.ensures in
-    opened_answers (Unit {0}) c.args.format c.args.version c.args.number c.args.script _ c.in-Some-settings.settings c.in_ok-session.session c.ready.new.self
+    opened_answers (Unit {0}) c.args.format c.args.version c.args.number c.args.script _ (opening_course c.in-Some.opening.every c.in-Some-settings.settings) c.in_ok-session.session c.ready.new.self
     c.carry_out_lines.result (g.W.Write.contents c.args.writer.now) (g.W.Write.contents c.ready.new.writer) (g.W.Write.contents c.carry_out_lines.new.writer)
     is c.in_ok-session.ensures c.in_ok-ready.ensures.ok e.read e.meaning
 

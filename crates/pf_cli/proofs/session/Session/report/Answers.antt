@@ -2,7 +2,6 @@ use Rattle.std.proofs.Common.{◌∙◌, sym, ap}
 use Rattle.std.proofs.lemmas.Result.{err_from_is_err_and}
 use Rattle.pf_words.specs.Formats.{range_fault}
 use Rattle.pf_cli.specs.Session.{course_at}
-use Rattle.pf_cli.specs.Meaning.{seen_at}
 use Rattle.pf_cli.proofs.Reporting.{stopped_outside, stopped_showing}
 use Rattle.pf_cli.proofs.Scripts.{counts_stopped, past_stopped}
 use Rattle.pf_cli.proofs.session.Session.report.Goals as goal
@@ -10,7 +9,7 @@ use Rattle.pf_cli.proofs.session.Session.report.Goals as goal
 pub returns-in_err-finish-clause-meaning : goal.returns-in_err-finish-clause-meaning
 returns-in_err-finish-clause-meaning g c =
     let p = err_from_is_err_and c.from_residual.result c.from_residual.ensures.1 in
-    rw (p.1, p.2) (stopped_outside c.args.self.format (seen_at (course_at c.args.self.desk)) c.args.self.lines _ _ _ c.in_err-finish.ensures.err)
+    rw (p.1, p.2) (stopped_outside c.args.self.format (course_at c.args.self.desk) c.args.self.lines _ _ _ c.in_err-finish.ensures.err)
 
 pub returns-in_err-finish-clause-read : goal.returns-in_err-finish-clause-read
 returns-in_err-finish-clause-read g c =
@@ -24,7 +23,7 @@ returns-in_err-finish-clause-writes g c =
 pub returns-in_err-report_within-clause-meaning : goal.returns-in_err-report_within-clause-meaning
 returns-in_err-report_within-clause-meaning g c =
     let p = err_from_is_err_and c.from_residual-in_err-report_within.result c.from_residual-in_err-report_within.ensures.1 in
-    rw (p.1, p.2) (stopped_showing c.args.self.format (seen_at (course_at c.args.self.desk)) c.args.self.lines _ _ _
+    rw (p.1, p.2) (stopped_showing c.args.self.format (course_at c.args.self.desk) c.args.self.lines _ _ _
     (ap (range_fault c.args.self.format) (sym c.now.ensures.value) ∙ sym c.in_default.ensures) c.in_err-report_within.ensures.err)
 
 pub returns-in_err-report_within-clause-read : goal.returns-in_err-report_within-clause-read

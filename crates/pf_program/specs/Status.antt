@@ -1,0 +1,171 @@
+-- The status that the program ends with, and what it did to its streams.
+use Rattle.std.specs.Prelude.{ℕ, ◌≡◌, ◌+◌, List, Option, Some, None, IfSome, IfErr, Result, Ok, Err, ◌==◌, if◌then◌else◌, ◌⊎◌}
+use Rattle.std.specs.Io.KnownBytes.{Appends, Keeps}
+use Rattle.pf_cli.specs.declared.fault.RunFault.{RunFault}
+use Rattle.pf_cli.specs.declared.fault.RunFault.TheVariants.{BadLine, ReadFault, WriteFault, ScriptTooLong, BadRange, NoMemory}
+use Rattle.pf_words.specs.declared.format.Format.{Format}
+use Rattle.pf_words.specs.declared.request.WordsFault.{WordsFault}
+use Rattle.pf_words.specs.declared.request.WordsFault.TheVariants as words
+use Rattle.pf_words.specs.Asked.{Task, RunsIn, Checks, Diffs, Drills, task_asked, file_asked, AsksHelp, AsksVersion, IsRefused, AreMistaken}
+use Rattle.pf_words.specs.declared.mistake.Mistake.{Mistake}
+use Rattle.pf_stream.specs.Written.{TookFront}
+use Rattle.pf_stream.specs.Reading.{longest_script, TakesAtMost}
+use Rattle.pf_drill.specs.declared.fault.DrillFault.{DrillFault}
+use Rattle.pf_drill.specs.declared.fault.DrillFault.TheVariants as drill
+use Rattle.pf_drill.specs.Drilled as drilled
+use Rattle.pf_cli.specs.Answers.{Answers, CountsReads, CountsWrites, IsOutside}
+use Rattle.pf_cli.specs.Checks.{ChecksBytes}
+use Rattle.pf_cli.specs.Meaning.{script_meaning}
+use Rattle.pf_change.specs.Change.{change_meaning}
+use Rattle.pf_change.specs.Made.{IsUnwritten}
+
+-- 0 done, 1 a script that is bad or too long, 2 a range that can't be shown, 3 a stream that failed, 4 no memory
+abbrev pub status_of : {A : Type 0} → Result A RunFault → ℕ
+status_of (Ok done) = 0
+status_of (Err (BadLine number)) = 1
+status_of (Err ScriptTooLong) = 1
+status_of (Err (BadRange fault)) = 2
+status_of (Err ReadFault) = 3
+status_of (Err WriteFault) = 3
+status_of (Err NoMemory) = 4
+
+-- the same of a check, and 1 where it found a fault
+abbrev pub status_of_check : Result ℕ RunFault → ℕ
+status_of_check (Ok faults) = if faults == 0 then 0 else 1
+status_of_check (Err fault) = status_of {A = ℕ} (Err fault)
+
+-- the same of a drill: 4 also where the readers' table has no place, and 5 a gate that stayed shut
+abbrev pub status_of_drill : {A : Type 0} → Result A DrillFault → ℕ
+status_of_drill (Ok done) = 0
+status_of_drill (Err (drill.BadLine number)) = 1
+status_of_drill (Err drill.ScriptTooLong) = 1
+status_of_drill (Err drill.ReadFault) = 3
+status_of_drill (Err drill.WriteFault) = 3
+status_of_drill (Err drill.NoMemory) = 4
+status_of_drill (Err drill.NoViewer) = 4
+status_of_drill (Err drill.Unread) = 4
+status_of_drill (Err drill.GateShut) = 5
+
+-- 2 words that are refused or mistaken, 4 no memory
+abbrev pub status_of_words : WordsFault → ℕ
+status_of_words (words.Refused text) = 2
+status_of_words (words.Mistaken mistake) = 2
+status_of_words words.NoMemory = 4
+
+-- what is seen of the two streams: the bytes that the reader has left and those that the writer holds, where they tell
+-- them, and how often each failed
+pub record Streams : Type 0 where
+  pub input : Option (List ℕ)
+  pub failed_reads : ℕ
+  pub output : Option (List ℕ)
+  pub failed_writes : ℕ
+
+-- the same, of a reader and a writer
+abbrev pub seen_streams : Option (List ℕ) → ℕ → Option (List ℕ) → ℕ → Streams
+seen_streams input failed_reads output failed_writes =
+    record { input = input; failed_reads = failed_reads; output = output; failed_writes = failed_writes }
+
+-- this answer is one to what the script means; the streams failed as it says, a reader that fails and a range that can't be
+-- shown leave the writer as it was, and of a longer input at most a byte more than a script may have is taken
+pub record IsAnswer {A : Type 0} (format : Format) (answer : Result A RunFault) (old new : Streams) : Type 0 where
+  pub meaning : IfSome old.input (λ bytes. Answers (script_meaning format bytes) answer old.output new.output)
+  pub reads : CountsReads answer old.failed_reads new.failed_reads
+  pub writes : CountsWrites answer old.failed_writes new.failed_writes
+  pub unwritten : answer ≡ Err ReadFault → Keeps old.output new.output
+  pub outside : IsOutside answer → Keeps old.output new.output
+  pub taken : TakesAtMost old.input new.input (longest_script + 1)
+
+-- a script was run in this format, and the status is that of the answer
+abbrev pub RunsScript : Format → ℕ → Streams → Streams → Type 0
+RunsScript format status old new =
+    (answer : Result (Unit {0}) RunFault) × (status ≡ status_of answer) × IsAnswer format answer old new
+
+-- this answer is one to a check of the script, and the streams are as behind a run
+pub record IsCheck (answer : Result ℕ RunFault) (old new : Streams) : Type 0 where
+  pub meaning : IfSome old.input (λ bytes. ChecksBytes bytes answer old.output new.output)
+  pub reads : CountsReads answer old.failed_reads new.failed_reads
+  pub writes : CountsWrites answer old.failed_writes new.failed_writes
+  pub unwritten : answer ≡ Err ReadFault → Keeps old.output new.output
+  pub taken : TakesAtMost old.input new.input (longest_script + 1)
+
+-- a script was checked, and the status is that of the answer
+abbrev pub ChecksScript : ℕ → Streams → Streams → Type 0
+ChecksScript status old new =
+    (answer : Result ℕ RunFault) × (status ≡ status_of_check answer) × IsCheck answer old new
+
+-- this answer is one to what the script's records from one on changed, or the last one, and the streams are as behind a run;
+-- after each fault but that of the writer the writer is as it was
+pub record IsDiff (since : Option ℕ) (answer : Result (Unit {0}) RunFault) (old new : Streams) : Type 0 where
+  pub meaning : IfSome old.input (λ bytes. Answers (change_meaning since bytes) answer old.output new.output)
+  pub reads : CountsReads answer old.failed_reads new.failed_reads
+  pub writes : CountsWrites answer old.failed_writes new.failed_writes
+  pub unwritten : IfErr answer (λ fault. IsUnwritten fault → Keeps old.output new.output)
+  pub taken : TakesAtMost old.input new.input (longest_script + 1)
+
+-- what the script's records from one on changed was told, and the status is that of the answer
+abbrev pub DiffsScript : Option ℕ → ℕ → Streams → Streams → Type 0
+DiffsScript since status old new =
+    (answer : Result (Unit {0}) RunFault) × (status ≡ status_of answer) × IsDiff since answer old new
+
+-- this answer is one to the drill of the script, and the streams are as behind a run; after each fault but that of the
+-- writer the writer is as it was
+pub record IsDrilled (answer : Result (Unit {0}) DrillFault) (old new : Streams) : Type 0 where
+  pub meaning : IfSome old.input (λ bytes. drilled.AnswersDrill bytes answer old.output new.output)
+  pub reads : drilled.CountsReads answer old.failed_reads new.failed_reads
+  pub writes : drilled.CountsWrites answer old.failed_writes new.failed_writes
+  pub unwritten : IfErr answer (λ fault. drilled.IsUnwritten fault → Keeps old.output new.output)
+  pub taken : TakesAtMost old.input new.input (longest_script + 1)
+
+-- a script was drilled, and the status is that of the answer
+abbrev pub DrillsScript : ℕ → Streams → Streams → Type 0
+DrillsScript status old new =
+    (answer : Result (Unit {0}) DrillFault) × (status ≡ status_of_drill answer) × IsDrilled answer old new
+
+-- how the program ends where it reads no script: help or the version was asked for, and was written (0) or could not be
+-- (3), the words were refused or are mistaken (2), or memory was refused (4)
+abbrev pub EndsUnread : List (List ℕ) → ℕ → Type 0
+EndsUnread words status =
+    ((AsksHelp words ⊎ AsksVersion words) × ((status ≡ 0) ⊎ (status ≡ 3)))
+    ⊎ ((IsRefused words ⊎ ((mistake : Mistake) × AreMistaken words mistake)) × (status ≡ 2))
+    ⊎ (status ≡ 4)
+
+-- no script was read, and nothing was written but one text that was asked for: the whole of it where the status is 0,
+-- and a front of it where that is 3
+pub record ReadsNothing (words : List (List ℕ)) (status : ℕ) (old new : Streams) : Type 0 where
+  pub ended : EndsUnread words status
+  pub input : new.input ≡ old.input
+  pub reads : new.failed_reads ≡ old.failed_reads
+  pub writes : new.failed_writes ≡ old.failed_writes + (if status == 3 then 1 else 0)
+  pub shown : status ≡ 0 → (text : List ℕ) × Appends old.output new.output text
+  pub cut : status ≡ 3 → (text : List ℕ) × TookFront old.output new.output text
+  pub unwritten : (status ≡ 2) ⊎ (status ≡ 4) → Keeps old.output new.output
+
+-- a script was run in the format, checked, or drilled, or what its records changed was told
+abbrev pub Does : Task → ℕ → Streams → Streams → Type 0
+Does (RunsIn format) status old new = RunsScript format status old new
+Does Checks status old new = ChecksScript status old new
+Does (Diffs since) status old new = DiffsScript since status old new
+Does Drills status old new = DrillsScript status old new
+
+-- something was done with a file in place of the reader, of whose bytes nothing is said; one that can't be opened is a
+-- reader that failed
+abbrev pub WithFile : (Streams → Streams → Type 0) → (old_output : Option (List ℕ)) (old_failed : ℕ) (new_output : Option (List ℕ)) (new_failed : ℕ) → Type 0
+WithFile does old_output old_failed new_output new_failed =
+    (reads : ℕ) × does (seen_streams None 0 old_output old_failed) (seen_streams None reads new_output new_failed)
+
+-- the reader is as before, and the task was done with a file
+pub record DoesWithFile (task : Task) (status : ℕ) (old new : Streams) : Type 0 where
+  pub input : new.input ≡ old.input
+  pub reads : new.failed_reads ≡ old.failed_reads
+  pub does : WithFile (Does task status) old.output old.failed_writes new.output new.failed_writes
+
+-- words that ask for a run in a format have the script run in it, those that ask for a check have it checked, those that
+-- ask for a drill drilled, and those that ask what its records changed have that told: of the script of the file that they
+-- name, and else of the reader's; where they ask for nothing, nothing is read
+abbrev pub AnswersAsked : List (List ℕ) → Option Task → Option (List ℕ) → ℕ → Streams → Streams → Type 0
+AnswersAsked words (Some task) None status old new = Does task status old new
+AnswersAsked words (Some task) (Some file) status old new = DoesWithFile task status old new
+AnswersAsked words None file status old new = ReadsNothing words status old new
+
+abbrev pub AnswersWords : List (List ℕ) → ℕ → Streams → Streams → Type 0
+AnswersWords words status old new = AnswersAsked words (task_asked words) (file_asked words) status old new

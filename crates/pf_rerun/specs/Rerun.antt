@@ -1,0 +1,60 @@
+-- A desk's script, run by the program.
+use Rattle.std.specs.Prelude.{◌≡◌, ℕ, List, ◌++◌, codes, length, map}
+use Rattle.pf_run.specs.RunRows.{AreOfRun}
+use Rattle.pf_desk.specs.Desk.{Seen}
+use Rattle.pf_report.specs.Script.{script_text_of}
+use Rattle.pf_words.specs.declared.format.Format.{Format}
+use Rattle.pf_words.specs.declared.format.Format.TheVariants.{Schedule, Lags, Misses, Script}
+use Rattle.pf_words.specs.declared.slot_range.SlotRange.{SlotRange}
+use Rattle.pf_words.specs.Formats.{range_fault}
+use Rattle.pf_cli.specs.Meaning.{Meaning, opening_course, text_and_then, text_if_replies, text_unless, reply_lines, report_text, script_meaning}
+use Rattle.pf_cli.specs.Replies.{line_end}
+use Rattle.pf_reopen.specs.Reopen.{CanBeWritten}
+use Rattle.pf_reopen.specs.Taken.{renumbered}
+use Rattle.pf_reopen.specs.Renumbered.{denied_under, new_number}
+use Rattle.pf_reopen.specs.Whole.{script_commands}
+use Rattle.pf_reopen.specs.Asked.{IsDistance}
+
+-- what was seen, with the events numbered from 1 on, after as many entries as the script asks for
+abbrev pub seen_again : Seen → Seen
+seen_again seen = record {
+  version = length (script_commands seen.state);
+  state = record { plan = renumbered seen.state.plan; now = seen.state.now };
+  rows = seen.rows;
+  denials = map (denied_under (new_number seen.state.plan.events)) seen.denials;
+}
+
+-- the replies to the settings and to each command of the script, where the format has replies
+abbrev pub replies_again : Format → ℕ → Seen → List ℕ
+replies_again format every seen =
+    text_if_replies format (codes "ready" ++ line_end)
+    ++ text_if_replies format (reply_lines (opening_course every seen.state.plan.settings) (script_commands seen.state))
+
+-- the report of what was seen, where the format can be shown of the slots stepped, and else nothing
+abbrev pub report_of : Format → ℕ → Seen → Meaning
+report_of format every seen = text_unless (range_fault format seen.state.now) (report_text format every seen)
+
+-- a script can be written of the snapshot, and its rows and denials are those of its scenario
+pub record CanBeRerun (every : ℕ) (seen : Seen) : Type 0 where
+  pub written : CanBeWritten every seen
+  pub distance : IsDistance every
+  pub of_run : AreOfRun seen.state.plan seen.state.now seen.rows seen.denials
+
+-- Scripts run again: in any format the script of a snapshot means the replies, and then the report of what was seen.
+abbrev pub ScriptsRunAgain : Type 0
+ScriptsRunAgain =
+    (every : ℕ) (seen : Seen) → CanBeRerun every seen → (format : Format)
+    → script_meaning format (script_text_of every seen) ≡ text_and_then (replies_again format every seen) (report_of format every (seen_again seen))
+
+-- in this format the script means the report of what was seen, byte for byte
+abbrev pub IsWrittenAgain : ℕ → Seen → Format → Type 0
+IsWrittenAgain every seen format = script_meaning format (script_text_of every seen) ≡ report_of format every seen
+
+pub record AreWrittenAgain (every : ℕ) (seen : Seen) : Type 0 where
+  pub schedule : (range : SlotRange) → IsWrittenAgain every seen (Schedule range)
+  pub lags : IsWrittenAgain every seen Lags
+  pub misses : IsWrittenAgain every seen Misses
+  pub script : IsWrittenAgain every seen Script
+
+abbrev pub ScheduleIsWrittenAgain : Type 0
+ScheduleIsWrittenAgain = (every : ℕ) (seen : Seen) → CanBeRerun every seen → AreWrittenAgain every seen

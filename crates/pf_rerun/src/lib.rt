@@ -1,0 +1,4 @@
+//! A desk's script, run by the program.
+#![tactic(auto)]
+
+pub mod laws;
