@@ -1,13 +1,17 @@
 //! Two slots of a scenario, and the second again on a copy.
 
-ghost use Rattle.std.specs.Prelude.{◌≡◌, ◌+◌, ◌^◌, ◌<◌, IfOk, OnOk};
+ghost use Rattle.std.specs.Prelude.{◌≡◌, ◌+◌, ◌^◌, ◌<◌, IfOk, OnOk, OnErr};
+ghost use Rattle.pf_scenario.specs.Scenario.{events_of};
 ghost use Rattle.timeline_tests.specs.Fitting.{FitsSome};
+
+mod growths;
 
 use crate::events::three_tasks;
 use pf_engine::engine::Engine;
 use pf_engine::outcome::Outcome;
 use pf_order::meter::Meter;
 use pf_order::pick::Pick;
+use pf_scenario::event::Numbered;
 use pf_scenario::scenario::Scenario;
 use std::alloc::{AllocError, Global};
 use std::test::Fail;
@@ -18,6 +22,25 @@ fn start(alloc: Global, scenario: &Scenario) -> Result<Engine, AllocError>
     ensures fits { IfOk result (λ e. FitsSome scenario.now e) }
 {
     Engine::new(alloc, scenario.settings())
+}
+
+/// Takes the slot that comes next, of these events.
+fn take_slot(
+    engine: &mut Engine,
+    meter: &mut Meter,
+    scenario: &Scenario,
+    events: &[Numbered],
+) -> Result<Outcome, AllocError>
+    requires below { engine.old.now < 2 ^ 20 }
+    requires fits { FitsSome scenario.now engine.old }
+    requires events { events.now ≡ events_of scenario.now engine.old.now }
+    ensures now { OnOk result (engine.new.now ≡ engine.old.now + 1) }
+    ensures fits { OnOk result (FitsSome scenario.now engine.new) }
+    ensures err { OnErr result (engine.new ≡ engine.old) }
+{
+    // Asked, so that it is known to be a scenario.
+    let _ = scenario.settings();
+    engine.slot(meter, events)
 }
 
 /// Takes the slot that comes next.
@@ -32,7 +55,7 @@ fn next_slot(
     ensures fits { OnOk result (FitsSome scenario.now engine.new) }
 {
     let events = scenario.slot_events(engine.now())?;
-    engine.slot(meter, &events)
+    take_slot(engine, meter, scenario, &events)
 }
 
 #[test]

@@ -52,14 +52,35 @@ pub(crate) fn insert_all(scenario: &mut Scenario, events: &[Event]) -> Result<()
     Ok(())
 }
 
+/// The scenario of these events, where no memory is refused.
+fn scenario_of(
+    alloc: Global,
+    settings: Settings,
+    events: &[Event],
+) -> Result<Scenario, ApplyFault> {
+    let mut scenario = Scenario::new(alloc, settings);
+    insert_all(&mut scenario, events)?;
+    Ok(scenario)
+}
+
+/// The scenario of these events, though memory may be refused once.
+pub(crate) fn scenario_again(
+    alloc: Global,
+    settings: Settings,
+    events: &[Event],
+) -> Result<Scenario, ApplyFault> {
+    match scenario_of(alloc, settings, events) {
+        Err(ApplyFault::NoMemory) => scenario_of(alloc, settings, events),
+        made => made,
+    }
+}
+
 /// Three tasks of weight 2/3 join in slot 0, on two processors.
 pub(crate) fn three_tasks(alloc: Global) -> Result<Scenario, Fail> {
-    let mut scenario = Scenario::new(alloc, Settings::new(2, 3, 6)?);
     let joins = [
         join(0, 1, 2, 3, 0),
         join(0, 2, 2, 3, 0),
         join(0, 3, 2, 3, 0),
     ];
-    insert_all(&mut scenario, &joins)?;
-    Ok(scenario)
+    Ok(scenario_again(alloc, Settings::new(2, 3, 6)?, &joins)?)
 }

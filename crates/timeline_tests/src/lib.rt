@@ -12,6 +12,8 @@ mod events;
 #[cfg(test)]
 mod order;
 #[cfg(test)]
+mod picks;
+#[cfg(test)]
 mod place;
 #[cfg(test)]
 mod refused;

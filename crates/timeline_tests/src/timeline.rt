@@ -1,11 +1,15 @@
 //! Edits in the past, the distance of checkpoints, and the horizon.
 
-ghost use Rattle.std.specs.Prelude.{◌≡◌, ◌<◌, IfOk, OnOk};
-ghost use Rattle.pf_timeline.specs.Timeline.{StandsFor};
+ghost use Rattle.std.specs.Prelude.{◌≡◌, ◌<◌, IfOk, OnOk, OnErr};
+ghost use Rattle.pf_timeline.specs.Timeline.{StandsFor, past_below};
+
+mod growths;
 
 use crate::events::three_tasks;
+use crate::picks::pick;
 use pf_order::meter::Meter;
 use pf_order::pick::Pick;
+use pf_scenario::apply_fault::ApplyFault;
 use pf_scenario::change::Change;
 use pf_scenario::scenario::Scenario;
 use pf_scenario::settings::Settings;
@@ -15,17 +19,18 @@ use std::alloc::{AllocError, Global};
 use std::process::Abort;
 use std::test::Fail;
 
-/// A timeline of no slots of the scenario.
-fn start(alloc: Global, scenario: &Scenario) -> Result<Timeline, NewFault>
+/// A timeline of no slots of the scenario, whose checkpoints lie so far apart.
+fn start(alloc: Global, scenario: &Scenario, every: u64) -> Result<Timeline, NewFault>
     ensures { IfOk result (λ t. StandsFor scenario.now t.now t) }
 {
-    Timeline::new(alloc, scenario.settings(), 64)
+    Timeline::new(alloc, scenario.settings(), every)
 }
 
 /// Takes the next slot.
 fn step(timeline: &mut Timeline, meter: &mut Meter, scenario: &Scenario) -> Result<(), StepFault>
     requires { StandsFor scenario.now timeline.old.now timeline.old }
-    ensures { OnOk result (StandsFor scenario.now timeline.new.now timeline.new) }
+    ensures ok { OnOk result (StandsFor scenario.now timeline.new.now timeline.new) }
+    ensures err { OnErr result (timeline.new ≡ timeline.old) }
 {
     timeline.step(meter, scenario)
 }
@@ -39,7 +44,7 @@ fn slots(
 ) -> Result<Timeline, Fail>
     ensures { IfOk result (λ t. StandsFor scenario.now t.now t) }
 {
-    let mut timeline = start(alloc, scenario)?;
+    let mut timeline = start(alloc, scenario, 64)?;
     for _ in 0..count {
         step(&mut timeline, meter, scenario)?;
     }
@@ -47,27 +52,29 @@ fn slots(
 }
 
 /// The scenario without this event.
-fn struck(scenario: &Scenario, id: u64) -> Result<Scenario, Fail>
-    ensures { IfOk result (λ s. s.settings ≡ scenario.now.settings) }
+#[tactic(auto, using(pf_timeline::proofs::Past::no_past))]
+fn struck(scenario: &Scenario, id: u64) -> Result<Scenario, ApplyFault>
+    ensures { IfOk result (λ s. past_below 0 s ≡ past_below 0 scenario.now) }
 {
     let mut struck = scenario.copy()?;
     struck.apply(Change::Strike(id))?;
     Ok(struck)
 }
 
-/// What a timeline that stands for one scenario becomes for another with the same settings.
+/// What a timeline that stands for one scenario becomes for another that differs from it on the slots from `from` on.
 fn rewritten(
     meter: &mut Meter,
     kept: &Timeline,
+    from: u64,
     former: &Scenario,
     scenario: &Scenario,
 ) -> Result<Timeline, AllocError>
-    requires some { 0 < kept.now.now }
+    requires below { from < kept.now.now }
     requires stands { StandsFor former.now kept.now.now kept.now }
-    requires settings { scenario.now.settings ≡ former.now.settings }
+    requires past { past_below from scenario.now ≡ past_below from former.now }
     ensures { IfOk result (λ t. StandsFor scenario.now t.now t) }
 {
-    kept.rewritten(meter, 0, scenario)
+    kept.rewritten(meter, from, scenario)
 }
 
 /// Who sits on the first processor and on the second, slot by slot.
@@ -88,12 +95,8 @@ fn with_a_strike(rt: &impl Abort, alloc: Global, scenario: &Scenario) -> Result<
     let kept = slots(alloc, &mut meter, scenario, 3)?;
     assert!(rt; kept.now() > 0);
     let struck = struck(scenario, 3)?;
-    let rewritten = rewritten(&mut meter, &kept, scenario, &struck)?;
+    let rewritten = rewritten(&mut meter, &kept, 0, scenario, &struck)?;
     Ok(rewritten.stepped(&mut meter, &struck)?)
-}
-
-fn pick(task: u32, sub: u32) -> Pick {
-    Pick { task, sub }
 }
 
 #[test]

@@ -4,8 +4,8 @@ use Rattle.pf_timeline.specs.Timeline.{StandsFor}
 use Rattle.pf_timeline.proofs.Past.{stands_now}
 use Rattle.timeline_tests.proofs.timeline.step.Goals as goal
 
-pub returns : goal.returns
-returns c =
+pub returns-clause-ok : goal.returns-clause-ok
+returns-clause-ok c =
     let s = c.args.scenario.now in
     let t = c.step.new.self in
     IfOk-weaker c.step.result _ (λ _. StandsFor s t.now t)

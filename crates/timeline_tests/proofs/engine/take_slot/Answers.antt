@@ -7,7 +7,7 @@ use Rattle.pf_scenario.specs.Scenario.{Plan, events_of}
 use Rattle.pf_run.specs.Record.{Slot}
 use Rattle.pf_engine.specs.Fits.{Kept, kept_after, Fits, TakesSlot}
 use Rattle.timeline_tests.specs.Fitting.{FitsSome}
-use Rattle.timeline_tests.proofs.engine.next_slot.Goals as goal
+use Rattle.timeline_tests.proofs.engine.take_slot.Goals as goal
 
 early : (t h : ℕ) → t < 2 ^ 20 → (h ≡ near_horizon) ⊎ (h ≡ wide_horizon) → t < h
 early t h below (inl near) = omega (arith, near)
@@ -25,10 +25,10 @@ slot-requires c =
     record {
       scenario = s;
       run = r;
-      is_scenario = c.slot_events.ensures.scenario;
+      is_scenario = c.settings.ensures.scenario;
       fits = c.requires.fits.fits;
-      are_events = c.deref.ensures.value ∙ c.in_ok-events.ensures.value ∙ ap (events_of s) (c.now.ensures ∙ now);
-      below = early (length r) s.settings.horizon (omega (arith, now, c.requires.below)) c.slot_events.ensures.scenario.settings.horizon;
+      are_events = c.requires.events ∙ ap (events_of s) now;
+      below = early (length r) s.settings.horizon (omega (arith, now, c.requires.below)) c.settings.ensures.scenario.settings.horizon;
     }
 
 pub returns-clause-now : goal.returns-clause-now
@@ -36,17 +36,17 @@ returns-clause-now c =
     let s = c.args.scenario.now in
     let r = c.requires.fits.run in
     let now = now_of s r c.args.engine.now c.requires.fits.fits in
-    let are = c.deref.ensures.value ∙ c.in_ok-events.ensures.value ∙ ap (events_of s) (c.now.ensures ∙ now) in
+    let are = c.requires.events ∙ ap (events_of s) now in
     IfOk-weaker c.slot.result _ (λ _. c.slot.new.self.now ≡ c.args.engine.now.now + 1)
     (λ o takes. omega (arith, now, now_of s (r ++ o.slot ∷ []) c.slot.new.self takes.fits, length_push r o.slot))
-    (c.slot.ensures.slot s r c.slot_events.ensures.scenario c.requires.fits.fits are)
+    (c.slot.ensures.slot s r c.settings.ensures.scenario c.requires.fits.fits are)
 
 pub returns-clause-fits : goal.returns-clause-fits
 returns-clause-fits c =
     let s = c.args.scenario.now in
     let r = c.requires.fits.run in
     let now = now_of s r c.args.engine.now c.requires.fits.fits in
-    let are = c.deref.ensures.value ∙ c.in_ok-events.ensures.value ∙ ap (events_of s) (c.now.ensures ∙ now) in
+    let are = c.requires.events ∙ ap (events_of s) now in
     IfOk-weaker c.slot.result _ (λ _. FitsSome s c.slot.new.self)
     (λ o takes. record { run = r ++ o.slot ∷ []; fits = takes.fits })
-    (c.slot.ensures.slot s r c.slot_events.ensures.scenario c.requires.fits.fits are)
+    (c.slot.ensures.slot s r c.settings.ensures.scenario c.requires.fits.fits are)
