@@ -1,0 +1,66 @@
+//! A snapshot is taken.
+
+use crate::plans::{a_denied_leave, three_tasks};
+use crate::told::{keeps, kept, tell_snapshot};
+use pf_desk::desk::Desk;
+use pf_desk::snapshot::Snapshot;
+use std::alloc::{AllocError, Global};
+use std::process::Abort;
+use std::test::Fail;
+
+/// A snapshot of the desk. A caller that needs no clause of `Desk::snapshot` calls this.
+pub(crate) fn snapshot(desk: &Desk) -> Result<Snapshot, AllocError> {
+    desk.snapshot()
+}
+
+/// A snapshot of the desk, taken again where memory is refused: then the desk is as before.
+fn snapshot_again(rt: &(impl Abort + Print), alloc: Global, desk: &Desk) -> Result<Snapshot, Fail> {
+    let before = kept(alloc, desk)?;
+    match snapshot(desk) {
+        Ok(seen) => Ok(seen),
+        Err(_) => {
+            println!(rt; "refused: Desk::snapshot")?;
+            keeps(rt, alloc, desk, before.as_str())?;
+            Ok(snapshot(desk)?)
+        }
+    }
+}
+
+/// What the snapshot shows.
+fn seen_once(alloc: Global, snapshot: &Snapshot) -> Result<String, AllocError> {
+    let mut text = String::new(alloc);
+    tell_snapshot(&mut text, snapshot)?;
+    Ok(text)
+}
+
+/// The same, though memory may be refused once.
+fn seen(alloc: Global, snapshot: &Snapshot) -> Result<String, AllocError> {
+    match seen_once(alloc, snapshot) {
+        Ok(text) => Ok(text),
+        Err(_) => seen_once(alloc, snapshot),
+    }
+}
+
+#[test]
+fn of_three_tasks(rt: HostRuntime) -> Result<(), Fail> {
+    let desk = three_tasks(rt.alloc())?;
+    let shown = snapshot_again(&rt, rt.alloc(), &desk)?;
+    let text = seen(rt.alloc(), &shown)?;
+    assert_eq!(rt;
+        text.as_str(),
+        "version 6\nrows | 1/1 2/1 | 1/2 3/1 | 2/2 3/2\n"
+    );
+    Ok(())
+}
+
+#[test]
+fn of_a_denied_leave(rt: HostRuntime) -> Result<(), Fail> {
+    let desk = a_denied_leave(rt.alloc())?;
+    let shown = snapshot_again(&rt, rt.alloc(), &desk)?;
+    let text = seen(rt.alloc(), &shown)?;
+    assert_eq!(rt;
+        text.as_str(),
+        "version 7\nrows | - | 1/1 | - | -\ndenied 3,2,TooEarly\n"
+    );
+    Ok(())
+}
