@@ -62,7 +62,7 @@ taken_file words found taken is = rw (taken, is) refl
 -- words that the grammar takes
 pub taken_words : (words : List Text) (found : Option (Text × List Row)) (answer : Result Request WordsFault) → kinds_of words ≡ []
     → found ≡ subcommand_of program words → IsRequest found answer → IsAsked words answer
-taken_words words found (Ok (Run format file)) taken is asks = (taken_task words found taken is ∙ ap result_ok asks.0, asks.1 ∙ taken_file words found taken is)
+taken_words words found (Ok (Run format fail_on file)) taken is asks = (taken_task words found taken is ∙ ap result_ok asks.0, asks.1 ∙ taken_file words found taken is)
 taken_words words found (Ok (Check file)) taken is asks = (taken_task words found taken is ∙ ap result_ok asks.0, asks.1 ∙ taken_file words found taken is)
 taken_words words found (Ok (Diff since file)) taken is asks = (taken_task words found taken is ∙ ap result_ok asks.0, asks.1 ∙ taken_file words found taken is)
 taken_words words found (Ok Drill) taken is asks = (taken_task words found taken is ∙ ap result_ok asks.0, sym (taken_file words found taken is) ∙ asks.1)
@@ -95,7 +95,7 @@ not_shown kind memory (inr version) = cc
 -- words that it does not take, by the kind of its error
 pub untaken_words : (words : List Text) (kind : ErrorKind) (answer : Result Request WordsFault)
     → (kind ≡ OutOfMemory) ⊎ IsAmong kind (kinds_of words) → ShowsError kind answer → IsAsked words answer
-untaken_words words kind (Ok (Run format file)) among shows = absurd shows
+untaken_words words kind (Ok (Run format fail_on file)) among shows = absurd shows
 untaken_words words kind (Ok (Check file)) among shows = absurd shows
 untaken_words words kind (Ok (Diff since file)) among shows = absurd shows
 untaken_words words kind (Ok Drill) among shows = absurd shows

@@ -5,7 +5,7 @@ use Rattle.clap.specs.declared.error.kind.ErrorKind.TheVariants as kind
 use Rattle.pf_words.specs.CommandLine.{kinds_of}
 use Rattle.pf_words.specs.Asked.{IsShown, task_asked, file_asked}
 use Rattle.pf_script.specs.Fields.{number_of}
-use Rattle.pf_words.specs.Examples.{Runs, Ranged, Pictured, Files, Drilled, Differences, Showable, WorkedWords}
+use Rattle.pf_words.specs.Examples.{Runs, Ranged, Pictured, FailingRuns, Files, Drilled, Differences, Showable, WorkedWords}
 
 runs : Runs
 unfolding clap_on_literals kinds_of task_asked
@@ -29,16 +29,32 @@ pictured = record {
   tables = (refl, refl);
 }
 
+unknown_is_not_shown : ¬ IsShown kind.UnknownArgument
+unknown_is_not_shown (inl help) = cc
+unknown_is_not_shown (inr version) = cc
+
+failing : FailingRuns
+unfolding clap_on_literals kinds_of task_asked
+failing = record {
+  refused = refl;
+  denied = refl;
+  both = refl;
+  twice = refl;
+  all = refl;
+  none = (refl, refl);
+  empty = (refl, refl);
+  other = (refl, refl);
+  spaced = (refl, refl);
+  format = (refl, refl);
+  check = (kind.UnknownArgument, unknown_is_not_shown, inl refl);
+}
+
 files : Files
 unfolding clap_on_literals kinds_of file_asked
 files = record { run = refl; before = refl; check = refl; dash = refl; none = refl }
 
 showable : Showable
 showable = record { most = refl; too_many = refl; part = refl; chart = refl; behind = refl; turned = refl }
-
-unknown_is_not_shown : ¬ IsShown kind.UnknownArgument
-unknown_is_not_shown (inl help) = cc
-unknown_is_not_shown (inr version) = cc
 
 drilled : Drilled
 unfolding clap_on_literals kinds_of task_asked file_asked
@@ -70,6 +86,7 @@ worked_words = record {
   runs = runs;
   ranged = ranged;
   pictured = pictured;
+  failing = failing;
   files = files;
   drilled = drilled;
   differences = differences;

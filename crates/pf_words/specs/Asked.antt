@@ -7,6 +7,7 @@ use Rattle.clap.specs.Walk.{is_empty}
 use Rattle.clap.specs.Words.{IsAmong, Row, Text, subcommand_of}
 use Rattle.clap.specs.declared.error.kind.ErrorKind.{ErrorKind}
 use Rattle.clap.specs.declared.error.kind.ErrorKind.TheVariants.{DisplayHelp, DisplayVersion, OutOfMemory}
+use Rattle.pf_words.specs.declared.fail_on.FailOn.{FailOn}
 use Rattle.pf_words.specs.declared.format.Format.{Format}
 use Rattle.pf_words.specs.declared.format.Format.TheVariants.{Tables}
 use Rattle.pf_words.specs.declared.request.Request.{Request}
@@ -14,9 +15,10 @@ use Rattle.pf_words.specs.declared.request.Request.TheVariants.{Run, Check, Diff
 use Rattle.pf_words.specs.declared.request.WordsFault.{WordsFault}
 use Rattle.pf_words.specs.declared.request.WordsFault.TheVariants.{Refused, Mistaken, NoMemory}
 use Rattle.pf_words.specs.declared.mistake.Mistake.{Mistake}
-use Rattle.pf_words.specs.declared.mistake.Mistake.TheVariants.{UnknownFormat, BadNumber, NoRange, BadCell, NoCell, BadSince}
+use Rattle.pf_words.specs.declared.mistake.Mistake.TheVariants.{UnknownFormat, BadNumber, NoRange, BadCell, NoCell, BadFailOn, BadSince}
 use Rattle.pf_words.specs.declared.slot_range.SlotRange.{SlotRange}
 use Rattle.pf_words.specs.Cells.{cell_of}
+use Rattle.pf_words.specs.FailLists.{fail_on_named, on_nothing}
 use Rattle.pf_words.specs.Formats.{format_named, format_with_cell, format_within}
 use Rattle.pf_words.specs.CommandLine.{file_behind, is_check, is_diff, is_drill, kinds_of, program, text_behind, text_behind_run}
 use Rattle.pf_script.specs.Fields.{number_of}
@@ -90,6 +92,16 @@ format_in_cells (Ok format) (Ok (Some cell)) = format_of_width (format_with_cell
 abbrev pub format_of : Option (Text × List Row) → Result Format Mistake
 format_of found = format_in_cells (format_found found) (cell_given (text_behind_run (codes "cell") found))
 
+-- what a list names that a run is to fail on
+abbrev pub fail_on_read : Option FailOn → Result FailOn Mistake
+fail_on_read None = Err BadFailOn
+fail_on_read (Some fail_on) = Ok fail_on
+
+-- what the list that is the text of an option names, and nothing where the option is left out
+abbrev pub fail_on_given : Option Text → Result FailOn Mistake
+fail_on_given None = Ok on_nothing
+fail_on_given (Some list) = fail_on_read (fail_on_named list)
+
 -- the record that a number names: they are counted from 1
 abbrev pub since_read : Option ℕ → Result (Option ℕ) Mistake
 since_read None = Err BadSince
@@ -100,18 +112,23 @@ abbrev pub since_given : Option Text → Result (Option ℕ) Mistake
 since_given None = Ok None
 since_given (Some text) = since_read (number_of text)
 
--- what the program can be asked to do with a script: to run it in a format, to check it, to tell what its records from one
--- on changed, or the last one where none is given, or to drill it
+-- what the program can be asked to do with a script: to run it in a format and to fail on something, to check it, to tell
+-- what its records from one on changed, or the last one where none is given, or to drill it
 pub data Task : Type 0 where
-  RunsIn : Format → Task
+  RunsIn : Format → FailOn → Task
   Checks : Task
   Diffs : Option ℕ → Task
   Drills : Task
 
--- to run it in that format
-abbrev pub run_given : Result Format Mistake → Result Task Mistake
-run_given (Err mistake) = Err mistake
-run_given (Ok format) = Ok (RunsIn format)
+-- to run it in that format, and to fail on that
+abbrev pub run_given : Result Format Mistake → Result FailOn Mistake → Result Task Mistake
+run_given (Err mistake) fail_on = Err mistake
+run_given (Ok format) (Err mistake) = Err mistake
+run_given (Ok format) (Ok fail_on) = Ok (RunsIn format fail_on)
+
+-- the run that is asked for, by what was found of a subcommand
+abbrev pub run_of : Option (Text × List Row) → Result Task Mistake
+run_of found = run_given (format_of found) (fail_on_given (text_behind_run (codes "fail-on") found))
 
 -- to tell what the records from that one on changed
 abbrev pub diff_given : Result (Option ℕ) Mistake → Result Task Mistake
@@ -119,14 +136,14 @@ diff_given (Err mistake) = Err mistake
 diff_given (Ok since) = Ok (Diffs since)
 
 -- what a subcommand asks for, and none: the format is a name of one, the ends of the range are numbers, the format has
--- that range, and the width is one that a slot of the format may have, and the number of a record is one, or the words are
--- mistaken
+-- that range, the width is one that a slot of the format may have, what a run is to fail on is a list of that, and the
+-- number of a record is one, or the words are mistaken
 abbrev pub task_of : Option (Text × List Row) → Result Task Mistake
 task_of found =
     if is_drill found then Ok Drills
     else if is_check found then Ok Checks
     else if is_diff found then diff_given (since_given (text_behind (codes "diff") (codes "since") found))
-    else run_given (format_of found)
+    else run_of found
 
 -- what the words ask for: nothing where the grammar does not take them, and where they are mistaken
 unfoldable pub task_asked : List Text → Option Task
@@ -171,7 +188,7 @@ AreMistaken words mistake = (kinds_of words ≡ []) × (task_of (subcommand_of p
 
 -- this answer is what the words ask for; want of memory may stand in place of any
 abbrev pub IsAsked : List Text → Result Request WordsFault → Type 0
-IsAsked words (Ok (Run format file)) = (task_asked words ≡ Some (RunsIn format)) × (name_of file ≡ file_asked words)
+IsAsked words (Ok (Run format fail_on file)) = (task_asked words ≡ Some (RunsIn format fail_on)) × (name_of file ≡ file_asked words)
 IsAsked words (Ok (Check file)) = (task_asked words ≡ Some Checks) × (name_of file ≡ file_asked words)
 IsAsked words (Ok (Diff since file)) = (task_asked words ≡ Some (Diffs since)) × (name_of file ≡ file_asked words)
 IsAsked words (Ok Drill) = (task_asked words ≡ Some Drills) × (file_asked words ≡ None)
@@ -182,7 +199,7 @@ IsAsked words (Err NoMemory) = Unit {0}
 
 -- this answer is what words ask for that the grammar takes, by what was found of a subcommand
 abbrev pub IsRequest : Option (Text × List Row) → Result Request WordsFault → Type 0
-IsRequest found (Ok (Run format file)) = (task_of found ≡ Ok (RunsIn format)) × (name_of file ≡ file_found found)
+IsRequest found (Ok (Run format fail_on file)) = (task_of found ≡ Ok (RunsIn format fail_on)) × (name_of file ≡ file_found found)
 IsRequest found (Ok (Check file)) = (task_of found ≡ Ok Checks) × (name_of file ≡ file_found found)
 IsRequest found (Ok (Diff since file)) = (task_of found ≡ Ok (Diffs since)) × (name_of file ≡ file_found found)
 IsRequest found (Ok Drill) = (task_of found ≡ Ok Drills) × (file_found found ≡ None)
@@ -193,7 +210,7 @@ IsRequest found (Err NoMemory) = Unit {0}
 
 -- what is answered to an error of this kind
 abbrev pub ShowsError : ErrorKind → Result Request WordsFault → Type 0
-ShowsError kind (Ok (Run format file)) = ⊥
+ShowsError kind (Ok (Run format fail_on file)) = ⊥
 ShowsError kind (Ok (Check file)) = ⊥
 ShowsError kind (Ok (Diff since file)) = ⊥
 ShowsError kind (Ok Drill) = ⊥

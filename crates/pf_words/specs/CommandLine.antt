@@ -25,6 +25,10 @@ to_option = record (new_rule (codes "to")) { long = Some (codes "to"); value_nam
 abbrev pub cell_option : Rule
 cell_option = record (new_rule (codes "cell")) { long = Some (codes "cell"); value_names = 1; action = Some Set }
 
+-- the option `--fail-on`, with one text
+abbrev pub fail_on_option : Rule
+fail_on_option = record (new_rule (codes "fail-on")) { long = Some (codes "fail-on"); value_names = 1; action = Some Set }
+
 -- FILE, a text without a name
 abbrev pub file_argument : Rule
 file_argument = record (new_rule (codes "file")) { value_names = 1; action = Some Set }
@@ -32,7 +36,7 @@ file_argument = record (new_rule (codes "file")) { value_names = 1; action = Som
 -- `run`, which may have these options and FILE
 abbrev pub run_command : App
 run_command =
-    with_rule (with_rule (with_rule (with_rule (with_rule (new_app (codes "run")) format_option) from_option) to_option) cell_option) file_argument
+    with_rule (with_rule (with_rule (with_rule (with_rule (with_rule (new_app (codes "run")) format_option) from_option) to_option) cell_option) fail_on_option) file_argument
 
 -- `check`, which may have FILE
 abbrev pub check_command : App

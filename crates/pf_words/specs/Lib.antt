@@ -2,5 +2,6 @@ pub mod Asked
 pub mod Cells
 pub mod CommandLine
 pub mod Examples
+pub mod FailLists
 pub mod Formats
 pub mod Ranges

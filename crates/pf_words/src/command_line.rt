@@ -1,7 +1,7 @@
 ghost use Rattle.std.specs.Prelude.{◌≡◌, IfOk, false, codes};
 ghost use Rattle.clap.specs.Words.{app_of, new_app, with_rule, with_subcommand};
 ghost use Rattle.clap.specs.declared.builder.command.Command.TheViews.{out-Command};
-ghost use Rattle.pf_words.specs.CommandLine.{program, as_program, cell_option, check_command, diff_command, drill_command, file_argument, format_option, from_option, run_command, since_option, to_option};
+ghost use Rattle.pf_words.specs.CommandLine.{program, as_program, cell_option, check_command, diff_command, drill_command, fail_on_option, file_argument, format_option, from_option, run_command, since_option, to_option};
 
 use clap::{Arg, ArgAction, Command};
 use std::alloc::{AllocError, Global};
@@ -59,7 +59,8 @@ the desk at the end, as the tables schedule, lags, misses and denials of what di
 schedule and what was taken.
 
 Status: 0 done, 1 a bad record or a script that is too long, 2 words that are not understood or a range of slots that
-were not stepped, 3 a fault of reading or writing, 4 out of memory, or no place for the reader of a drill.
+were not stepped, 3 a fault of reading or writing, 4 out of memory, or no place for the reader of a drill, 6 done, and
+what --fail-on names was met: a command was refused, an event is denied at the end, or a window is missed.
 What is wrong is told on standard error.";
 
 /// The words that the program knows.
@@ -106,13 +107,14 @@ fn with_file<'a>(alloc: Global, command: Command<'a>) -> Result<Command<'a>, All
     command.arg(file)
 }
 
-/// `run`, with the options `--format`, `--from`, `--to` and `--cell`, each with a text, and FILE.
+/// `run`, with the options `--format`, `--from`, `--to`, `--cell` and `--fail-on`, each with a text, and FILE.
 fn run_command<'a>(alloc: Global) -> Result<Command<'a>, AllocError>
     ensures shape { IfOk result (λ c. app_of c ≡ run_command) }
     ensures globals { IfOk result (λ c. (out-Command c).has_globals ≡ false) }
 {
     let ranged = with_range(alloc, bare_run(alloc)?)?;
     let run = with_cell(alloc, ranged)?;
+    let run = with_fail_on(alloc, run)?;
     with_file(alloc, run)
 }
 
@@ -185,6 +187,20 @@ fn with_cell<'a>(alloc: Global, command: Command<'a>) -> Result<Command<'a>, All
         .help("svg: how wide each slot is, 6 to 40 [default: 20]")
         .action(ArgAction::Set);
     command.arg(cell)
+}
+
+/// The command with `--fail-on` and a text.
+fn with_fail_on<'a>(alloc: Global, command: Command<'a>) -> Result<Command<'a>, AllocError>
+    requires { (out-Command command).has_globals ≡ false }
+    ensures shape { IfOk result (λ c. app_of c ≡ with_rule (app_of command.entry) fail_on_option) }
+    ensures globals { IfOk result (λ c. (out-Command c).has_globals ≡ false) }
+{
+    let fail_on = Arg::new(alloc, "fail-on")
+        .long("fail-on")
+        .value_name("LIST")
+        .help("refused, denied, missed, joined by commas: status 6 where one of them was met")
+        .action(ArgAction::Set);
+    command.arg(fail_on)
 }
 
 /// `check`, with FILE.

@@ -5,6 +5,7 @@
 
 pub mod cell;
 mod command_line;
+pub mod fail_on;
 pub mod format;
 pub mod laws;
 pub mod mistake;

@@ -18,6 +18,9 @@ pub enum Mistake {
     /// `--cell` stands beside a format other than `svg`.
     #[error("--cell is for the format svg")]
     NoCell,
+    /// The text of `--fail-on` is no list of what a run may fail on.
+    #[error("--fail-on takes refused, denied and missed, joined by commas")]
+    BadFailOn,
     /// The text of `--since` is no number of a record.
     #[error("--since takes a number of 1 to 15 digits, from 1 on")]
     BadSince,

@@ -1,6 +1,7 @@
 ghost use Rattle.std.specs.Prelude.{◌≡◌};
 ghost use Rattle.pf_words.specs.declared.request.WordsFault.TheVariants.{Mistaken, NoMemory};
 
+use crate::fail_on::FailOn;
 use crate::format::Format;
 use crate::mistake::Mistake;
 use std::alloc::AllocError;
@@ -9,8 +10,8 @@ use thiserror::Error;
 /// What the words ask for.
 #[derive(Debug, Drop)]
 pub enum Request {
-    /// To run the script of this file, or of standard input, in this format.
-    Run(Format, Option<String>),
+    /// To run the script of this file, or of standard input, in this format, and to fail on this.
+    Run(Format, FailOn, Option<String>),
     /// To check the script of this file, or of standard input.
     Check(Option<String>),
     /// To tell what the records of the script of this file, or of standard input, changed from this one on, or the last one

@@ -1,10 +1,11 @@
 ghost use Rattle.std.specs.Prelude.{◌≡◌, codes, map, option_map, IfOk};
 ghost use Rattle.clap.specs.Words.{kind_of, subcommand_rows_of};
 ghost use Rattle.pf_words.specs.CommandLine.{file_behind, is_named, text_behind, text_behind_run};
-ghost use Rattle.pf_words.specs.Asked.{IsAsked, IsRequest, ShowsError, cell_given, file_of, format_found, format_of, format_or_tables, name_of, number_given, range_given, since_given};
+ghost use Rattle.pf_words.specs.Asked.{IsAsked, IsRequest, ShowsError, cell_given, fail_on_given, file_of, format_found, format_of, format_or_tables, name_of, number_given, range_given, since_given};
 
 use crate::cell::Cell;
 use crate::command_line::program;
+use crate::fail_on::FailOn;
 use crate::format::Format;
 use crate::mistake::Mistake;
 use crate::request::{Request, WordsFault};
@@ -17,12 +18,13 @@ use std::convert::AsStr;
 
 /// What the program's words ask for, its own name not among them. No words ask for a run with tables, and so does `run`
 /// alone; `run --format NAME` asks for one in the format of that name, of the slots from `--from` on and below `--to`, in
-/// slots of the width `--cell`, and `check` for a check. A file may stand behind each, for the script to be read from; `-`
-/// is standard input, as no file is. `diff` asks what the records from `--since` on changed. `drill` asks for a drill of
-/// standard input. Answers `Refused` where the words are not the program's, `Mistaken` where the text of `--format` names no
-/// format, where that of `--from` or `--to` is no number, where the format has no range, where the text of `--cell` is no
-/// number of 6 to 40, and where the format has no width, the first of these, and where the text of `--since` is no number
-/// above 0; and `NoMemory`, in place of any answer, where memory was refused.
+/// slots of the width `--cell`, to fail on what `--fail-on` lists, and `check` for a check. A file may stand behind each,
+/// for the script to be read from; `-` is standard input, as no file is. `diff` asks what the records from `--since` on
+/// changed. `drill` asks for a drill of standard input. Answers `Refused` where the words are not the program's, `Mistaken`
+/// where the text of `--format` names no format, where that of `--from` or `--to` is no number, where the format has no
+/// range, where the text of `--cell` is no number of 6 to 40, where the format has no width, and where the text of
+/// `--fail-on` is no list of what a run may fail on, the first of these, and where the text of `--since` is no number above
+/// 0; and `NoMemory`, in place of any answer, where memory was refused.
 pub fn read_words<S: AsStr>(alloc: Global, words: &[S]) -> Result<Request, WordsFault>
     ensures { IsAsked (map S.text words.now) result }
 {
@@ -47,7 +49,7 @@ fn read_matches(alloc: Global, matches: &ArgMatches<'_>) -> Result<Request, Word
         return Ok(Request::Diff(read_since(matches)?, file));
     }
     let format = read_format(matches)?;
-    Ok(Request::Run(format, file))
+    Ok(Request::Run(format, read_fail_on(matches)?, file))
 }
 
 /// The file behind a subcommand; none where standard input is meant.
@@ -150,6 +152,19 @@ fn read_cell(matches: &ArgMatches<'_>) -> Result<Option<Cell>, Mistake>
     match Cell::new(width) {
         Some(cell) => Ok(Some(cell)),
         None => Err(Mistake::BadCell),
+    }
+}
+
+/// What the run is to fail on; nothing where `--fail-on` is left out.
+fn read_fail_on(matches: &ArgMatches<'_>) -> Result<FailOn, Mistake>
+    ensures { result ≡ fail_on_given (text_behind_run (codes "fail-on") (subcommand_rows_of matches.now)) }
+{
+    let Some(list) = option_text(matches, "run", "fail-on") else {
+        return Ok(FailOn::nothing());
+    };
+    match FailOn::named(list) {
+        Some(fail_on) => Ok(fail_on),
+        None => Err(Mistake::BadFailOn),
     }
 }
 
