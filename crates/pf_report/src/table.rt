@@ -4,6 +4,7 @@ ghost use Rattle.csv.specs.Records.{fields_of, partial_of};
 use crate::pieces::LONG_PIECE;
 use csv::{ByteRecord, Writer};
 use itoa::Buffer;
+use pf_digits::pair_text::PairText;
 use std::alloc::{AllocError, Global};
 use std::fmt::Display;
 use std::marker::Model;
@@ -70,12 +71,7 @@ impl Table {
     pub fn show_pair(&mut self, first: u64, second: u64) -> Result<(), AllocError>
         ensures { OnOk result (self.new ≡ with_field self.old (decimal first ++ codes "/" ++ decimal second)) }
     {
-        let mut digits = Buffer::new();
-        self.shown.clear();
-        self.shown.push_str(digits.format(first))?;
-        self.shown.push_str("/")?;
-        self.shown.push_str(digits.format(second))?;
-        push_field(&mut self.fields, self.shown.as_bytes())
+        push_field(&mut self.fields, PairText::of(first, second).as_bytes())
     }
 
     /// Adds a field without text to the next record.
