@@ -34,7 +34,7 @@ use Rattle.pf_engine.proofs.Held.{Has}
 abbrev passed : Bool → ℕ
 passed b = cond b 1 0
 
-some_of : (tasks : List KeptTask) (k : KeptTask) → Contains tasks k → 1 ≤ tasks_of k.task tasks
+pub some_of : (tasks : List KeptTask) (k : KeptTask) → Contains tasks k → 1 ≤ tasks_of k.task tasks
 some_of tasks k at =
     let own : passed ((get_or tasks at.0 k).task == k.task) ≡ 1 = ap passed (eq-eqb _ _ (ap (λ (x : KeptTask). x.task) at.2)) in
     omega (arith, get_or-le-sum_by (λ (x : KeptTask). cond (x.task == k.task) 1 0) tasks at.0 k at.1, own)
@@ -140,7 +140,7 @@ no_values w e = none_left (fin.values w) (length-map (fin.entries w) (λ x. x.1)
   none_left [] e = refl
   none_left (x ∷ xs) e = absurd (omega arith)
 
-no_keys : key_count (record { ready = set.empty; waiting = fin.empty; spare = 0; tasks = 0 }) + 0 ≡ 0
+pub no_keys : key_count (record { ready = set.empty; waiting = fin.empty; spare = 0; tasks = 0 }) + 0 ≡ 0
 no_keys = omega (arith, set.len-empty key_cmp, ap (sum_by set.len) (no_values fin.empty refl))
 
 no_lists : NoneEmpty fin.empty
@@ -156,16 +156,16 @@ pub next_none_away : {q : Queues} {now : ℕ} {tasks : List KeptTask} → HasNex
 next_none_away {q} {now} {tasks} n = next_same q now (Contains tasks) (IsOther tasks []) (others tasks) (λ k o. o.among) n
 
 -- of no task
-pub agenda_none : (q : Queues) (tasks : List KeptTask) → q ≡ record { ready = set.empty; waiting = fin.empty; spare = 0; tasks = 0 } → tasks ≡ [] →
-    IsAgenda q 0 tasks []
-agenda_none q tasks is none = subst (λ x. IsAgenda x 0 tasks []) (sym is) (subst (λ ts. IsAgenda (record { ready = set.empty; waiting = fin.empty; spare = 0; tasks = 0 }) 0 ts []) (sym none) (record {
+pub agenda_none : (q : Queues) (now : ℕ) (tasks : List KeptTask) → q ≡ record { ready = set.empty; waiting = fin.empty; spare = 0; tasks = 0 } → tasks ≡ [] →
+    IsAgenda q now tasks []
+agenda_none q now tasks is none = subst (λ x. IsAgenda x now tasks []) (sym is) (subst (λ ts. IsAgenda (record { ready = set.empty; waiting = fin.empty; spare = 0; tasks = 0 }) now ts []) (sym none) (record {
   next = record { only = nothing_at; each = λ k o. absurd (contains_none k o.among) };
   count = no_keys;
   some = no_lists;
   numbers = All-nil (λ (k : KeptTask). k.task < 0);
   room = omega arith;
 })) where
-  nothing_at : (place : Option ℕ) (x : Priority) → Has (record { ready = set.empty; waiting = fin.empty; spare = 0; tasks = 0 }) place x → IsNextOf 0 (IsOther [] []) place x
+  nothing_at : (place : Option ℕ) (x : Priority) → Has (record { ready = set.empty; waiting = fin.empty; spare = 0; tasks = 0 }) place x → IsNextOf now (IsOther [] []) place x
   nothing_at None x h = absurd (has_none x h)
   nothing_at (Some s) x h = absurd (nothing_waits s x h)
 
@@ -386,7 +386,7 @@ member_ran sub m small is = record { done = small; shift = is.shift; last = is.s
 
 inside_cond : (b : Bool) (sub : ℕ) (k : KeptTask) → sub < 2 ^ 24 → IsInside k →
     IsInside (cond b (record { task = k.task; member = member_after_run sub k.member }) k)
-inside_cond true sub k small is = record { task_some = is.task_some; task_within = is.task_within; member = member_ran sub k.member small is.member }
+inside_cond true sub k small is = record { task_some = is.task_some; task_within = is.task_within; member = member_ran sub k.member small is.member; joined = is.joined; early = is.early }
 inside_cond false sub k small is = is
 
 pub inside_changed : (tasks : List KeptTask) (task sub : ℕ) → sub < 2 ^ 24 → All IsInside tasks → All IsInside (changed_tasks task (member_after_run sub) tasks)

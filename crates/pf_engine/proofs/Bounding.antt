@@ -1,30 +1,62 @@
 -- The bounds of what an engine keeps, at each point of a slot.
-use Rattle.std.proofs.Common.{◌+◌, ◌≤◌, ◌==◌, cond, List, [], ◌∷◌, ◌++◌, length, sym, subst, arith}
+use Rattle.std.proofs.Common.{◌≡◌, ◌+◌, ◌≤◌, ◌==◌, cond, get_or, Ok, Some, All, List, [], ◌∷◌, ◌++◌, length, filter_map, not, sym, ap, subst, arith}
+use Rattle.std.proofs.lemmas.Bool.{leb-true}
 use Rattle.std.proofs.lemmas.List.{length_push, length-map}
-use Rattle.std.proofs.lemmas.List.Elements.{All-weaker, All-map}
+use Rattle.std.proofs.lemmas.List.Elements.{All-weaker, All-map, All-filter}
+use Rattle.pf_weight.specs.Share.{share_of}
+use Rattle.pf_weight.specs.Weighed.{ok_unless, share_or_fault}
 use Rattle.pf_scenario.specs.System.{System, IsSystem}
 use Rattle.pf_scenario.specs.Scenario.{Plan, events_of}
-use Rattle.pf_scenario.specs.Edit.{IsScenario}
+use Rattle.pf_scenario.specs.Edit.{IsScenario, IsEvent}
+use Rattle.pf_scenario.specs.declared.event.Event.{Event}
+use Rattle.pf_scenario.specs.declared.event.Event.TheVariants.{Join, Leave, Delay, Limit}
+use Rattle.pf_scenario.specs.declared.limits.TheConstants.{MOST_EARLY}
 use Rattle.pf_scenario.specs.declared.scenario.TheConstants.{MOST_EVENTS}
 use Rattle.pf_scenario.specs.declared.event.Numbered.{Numbered}
 use Rattle.pf_run.specs.Record.{Slot, done, next_sub}
-use Rattle.pf_run.specs.Inside.{Joined, inside, load_of, member_of}
+use Rattle.pf_run.specs.Inside.{Joined, joined_by, join_of, has_left, inside, load_of, member_of}
 use Rattle.pf_run.specs.Run.{events_in_force}
 use Rattle.pf_engine.specs.Fits.{KeptTask, Kept, kept_task, kept_after, Fits, Taken, CanTake}
-use Rattle.pf_engine.specs.Engines.{IsInside, IsEngine}
+use Rattle.pf_engine.specs.Engines.{IsWeighedOver, IsInside, IsEngine}
 use Rattle.pf_engine.specs.Points.{CanFollow, IsAt}
 use Rattle.pf_engine.specs.Taking.{Advances}
 use Rattle.pf_engine.proofs.Fitting.{point_of_run, can_follow, fits_slot}
 use Rattle.pf_run.proofs.Counting.{sum_by-map}
+use Rattle.pf_run.proofs.Keys.{all_filter_map}
+use Rattle.pf_run.proofs.Limits.{passes_tests, join_weight}
 use Rattle.pf_run.proofs.Points.{inside_count}
 use Rattle.pf_run.proofs.Within.{horizon_within, inside_few, inside_within, load_within, done_within, shift_within, count_within, IsJoined}
 
+-- what the limits of its join say of a task besides
+record IsAdmitted (s : System) (j : Joined) : Type 0 where
+  early : j.early ≤ MOST_EARLY
+  weight : share_or_fault s.base j.weight.cost j.weight.period ≡ Ok j.weight
+
+admitted : (s : System) (event : Event) (j : Joined) → joined_by s.base event ≡ Some j → IsEvent s event → IsAdmitted s j
+admitted s (Join slot task cost period early) j e limits =
+    let same : ◌≡◌ {A = Joined} (record { task = task; slot = slot; weight = share_of s.base cost period; early = early }) j = cc in
+    subst (IsAdmitted s) same (record {
+      early = leb-true early MOST_EARLY (passes_tests s (Join slot task cost period early) limits).early;
+      weight = ap (λ fault. ok_unless fault (share_of s.base cost period)) (join_weight s slot task cost period early limits);
+    })
+admitted s (Leave slot task) j e limits = cc
+admitted s (Delay slot task by) j e limits = cc
+admitted s (Limit slot count) j e limits = cc
+
+all_admitted : (s : System) (xs : List Numbered) → All (λ x. IsEvent s x.event) xs → All (IsAdmitted s) (inside s.base xs)
+unfolding inside
+all_admitted s xs limits =
+    All-filter (λ j. not (has_left xs j.task)) (IsAdmitted s) (filter_map (join_of s.base) xs)
+    (all_filter_map (λ x. IsEvent s x.event) (IsAdmitted s) (join_of s.base) (λ x j. admitted s x.event j) xs limits)
+
 task_within : (s : System) (r : List Slot) (xs events : List Numbered) (j : Joined) → IsSystem s → length r ≤ s.horizon →
-    CanFollow s r xs events → IsJoined s j → IsInside (kept_task r xs j)
+    CanFollow s r xs events → IsJoined s j → IsAdmitted s j → IsInside (kept_task r xs j)
 unfolding member_of
-task_within s r xs events j is reached can joined = record {
+task_within s r xs events j is reached can joined admission = record {
   task_some = joined.task_some;
   task_within = joined.task_within;
+  joined = omega (arith, joined.slot, horizon_within s is);
+  early = admission.early;
   member = record {
     done = omega (arith, done_within r j.task, horizon_within s is);
     shift = omega (arith, can.few, shift_within s r xs j (next_sub r j.task) is can.limits joined);
@@ -41,8 +73,10 @@ engine_after s r xs events is reached can =
       settings = is;
       now = reached;
       tasks = All-map IsInside (kept_task r xs) js
-          (All-weaker (IsJoined s) (λ j. IsInside (kept_task r xs j)) (λ j joined. task_within s r xs events j is reached can joined) js
-          (inside_within s xs can.limits));
+          (λ k d within. task_within s r xs events (get_or js k d) is reached can (inside_within s xs can.limits k d within) (all_admitted s xs can.limits k d within));
+      weights = All-map (IsWeighedOver s.base) (kept_task r xs) js
+          (All-weaker (IsAdmitted s) (λ j. IsWeighedOver s.base (kept_task r xs j)) (λ j admission. admission.weight) js (all_admitted s xs can.limits));
+      few = omega (arith, can.few, inside_few s.base xs, length-map js (kept_task r xs));
       apart = λ task.
           omega (arith, can.once task, inside_count s.base task xs, sum_by-map (λ (k : KeptTask). cond (k.task == task) 1 0) (kept_task r xs) js);
       load = sym (sum_by-map (λ (k : KeptTask). k.member.weight.units) (kept_task r xs) js);

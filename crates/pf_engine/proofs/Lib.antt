@@ -9,6 +9,7 @@ pub mod Held
 pub mod NextKeys
 pub mod Chosen
 pub mod Agendas
+pub mod Saving
 pub mod Costs
 pub mod Allowed
 pub mod Running

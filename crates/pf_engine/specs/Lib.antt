@@ -11,4 +11,5 @@ pub mod Roll
 pub mod Places
 pub mod Agenda
 pub mod Keeping
+pub mod Saved
 pub mod Rooms

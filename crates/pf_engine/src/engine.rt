@@ -9,6 +9,7 @@ ghost use Rattle.pf_engine.specs.Comparisons.{most_comparisons};
 
 use crate::outcome::Outcome;
 use crate::room::Room;
+use crate::saved_engine::SavedEngine;
 use crate::state::State;
 use pf_order::meter::Meter;
 use pf_scenario::event::Numbered;
@@ -19,7 +20,7 @@ use std::marker::Model;
 /// What goes on from slot to slot: the tasks inside and what is known of them, so that no past slot is looked at
 /// again. It fits a scenario and a run of it where what it keeps is what they give.
 pub struct Engine {
-    state: State,
+    pub(crate) state: State,
 }
 
 // A call of its own, so that who drops an engine sees none of its parts.
@@ -84,6 +85,17 @@ impl Engine {
         Ok(Engine {
             state: self.state.copy()?,
         })
+    }
+
+    /// What it keeps, saved, so that an engine which keeps the same can be made of it.
+    ///
+    /// # Errors
+    ///
+    /// Where memory is refused.
+    pub fn save(&self) -> Result<SavedEngine, AllocError>
+        ensures { IfOk result (λ saved. saved ≡ self.now) }
+    {
+        SavedEngine::of(&self.state)
     }
 
     /// Takes the slot `now()` and counts one slot, and for c processors in use, n tasks inside before, and g events at most

@@ -8,4 +8,6 @@ mod kept_task;
 pub mod outcome;
 mod room;
 mod roster;
+pub mod saved_engine;
+mod saved_task;
 mod state;

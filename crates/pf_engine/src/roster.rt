@@ -1,4 +1,4 @@
-ghost use Rattle.std.specs.Prelude.{◌≡◌, ◌+◌, ◌^◌, ◌<◌, ◌≤◌, ◌++◌, ◌∷◌, [], None, Some, OnOk, IfOk, MatchOption, length};
+ghost use Rattle.std.specs.Prelude.{◌≡◌, ◌+◌, ◌^◌, ◌<◌, ◌≤◌, ◌++◌, ◌∷◌, [], None, Some, OnOk, IfOk, MatchOption, All, length, map};
 ghost use Rattle.std.specs.Option.{option_copied, ForSome};
 ghost use Rattle.pf_weight.specs.declared.task.TheConstants.{LARGEST_TASK};
 ghost use Rattle.pf_scenario.specs.declared.scenario.TheConstants.{MOST_EVENTS};
@@ -6,8 +6,11 @@ ghost use Rattle.pf_table.specs.Grown.{size_of};
 ghost use Rattle.pf_engine.specs.Kept.{member_in, changed_tasks, other_tasks, member_after_delay, member_after_run};
 ghost use Rattle.pf_engine.specs.Places.{IsListedTo, HasNoTask, IsOnlyAt};
 ghost use Rattle.pf_engine.specs.Roll.{AllJoinBelow};
+ghost use Rattle.pf_engine.specs.Saved.{saved_of};
+ghost use Rattle.pf_engine.specs.Engines.{IsInside};
 
 use crate::kept_task::KeptTask;
+use crate::saved_task::SavedTask;
 use pf_admit::member::Member;
 use pf_scenario::event::{Event, Numbered};
 use pf_table::table::Table;
@@ -65,7 +68,7 @@ impl Roster {
     /// # Errors
     ///
     /// Where memory is refused.
-    fn reserve_task(&mut self, task: u64) -> Result<(), AllocError>
+    pub(crate) fn reserve_task(&mut self, task: u64) -> Result<(), AllocError>
         requires { task ≤ LARGEST_TASK }
         ensures tasks { self.new.tasks ≡ self.old.tasks }
         ensures spare { self.new.spare ≡ self.old.spare }
@@ -185,6 +188,22 @@ impl Roster {
             places: self.places.copy()?,
             tasks: Vec::from_slice(self.allocator(), &self.tasks)?,
         })
+    }
+
+    /// The tasks as they are saved, in the order of their joins.
+    ///
+    /// # Errors
+    ///
+    /// Where memory is refused.
+    pub(crate) fn save(&self) -> Result<Vec<SavedTask>, AllocError>
+        requires { All IsInside self.now.tasks }
+        ensures { IfOk result (λ saved. saved.items ≡ map saved_of self.now.tasks) }
+    {
+        let mut saved = Vec::with_capacity(self.allocator(), self.tasks.len())?;
+        for kept in &self.tasks {
+            saved.push_reserved(SavedTask::of(kept));
+        }
+        Ok(saved)
     }
 
     /// Where the task of this number stands.
