@@ -1,9 +1,8 @@
 -- Free places are taken from a list, in order.
-use Rattle.std.proofs.Common.{add_comm, add-one, ◌≡◌, ℕ, zero, suc, ◌<◌, ◌≤◌, true, false, inl, inr, Option, Some, None, List, [], ◌∷◌, ◌++◌, length, get_or, set, take, count_by, ap, sym, ◌∙◌, refl, cond, ltb, arith}
-use Rattle.std.specs.List.{slice_get, filter_map, position, position_or_len}
+use Rattle.std.proofs.Common.{add_comm, add-one, ◌≡◌, ℕ, zero, suc, ◌+◌, ◌<◌, ◌≤◌, Option, Some, None, List, [], ◌∷◌, ◌++◌, length, get_or, set, take, count_by, ap, sym, ◌∙◌, refl, cond, arith}
+use Rattle.std.specs.List.{slice_get, filter_map, position_or_len}
 use Rattle.std.specs.List.Sorted.{IsPermutation}
 use Rattle.std.specs.Option.{is_none, option_or}
-use Rattle.std.proofs.lemmas.Bool.{cases_lt, lt-ltb, le-ltb}
 use Rattle.std.proofs.lemmas.List.Sums.{sum_by-cons}
 use Rattle.std.proofs.lemmas.List.Sorted.{IsPermutation-refl, IsPermutation-cons, IsPermutation-middle, IsPermutation-trans}
 use Rattle.pf_place.specs.Seating.{seats_filled_with}
@@ -56,39 +55,26 @@ module _ {X : Type 0} where
   filled_more (None ∷ places) y rest = ap (λ ps. Some y ∷ seats_filled_with ps rest) (sym (filled_none places))
 
   -- one takes the lowest free place
-  lowest_filled : (places : List (Option X)) (y : X) → position_or_len is_none places < length places
+  pub lowest_filled : (places : List (Option X)) (y : X) → position_or_len is_none places < length places
       → set places (position_or_len is_none places) (Some y) ≡ seats_filled_with places (y ∷ [])
   lowest_filled [] y l = absurd (omega arith)
   lowest_filled (None ∷ places) y l = ap (λ ps. Some y ∷ ps) (sym (filled_none places))
   lowest_filled (Some x ∷ places) y l =
       rw (add_comm, add-one) (ap (λ ps. Some x ∷ ps) (lowest_filled places y (omega arith)))
 
-  -- or none, where none is free
-  none_filled : (places : List (Option X)) (y : X) → length places ≤ position_or_len is_none places → places ≡ seats_filled_with places (y ∷ [])
-  none_filled [] y l = refl
-  none_filled (None ∷ places) y l = absurd (omega arith)
-  none_filled (Some x ∷ places) y l = ap (λ ps. Some x ∷ ps) (none_filled places y (omega arith))
+  -- where none is free, it does not matter who is to be seated
+  pub filled_full : (places : List (Option X)) → length places ≤ position_or_len is_none places → (rest others : List X)
+      → seats_filled_with places rest ≡ seats_filled_with places others
+  filled_full [] full rest others = refl
+  filled_full (None ∷ places) full rest others = absurd (omega arith)
+  filled_full (Some x ∷ places) full rest others = ap (λ ps. Some x ∷ ps) (filled_full places (omega arith) rest others)
 
-  pub filled_lowest : (places : List (Option X)) (y : X) (k : ℕ) → Some k ≡ position is_none places → set places k (Some y) ≡ seats_filled_with places (y ∷ [])
-  filled_lowest places y k at =
-      elim (cases_lt (position_or_len is_none places) (length places)) [
-        | inl below ↦
-            let yes : ltb (position_or_len is_none places) (length places) ≡ true = lt-ltb _ _ below in
-            let found : Some k ≡ Some (position_or_len is_none places) = at ∙ ap (λ b. cond b (Some (position_or_len is_none places)) None) yes in
-            let same : k ≡ position_or_len is_none places = cc in
-            rw same (lowest_filled places y below)
-        | inr past ↦
-            let no : ltb (position_or_len is_none places) (length places) ≡ false = le-ltb _ _ past in
-            let none : Some k ≡ None = at ∙ ap (λ b. cond b (Some (position_or_len is_none places)) None) no in
-            cc
-      ]
-
-  pub filled_full : (places : List (Option X)) (y : X) → None ≡ position is_none places → places ≡ seats_filled_with places (y ∷ [])
-  filled_full places y at =
-      elim (cases_lt (position_or_len is_none places) (length places)) [
-        | inl below ↦
-            let yes : ltb (position_or_len is_none places) (length places) ≡ true = lt-ltb _ _ below in
-            let some : None ≡ Some (position_or_len is_none places) = at ∙ ap (λ b. cond b (Some (position_or_len is_none places)) None) yes in
-            cc
-        | inr past ↦ none_filled places y past
-      ]
+  -- the next free place is behind it
+  pub next_behind : (places : List (Option X)) (y : X) → position_or_len is_none places < length places
+      → position_or_len is_none places + 1 ≤ position_or_len is_none (set places (position_or_len is_none places) (Some y))
+  next_behind [] y l = absurd (omega arith)
+  next_behind (None ∷ places) y l = omega arith
+  next_behind (Some x ∷ places) y l =
+      let at : set (Some x ∷ places) (position_or_len is_none (Some x ∷ places)) (Some y) ≡ Some x ∷ set places (position_or_len is_none places) (Some y) =
+      rw (add_comm, add-one) refl in
+      rw at (omega (arith, next_behind places y (omega arith)))

@@ -4,3 +4,6 @@ pub mod Seats
 pub mod Seated
 pub mod Blocks
 pub mod Filed
+pub mod Positions
+pub mod Index
+pub mod Marks

@@ -5,7 +5,7 @@ use Rattle.std.specs.Option.{is_none, option_or}
 use Rattle.std.proofs.lemmas.Bool.{cases_lt, lt-ltb, le-ltb}
 use Rattle.std.proofs.Math.ListN.{drop_of_length-le}
 use Rattle.std.proofs.Math.Seq.{take-append_seam, drop-append_seam}
-use Rattle.std.proofs.lemmas.List.{length-append, length-replicate, length-map, length-take-le, get_or-map, get_or-take, get_or_append_left, get_or-append_right, get_or-replicate}
+use Rattle.std.proofs.lemmas.List.{length-append, length-replicate, length-map, length-take, length-take-le, get_or_past, get_or-map, get_or-take, get_or_append_left, get_or-append_right, get_or-replicate}
 use Rattle.std.proofs.lemmas.List.FromFn.{fill_by_all, length-map-range_with_len, get_or-map-range_with_len, take-map-range_with_len}
 use Rattle.std.proofs.lemmas.List.Folds.{fold-map}
 use Rattle.pf_order.specs.declared.pick.Pick.{Pick}
@@ -83,6 +83,25 @@ module _ (count : ℕ) (before : List (Option Pick)) (picks : List Pick) where
             get_or-append_right keepers (replicate (m - count) None) count q None length-keepers past
             ∙ get_or-replicate (m - count) (q - count) None None (omega arith)
             ∙ sym (ap (λ b. cond b (next_pick picks (sitter before q)) None) unused)
+      ])
+
+  -- whoever kept a place sat on one of those in use
+  pub keepers_earlier : (m : ℕ)
+      → map (λ q. next_pick picks (sitter (take count before) q)) (range_with_len 0 m) ≡ map (kept_at count before picks) (range_with_len 0 m)
+  keepers_earlier m =
+      let keeper = λ (q : ℕ). next_pick picks (sitter (take count before) q) in
+      fill_by_all (kept_at count before picks) (map keeper (range_with_len 0 m)) m None (length-map-range_with_len keeper 0 m)
+      (λ q l. get_or-map-range_with_len keeper 0 m q q None l (omega arith)
+      ∙ elim (cases_lt q count) as (λ _. keeper q ≡ kept_at count before picks q) [
+        | inl below ↦
+            let in_use : ltb q count ≡ true = lt-ltb q count below in
+            ap (next_pick picks) (get_or-take count before q None below)
+            ∙ ap (λ b. cond b (next_pick picks (sitter before q)) None) (sym in_use)
+        | inr past ↦
+            let unused : ltb q count ≡ false = le-ltb q count past in
+            let short : length (take count before) ≤ q = omega (arith, past, length-take count before) in
+            ap (next_pick picks) (get_or_past (take count before) q None short)
+            ∙ ap (λ b. cond b (next_pick picks (sitter before q)) None) (sym unused)
       ])
 
   -- the same row, where every place was given to its keeper first and then the free ones in use to the others

@@ -6,3 +6,4 @@ pub mod Same
 pub mod Blocks
 pub mod Filed
 pub mod Turns
+pub mod Index

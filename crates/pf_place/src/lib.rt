@@ -3,6 +3,7 @@
 #![tactic(auto)]
 
 mod block;
+mod pick_index;
 mod place;
 pub mod row;
 pub mod row_view;

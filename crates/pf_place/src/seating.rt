@@ -1,19 +1,16 @@
-ghost use Rattle.std.specs.Prelude.{◌≡◌, ◌≤◌, [], ◌∷◌, map, length, IfSome};
-ghost use Rattle.std.specs.List.{All, position, range_with_len};
-ghost use Rattle.std.specs.Option.{is_none};
-ghost use Rattle.pf_place.specs.Occupancy.{pick_of, next_pick, sitter, kept_at, is_seated, others, row_of};
+ghost use Rattle.std.specs.Prelude.{◌≡◌, ◌≤◌, ◌<◌, [], ◌∷◌, map, length, false};
+ghost use Rattle.std.specs.List.{All, position, position_or_len, range_with_len, slice_get};
+ghost use Rattle.std.specs.Option.{is_none, option_and_then};
+ghost use Rattle.pf_place.specs.Index.{number_of, with_mark, AreMarked};
+ghost use Rattle.pf_place.specs.Occupancy.{next_pick, sitter, is_seated, others, row_of};
 ghost use Rattle.pf_place.specs.Seating.{seats_filled_with};
 
+use crate::pick_index::PickIndex;
 use crate::place::Place;
 use pf_order::pick::Pick;
 
-/// The pick of the task.
-fn find_pick(picks: &[Pick], task: u32) -> Option<Pick>
-    ensures found { result ≡ pick_of picks.now task }
-    ensures same { IfSome result (λ pick. pick.task ≡ task) }
-{
-    picks.iter().copied().find(|pick| pick.task == task)
-}
+/// How many picks can be marked: more than a slot has. Of those behind, the tasks are looked for among the places.
+const MARKS: usize = 256;
 
 /// Whether the task sits on one of these places.
 fn sits(places: &[Place], task: u32) -> bool
@@ -24,27 +21,62 @@ fn sits(places: &[Place], task: u32) -> bool
         .any(|place| place.pick().map_or(false, |sat| sat.task == task))
 }
 
-/// Who keeps place q: whoever sat there before and runs again.
-fn keeper(before: &[Place], picks: &[Pick], q: usize) -> Place
-    ensures { result ≡ next_pick picks.now (sitter before.now q) }
+/// Where the pick stands of whoever sat on place q of the earlier ones and runs again.
+fn keeper(index: &PickIndex<'_>, earlier: &[Place], q: usize) -> Option<usize>
+    ensures { result ≡ option_and_then (λ sat. number_of index.now sat.task) (sitter earlier.now q) }
 {
-    let sat = before.get(q).and_then(|place| place.pick());
-    match sat.and_then(|sat| find_pick(picks, sat.task)) {
-        Some(pick) => Place::of(pick),
-        None => Place::idle(),
+    match earlier.get(q).and_then(|place| place.pick()) {
+        Some(sat) => index.number(sat.task),
+        None => None,
     }
 }
 
-/// Leaves on each place below `count` its keeper, and nobody on any other.
-fn keep(places: &mut [Place], count: usize, before: &[Place], picks: &[Pick])
-    ensures { places.new ≡ map (kept_at count before.now picks.now) (range_with_len 0 (length places.old)) }
+/// The place where the k-th pick runs; the idle one where there is none.
+fn place_of(picks: &[Pick], k: Option<usize>) -> Place
+    requires { All (λ pick. 1 ≤ pick.task) picks.now }
+    ensures { result ≡ option_and_then (slice_get picks.now) k }
 {
+    match k {
+        Some(k) if k < picks.len() => Place::of(picks[k]),
+        _ => Place::idle(),
+    }
+}
+
+/// Marks the k-th pick, where it can be marked.
+fn mark(marks: &mut [bool], k: Option<usize>)
+    ensures { marks.new ≡ with_mark marks.old k }
+{
+    match k {
+        Some(k) if k < marks.len() => marks[k] = true,
+        _ => {}
+    }
+}
+
+/// Leaves on each place who sat there on the earlier ones and runs again, and nobody on any other. Marks the picks whose
+/// task sat on an earlier place: of a task's picks the first.
+fn keep(places: &mut [Place], marks: &mut [bool], earlier: &[Place], index: &PickIndex<'_>)
+    requires numbered { All (λ pick. 1 ≤ pick.task) index.now }
+    requires long { length earlier.now ≤ length places.old }
+    requires unmarked { All (λ mark. mark ≡ false) marks.old }
+    ensures kept { places.new ≡ map (λ q. next_pick index.now (sitter earlier.now q)) (range_with_len 0 (length places.old)) }
+    ensures marked { AreMarked marks.new earlier.now index.now }
+{
+    let picks = index.picks();
     for q in 0..places.len() {
-        places[q] = if q < count {
-            keeper(before, picks, q)
-        } else {
-            Place::idle()
-        };
+        let k = keeper(index, earlier, q);
+        places[q] = place_of(picks, k);
+        mark(marks, k);
+    }
+}
+
+/// Whether the task sat on one of the earlier places: its first pick's mark tells it, where that can be marked.
+fn sat(marks: &[bool], earlier: &[Place], index: &PickIndex<'_>, task: u32) -> bool
+    requires { AreMarked marks.now earlier.now index.now }
+    ensures { result ≡ is_seated earlier.now task }
+{
+    match index.number(task) {
+        Some(k) if k < marks.len() => marks[k],
+        _ => sits(earlier, task),
     }
 }
 
@@ -55,25 +87,42 @@ fn lowest_free(places: &[Place]) -> Option<usize>
     places.iter().position(|place| place.is_idle())
 }
 
-/// Seats the pick on the lowest free place, where one is free.
-fn seat_lowest(places: &mut [Place], pick: Pick)
-    requires { 1 ≤ pick.task }
-    ensures { places.new ≡ seats_filled_with places.old (pick ∷ []) }
+/// The lowest free place, where no place before `from` is free; how many places there are where none is.
+fn free_from(places: &[Place], from: usize) -> usize
+    requires within { from ≤ length places.now }
+    requires taken { from ≤ position_or_len is_none places.now }
+    ensures { result ≡ position_or_len is_none places.now }
 {
-    if let Some(free) = lowest_free(places) {
-        places[free] = Place::of(pick);
+    match lowest_free(&places[from..]) {
+        Some(behind) => from + behind,
+        None => places.len(),
     }
+}
+
+/// Seats the pick on the lowest free place, and returns the lowest then.
+fn seat_lowest(places: &mut [Place], free: usize, pick: Pick) -> usize
+    requires numbered { 1 ≤ pick.task }
+    requires lowest { free ≡ position_or_len is_none places.old }
+    requires some { free < length places.old }
+    ensures seated { places.new ≡ seats_filled_with places.old (pick ∷ []) }
+    ensures next { result ≡ position_or_len is_none places.new }
+{
+    places[free] = Place::of(pick);
+    free_from(places, free + 1)
 }
 
 /// Seats the picks whose task sat on none of the earlier places, in order, on the free ones of these places, from the
 /// lowest.
-fn seat_others(places: &mut [Place], earlier: &[Place], picks: &[Pick])
-    requires { All (λ pick. 1 ≤ pick.task) picks.now }
-    ensures { places.new ≡ seats_filled_with places.old (others earlier.now picks.now) }
+fn seat_others(places: &mut [Place], marks: &[bool], earlier: &[Place], index: &PickIndex<'_>)
+    requires numbered { All (λ pick. 1 ≤ pick.task) index.now }
+    requires marked { AreMarked marks.now earlier.now index.now }
+    ensures { places.new ≡ seats_filled_with places.old (others earlier.now index.now) }
 {
+    let picks = index.picks();
+    let mut free = free_from(places, 0);
     for pick in picks {
-        if !sits(earlier, pick.task) {
-            seat_lowest(places, *pick);
+        if free < places.len() && !sat(marks, earlier, index, pick.task) {
+            free = seat_lowest(places, free, *pick);
         }
     }
 }
@@ -85,7 +134,9 @@ pub(crate) fn seat(places: &mut [Place], count: usize, before: &[Place], picks: 
     requires numbered { All (λ pick. 1 ≤ pick.task) picks.now }
     ensures { places.new ≡ row_of (length places.old) count before.now picks.now }
 {
-    keep(places, count, before, picks);
+    let index = PickIndex::of(picks);
     let earlier = &before[..count.min(before.len())];
-    seat_others(&mut places[..count], earlier, picks);
+    let mut marks = [false; MARKS];
+    keep(places, &mut marks, earlier, &index);
+    seat_others(&mut places[..count], &marks, earlier, &index);
 }

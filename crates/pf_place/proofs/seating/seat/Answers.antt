@@ -1,15 +1,23 @@
-use Rattle.std.proofs.Common.{◌≡◌, ◌++◌, take, drop, ap, ◌∙◌, length}
+use Rattle.std.proofs.Common.{◌≡◌, ◌++◌, map, take, drop, ap, ap₂, ◌∙◌, length}
+use Rattle.std.specs.List.{range_with_len}
 use Rattle.std.proofs.lemmas.List.{take_min}
-use Rattle.pf_place.specs.Occupancy.{others}
+use Rattle.pf_place.specs.Occupancy.{next_pick, sitter, others, kept_at}
 use Rattle.pf_place.specs.Seating.{seats_filled_with}
-use Rattle.pf_place.proofs.Seats.{row_from_kept}
+use Rattle.pf_place.proofs.Seats.{keepers_earlier, row_from_kept}
 use Rattle.pf_place.proofs.seating.seat.Goals as goal
 
 pub returns : goal.returns
 returns c =
     let before = c.args.before.now in
-    let earlier : take c.min.result before ≡ take c.args.count before =
-    ap (λ n. take n before) c.min.ensures ∙ take_min c.args.count before in
-    let seated = c.seat_others.ensures ∙ ap (λ sat. seats_filled_with (take c.args.count c.keep.new.places) (others sat c.args.picks.now)) earlier in
-    ap (λ front. front ++ drop c.args.count c.keep.new.places) seated
-    ∙ row_from_kept c.args.count before c.args.picks.now (length c.args.places.now) c.keep.new.places c.requires.in_use c.keep.ensures
+    let picks = c.args.picks.now in
+    let count = c.args.count in
+    let m = length c.args.places.now in
+    let earlier : take c.min.result before ≡ take count before =
+    ap (λ n. take n before) c.min.ensures ∙ take_min count before in
+    let kept : c.keep.new.places ≡ map (kept_at count before picks) (range_with_len 0 m) =
+    c.keep.ensures.kept
+    ∙ ap₂ (λ row ps. map (λ q. next_pick ps (sitter row q)) (range_with_len 0 m)) earlier c.of-index.ensures
+    ∙ keepers_earlier count before picks m in
+    let seated = c.seat_others.ensures ∙ ap₂ (λ sat ps. seats_filled_with (take count c.keep.new.places) (others sat ps)) earlier c.of-index.ensures in
+    ap (λ front. front ++ drop count c.keep.new.places) seated
+    ∙ row_from_kept count before picks m c.keep.new.places c.requires.in_use kept

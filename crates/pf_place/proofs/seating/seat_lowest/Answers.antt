@@ -1,8 +1,11 @@
-use Rattle.pf_place.proofs.Filling.{filled_lowest, filled_full}
+use Rattle.std.proofs.Common.{arith}
+use Rattle.pf_place.proofs.Filling.{lowest_filled, next_behind}
 use Rattle.pf_place.proofs.seating.seat_lowest.Goals as goal
 
-pub returns-in-Some : goal.returns-in-Some
-returns-in-Some c = rw c.of.ensures (filled_lowest c.args.places.now c.args.pick c.in-Some.free c.in-Some.ensures)
+pub free_from-requires-clause-taken : goal.free_from-requires-clause-taken
+free_from-requires-clause-taken c =
+    rw (c.of.ensures, c.requires.lowest) (next_behind c.args.places.now c.args.pick (omega (arith, c.requires.lowest, c.requires.some)))
 
-pub returns-in_default : goal.returns-in_default
-returns-in_default c = filled_full c.args.places.now c.args.pick c.in_default.ensures
+pub returns-clause-seated : goal.returns-clause-seated
+returns-clause-seated c =
+    rw (c.of.ensures, c.requires.lowest) (lowest_filled c.args.places.now c.args.pick (omega (arith, c.requires.lowest, c.requires.some)))
