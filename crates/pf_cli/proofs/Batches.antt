@@ -2,9 +2,11 @@
 use Rattle.std.proofs.Common.{◌≡◌, ◌<◌, ◌≤◌, ℕ, ◌+◌, Bool, true, false, List, [], ◌∷◌, ◌++◌, All, length, map, drop, get_or, Option, Result, Ok, Err, refl, sym, ap, ap₂, subst, ◌∙◌, arith, append_assoc}
 use Rattle.std.specs.Io.KnownBytes.{Appends}
 use Rattle.std.proofs.KnownBytes.{Appends-nil}
-use Rattle.std.specs.Prelude.{OnOk, OnErr}
+use Rattle.std.specs.Prelude.{◌||◌, OnOk, OnErr}
 use Rattle.std.specs.List.{flat_map, AllByRecursion}
+use Rattle.std.proofs.Math.Bool.{or-false, or_assoc}
 use Rattle.std.proofs.lemmas.List.{append-nil, drop_at, drop_more, length-append}
+use Rattle.std.proofs.lemmas.List.Folds.{list_any-append}
 use Rattle.std.proofs.lemmas.List.Elements.{All-nil, All-cons, All-append, All-from_recursion, recursion_from_All}
 use Rattle.pf_order.specs.declared.pick.Pick.{Pick}
 use Rattle.pf_scenario.specs.Edit.{edit_fault}
@@ -25,33 +27,35 @@ use Rattle.pf_cli.specs.declared.batching.BatchingSession.{BatchingSession}
 use Rattle.pf_cli.specs.declared.session.Session.{Session}
 use Rattle.pf_cli.specs.Batching.{HasTaken, course_to_be, replies_to_be, text_to_be}
 use Rattle.pf_cli.specs.Meaning.{ScriptCourse, course_after, course_behind, reply_lines, text_if_replies}
-use Rattle.pf_cli.specs.Replies.{HasFewPlaces, reply_line}
+use Rattle.pf_cli.specs.Replies.{HasFewPlaces, is_refusal, reply_line}
 use Rattle.pf_cli.specs.Session.{HasAnswered, course_at, replies_of}
 use Rattle.pf_cli.proofs.Replying.{edit_takes_none}
-use Rattle.pf_cli.proofs.Sessions.{all_but_at, course_behind-append, front_at, replies_of_none, shown_lines-append, shown_whole, text_if_replies-nil}
+use Rattle.pf_cli.proofs.Sessions.{all_but_at, course_behind-append, front_at, has_refusal, replies_of_none, shown_lines-append, shown_whole, text_if_replies-nil}
 
--- a course of so many entries, where the checkpoints lie so far apart
-abbrev course_of : ℕ → ℕ → State → ScriptCourse
-course_of every n st = record { state = st; entries = n; every = every }
+-- a course of so many entries, one of them refused or not, where the checkpoints lie so far apart
+abbrev course_of : ℕ → ℕ → Bool → State → ScriptCourse
+course_of every n refused st = record { state = st; entries = n; refused = refused; every = every }
 
 -- the course behind the entries of a legal history
-entered_course : (every : ℕ) (st : State) (n : ℕ) (es : List Entry) → IsLegalFrom st es
-    → course_of every (n + length es) (state_behind st es) ≡ course_behind (course_of every n st) (map (λ e. e.command) es)
-entered_course every st n [] h = let none : n + 0 ≡ n = omega arith in ap (λ k. course_of every k st) none
-entered_course every st n (e ∷ es) h =
+entered_course : (every : ℕ) (st : State) (n : ℕ) (refused : Bool) (es : List Entry) → IsLegalFrom st es
+    → course_of every (n + length es) (refused || has_refusal es) (state_behind st es) ≡ course_behind (course_of every n refused st) (map (λ e. e.command) es)
+entered_course every st n refused [] h =
+    let none : n + 0 ≡ n = omega arith in
+    ap₂ (λ k b. course_of every k b st) none (or-false refused)
+entered_course every st n refused (e ∷ es) h =
     let more : n + length (e ∷ es) ≡ n + 1 + length es = omega arith in
-    ap (λ k. course_of every k (state_behind (state_after st e.command e.reply) es)) more
-    ∙ entered_course every (state_after st e.command e.reply) (n + 1) es h.1
-    ∙ ap (λ r. course_behind (course_of every (n + 1) (state_after st e.command r)) (map (λ e. e.command) es)) h.0
+    ap₂ (λ k b. course_of every k b (state_behind (state_after st e.command e.reply) es)) more (sym (or_assoc refused (is_refusal e.reply) (has_refusal es)))
+    ∙ entered_course every (state_after st e.command e.reply) (n + 1) (refused || is_refusal e.reply) es h.1
+    ∙ ap (λ r. course_behind (course_of every (n + 1) (refused || is_refusal r) (state_after st e.command r)) (map (λ e. e.command) es)) h.0
 
 -- the lines of their replies
-entered_lines : (every : ℕ) (st : State) (n : ℕ) (es : List Entry) → IsLegalFrom st es
-    → flat_map (λ e. reply_line e.reply) es ≡ reply_lines (course_of every n st) (map (λ e. e.command) es)
-entered_lines every st n [] h = refl
-entered_lines every st n (e ∷ es) h =
+entered_lines : (every : ℕ) (st : State) (n : ℕ) (refused : Bool) (es : List Entry) → IsLegalFrom st es
+    → flat_map (λ e. reply_line e.reply) es ≡ reply_lines (course_of every n refused st) (map (λ e. e.command) es)
+entered_lines every st n refused [] h = refl
+entered_lines every st n refused (e ∷ es) h =
     ap₂ (λ a b. a ++ b) (ap reply_line h.0)
-    (entered_lines every (state_after st e.command e.reply) (n + 1) es h.1
-    ∙ ap (λ r. reply_lines (course_of every (n + 1) (state_after st e.command r)) (map (λ e. e.command) es)) h.0)
+    (entered_lines every (state_after st e.command e.reply) (n + 1) (refused || is_refusal e.reply) es h.1
+    ∙ ap (λ r. reply_lines (course_of every (n + 1) (refused || is_refusal r) (state_after st e.command r)) (map (λ e. e.command) es)) h.0)
 
 -- a plain edit takes no slot
 plain_takes_none : (st : State) (command : Command) (reply : Reply) → reply ≡ reply_to st command → IsPlain command → HasFewPlaces reply
@@ -75,12 +79,14 @@ module _ (caller : ℕ) (commands : List Command) (a b : Shown) (h : AnswersAll 
   pub answered_course : course_at b ≡ course_behind (course_at a) commands
   answered_course =
       let long : length b.history ≡ length a.history + length h.entries = ap length h.entered ∙ length-append a.history h.entries in
-      (λ i. course_of (h.every i) (long i) (h.state i)) ∙ entered_course a.every a.state (length a.history) h.entries h.answers
+      let refused : has_refusal b.history ≡ (has_refusal a.history || has_refusal h.entries) =
+      ap has_refusal h.entered ∙ list_any-append (λ e. is_refusal e.reply) a.history h.entries in
+      (λ i. course_of (h.every i) (long i) (refused i) (h.state i)) ∙ entered_course a.every a.state (length a.history) (has_refusal a.history) h.entries h.answers
       ∙ ap (course_behind (course_at a)) h.commands_in_order
 
   pub answered_lines : flat_map (λ e. reply_line e.reply) (drop (length a.history) b.history) ≡ reply_lines (course_at a) commands
   answered_lines =
-      ap (flat_map (λ e. reply_line e.reply)) new_entries ∙ entered_lines a.every a.state (length a.history) h.entries h.answers
+      ap (flat_map (λ e. reply_line e.reply)) new_entries ∙ entered_lines a.every a.state (length a.history) (has_refusal a.history) h.entries h.answers
       ∙ ap (reply_lines (course_at a)) h.commands_in_order
 
   pub answered_places : All IsPlain commands → All (λ e. HasFewPlaces e.reply) (drop (length a.history) b.history)

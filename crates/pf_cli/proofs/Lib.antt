@@ -1,5 +1,6 @@
 pub mod Batches
 pub mod Checking
+pub mod Courses
 pub mod Ends
 pub mod Limits
 pub mod Openings

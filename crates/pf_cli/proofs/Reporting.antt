@@ -1,5 +1,6 @@
 -- The report of a session, where its writing stopped.
 use Rattle.std.proofs.Common.{◌≡◌, ℕ, List, ◌++◌, Option, None, Err, refl, sym, subst}
+use Rattle.pf_desk.specs.Desk.{Shown}
 use Rattle.pf_stream.specs.Written.{TookFront}
 use Rattle.pf_stream.proofs.Sending.{took-before}
 use Rattle.pf_words.specs.declared.format.Format.{Format}
@@ -17,14 +18,14 @@ shown_meaning format c fits = rw fits refl
 module _ (format : Format) (c : ScriptCourse) (lines : List ℕ) (old new : Option (List ℕ)) (fault : OutputFault) where
   -- Use: its writing stopped.
   pub stopped_showing : range_fault format c.state.now ≡ None → TookFront old new (lines ++ report_text format c.every (seen_at c))
-      → Answers {A = Unit {0}} (text_and_then lines (report_meaning format c)) (Err (fault_of_output fault)) old new
+      → Answers {A = Shown} (text_and_then lines (report_meaning format c)) (Err (fault_of_output fault)) old new
   stopped_showing fits took =
-      answers_stopped (Unit {0}) (text_and_then lines (report_meaning format c)) fault old new
+      answers_stopped Shown (text_and_then lines (report_meaning format c)) fault old new
       (subst (λ (m : Meaning). TookFront old new (lines ++ m.text)) (sym (shown_meaning format c fits)) took)
 
   -- and that of what waits, before any report
   pub stopped_outside : TookFront old new lines
-      → Answers {A = Unit {0}} (text_and_then lines (report_meaning format c)) (Err (fault_of_output fault)) old new
+      → Answers {A = Shown} (text_and_then lines (report_meaning format c)) (Err (fault_of_output fault)) old new
   stopped_outside took =
-      answers_stopped (Unit {0}) (text_and_then lines (report_meaning format c)) fault old new
+      answers_stopped Shown (text_and_then lines (report_meaning format c)) fault old new
       (took-before old new lines (report_meaning format c).text took)

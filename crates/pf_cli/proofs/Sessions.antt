@@ -1,20 +1,24 @@
 -- What a session's text comes to.
 use Rattle.std.proofs.Common.{◌≡◌, ◌<◌, ℕ, ◌+◌, ◌-◌, suc, Bool, true, false, List, [], ◌∷◌, ◌++◌, length, replicate, Option, Result, Ok, Err, refl, sym, ap, ap₂, subst, ◌∙◌, arith, append_assoc}
-use Rattle.std.specs.Prelude.{if◌then◌else◌, IfOk, OnErr}
+use Rattle.std.specs.Prelude.{◌||◌, if◌then◌else◌, IfOk, OnErr}
+use Rattle.std.specs.List.{list_any}
 use Rattle.std.specs.Io.KnownBytes.{Appends}
 use Rattle.std.proofs.KnownBytes.{Appends-nil}
+use Rattle.std.proofs.Math.Bool.{or-false}
 use Rattle.std.proofs.lemmas.List.{append-nil, length-append}
+use Rattle.std.proofs.lemmas.List.Folds.{list_any-append}
 use Rattle.pf_run.specs.RunRows.{rows_in, denials_in}
 use Rattle.pf_desk.specs.declared.command.Command.{Command}
 use Rattle.pf_desk.specs.declared.command.Command.TheVariants.{Step}
+use Rattle.pf_desk.specs.declared.entry.Entry.{Entry}
 use Rattle.pf_desk.specs.declared.reply.Reply.{Reply}
 use Rattle.pf_desk.specs.Machine.{reply_to, state_after}
-use Rattle.pf_desk.specs.Desk.{Shown, AnswersCaller, Seen, StandsForHistory}
+use Rattle.pf_desk.specs.Desk.{Shown, AnswersCaller, Seen, StandsForHistory, entry_of}
 use Rattle.pf_stream.specs.Written.{TookAllBut, TookFront}
 pub use Rattle.pf_stream.proofs.Sending.{all_to_come, anyway, none_written, on_the_way, stopped_on_the_way}
 use Rattle.pf_words.specs.declared.format.Format.{Format}
 use Rattle.pf_cli.specs.declared.session.Session.{Session}
-use Rattle.pf_cli.specs.Replies.{reply_line}
+use Rattle.pf_cli.specs.Replies.{is_refusal, reply_line}
 use Rattle.pf_words.specs.Formats.{has_replies}
 use Rattle.pf_cli.specs.Meaning.{ScriptCourse, course_after, course_behind, text_if_replies, reply_lines, report_text, seen_at}
 use Rattle.pf_cli.specs.Session.{course_at, replies_of, HasAnswered}
@@ -105,13 +109,22 @@ steps_left count turn h =
 pub none_left : (count turn : ℕ) → count - turn ≡ 0 → replicate (count - turn) Step ≡ []
 none_left count turn h = ap (λ n. replicate n Step) h
 
+-- whether a command of a history was refused, where one entry more is behind it
+abbrev pub has_refusal : List Entry → Bool
+has_refusal entries = list_any (λ e. is_refusal e.reply) entries
+
+has_refusal-more : (entries : List Entry) (e : Entry) → has_refusal (entries ++ e ∷ []) ≡ (has_refusal entries || is_refusal e.reply)
+has_refusal-more entries e =
+    list_any-append (λ x. is_refusal x.reply) entries (e ∷ []) ∙ ap (λ b. has_refusal entries || b) (or-false (is_refusal e.reply))
+
 -- a command's reply is one entry more of the course
 pub course_entered : (caller : ℕ) (command : Command) (before after : Shown) (reply : Reply) → AnswersCaller caller command before reply after
     → course_at after ≡ course_behind (course_at before) (command ∷ [])
 course_entered caller command before after reply h =
     let entries : length after.history ≡ length before.history + 1 = ap length h.entered ∙ length-append before.history _ in
     let state = h.state ∙ ap (state_after before.state command) h.answer in
-    λ i. record { state = state i; entries = entries i; every = h.every i }
+    let refused = ap has_refusal h.entered ∙ has_refusal-more before.history (entry_of caller command reply) ∙ ap (λ r. has_refusal before.history || is_refusal r) h.answer in
+    λ i. record { state = state i; entries = entries i; refused = refused i; every = h.every i }
 
 -- the one reply of a command
 pub replies_of_one : (s : Session) (command : Command) → has_replies s.format ≡ true

@@ -2,6 +2,7 @@ pub use Rattle.pf_stream.specs.Counted
 pub use Rattle.pf_stream.specs.Failing
 pub use Rattle.pf_stream.specs.Written
 pub use Rattle.pf_stream.specs.Reading
+pub use Rattle.pf_words.specs.FailLists
 pub use Rattle.pf_words.specs.Formats
 pub use Rattle.pf_script.specs.Fields
 pub use Rattle.pf_script.specs.Grammar
@@ -12,6 +13,7 @@ pub use Rattle.pf_check.specs.Reports
 pub mod Answers
 pub mod Batching
 pub mod Checks
+pub mod Ended
 pub mod Examples
 pub mod Laws
 pub mod Meaning

@@ -1,5 +1,5 @@
 -- What a script means: a text and an end.
-use Rattle.std.specs.Prelude.{ℕ, ◌+◌, ◌^◌, Bool, ◌&&◌, nat_le, nat_lt, if◌then◌else◌, Option, None, Some, option_map, List, [], ◌∷◌, ◌++◌, codes, length, replicate}
+use Rattle.std.specs.Prelude.{ℕ, ◌+◌, ◌^◌, Bool, false, ◌&&◌, ◌||◌, nat_le, nat_lt, if◌then◌else◌, Option, None, Some, option_map, List, [], ◌∷◌, ◌++◌, codes, length, replicate}
 use Rattle.pf_scenario.specs.System.{System}
 use Rattle.pf_run.specs.RunRows.{rows_in, denials_in}
 use Rattle.pf_timeline.specs.Checkpoints.{largest_distance}
@@ -29,7 +29,7 @@ use Rattle.pf_words.specs.declared.format.Format.TheVariants.{Schedule, Tables, 
 use Rattle.pf_words.specs.declared.range_fault.RangeFault.{RangeFault}
 use Rattle.pf_words.specs.Formats.{has_replies, range_fault}
 use Rattle.pf_words.specs.Ranges.{end_of, first_of}
-use Rattle.pf_cli.specs.Replies.{reply_line, line_end}
+use Rattle.pf_cli.specs.Replies.{is_refusal, reply_line, line_end}
 
 -- how a script ends: well, at a bad record of this number, because it is too long, or because the range of its format
 -- can't be shown of the slots stepped
@@ -51,21 +51,23 @@ text_and_then text m = record { text = text ++ m.text; end = m.end }
 abbrev pub bad_record : ℕ → Meaning
 bad_record number = record { text = []; end = BadRecord number }
 
--- how far a script is: the state of the desk machine, how many commands it has answered, and how far the checkpoints lie
--- apart in slots
+-- how far a script is: the state of the desk machine, how many commands it has answered, whether it refused one of them,
+-- and how far the checkpoints lie apart in slots
 pub record ScriptCourse : Type 0 where
   pub state : State
   pub entries : ℕ
+  pub refused : Bool
   pub every : ℕ
 
 -- the course of a desk that was opened and has answered no command
 abbrev pub opening_course : ℕ → System → ScriptCourse
-opening_course every settings = record { state = opening_state settings; entries = 0; every = every }
+opening_course every settings = record { state = opening_state settings; entries = 0; refused = false; every = every }
 
 abbrev pub course_after : ScriptCourse → Command → ScriptCourse
 course_after c command = record {
   state = state_after c.state command (reply_to c.state command);
   entries = c.entries + 1;
+  refused = c.refused || is_refusal (reply_to c.state command);
   every = c.every;
 }
 

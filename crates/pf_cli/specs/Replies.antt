@@ -1,5 +1,5 @@
 -- The line that a reply gets.
-use Rattle.std.specs.Prelude.{⊤, ℕ, ◌≤◌, Option, None, Some, List, [], ◌∷◌, ◌++◌, codes, length}
+use Rattle.std.specs.Prelude.{⊤, ℕ, ◌≤◌, Bool, true, false, Option, None, Some, List, [], ◌∷◌, ◌++◌, codes, length}
 use Rattle.std.specs.List.{flat_map}
 use Rattle.std.specs.Fmt.{decimal}
 use Rattle.pf_weight.specs.Refusals.{weight_fault_code}
@@ -47,6 +47,11 @@ reply_text (Refused fault) = codes "refused " ++ fault_text fault
 
 unfoldable pub reply_line : Reply → List ℕ
 reply_line reply = reply_text reply ++ line_end
+
+-- whether the reply refuses its command
+abbrev pub is_refusal : Reply → Bool
+is_refusal (Refused fault) = true
+is_refusal reply = false
 
 -- a row in the reply has at most 64 places
 abbrev pub HasFewPlaces : Reply → Type 0

@@ -1,15 +1,22 @@
 -- A script that is being carried out.
 use Rattle.std.specs.Prelude.{ℕ, nat_lt, Bool, false, ◌≡◌, List, [], ◌++◌, length, Option, None, Some}
+use Rattle.std.specs.List.{list_any}
 use Rattle.pf_desk.specs.declared.command.Command.{Command}
 use Rattle.pf_desk.specs.Desk.{Shown}
 use Rattle.pf_stream.specs.Written.{TookAllBut}
 use Rattle.pf_words.specs.declared.format.Format.{Format}
 use Rattle.pf_cli.specs.declared.session.Session.{Session}
 use Rattle.pf_cli.specs.Meaning.{ScriptCourse, course_behind, text_if_replies, reply_lines}
+use Rattle.pf_cli.specs.Replies.{is_refusal}
 
 -- how far a desk is
 abbrev pub course_at : Shown → ScriptCourse
-course_at d = record { state = d.state; entries = length d.history; every = d.every }
+course_at d = record {
+  state = d.state;
+  entries = length d.history;
+  refused = list_any (λ e. is_refusal e.reply) d.history;
+  every = d.every;
+}
 
 -- whether there is a slot, and it was stepped
 abbrev pub is_before : ℕ → Option ℕ → Bool

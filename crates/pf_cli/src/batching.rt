@@ -1,15 +1,17 @@
-ghost use Rattle.std.specs.Prelude.{◌≡◌, ◌-◌, ◌^◌, ◌<◌, ◌++◌, [], ◌∷◌, All, IfSome, OnOk, OnErr};
+ghost use Rattle.std.specs.Prelude.{◌≡◌, ◌-◌, ◌^◌, ◌<◌, ◌++◌, [], ◌∷◌, All, IfOk, IfSome, OnOk, OnErr};
 ghost use Rattle.std.specs.Io.KnownBytes.{Appends};
 ghost use Rattle.pf_desk.specs.Plain.{IsPlain};
 ghost use Rattle.pf_stream.specs.Written.{TookFront};
 ghost use Rattle.pf_cli.specs.Answers.{Answers, CountsOutput, CountsWrites, IsPastReading};
 ghost use Rattle.pf_cli.specs.Batching.{HasTaken, IsUnbatched, course_to_be, replies_to_be, text_to_be};
 ghost use Rattle.pf_cli.specs.Meaning.{commands_of, report_meaning, text_and_then};
+ghost use Rattle.pf_cli.specs.Session.{course_at};
 
 use crate::fault::RunFault;
 use crate::output_fault::OutputFault;
 use crate::session::Session;
 use pf_desk::command::Command;
+use pf_desk::desk::Desk;
 use pf_script::line::Line;
 use pf_stream::sink::Sink;
 use std::alloc::{AllocError, Global};
@@ -122,16 +124,18 @@ impl BatchingSession {
     }
 
     /// Answers the edits that wait, puts the report where the format can be shown of the slots stepped, and writes what waits.
+    /// Answers the desk.
     ///
     /// # Errors
     ///
     /// `BadRange` where it can't be shown of them: what waits is written, and no report. `WriteFault` and `NoMemory`:
     /// the writer has a front of the text.
-    pub fn report<W: Sink>(self, alloc: Global, writer: &mut W) -> Result<(), RunFault>
+    pub fn report<W: Sink>(self, alloc: Global, writer: &mut W) -> Result<Desk, RunFault>
         requires plain { All IsPlain self.waiting.items }
         requires writes { W.failed writer.old < 2 ^ 64 - 1 }
         ensures meaning { Answers (text_and_then (text_to_be self) (report_meaning self.session.format (course_to_be self))) result
             (W.contents writer.old) (W.contents writer.new) }
+        ensures course { IfOk result (λ desk. course_at desk ≡ course_to_be self) }
         ensures read { IsPastReading result }
         ensures writes { CountsWrites result (W.failed writer.old) (W.failed writer.new) }
     {

@@ -6,6 +6,7 @@
 
 mod batching;
 pub mod check;
+mod failing;
 pub mod fault;
 pub mod laws;
 mod output_fault;
@@ -15,4 +16,4 @@ pub mod run;
 mod session;
 
 pub use pf_stream::{sink, source};
-pub use pf_words::format;
+pub use pf_words::{fail_on, format};

@@ -1,17 +1,22 @@
-ghost use Rattle.std.specs.Prelude.{◌≡◌, ◌+◌, ◌-◌, ◌^◌, ◌<◌, ◌≤◌, length, IfSome, IfErr, Err};
+ghost use Rattle.std.specs.Prelude.{◌≡◌, ◌+◌, ◌-◌, ◌^◌, ◌<◌, ◌≤◌, false, length, Some, IfOk, IfSome, IfErr, Err};
 ghost use Rattle.std.specs.Io.KnownBytes.{Keeps};
+ghost use Rattle.std.specs.Option.{option_and_then};
 ghost use Rattle.csv.specs.Records.{fields_of};
 ghost use Rattle.pf_stream.specs.Reading.{longest_script, TakesAtMost};
 ghost use Rattle.pf_script.specs.Grammar.{opening_of};
+ghost use Rattle.pf_words.specs.FailLists.{on_nothing};
 ghost use Rattle.pf_cli.specs.declared.fault.RunFault.TheVariants.{ReadFault};
 ghost use Rattle.pf_cli.specs.Answers.{Answers, CountsReads, CountsWrites, IsOutside, IsPastReading};
+ghost use Rattle.pf_cli.specs.Ended.{course_through, fails_on, script_course};
 ghost use Rattle.pf_cli.specs.Meaning.{script_meaning, settings_meaning, lines_meaning, text_and_then, course_opened_by, system_of};
 ghost use Rattle.pf_cli.specs.Session.{course_at};
 
 use crate::batching::BatchingSession;
+use crate::failing::is_failing;
 use crate::fault::RunFault;
 use crate::session::Session;
 use csv::ByteRecord;
+use pf_desk::desk::Desk;
 use pf_scenario::settings::Settings;
 use pf_script::fields::Fields;
 use pf_script::grammar::{read_heading, read_line, read_opening};
@@ -22,6 +27,7 @@ use pf_stream::reading::read_script;
 use pf_stream::sink::Sink;
 use pf_stream::source::Source;
 use pf_timeline::timeline::LARGEST_DISTANCE;
+use pf_words::fail_on::FailOn;
 use pf_words::format::Format;
 use std::alloc::Global;
 
@@ -53,20 +59,78 @@ pub fn run<R: Source, W: Sink>(
     ensures reads { CountsReads result (R.failed reader.old) (R.failed reader.new) }
     ensures writes { CountsWrites result (W.failed writer.old) (W.failed writer.new) }
 {
+    match run_to_end(alloc, reader, writer, format) {
+        Ok(_) => Ok(()),
+        Err(fault) => Err(fault),
+    }
+}
+
+/// Does what `run` does, and answers whether the run fails on this: a command that was refused, an event that is denied in
+/// the run of the scenario as it stands at the end, a window that is missed in it, each where it is asked for. In no format is
+/// anything else written. What the missed windows take of memory is taken only where they are asked for, and nothing else is
+/// met. The counts of failures of reader and writer must be below `u64::MAX` before the call.
+///
+/// # Errors
+///
+/// As `run`. Where it is `NoMemory` in the end, for the missed windows, the front of the text that was written is the whole.
+pub fn run_judged<R: Source, W: Sink>(
+    alloc: Global,
+    reader: &mut R,
+    writer: &mut W,
+    format: Format,
+    fail_on: FailOn,
+) -> Result<bool, RunFault>
+    requires reads { R.failed reader.old < 2 ^ 64 - 1 }
+    requires writes { W.failed writer.old < 2 ^ 64 - 1 }
+    ensures meaning { IfSome (R.remaining reader.old)
+        (λ bytes. Answers (script_meaning format bytes) result (W.contents writer.old) (W.contents writer.new)) }
+    ensures failing { IfSome (R.remaining reader.old) (λ bytes. IfOk result (λ failing. fails_on fail_on bytes ≡ Some failing)) }
+    ensures unasked { fail_on ≡ on_nothing → IfOk result (λ failing. failing ≡ false) }
+    ensures unwritten { result ≡ Err ReadFault → Keeps (W.contents writer.old) (W.contents writer.new) }
+    ensures outside { IsOutside result → Keeps (W.contents writer.old) (W.contents writer.new) }
+    ensures taken { TakesAtMost (R.remaining reader.old) (R.remaining reader.new) (longest_script + 1) }
+    ensures reads { CountsReads result (R.failed reader.old) (R.failed reader.new) }
+    ensures writes { CountsWrites result (W.failed writer.old) (W.failed writer.new) }
+{
+    match run_to_end(alloc, reader, writer, format) {
+        Ok(desk) => Ok(is_failing(&desk, fail_on)?),
+        Err(fault) => Err(fault),
+    }
+}
+
+/// Does what `run` does, and answers the desk at the end.
+fn run_to_end<R: Source, W: Sink>(
+    alloc: Global,
+    reader: &mut R,
+    writer: &mut W,
+    format: Format,
+) -> Result<Desk, RunFault>
+    requires reads { R.failed reader.old < 2 ^ 64 - 1 }
+    requires writes { W.failed writer.old < 2 ^ 64 - 1 }
+    ensures meaning { IfSome (R.remaining reader.old)
+        (λ bytes. Answers (script_meaning format bytes) result (W.contents writer.old) (W.contents writer.new)) }
+    ensures course { IfSome (R.remaining reader.old) (λ bytes. IfOk result (λ desk. script_course bytes ≡ Some (course_at desk))) }
+    ensures unwritten { result ≡ Err ReadFault → Keeps (W.contents writer.old) (W.contents writer.new) }
+    ensures outside { IsOutside result → Keeps (W.contents writer.old) (W.contents writer.new) }
+    ensures taken { TakesAtMost (R.remaining reader.old) (R.remaining reader.new) (longest_script + 1) }
+    ensures reads { CountsReads result (R.failed reader.old) (R.failed reader.new) }
+    ensures writes { CountsWrites result (W.failed writer.old) (W.failed writer.new) }
+{
     let text = read_script(alloc, reader)?;
     carry_out(alloc, &text, writer, format)
 }
 
-/// Carries out a script of these bytes.
+/// Carries out a script of these bytes, and answers the desk at its end.
 fn carry_out<W: Sink>(
     alloc: Global,
     bytes: &[u8],
     writer: &mut W,
     format: Format,
-) -> Result<(), RunFault>
+) -> Result<Desk, RunFault>
     requires short { length bytes.now ≤ longest_script }
     requires writes { W.failed writer.old < 2 ^ 64 - 1 }
     ensures meaning { Answers (script_meaning format bytes.now) result (W.contents writer.old) (W.contents writer.new) }
+    ensures course { IfOk result (λ desk. script_course bytes.now ≡ Some (course_at desk)) }
     ensures read { IsPastReading result }
     ensures writes { CountsWrites result (W.failed writer.old) (W.failed writer.new) }
 {
@@ -84,7 +148,8 @@ fn carry_out<W: Sink>(
     carry_out_from(alloc, script, row, writer, format, Version::Second, 2)
 }
 
-/// Carries out a script from the record in `row` on, which has this number and is to be the settings.
+/// Carries out a script from the record in `row` on, which has this number and is to be the settings. Answers the desk at
+/// its end.
 fn carry_out_from<W: Sink>(
     alloc: Global,
     script: Script,
@@ -93,11 +158,13 @@ fn carry_out_from<W: Sink>(
     format: Format,
     version: Version,
     number: u64,
-) -> Result<(), RunFault>
+) -> Result<Desk, RunFault>
     requires counted { number + length script < 2 ^ 64 - 1 }
     requires writes { W.failed writer.old < 2 ^ 64 - 1 }
     ensures meaning { Answers (settings_meaning format version number script.entry (course_opened_by version (opening_of (fields_of row)))) result
         (W.contents writer.old) (W.contents writer.new) }
+    ensures course { IfOk result
+        (λ desk. option_and_then (course_through version script.entry) (course_opened_by version (opening_of (fields_of row))) ≡ Some (course_at desk)) }
     ensures read { IsPastReading result }
     ensures writes { CountsWrites result (W.failed writer.old) (W.failed writer.new) }
 {
@@ -126,7 +193,8 @@ pub fn settings(version: Version, opening: Opening) -> Option<Settings>
     }
 }
 
-/// Carries out the records behind the settings, the first of which has this number. Each is read into `row`.
+/// Carries out the records behind the settings, the first of which has this number, and answers the desk at their end. Each
+/// is read into `row`.
 fn carry_out_lines<W: Sink>(
     alloc: Global,
     session: Session,
@@ -135,11 +203,12 @@ fn carry_out_lines<W: Sink>(
     writer: &mut W,
     version: Version,
     first: u64,
-) -> Result<(), RunFault>
+) -> Result<Desk, RunFault>
     requires counted { first + length script < 2 ^ 64 }
     requires writes { W.failed writer.old < 2 ^ 64 - 1 }
     ensures meaning { Answers (text_and_then session.lines (lines_meaning session.format version first (course_at session.desk) script.entry)) result
         (W.contents writer.old) (W.contents writer.new) }
+    ensures course { IfOk result (λ desk. course_through version script.entry (course_at session.desk) ≡ Some (course_at desk)) }
     ensures read { IsPastReading result }
     ensures writes { CountsWrites result (W.failed writer.old) (W.failed writer.new) }
 {

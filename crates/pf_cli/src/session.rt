@@ -175,16 +175,17 @@ impl Session {
         }
     }
 
-    /// Puts the report where the format can be shown of the slots stepped, and writes what waits.
+    /// Puts the report where the format can be shown of the slots stepped, and writes what waits. Answers the desk.
     ///
     /// # Errors
     ///
     /// `BadRange` where it can't be shown of them: what waits is written, and no report. `WriteFault` and `NoMemory`:
     /// the writer has a front of the text.
-    pub fn report<W: Sink>(self, alloc: Global, writer: &mut W) -> Result<(), RunFault>
+    pub fn report<W: Sink>(self, alloc: Global, writer: &mut W) -> Result<Desk, RunFault>
         requires { W.failed writer.old < 2 ^ 64 - 1 }
         ensures meaning { Answers (text_and_then self.lines (report_meaning self.format (course_at self.desk))) result
             (W.contents writer.old) (W.contents writer.new) }
+        ensures desk { IfOk result (λ desk. desk ≡ self.desk) }
         ensures read { IsPastReading result }
         ensures writes { CountsWrites result (W.failed writer.old) (W.failed writer.new) }
     {
@@ -192,18 +193,19 @@ impl Session {
             self.finish(writer)?;
             return Err(RunFault::BadRange(fault));
         }
-        self.report_within(alloc, writer)?;
-        Ok(())
+        let desk = self.report_within(alloc, writer)?;
+        Ok(desk)
     }
 
-    /// Puts the report, which can be shown of the slots stepped, and writes what waits.
-    fn report_within<W: Sink>(self, alloc: Global, writer: &mut W) -> Result<(), OutputFault>
+    /// Puts the report, which can be shown of the slots stepped, and writes what waits. Answers the desk.
+    fn report_within<W: Sink>(self, alloc: Global, writer: &mut W) -> Result<Desk, OutputFault>
         requires showable { range_fault self.format self.desk.state.now ≡ None }
         requires writes { W.failed writer.old < 2 ^ 64 - 1 }
         ensures ok { OnOk result
             (Appends (W.contents writer.old) (W.contents writer.new) (self.lines ++ report_text self.format self.desk.every (seen_at (course_at self.desk)))) }
         ensures err { OnErr result
             (TookFront (W.contents writer.old) (W.contents writer.new) (self.lines ++ report_text self.format self.desk.every (seen_at (course_at self.desk)))) }
+        ensures desk { IfOk result (λ desk. desk ≡ self.desk) }
         ensures count { CountsOutput result (W.failed writer.old) (W.failed writer.new) }
     {
         let snapshot = self.desk.snapshot()?;
@@ -211,7 +213,7 @@ impl Session {
         let mut lines = self.lines;
         put_report(alloc, &snapshot, every, self.format, &mut lines, writer)?;
         lines.finish(writer)?;
-        Ok(())
+        Ok(self.desk)
     }
 
     /// Writes what waits, with no report.

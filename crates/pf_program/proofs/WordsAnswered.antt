@@ -1,8 +1,9 @@
 -- What the program does for words that read no script.
-use Rattle.std.proofs.Common.{◌≡◌, ◌+◌, ◌⊎◌, ℕ, refl, sym, subst, inl, inr, arith, List, [], Option, Some, None, Err}
+use Rattle.std.proofs.Common.{◌≡◌, ◌+◌, ◌⊎◌, ℕ, Bool, refl, sym, subst, inl, inr, arith, List, [], Option, Some, None, Err}
 use Rattle.std.specs.Io.KnownBytes.{Appends}
 use Rattle.std.specs.Prelude.{◌==◌, if◌then◌else◌, IfSome}
 use Rattle.std.proofs.KnownBytes.{Keeps-refl, Consumes-nil}
+use Rattle.pf_words.specs.declared.fail_on.FailOn.{FailOn}
 use Rattle.pf_words.specs.declared.format.Format.{Format}
 use Rattle.pf_words.specs.declared.request.WordsFault.{WordsFault}
 use Rattle.pf_words.specs.declared.request.WordsFault.TheVariants as fault
@@ -59,11 +60,13 @@ none_taken input = ([], Consumes-nil input, omega arith)
 
 -- want of memory is an answer to each task
 no_memory : (old : Streams) (task : Task) → Does task 4 old old
-no_memory old (RunsIn format) = (
+no_memory old (RunsIn format fail_on) = (
   Err NoMemory,
   refl,
   record {
     meaning = none_meant format old.input old.output;
+    failing = unknown old.input;
+    unasked = λ nothing. tt;
     reads = refl;
     writes = refl;
     unwritten = λ failed. Keeps-refl old.output;
@@ -72,9 +75,13 @@ no_memory old (RunsIn format) = (
   },
 )
   where
-    none_meant : (format : Format) (input output : Option (List ℕ)) → IfSome input (λ bytes. Answers {A = Unit {0}} (script_meaning format bytes) (Err NoMemory) output output)
+    none_meant : (format : Format) (input output : Option (List ℕ)) → IfSome input (λ bytes. Answers {A = Bool} (script_meaning format bytes) (Err NoMemory) output output)
     none_meant format None output = tt
     none_meant format (Some bytes) output = none_written output _
+
+    unknown : (input : Option (List ℕ)) → IfSome input (λ bytes. Unit {0})
+    unknown None = tt
+    unknown (Some bytes) = tt
 no_memory old Checks = (
   Err NoMemory,
   refl,
@@ -140,12 +147,15 @@ memory_answers words old (Some task) (Some file) = record {
 }
 
 -- a file that can't be opened is a reader that failed, and nothing is written
-unopened_run : (format : Format) (output : Option (List ℕ)) (failed : ℕ) → RunsScript format 3 (seen_streams None 0 output failed) (seen_streams None 1 output failed)
-unopened_run format output failed = (
+unopened_run : (format : Format) (fail_on : FailOn) (output : Option (List ℕ)) (failed : ℕ)
+    → RunsScript format fail_on 3 (seen_streams None 0 output failed) (seen_streams None 1 output failed)
+unopened_run format fail_on output failed = (
   Err ReadFault,
   refl,
   record {
     meaning = tt;
+    failing = tt;
+    unasked = λ nothing. tt;
     reads = refl;
     writes = refl;
     unwritten = λ fault. Keeps-refl output;
@@ -154,9 +164,9 @@ unopened_run format output failed = (
   },
 )
 
-pub run_unopened : (format : Format) (status : ℕ) (output : Option (List ℕ)) (failed : ℕ) → status ≡ 3
-    → WithFile (RunsScript format status) output failed output failed
-run_unopened format status output failed is = (1, rw is (unopened_run format output failed))
+pub run_unopened : (format : Format) (fail_on : FailOn) (status : ℕ) (output : Option (List ℕ)) (failed : ℕ) → status ≡ 3
+    → WithFile (RunsScript format fail_on status) output failed output failed
+run_unopened format fail_on status output failed is = (1, rw is (unopened_run format fail_on output failed))
 
 -- the same of a check
 unopened_check : (output : Option (List ℕ)) (failed : ℕ) → ChecksScript 3 (seen_streams None 0 output failed) (seen_streams None 1 output failed)

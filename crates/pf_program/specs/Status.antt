@@ -1,13 +1,15 @@
 -- The status that the program ends with, and what it did to its streams.
-use Rattle.std.specs.Prelude.{ℕ, ◌≡◌, ◌+◌, List, Option, Some, None, IfSome, IfErr, Result, Ok, Err, ◌==◌, if◌then◌else◌, ◌⊎◌}
+use Rattle.std.specs.Prelude.{ℕ, Bool, false, ◌≡◌, ◌+◌, List, Option, Some, None, IfOk, IfSome, IfErr, Result, Ok, Err, ◌==◌, if◌then◌else◌, ◌⊎◌}
 use Rattle.std.specs.Io.KnownBytes.{Appends, Keeps}
 use Rattle.pf_cli.specs.declared.fault.RunFault.{RunFault}
 use Rattle.pf_cli.specs.declared.fault.RunFault.TheVariants.{BadLine, ReadFault, WriteFault, ScriptTooLong, BadRange, NoMemory}
+use Rattle.pf_words.specs.declared.fail_on.FailOn.{FailOn}
 use Rattle.pf_words.specs.declared.format.Format.{Format}
 use Rattle.pf_words.specs.declared.request.WordsFault.{WordsFault}
 use Rattle.pf_words.specs.declared.request.WordsFault.TheVariants as words
 use Rattle.pf_words.specs.Asked.{Task, RunsIn, Checks, Diffs, Drills, task_asked, file_asked, AsksHelp, AsksVersion, IsRefused, AreMistaken}
 use Rattle.pf_words.specs.declared.mistake.Mistake.{Mistake}
+use Rattle.pf_words.specs.FailLists.{on_nothing}
 use Rattle.pf_stream.specs.Written.{TookFront}
 use Rattle.pf_stream.specs.Reading.{longest_script, TakesAtMost}
 use Rattle.pf_drill.specs.declared.fault.DrillFault.{DrillFault}
@@ -15,6 +17,7 @@ use Rattle.pf_drill.specs.declared.fault.DrillFault.TheVariants as drill
 use Rattle.pf_drill.specs.Drilled as drilled
 use Rattle.pf_cli.specs.Answers.{Answers, CountsReads, CountsWrites, IsOutside}
 use Rattle.pf_cli.specs.Checks.{ChecksBytes}
+use Rattle.pf_cli.specs.Ended.{fails_on}
 use Rattle.pf_cli.specs.Meaning.{script_meaning}
 use Rattle.pf_change.specs.Change.{change_meaning}
 use Rattle.pf_change.specs.Made.{IsUnwritten}
@@ -28,6 +31,11 @@ status_of (Err (BadRange fault)) = 2
 status_of (Err ReadFault) = 3
 status_of (Err WriteFault) = 3
 status_of (Err NoMemory) = 4
+
+-- the same of a run, and 6 where it fails on what it was to fail on
+abbrev pub status_of_run : Result Bool RunFault → ℕ
+status_of_run (Ok failing) = if failing then 6 else 0
+status_of_run (Err fault) = status_of {A = Bool} (Err fault)
 
 -- the same of a check, and 1 where it found a fault
 abbrev pub status_of_check : Result ℕ RunFault → ℕ
@@ -65,20 +73,23 @@ abbrev pub seen_streams : Option (List ℕ) → ℕ → Option (List ℕ) → �
 seen_streams input failed_reads output failed_writes =
     record { input = input; failed_reads = failed_reads; output = output; failed_writes = failed_writes }
 
--- this answer is one to what the script means; the streams failed as it says, a reader that fails and a range that can't be
--- shown leave the writer as it was, and of a longer input at most a byte more than a script may have is taken
-pub record IsAnswer {A : Type 0} (format : Format) (answer : Result A RunFault) (old new : Streams) : Type 0 where
+-- this answer is one to what the script means, and whether the run fails on that, which it never does on nothing; the streams
+-- failed as it says, a reader that fails and a range that can't be shown leave the writer as it was, and of a longer input at
+-- most a byte more than a script may have is taken
+pub record IsAnswer (format : Format) (fail_on : FailOn) (answer : Result Bool RunFault) (old new : Streams) : Type 0 where
   pub meaning : IfSome old.input (λ bytes. Answers (script_meaning format bytes) answer old.output new.output)
+  pub failing : IfSome old.input (λ bytes. IfOk answer (λ failing. fails_on fail_on bytes ≡ Some failing))
+  pub unasked : fail_on ≡ on_nothing → IfOk answer (λ failing. failing ≡ false)
   pub reads : CountsReads answer old.failed_reads new.failed_reads
   pub writes : CountsWrites answer old.failed_writes new.failed_writes
   pub unwritten : answer ≡ Err ReadFault → Keeps old.output new.output
   pub outside : IsOutside answer → Keeps old.output new.output
   pub taken : TakesAtMost old.input new.input (longest_script + 1)
 
--- a script was run in this format, and the status is that of the answer
-abbrev pub RunsScript : Format → ℕ → Streams → Streams → Type 0
-RunsScript format status old new =
-    (answer : Result (Unit {0}) RunFault) × (status ≡ status_of answer) × IsAnswer format answer old new
+-- a script was run in this format, to fail on that, and the status is that of the answer
+abbrev pub RunsScript : Format → FailOn → ℕ → Streams → Streams → Type 0
+RunsScript format fail_on status old new =
+    (answer : Result Bool RunFault) × (status ≡ status_of_run answer) × IsAnswer format fail_on answer old new
 
 -- this answer is one to a check of the script, and the streams are as behind a run
 pub record IsCheck (answer : Result ℕ RunFault) (old new : Streams) : Type 0 where
@@ -140,9 +151,9 @@ pub record ReadsNothing (words : List (List ℕ)) (status : ℕ) (old new : Stre
   pub cut : status ≡ 3 → (text : List ℕ) × TookFront old.output new.output text
   pub unwritten : (status ≡ 2) ⊎ (status ≡ 4) → Keeps old.output new.output
 
--- a script was run in the format, checked, or drilled, or what its records changed was told
+-- a script was run in the format, to fail on that, checked, or drilled, or what its records changed was told
 abbrev pub Does : Task → ℕ → Streams → Streams → Type 0
-Does (RunsIn format) status old new = RunsScript format status old new
+Does (RunsIn format fail_on) status old new = RunsScript format fail_on status old new
 Does Checks status old new = ChecksScript status old new
 Does (Diffs since) status old new = DiffsScript since status old new
 Does Drills status old new = DrillsScript status old new
@@ -159,9 +170,9 @@ pub record DoesWithFile (task : Task) (status : ℕ) (old new : Streams) : Type 
   pub reads : new.failed_reads ≡ old.failed_reads
   pub does : WithFile (Does task status) old.output old.failed_writes new.output new.failed_writes
 
--- words that ask for a run in a format have the script run in it, those that ask for a check have it checked, those that
--- ask for a drill drilled, and those that ask what its records changed have that told: of the script of the file that they
--- name, and else of the reader's; where they ask for nothing, nothing is read
+-- words that ask for a run in a format, to fail on something, have the script run so, those that ask for a check have it
+-- checked, those that ask for a drill drilled, and those that ask what its records changed have that told: of the script of
+-- the file that they name, and else of the reader's; where they ask for nothing, nothing is read
 abbrev pub AnswersAsked : List (List ℕ) → Option Task → Option (List ℕ) → ℕ → Streams → Streams → Type 0
 AnswersAsked words (Some task) None status old new = Does task status old new
 AnswersAsked words (Some task) (Some file) status old new = DoesWithFile task status old new

@@ -9,12 +9,13 @@ use crate::open_gate::OpenGate;
 use pf_change::diff::diff;
 use pf_cli::check::check;
 use pf_cli::fault::RunFault;
-use pf_cli::run::run;
+use pf_cli::run::run_judged;
 use pf_drill::drill::drill;
 use pf_drill::fault::DrillFault;
 use pf_stream::sink::Sink;
 use pf_stream::source::{CountedReader, Source};
 use pf_stream::writing::write_out;
+use pf_words::fail_on::FailOn;
 use pf_words::format::Format;
 use pf_words::request::{Request, WordsFault};
 use pf_words::words::read_words;
@@ -39,10 +40,10 @@ const NO_TEXT: &str = "error: invalid UTF-8 was detected in one or more argument
 /// script was done, a check found no fault, or help was shown, 1 where the script has a bad record or is too long, 2
 /// where the words are refused or mistaken, or ask for slots that can't be shown, 3 where the reader or the writer failed
 /// or the file can't be opened or read, 4 where memory was refused, or a drill has no place for a reader, 5 where a gate
-/// stayed shut. Words that ask for a run, a check or a diff and name no file, or for a drill, and no others, have the
-/// reader read; with any other the reader is as before. Where the words ask for a drill, and only there, threads are
-/// started, and the call waits for them. The counts of failures of reader and writer must be below `u64::MAX` before the
-/// call.
+/// stayed shut, 6 where the script was done, all was written, and the run fails on what the words list. Words that ask for
+/// a run, a check or a diff and name no file, or for a drill, and no others, have the reader read; with any other the reader
+/// is as before. Where the words ask for a drill, and only there, threads are started, and the call waits for them. The
+/// counts of failures of reader and writer must be below `u64::MAX` before the call.
 pub fn main_words<
     H: AllocGlobal + Files + Threads + Wait + Sync,
     S: AsStr,
@@ -60,9 +61,9 @@ pub fn main_words<
 {
     let alloc = rt.alloc();
     match read_words(alloc, words) {
-        Ok(Request::Run(format, file)) => match file {
-            None => run_told(alloc, format, reader, writer, faults),
-            Some(file) => run_file(rt, format, file.as_str(), writer, faults),
+        Ok(Request::Run(format, fail_on, file)) => match file {
+            None => run_told(alloc, format, fail_on, reader, writer, faults),
+            Some(file) => run_file(rt, format, fail_on, file.as_str(), writer, faults),
         },
         Ok(Request::Check(None)) => check_told(alloc, reader, writer, faults),
         Ok(Request::Check(Some(file))) => check_file(rt, file.as_str(), writer, faults),
@@ -90,41 +91,47 @@ pub fn tell_unread<F: Write>(fault: &io::Error, faults: &mut F) -> u8
     2
 }
 
-/// Runs the script, and answers the status.
+/// Runs the script, and answers the status: 6 where the run fails on this.
 fn run_told<R: Source, W: Sink, F: Write>(
     alloc: Global,
     format: Format,
+    fail_on: FailOn,
     reader: &mut R,
     writer: &mut W,
     faults: &mut F,
 ) -> u8
     requires reads { R.failed reader.old < 2 ^ 64 - 1 }
     requires writes { W.failed writer.old < 2 ^ 64 - 1 }
-    ensures streams { RunsScript format result
+    ensures streams { RunsScript format fail_on result
         (seen_streams (R.remaining reader.old) (R.failed reader.old) (W.contents writer.old) (W.failed writer.old))
         (seen_streams (R.remaining reader.new) (R.failed reader.new) (W.contents writer.new) (W.failed writer.new)) }
     ensures quiet { result ≡ 0 → Keeps (F.contents faults.old) (F.contents faults.new) }
 {
-    let outcome = run(alloc, reader, writer, format);
-    tell_outcome(outcome, faults)
+    match run_judged(alloc, reader, writer, format, fail_on) {
+        Ok(false) => 0,
+        Ok(true) => 6,
+        Err(fault) => tell_outcome(Err(fault), faults),
+    }
 }
 
-/// Runs the script of a file, and answers the status.
+/// Runs the script of a file, and answers the status: 6 where the run fails on this.
 fn run_file<H: AllocGlobal + Files, W: Sink, F: Write>(
     rt: &H,
     format: Format,
+    fail_on: FailOn,
     path: &str,
     writer: &mut W,
     faults: &mut F,
 ) -> u8
     requires { W.failed writer.old < 2 ^ 64 - 1 }
-    ensures streams { WithFile (RunsScript format result) (W.contents writer.old) (W.failed writer.old) (W.contents writer.new) (W.failed writer.new) }
+    ensures streams { WithFile (RunsScript format fail_on result) (W.contents writer.old) (W.failed writer.old) (W.contents writer.new) (W.failed writer.new) }
     ensures quiet { result ≡ 0 → Keeps (F.contents faults.old) (F.contents faults.new) }
 {
     match File::open(rt, path) {
         Ok(file) => run_told(
             rt.alloc(),
             format,
+            fail_on,
             &mut CountedReader::new(file),
             writer,
             faults,

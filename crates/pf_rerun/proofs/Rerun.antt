@@ -1,12 +1,15 @@
 -- A desk's script, run by the program.
 use Rattle.std.proofs.Common.{◌≡◌, ◌∙◌, ◌+◌, ◌==◌, nat_lt, ℕ, Bool, true, false, List, [], ◌∷◌, ◌++◌, Some, codes, map, length, append_assoc, refl, sym, ap, ap₂, arith}
-use Rattle.std.specs.Prelude.{if◌then◌else◌}
+use Rattle.std.specs.Prelude.{◌||◌, if◌then◌else◌}
 use Rattle.std.specs.List.{flat_map}
 use Rattle.std.specs.Option.{option_map}
+use Rattle.std.proofs.Math.Bool.{or-false}
 use Rattle.std.proofs.lemmas.Bool.Decides.{nat_tests}
 use Rattle.pf_scenario.specs.System.{System, IsInLimits, near_horizon}
 use Rattle.pf_scenario.specs.declared.event.Numbered.{Numbered}
 use Rattle.pf_desk.specs.declared.command.Command.{Command}
+use Rattle.pf_desk.specs.declared.reply.Reply.{Reply}
+use Rattle.pf_desk.specs.declared.reply.Reply.TheVariants.{Edited, Stepped, Refused}
 use Rattle.pf_desk.specs.Machine.{reply_to, next_state, state_after}
 use Rattle.pf_desk.specs.Desk.{Seen}
 use Rattle.pf_script.specs.Fields.{is_word}
@@ -23,11 +26,11 @@ use Rattle.pf_words.specs.declared.format.Format.{Format}
 use Rattle.pf_words.specs.declared.format.Format.TheVariants.{Schedule, Lags, Misses, Script}
 use Rattle.pf_words.specs.Formats.{has_replies, range_fault}
 use Rattle.pf_cli.specs.Meaning.{Meaning, ScriptCourse, opening_course, text_and_then, course_after, course_behind, text_if_replies, text_unless, reply_lines, commands_of, seen_at, report_text, report_meaning, line_meaning, lines_meaning, settings_meaning, course_opened_by, records_meaning, script_meaning}
-use Rattle.pf_cli.specs.Replies.{reply_line, line_end}
+use Rattle.pf_cli.specs.Replies.{is_refusal, reply_line, line_end}
 use Rattle.pf_reopen.specs.Reopen.{version_of, insert_lines, step_lines}
 use Rattle.pf_reopen.specs.Taken.{renumbered, events_held, numbered_from}
 use Rattle.pf_reopen.specs.Renumbered.{HasSameRun, denied_under, new_number}
-use Rattle.pf_reopen.specs.Whole.{script_commands}
+use Rattle.pf_reopen.specs.Whole.{IsTaken, script_commands}
 use Rattle.pf_reopen.specs.Asked.{IsDistance}
 use Rattle.pf_reopen.proofs.Asked.{of_lines, opened_again}
 use Rattle.pf_reopen.proofs.Lines.{settings_again}
@@ -92,16 +95,24 @@ lines_run format version number c (fields ∷ rows) (line ∷ lines) are =
     ∙ ap (text_and_then (text_if_replies format (reply_lines c (commands_of line)))) (lines_run format version (number + 1) (course_behind c (commands_of line)) rows lines rest)
     ∙ answered_append format c (commands_of line) (flat_map commands_of lines)
 
+-- a command that the machine takes is none that it refused
+taken_reply : (refused : Bool) (reply : Reply) → IsTaken reply → (refused || is_refusal reply) ≡ refused
+taken_reply refused (Edited id) taken = or-false refused
+taken_reply refused (Stepped slot row) taken = or-false refused
+taken_reply refused (Refused fault) taken = absurd taken
+
 -- where the machine takes all commands, the course is where it is
 course_is : (c : ScriptCourse) (cs : List Command) → TakesAll c.state cs
-    → course_behind c cs ≡ record { state = behind_all c.state cs; entries = c.entries + length cs; every = c.every }
-course_is c [] takes = λ k. record { state = c.state; entries = (let none : c.entries ≡ c.entries + 0 = omega arith in none) k; every = c.every }
+    → course_behind c cs ≡ record { state = behind_all c.state cs; entries = c.entries + length cs; refused = c.refused; every = c.every }
+course_is c [] takes =
+    λ k. record { state = c.state; entries = (let none : c.entries ≡ c.entries + 0 = omega arith in none) k; refused = c.refused; every = c.every }
 course_is c (command ∷ cs) takes =
     let next : state_after c.state command (reply_to c.state command) ≡ next_state c.state command = taken_next c.state command (reply_to c.state command) takes.0 in
     let count : c.entries + 1 + length cs ≡ c.entries + length (command ∷ cs) = omega arith in
-    (λ k. course_behind (record { state = next k; entries = c.entries + 1; every = c.every }) cs)
-    ∙ course_is (record { state = next_state c.state command; entries = c.entries + 1; every = c.every }) cs takes.1
-    ∙ (λ k. record { state = behind_all (next_state c.state command) cs; entries = count k; every = c.every })
+    let none = taken_reply c.refused (reply_to c.state command) takes.0 in
+    (λ k. course_behind (record { state = next k; entries = c.entries + 1; refused = none k; every = c.every }) cs)
+    ∙ course_is (record { state = next_state c.state command; entries = c.entries + 1; refused = c.refused; every = c.every }) cs takes.1
+    ∙ (λ k. record { state = behind_all (next_state c.state command) cs; entries = count k; refused = c.refused; every = c.every })
 
 -- the course of a desk that the settings open
 course_again : (version : Version) (s : System) (every : ℕ) → IsInLimits s.processors s.base s.cap → IsDistance every → horizon_of version ≡ s.horizon
@@ -134,6 +145,7 @@ module _ (every : ℕ) (seen : Seen) (can : CanBeRerun every seen) where
   there = record {
     state = record { plan = renumbered seen.state.plan; now = seen.state.now };
     entries = length (script_commands seen.state);
+    refused = false;
     every = every;
   }
 
@@ -141,7 +153,7 @@ module _ (every : ℕ) (seen : Seen) (can : CanBeRerun every seen) where
   course =
       let count : 0 + length (script_commands seen.state) ≡ length (script_commands seen.state) = omega arith in
       course_is (opening_course every s) (script_commands seen.state) (script_taken seen.state.plan seen.state.now can.of_run.scenario can.of_run.within)
-      ∙ (λ k. record { state = script_behind seen.state.plan seen.state.now can.of_run.scenario k; entries = count k; every = every })
+      ∙ (λ k. record { state = script_behind seen.state.plan seen.state.now can.of_run.scenario k; entries = count k; refused = false; every = every })
 
   shown : seen_at there ≡ seen_again seen
   shown =

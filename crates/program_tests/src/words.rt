@@ -113,6 +113,23 @@ fn a_number_of_no_record_is_told(rt: HostRuntime) -> Result<(), AllocError> {
     Ok(())
 }
 
+#[test]
+fn a_list_of_what_no_run_fails_on_is_told(rt: HostRuntime) -> Result<(), AllocError> {
+    let told = b"--fail-on takes refused, denied and missed, joined by commas\n";
+    for list in [
+        "",
+        "late",
+        "refused,",
+        ",missed",
+        "refused, denied",
+        "Refused",
+    ] {
+        let ending = end_of(&rt, &["run", "--fail-on", list], b"")?;
+        assert!(rt; ending.tells(2, told), "{list}");
+    }
+    Ok(())
+}
+
 /// Whether these words show a help that has this usage and the example.
 fn shows_help<H: AllocGlobal + Files + Threads + Wait + Sync>(
     rt: &H,
@@ -155,6 +172,72 @@ fn a_drill_writes_what_was_taken(rt: HostRuntime) -> Result<(), AllocError> {
     assert_eq!(rt; ending.status, 0);
     assert_eq!(rt; ending.written.as_slice(), DRILLED);
     assert!(rt; ending.told.is_empty());
+    Ok(())
+}
+
+// An event that is not there, a leave of nobody, and two tasks that each ask for the whole of one processor.
+const REFUSING: &[u8] = b"settings,1,1,2,1\nstrike,7\n";
+
+const DENYING: &[u8] = b"settings,1,1,2,1\nleave,0,1\nstep\n";
+
+const MISSING: &[u8] = b"settings,1,1,2,1\njoin,0,1,1,1,0\njoin,0,2,1,1,0\nstep\n";
+
+#[test]
+fn a_run_fails_on_what_it_meets(rt: HostRuntime) -> Result<(), AllocError> {
+    let cases: [(&[u8], &str, u8, &[u8]); 8] = [
+        (REFUSING, "refused", 6, b"ready\nrefused 10 EventNotFound\n"),
+        (
+            REFUSING,
+            "denied,missed",
+            0,
+            b"ready\nrefused 10 EventNotFound\n",
+        ),
+        (DENYING, "denied", 6, b"ready\nevent 1\nslot 0: -\n"),
+        (DENYING, "missed,refused", 0, b"ready\nevent 1\nslot 0: -\n"),
+        (
+            MISSING,
+            "missed",
+            6,
+            b"ready\nevent 1\nevent 2\nslot 0: 1/1\n",
+        ),
+        (
+            MISSING,
+            "refused,denied",
+            0,
+            b"ready\nevent 1\nevent 2\nslot 0: 1/1\n",
+        ),
+        (
+            MISSING,
+            "refused,denied,missed",
+            6,
+            b"ready\nevent 1\nevent 2\nslot 0: 1/1\n",
+        ),
+        (
+            b"settings,1,1,2,1\n",
+            "refused,denied,missed",
+            0,
+            b"ready\n",
+        ),
+    ];
+    for (script, list, status, replies) in cases {
+        let ending = end_of(&rt, &["run", "-f", "replies", "--fail-on", list], script)?;
+        assert_eq!(rt; (ending.status, ending.told.len()), (status, 0));
+        assert_eq!(rt; ending.written.as_slice(), replies);
+    }
+    Ok(())
+}
+
+// The table of lags where nobody is inside.
+const NO_LAGS: &[u8] = b"task,cost,period,received,lag\n";
+
+#[test]
+fn a_run_fails_in_a_format_without_replies(rt: HostRuntime) -> Result<(), AllocError> {
+    let words = ["run", "-f", "lags", "--fail-on", "refused"];
+    let ending = end_of(&rt, &words, REFUSING)?;
+    assert_eq!(rt; (ending.status, ending.told.len()), (6, 0));
+    assert_eq!(rt; ending.written.as_slice(), NO_LAGS);
+    let ending = end_of(&rt, &words, b"settings,1,1,2,1\nstrike,7\nstep,0\n")?;
+    assert!(rt; ending.tells(1, b"bad record 3\n"));
     Ok(())
 }
 

@@ -3,6 +3,7 @@ use Rattle.std.proofs.KnownBytes.{Appends-nil}
 use Rattle.std.proofs.lemmas.Result.{err_from_is_err_and}
 use Rattle.pf_script.specs.Grammar.{is_heading}
 use Rattle.pf_script.proofs.Counting.{few_records}
+use Rattle.pf_cli.proofs.Courses.{course_headed, course_unheaded}
 use Rattle.pf_cli.proofs.Openings.{heading_alone, heading_first, no_heading, no_record}
 use Rattle.pf_cli.proofs.Sessions.{none_written}
 use Rattle.pf_cli.proofs.Scripts.{is_first, is_none}
@@ -28,6 +29,12 @@ returns-then-not-read_heading-clause-meaning g c =
     let plain = sym (ap is_heading c.new.ensures) ∙ sym c.read_heading.ensures ∙ c.if-not-read_heading.true in
     rw (no_heading c.args.format c.args.bytes.now _ _ c.requires.short first plain) c.carry_out_from.ensures.meaning
 
+pub returns-then-not-read_heading-clause-course : goal.returns-then-not-read_heading-clause-course
+returns-then-not-read_heading-clause-course g c =
+    let first = is_first c.in_ok-next.field-0 _ _ c.next.new.self (sym c.new-script.ensures ∙ c.in_ok-next.ensures.record) c.if-not-branch.false in
+    let plain = sym (ap is_heading c.new.ensures) ∙ sym c.read_heading.ensures ∙ c.if-not-read_heading.true in
+    rw (course_unheaded c.args.bytes.now _ _ c.requires.short first plain) c.carry_out_from.ensures.course
+
 pub returns-in_err-next-2-clause-meaning : goal.returns-in_err-next-2-clause-meaning
 returns-in_err-next-2-clause-meaning g c =
     let p = err_from_is_err_and c.from_residual-in_err-next-2.result c.from_residual-in_err-next-2.ensures.1 in rw (p.1, p.2) (none_written _ _)
@@ -51,3 +58,10 @@ returns-clause-meaning g c =
     let heading = sym (ap is_heading c.new.ensures) ∙ sym c.read_heading.ensures ∙ c.if-not-read_heading.false in
     let second = is_first c.in_ok-next-2.field-0 c.next.new.self _ c.next-2.new.self c.in_ok-next-2.ensures.record c.if-not-branch-2.false in
     rw (heading_first c.args.format c.args.bytes.now _ _ _ _ c.requires.short first heading second) c.carry_out_from-2.ensures.meaning
+
+pub returns-clause-course : goal.returns-clause-course
+returns-clause-course g c =
+    let first = is_first c.in_ok-next.field-0 _ _ c.next.new.self (sym c.new-script.ensures ∙ c.in_ok-next.ensures.record) c.if-not-branch.false in
+    let heading = sym (ap is_heading c.new.ensures) ∙ sym c.read_heading.ensures ∙ c.if-not-read_heading.false in
+    let second = is_first c.in_ok-next-2.field-0 c.next.new.self _ c.next-2.new.self c.in_ok-next-2.ensures.record c.if-not-branch-2.false in
+    rw (course_headed c.args.bytes.now _ _ _ _ c.requires.short first heading second) c.carry_out_from-2.ensures.course

@@ -1,15 +1,19 @@
 use Rattle.std.proofs.Common.{length, refl, ap, subst, ◌∙◌, sym, arith}
 use Rattle.std.proofs.lemmas.Result.{err_from_is_err_and}
+use Rattle.pf_desk.specs.Desk.{Shown}
 use Rattle.pf_script.specs.Grammar.{line_of}
 use Rattle.pf_stream.proofs.Sending.{so-far-finished, so-far-unfinished}
 use Rattle.pf_cli.specs.Answers.{CountsWrites}
+use Rattle.pf_cli.specs.Batching.{course_to_be}
 use Rattle.pf_cli.proofs.Batches.{plain_none}
+use Rattle.pf_cli.proofs.Courses.{course_begun, course_ended, course_taken}
 use Rattle.pf_cli.proofs.Scripts.{answers_stopped, bad_left, begun, counts_stopped, front_under_way, is_first, is_none, line_stopped, line_taken, past_stopped, report_left, rest_answers}
 use Rattle.pf_cli.proofs.run.carry_out_lines.Goals as goal
 
 pub records-init : goal.records-init
 records-init g c = record {
   way = begun c.args.version c.args.first c.args.session c.new-batching.result c.args.script _ c.new-batching.ensures;
+  course = course_begun c.args.version c.args.session c.new-batching.result c.args.script c.new-batching.ensures;
   plain = plain_none c.new-batching.result.waiting.items c.new-batching.ensures.none;
   count = refl;
   counted = c.requires.counted;
@@ -48,7 +52,7 @@ returns-in_err-take-clause-meaning g c =
     let p = err_from_is_err_and c.from_residual-in_err-take.result c.from_residual-in_err-take.ensures.1 in
     let first = is_first c.in_ok-next.field-0 c.records.script _ c.next.new.self c.in_ok-next.ensures.record c.if-branch.true in
     let line = sym (ap (line_of c.args.version) c.new.ensures) ∙ sym c.in-Some.ensures in
-    rw (p.1, p.2) (answers_stopped (Unit {0}) _ _ _ _
+    rw (p.1, p.2) (answers_stopped Shown _ _ _ _
     (line_stopped c.args.version c.records.number c.records.batching c.records.script _ c.next.new.self c.in-Some.line _ _ _ _ first line c.records.invariant.way c.in_err-take.ensures.err))
 
 pub returns-clause-meaning : goal.returns-clause-meaning
@@ -57,23 +61,28 @@ returns-clause-meaning g c =
     let left = report_left c.args.version c.records.number c.records.batching c.records.script _ _ _ none c.records.invariant.way in
     rest_answers c.records.batching _ _ c.report.result _ _ _ left c.report.ensures.read c.report.ensures.meaning
 
+pub returns-clause-course : goal.returns-clause-course
+returns-clause-course g c =
+    let none = is_none c.in_ok-next.field-0 c.records.script _ c.next.new.self c.in_ok-next.ensures.record c.if-branch.false in
+    course_ended c.report.result c.args.version c.records.script (course_to_be c.records.batching) _ none c.records.invariant.course c.report.ensures.course
+
 pub returns-in_err-take-clause-read : goal.returns-in_err-take-clause-read
 returns-in_err-take-clause-read g c =
-    let p = err_from_is_err_and c.from_residual-in_err-take.result c.from_residual-in_err-take.ensures.1 in rw (p.1, p.2) (past_stopped (Unit {0}) _)
+    let p = err_from_is_err_and c.from_residual-in_err-take.result c.from_residual-in_err-take.ensures.1 in rw (p.1, p.2) (past_stopped Shown _)
 
 pub returns-in_err-take-clause-writes : goal.returns-in_err-take-clause-writes
 returns-in_err-take-clause-writes g c =
     let p = err_from_is_err_and c.from_residual-in_err-take.result c.from_residual-in_err-take.ensures.1 in
-    rw (p.1, p.2) (rw (← c.records.invariant.count) (counts_stopped (Unit {0}) (Unit {0}) _ _ _ c.in_err-take.ensures.count))
+    rw (p.1, p.2) (rw (← c.records.invariant.count) (counts_stopped (Unit {0}) Shown _ _ _ c.in_err-take.ensures.count))
 
 pub returns-in_err-finish-clause-read : goal.returns-in_err-finish-clause-read
 returns-in_err-finish-clause-read g c =
-    let p = err_from_is_err_and c.from_residual-in_err-finish.result c.from_residual-in_err-finish.ensures.1 in rw (p.1, p.2) (past_stopped (Unit {0}) _)
+    let p = err_from_is_err_and c.from_residual-in_err-finish.result c.from_residual-in_err-finish.ensures.1 in rw (p.1, p.2) (past_stopped Shown _)
 
 pub returns-in_err-finish-clause-writes : goal.returns-in_err-finish-clause-writes
 returns-in_err-finish-clause-writes g c =
     let p = err_from_is_err_and c.from_residual-in_err-finish.result c.from_residual-in_err-finish.ensures.1 in
-    rw (p.1, p.2) (rw (← c.records.invariant.count) (counts_stopped (Unit {0}) (Unit {0}) _ _ _ c.in_err-finish.ensures.count))
+    rw (p.1, p.2) (rw (← c.records.invariant.count) (counts_stopped (Unit {0}) Shown _ _ _ c.in_err-finish.ensures.count))
 
 pub returns-in_err-finish-clause-meaning : goal.returns-in_err-finish-clause-meaning
 returns-in_err-finish-clause-meaning g c =
@@ -81,7 +90,7 @@ returns-in_err-finish-clause-meaning g c =
     let first = is_first c.in_ok-next.field-0 c.records.script _ c.next.new.self c.in_ok-next.ensures.record c.if-branch.true in
     let line = sym (ap (line_of c.args.version) c.new.ensures) ∙ sym c.in_default.ensures in
     let left = bad_left c.args.version c.records.number c.records.batching c.records.script _ c.next.new.self _ _ _ first line c.records.invariant.way in
-    rw (p.1, p.2) (answers_stopped (Unit {0}) _ _ _ _ (so-far-unfinished _ _ _ _ _ left.1 c.in_err-finish.ensures.err))
+    rw (p.1, p.2) (answers_stopped Shown _ _ _ _ (so-far-unfinished _ _ _ _ _ left.1 c.in_err-finish.ensures.err))
 
 pub returns-in_default-clause-meaning : goal.returns-in_default-clause-meaning
 returns-in_default-clause-meaning g c =
@@ -105,6 +114,8 @@ records-preserved g c =
     record {
       way = line_taken c.args.version c.records.number c.records.batching c.take.new.self c.records.script _ c.next.new.self c.in-Some.line _ _ _ _
           first line c.records.invariant.way c.in_ok-take.ensures.ok;
+      course = course_taken c.args.version (course_to_be c.records.batching) (course_to_be c.take.new.self) c.records.script _ c.next.new.self c.in-Some.line _
+          first line c.in_ok-take.ensures.ok.course c.records.invariant.course;
       plain = c.in_ok-take.ensures.ok.plain;
       count = c.in_ok-take.ensures.count ∙ c.records.invariant.count;
       counted = omega (arith, ap length first, c.records.invariant.counted);

@@ -2,6 +2,7 @@ use Rattle.std.proofs.Common.{◌≡◌, ℕ, true, List, length, Option, Some, 
 use Rattle.std.specs.Prelude.{nat_lt, IfSome}
 use Rattle.std.proofs.KnownBytes.{Appends-nil, Keeps-refl}
 use Rattle.std.proofs.lemmas.Result.{err_from_is_err_and}
+use Rattle.pf_desk.specs.Desk.{Shown}
 use Rattle.pf_stream.specs.declared.reading.ReadingFault.{ReadingFault}
 use Rattle.pf_stream.specs.declared.reading.ReadingFault.TheVariants.{Read, TooLong, Memory}
 use Rattle.pf_stream.specs.Reading.{longest_script, ReadsScript}
@@ -10,7 +11,7 @@ use Rattle.pf_cli.specs.Answers.{Answers, fault_of_reading}
 use Rattle.pf_cli.specs.Meaning.{script_meaning}
 use Rattle.pf_cli.proofs.Sessions.{none_written}
 use Rattle.pf_cli.proofs.Outside.{nothing_outside, outside_keeps}
-use Rattle.pf_cli.proofs.run.run.Goals as goal
+use Rattle.pf_cli.proofs.run.run_to_end.Goals as goal
 
 -- no script was read, and nothing was written
 unread : (A : Type 0) (format : Format) (bytes : List ℕ) (fault : ReadingFault) (x : Option (List ℕ)) → ReadsScript bytes (Err fault)
@@ -28,7 +29,7 @@ unread_if A format (Some bytes) fault x h = unread A format bytes fault x h
 pub returns-in_err-text-clause-meaning : goal.returns-in_err-text-clause-meaning
 returns-in_err-text-clause-meaning g c =
     let p = err_from_is_err_and c.from_residual.result c.from_residual.ensures.1 in
-    rw (p.1, p.2) (unread_if (Unit {0}) c.args.format (g.R.Read.remaining c.args.reader.now) _ _ c.in_err-text.ensures.bytes)
+    rw (p.1, p.2) (unread_if Shown c.args.format (g.R.Read.remaining c.args.reader.now) _ _ c.in_err-text.ensures.bytes)
 
 pub returns-in_err-text-clause-outside : goal.returns-in_err-text-clause-outside
 returns-in_err-text-clause-outside g c = λ is. Keeps-refl _

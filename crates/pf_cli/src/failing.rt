@@ -1,0 +1,53 @@
+ghost use Rattle.std.specs.Prelude.{◌≡◌, IfOk};
+ghost use Rattle.pf_cli.specs.Ended.{has_denials, has_misses, is_failing};
+ghost use Rattle.pf_cli.specs.Session.{course_at};
+
+use pf_desk::desk::Desk;
+use pf_desk::reply::Reply;
+use pf_words::fail_on::FailOn;
+use std::alloc::AllocError;
+
+/// Whether a run fails on this that ends with this desk. The missed windows are in memory only where they are asked for, and
+/// nothing else is met.
+///
+/// # Errors
+///
+/// Where memory is refused.
+pub(crate) fn is_failing(desk: &Desk, fail_on: FailOn) -> Result<bool, AllocError>
+    ensures { IfOk result (λ failing. failing ≡ is_failing fail_on (course_at desk.now)) }
+{
+    if fail_on.refused && has_refusal(desk) {
+        return Ok(true);
+    }
+    if fail_on.denied && has_denials(desk) {
+        return Ok(true);
+    }
+    if !fail_on.missed {
+        return Ok(false);
+    }
+    has_misses(desk)
+}
+
+/// Whether a command was refused.
+fn has_refusal(desk: &Desk) -> bool
+    ensures { result ≡ (course_at desk.now).refused }
+{
+    desk.history()
+        .iter()
+        .any(|entry| matches!(entry.reply, Reply::Refused(_)))
+}
+
+/// Whether an event is denied.
+fn has_denials(desk: &Desk) -> bool
+    ensures { result ≡ has_denials (course_at desk.now) }
+{
+    !desk.denials().is_empty()
+}
+
+/// Whether a window is missed.
+fn has_misses(desk: &Desk) -> Result<bool, AllocError>
+    ensures { IfOk result (λ missed. missed ≡ has_misses (course_at desk.now)) }
+{
+    let misses = desk.misses()?;
+    Ok(!misses.is_empty())
+}
