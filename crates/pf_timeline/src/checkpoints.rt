@@ -59,7 +59,7 @@ impl Checkpoints {
             return Ok(());
         }
         let alloc = *self.points.allocator();
-        let engine = engine.copy()?;
+        let engine = engine.save()?;
         self.points.reserve(1)?;
         match Arc::new(alloc, Checkpoint { engine, denials }) {
             Ok(point) => {

@@ -201,7 +201,7 @@ impl Timeline {
         ensures within { CountsAtMost self.now.now meter.old meter.new }
         ensures compared { meter.old.compared ≤ meter.new.compared }
     {
-        let mut fresh = self.front(from, scenario)?;
+        let mut fresh = self.front(meter, from, scenario)?;
         for _ in fresh.now()..self.engine.now() {
             fresh.advance(meter, scenario)?;
         }
@@ -209,14 +209,16 @@ impl Timeline {
     }
 
     /// The front of the run up to the last checkpoint not after `from`, for a scenario that agrees with this one's below
-    /// `from`, which is below now.
-    fn front(&self, from: u64, scenario: &Scenario) -> Result<Self, AllocError>
+    /// `from`, which is below now. Counts no slot.
+    fn front(&self, meter: &mut Meter, from: u64, scenario: &Scenario) -> Result<Self, AllocError>
         requires below { from < self.now.now }
         requires agrees { AgreesBelow scenario.now from self.now }
         ensures stands { IfOk result (λ t. StandsFor scenario.now t.now t) }
         ensures not_behind { IfOk result (λ t. t.now ≤ from) }
         ensures near { IfOk result (λ t. from < t.now + self.now.every) }
         ensures every { IfOk result (λ t. t.every ≡ self.now.every) }
+        ensures slots { meter.new.slots ≡ meter.old.slots }
+        ensures compared { meter.old.compared ≤ meter.new.compared }
     {
         // Asked, so that it is known to be a scenario.
         let _ = scenario.settings();
@@ -225,7 +227,7 @@ impl Timeline {
         Ok(Timeline {
             rows: first_rows(&self.rows, start.engine.now())?,
             denials: Vec::from_slice(*self.denials.allocator(), &self.denials[..start.denials])?,
-            engine: start.engine.copy()?,
+            engine: start.engine.engine(meter)?,
             checkpoints: self.checkpoints.first(last + 1)?,
             scenario: Snapshot::of(scenario),
         })

@@ -31,7 +31,7 @@ invariant_of-result c =
     let is = c.get-start.ensures ∙ ap (λ v. get_or c.self.inside.checkpoints.points (c.args.from / v) c.get-start.result.now) c.every.ensures in
     rw (
       c.of.ensures,
-      c.in_ok-copy.ensures,
+      c.in_ok-engine.ensures.engine,
       c.in_ok-first_rows.ensures,
       c.now.ensures,
       c.in_ok-from_slice.ensures.items,
@@ -50,7 +50,7 @@ returns-clause-stands c =
     let same = agreed_past c.args.scenario.now c.self.inside.scenario.value c.args.from _ _ _ c.self.inside.engine _ (omega (arith, below)) c.self.view_is c.requires.agrees in
     let is = c.get-start.ensures ∙ ap (λ v. get_or c.self.inside.checkpoints.points (c.args.from / v) c.get-start.result.now) c.every.ensures in
     rw (
-      c.in_ok-copy.ensures,
+      c.in_ok-engine.ensures.engine,
       c.in_ok-first_rows.ensures,
       c.now.ensures,
       c.in_ok-from_slice.ensures.items,
@@ -65,7 +65,7 @@ returns-clause-not_behind c =
     let below : c.args.from < c.self.inside.engine.now = omega (arith, now, c.requires.below) in
     let same = agreed_past c.args.scenario.now c.self.inside.scenario.value c.args.from _ _ _ c.self.inside.engine _ (omega (arith, below)) c.self.view_is c.requires.agrees in
     let is = c.get-start.ensures ∙ ap (λ v. get_or c.self.inside.checkpoints.points (c.args.from / v) c.get-start.result.now) c.every.ensures in
-    rw c.in_ok-copy.ensures (front_not_behind _ _ _ c.args.from _ _ _ _ c.self.invariant below c.settings.ensures.scenario same _ is)
+    rw c.in_ok-engine.ensures.engine (front_not_behind _ _ _ c.args.from _ _ _ _ c.self.invariant below c.settings.ensures.scenario same _ is)
 
 pub returns-clause-near : goal.returns-clause-near
 returns-clause-near c =
@@ -74,7 +74,7 @@ returns-clause-near c =
     let same = agreed_past c.args.scenario.now c.self.inside.scenario.value c.args.from _ _ _ c.self.inside.engine _ (omega (arith, below)) c.self.view_is c.requires.agrees in
     let is = c.get-start.ensures ∙ ap (λ v. get_or c.self.inside.checkpoints.points (c.args.from / v) c.get-start.result.now) c.every.ensures in
     let every : c.self.inside.checkpoints.every ≡ c.args.self.now.every = ap (λ t. t.every) c.self.view_is in
-    omega (arith, every, ap (λ e. e.now) c.in_ok-copy.ensures, front_near _ _ _ c.args.from _ _ _ _ c.self.invariant below c.settings.ensures.scenario same _ is)
+    omega (arith, every, ap (λ e. e.now) c.in_ok-engine.ensures.engine, front_near _ _ _ c.args.from _ _ _ _ c.self.invariant below c.settings.ensures.scenario same _ is)
 
 pub first-requires : goal.first-requires
 first-requires c =
