@@ -1,5 +1,5 @@
 //! What no clause of the shared desk says: that calls succeed where memory is ample, what is left where it is refused, that
-//! the clauses mean the worked examples, and what threads leave that run at once.
+//! the clauses mean the worked examples, the texts of faults, and what threads leave that run at once.
 #![tactic(auto)]
 
 #[cfg(test)]
@@ -20,3 +20,5 @@ mod planners;
 mod race;
 #[cfg(test)]
 mod refused;
+#[cfg(test)]
+mod texts;
