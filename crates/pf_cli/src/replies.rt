@@ -10,6 +10,7 @@ use crate::output_fault::OutputFault;
 use pf_admit::denial::Denial;
 use pf_desk::entry::Entry;
 use pf_desk::reply::{Fault, Reply};
+use pf_digits::pair_text::PairText;
 use pf_order::pick::Pick;
 use pf_place::row::Row;
 use pf_scenario::fault::EditFault;
@@ -105,10 +106,8 @@ fn push_place(text: &mut TextBuffer, place: Option<Pick>) -> Result<(), AllocErr
     match place {
         None => text.push(b" -"),
         Some(pick) => {
-            text.push(b" ")?;
-            text.push_number(u64::from(pick.task))?;
-            text.push(b"/")?;
-            text.push_number(u64::from(pick.sub))
+            let pair = PairText::of(u64::from(pick.task), u64::from(pick.sub));
+            text.push(pair.behind_blank())
         }
     }
 }
