@@ -219,7 +219,7 @@ module _ (front rows now : List (List (Option Pick))) (some : 0 < length rows) (
   pub last_is : last_row [] rows ≡ last_row [] now
   last_is = sym (last_in_open [] [] front rows some) ∙ ap (last_row []) is
 
-  front_is : front ++ but_last rows ≡ but_last now
+  pub front_is : front ++ but_last rows ≡ but_last now
   front_is = sym (but_last_in_open front rows some) ∙ ap but_last is
 
   pub row_seated : (count : ℕ) (picks : List Pick) → count ≤ length (last_row [] now)

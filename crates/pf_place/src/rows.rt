@@ -3,7 +3,7 @@ ghost use Rattle.std.specs.List.{All, slice_get};
 ghost use Rattle.std.specs.List.Sorted.{IsPermutation};
 ghost use Rattle.pf_place.specs.Blocks.{all_rows_of};
 ghost use Rattle.pf_place.specs.Filed.{rows_of_each};
-ghost use Rattle.pf_place.specs.Lent.{places_lent};
+ghost use Rattle.pf_place.specs.Lent.{places_lent, lent_row};
 ghost use Rattle.pf_place.specs.Occupancy.{sitters, row_of, idle_row};
 ghost use Rattle.pf_place.specs.RunRows.{last_row, but_last, row_before};
 ghost use Rattle.pf_place.specs.Turns.{IsTurn, IsRow};
@@ -113,6 +113,17 @@ impl Rows {
                 self.open.assign(&block);
             }
         }
+    }
+
+    /// Puts another row of as many places in place of the last one; it takes no memory.
+    ///
+    /// There must be a row.
+    pub fn assign_last(&mut self, row: RowView<'_>)
+        requires some { 0 < length self.old }
+        requires long { length (lent_row row) ≡ length (last_row [] self.old) }
+        ensures { self.new ≡ but_last self.old ++ lent_row row.entry ∷ [] }
+    {
+        self.open.assign_last(row.places());
     }
 
     /// Makes the last row the row of a slot in which `picks` run on the processors below `count`, as `Row::place` does:
