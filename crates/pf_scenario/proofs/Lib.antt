@@ -2,6 +2,7 @@ pub mod Lists
 pub mod Scenarios
 pub mod Sorting
 pub mod Numbering
+pub mod Finding
 pub mod Indexing
 pub mod Timeline
 pub mod Placing

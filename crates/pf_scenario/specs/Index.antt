@@ -21,10 +21,6 @@ pub record AreDistinctEvents (x y : Numbered) : Type 0 where
   pub joins : join_alike x.event y.event ≡ false
   pub leaves : leave_alike x.event y.event ≡ false
 
--- the events of a map by number
-abbrev pub listed : List (ℕ × Event) → List Numbered
-listed entries = map (λ e. with_number e.0 e.1) entries
-
 -- the event of this number, where it is held
 abbrev pub event_at : List Numbered → ℕ → Option Event
 event_at events id = option_map (λ x. x.event) (find (λ x. x.id == id) events)

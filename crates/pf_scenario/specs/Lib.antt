@@ -8,5 +8,6 @@ pub mod Refusals
 pub mod Laws
 pub mod TimeOrder
 pub mod Place
+pub mod Cards
 pub mod Index
 pub mod Sharing

@@ -1,27 +1,65 @@
 ghost use Rattle.std.specs.Prelude.{◌≡◌, ◌<◌, true, [], ◌∷◌, ◌++◌, length, All, AllPairs, IfOk, OnOk, OnErr};
 ghost use Rattle.pf_scenario.specs.Scenario.{is_held, events_without};
 ghost use Rattle.pf_scenario.specs.Index.{event_at, with_event};
+ghost use Rattle.pf_scenario.specs.Cards.{AreRising, IsPlaceOf, listed};
 
+use crate::card::Card;
 use crate::event::{Event, Numbered};
 use crate::events::Events;
 use std::alloc::{AllocError, Global};
-use std::collections::BTreeMap;
 use std::marker::Model;
 
-/// Events by number. It takes the memory of the events held, whatever numbers were given.
+/// Events by number. It takes the memory of about twice the events held, whatever numbers were given.
 #[derive(Debug, Drop)]
 pub struct ByNumber {
-    events: BTreeMap<u64, Event>,
+    /// In rising order of their numbers. No more than half of them are struck.
+    cards: Vec<Card>,
+
+    /// How many cards are not struck.
+    held: usize,
 }
 
 impl Model for ByNumber {
-    ghost use Rattle.std.specs.Prelude.{List, map};
-    ghost use Rattle.pf_scenario.specs.Scenario.{with_number};
+    ghost use Rattle.std.specs.Prelude.{List};
+    ghost use Rattle.pf_scenario.specs.Cards.{IsTable, listed};
     ghost use Rattle.pf_scenario.specs.declared.event.Numbered.{Numbered};
 
     ghost Value = { List Numbered };
 
-    ghost view = { λ b. map (λ e. with_number e.0 e.1) b.events.entries };
+    ghost view = { λ b. listed b.cards.items };
+
+    ghost invariant = { λ b. IsTable b.cards.items b.held };
+}
+
+/// Where the card of this number is, if there is one.
+fn place_of(cards: &[Card], id: u64) -> Option<usize>
+    requires { AreRising cards.now }
+    ensures { IsPlaceOf cards.now id result }
+{
+    cards.binary_search_by_key(&id, |card| card.id).ok()
+}
+
+/// Drops the cards of this number and above, which are struck.
+fn truncate(cards: &mut Vec<Card>, id: u64)
+    requires rising { AreRising cards.old.items }
+    requires last { All (λ x. x.id < id) (listed cards.old.items) }
+    ensures same { listed cards.new.items ≡ listed cards.old.items }
+    ensures rising { AreRising cards.new.items }
+    ensures below { All (λ card. card.id < id) cards.new.items }
+{
+    let count = cards.partition_point(|card| card.id < id);
+    cards.truncate(count);
+}
+
+/// Drops the struck cards where they are more than half.
+fn sweep(cards: &mut Vec<Card>, held: usize)
+    requires { AreRising cards.old.items }
+    ensures same { listed cards.new.items ≡ listed cards.old.items }
+    ensures rising { AreRising cards.new.items }
+{
+    if cards.len() / 2 > held {
+        cards.retain(|card| card.event.is_some());
+    }
 }
 
 impl ByNumber {
@@ -30,7 +68,8 @@ impl ByNumber {
         ensures { result ≡ [] }
     {
         ByNumber {
-            events: BTreeMap::new(alloc),
+            cards: Vec::new(alloc),
+            held: 0,
         }
     }
 
@@ -39,14 +78,15 @@ impl ByNumber {
         ensures value { result ≡ length self.now }
         ensures rising { AllPairs (λ x y. x.id < y.id) self.now }
     {
-        self.events.len()
+        self.held
     }
 
     /// The event of this number, where it is held.
     pub fn get(&self, id: u64) -> Option<Event>
         ensures { result ≡ event_at self.now id }
     {
-        self.events.get(&id).copied()
+        let at = place_of(&self.cards, id)?;
+        self.cards[at].event
     }
 
     /// Holds an event whose number is above all others.
@@ -59,7 +99,9 @@ impl ByNumber {
         ensures ok { OnOk result (self.new ≡ self.old ++ x ∷ []) }
         ensures err { OnErr result (self.new ≡ self.old) }
     {
-        self.events.insert(x.id, x.event)?;
+        truncate(&mut self.cards, x.id);
+        self.cards.push(Card::of(x))?;
+        self.held += 1;
         Ok(())
     }
 
@@ -68,26 +110,32 @@ impl ByNumber {
         requires { is_held self.old id ≡ true }
         ensures { self.new ≡ with_event id event self.old }
     {
-        match self.events.insert(id, event) {
-            Ok(_) => {}
-            Err(_) => unreachable!(),
-        }
+        let Some(at) = place_of(&self.cards, id) else {
+            unreachable!()
+        };
+        self.cards[at] = Card::of(Numbered { id, event });
     }
 
-    /// Takes the event of this number out.
+    /// Takes the event of this number out. It takes no memory.
     pub fn take_out(&mut self, id: u64)
         ensures { self.new ≡ events_without id self.old }
     {
-        // That the numbers rise is known from the length.
-        let _ = self.events.len();
-        self.events.remove(&id);
+        let Some(at) = place_of(&self.cards, id) else {
+            return;
+        };
+        if self.cards[at].event.is_none() {
+            return;
+        }
+        self.cards[at].event = None;
+        self.held -= 1;
+        sweep(&mut self.cards, self.held);
     }
 
     /// The events.
     pub fn iter(&self) -> Events<'_>
         ensures { result ≡ self.now }
     {
-        Events::of(self.events.iter())
+        Events::of(&self.cards)
     }
 
     /// The same events.
@@ -98,7 +146,10 @@ impl ByNumber {
     pub fn copy(&self) -> Result<Self, AllocError>
         ensures { IfOk result (λ b. b ≡ self.now) }
     {
-        let events = self.events.clone()?;
-        Ok(ByNumber { events })
+        let cards = Vec::from_slice(*self.cards.allocator(), &self.cards)?;
+        Ok(ByNumber {
+            cards,
+            held: self.held,
+        })
     }
 }

@@ -1,33 +1,34 @@
 ghost use Rattle.std.specs.Prelude.{◌≡◌};
 ghost use Rattle.std.specs.Iterator.{YieldsFirst, item_count};
-ghost use Rattle.pf_scenario.specs.Index.{listed};
+ghost use Rattle.pf_scenario.specs.Cards.{listed};
 
-use crate::event::{Event, Numbered};
-use std::collections::btree_map::Iter;
+use crate::card::Card;
+use crate::event::Numbered;
 use std::marker::Model;
 
 /// The events that a scenario holds, in rising order of their numbers.
 #[derive(Drop)]
 pub struct Events<'a> {
-    entries: Iter<'a, u64, Event>,
+    /// The cards that are left.
+    cards: &'a [Card],
 }
 
 impl<'a> Model for Events<'a> {
-    ghost use Rattle.std.specs.Prelude.{List, map};
-    ghost use Rattle.pf_scenario.specs.Scenario.{with_number};
+    ghost use Rattle.std.specs.Prelude.{List};
+    ghost use Rattle.pf_scenario.specs.Cards.{listed};
     ghost use Rattle.pf_scenario.specs.declared.event.Numbered.{Numbered};
 
     ghost Value = { List Numbered };
 
-    ghost view = { λ e. map (λ p. with_number p.0 p.1) e.entries };
+    ghost view = { λ e. listed e.cards.now };
 }
 
 impl<'a> Events<'a> {
-    /// The events that are left of a map's entries.
-    pub(crate) fn of(entries: Iter<'a, u64, Event>) -> Self
-        ensures { result ≡ listed entries.entry }
+    /// The events of the cards that are not struck.
+    pub(crate) fn of(cards: &'a [Card]) -> Self
+        ensures { result ≡ listed cards.now }
     {
-        Events { entries }
+        Events { cards }
     }
 }
 
@@ -39,10 +40,12 @@ impl<'a> Iterator for Events<'a> {
     ghost remaining = { item_count (λ s. s) };
 
     fn next(&mut self) -> Option<Numbered> {
-        let (id, event) = self.entries.next()?;
-        Some(Numbered {
-            id: *id,
-            event: *event,
-        })
+        'cards: while let Some((card, rest)) = self.cards.split_first() {
+            self.cards = rest;
+            if let Some(numbered) = card.numbered() {
+                return Some(numbered);
+            }
+        }
+        None
     }
 }

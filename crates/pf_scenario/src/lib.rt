@@ -5,6 +5,7 @@
 mod agenda;
 pub mod apply_fault;
 mod by_number;
+mod card;
 pub mod change;
 pub mod event;
 pub mod events;

@@ -1,5 +1,20 @@
-use Rattle.pf_scenario.proofs.Numbering.{event_at-listed}
+use Rattle.std.proofs.Common.{◌≢◌, ◌<◌, sym, ap, ◌∙◌, subst}
+use Rattle.std.specs.List.{All}
+use Rattle.pf_scenario.specs.Cards.{IsCardAt}
+use Rattle.pf_scenario.specs.declared.card.Card.{Card}
+use Rattle.pf_scenario.proofs.Lists.{Pairs-from_all}
+use Rattle.pf_scenario.proofs.Numbering.{spot, event_at-absent, event_at-spot}
 use Rattle.pf_scenario.proofs.by_number.ByNumber.get.Goals as goal
 
+pub returns-in_err-at : goal.returns-in_err-at
+returns-in_err-at c =
+    let cards = c.self.inside.cards.items in
+    let absent = subst (All (λ card. card.id ≢ c.args.id)) c.deref.ensures.value c.in_err-at.ensures in
+    rw (c.from_residual.ensures, ← c.self.view_is) (sym (event_at-absent cards c.args.id absent))
+
 pub returns : goal.returns
-returns c = rw (c.copied.ensures, c.get.ensures.value, ← c.self.view_is) (event_at-listed c.args.id c.self.inside.events.entries)
+returns c =
+    let cards = c.self.inside.cards.items in
+    let here : IsCardAt cards c.args.id c.in_ok-at.at = subst (λ xs. IsCardAt xs c.args.id c.in_ok-at.at) c.deref.ensures.value c.in_ok-at.ensures in
+    let s = spot cards c.args.id c.in_ok-at.at (Pairs-from_all (λ x y. x.id < y.id) cards c.self.invariant.rising) here in
+    rw (← c.self.view_is) (ap (λ (x : Card). x.event) (c.index.ensures ∙ s.read c.index.result.now) ∙ sym (event_at-spot cards c.args.id c.in_ok-at.at s))

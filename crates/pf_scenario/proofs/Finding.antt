@@ -1,0 +1,58 @@
+-- What a binary search finds in a table of cards.
+use Rattle.std.proofs.Common.{◌≡◌, ◌≢◌, ℕ, ◌+◌, ◌<◌, ◌≤◌, true, false, ltb, List, length, get_or, take, drop, subst, arith, inl, inr}
+use Rattle.std.specs.List.{All}
+use Rattle.std.specs.List.Sorted.{IsBinarySearchResult, IsSearchInRange, IsPartitionPoint, IsNonDecreasingBy}
+use Rattle.std.specs.Result.{result_ok}
+use Rattle.std.specs.declared.result.Result.{Result}
+use Rattle.std.specs.declared.result.Result.TheVariants.{Ok, Err}
+use Rattle.std.specs.Ordering.{nat_cmp, is_lt}
+use Rattle.std.specs.declared.cmp.Ordering.TheVariants.{Less, Equal, Greater}
+use Rattle.std.specs.Cmp.{nat_cmp_total}
+use Rattle.std.proofs.lemmas.Bool.{cases_lt, ltb-true, ltb-false}
+use Rattle.std.proofs.lemmas.List.{length-take-le, length-drop, get_or-take, get_or-drop}
+use Rattle.std.proofs.lemmas.Bool.Decides.{nat_tests}
+use Rattle.std.proofs.lemmas.List.Sorted.{searchable_from_sorted}
+use Rattle.pf_scenario.specs.Cards.{IsPlaceOf, AreRising}
+use Rattle.pf_scenario.specs.declared.card.Card.{Card}
+
+tied : (a b : ℕ) → nat_cmp a b ≡ Equal → a ≡ b
+tied a b h = grind (arith, nat_tests)
+
+apart : (a b : ℕ) → nat_cmp a b ≡ Less → a ≢ b
+apart a b h e = grind (arith, nat_tests)
+
+beyond : (a b : ℕ) → nat_cmp a b ≡ Greater → a ≢ b
+beyond a b h e = grind (arith, nat_tests)
+
+not_less : (a b : ℕ) → a < b → is_lt (nat_cmp b a) ≡ false
+not_less a b h = grind (arith, nat_tests)
+
+pub found_place : (cards : List Card) (id : ℕ) (r : Result ℕ ℕ) → AreRising cards → IsSearchInRange r (length cards) → IsBinarySearchResult (λ c. nat_cmp c.id id) cards r → IsPlaceOf cards id (result_ok r)
+found_place cards id (Ok at) up bound here = record {
+  within = bound;
+  number = λ d. tied (get_or cards at d).id id (here d);
+}
+found_place cards id (Err at) up bound parts =
+    let cut = parts (searchable_from_sorted nat_cmp_total (λ (c : Card). c.id) cards id (λ k d low high. not_less _ _ (up k (k + 1) d (omega arith) high))) in
+    λ k d low. elim (cases_lt k at) [
+      | inl before ↦ apart _ _ (cut.0 k d (omega arith) before)
+      | inr after ↦ beyond _ _ (cut.1 k d (omega arith) low)
+    ]
+
+-- the cards below a number, and those from it on
+pub cut_below : (cards : List Card) (id at : ℕ) → at ≤ length cards → IsPartitionPoint (λ c. ltb c.id id ≡ true) (λ c. ltb c.id id ≡ false) cards at → All (λ c. c.id < id) (take at cards)
+cut_below cards id at le cut = λ k d low.
+    let below : k < at = omega (arith, low, length-take-le at cards le) in
+    rw (get_or-take at cards k d below) (ltb-true _ _ (cut.0 k d (omega arith) below))
+
+pub cut_above : (cards : List Card) (id at : ℕ) → at ≤ length cards → IsPartitionPoint (λ c. ltb c.id id ≡ true) (λ c. ltb c.id id ≡ false) cards at → All (λ c. id ≤ c.id) (drop at cards)
+cut_above cards id at le cut = λ k d low.
+    let within : at + k < length cards = omega (arith, low, length-drop at cards) in
+    rw (get_or-drop at cards k d) (ltb-false _ _ (cut.1 (at + k) d (omega arith) within))
+
+-- numbers that rise do not fall
+pub never_fall : (cards : List Card) → AreRising cards → IsNonDecreasingBy (λ c. c.id) cards
+never_fall cards up i j d le low = elim (cases_lt i j) [
+  | inl before ↦ let rises = up i j d before low in omega arith
+  | inr same ↦ let equal : i ≡ j = omega arith in subst (λ k. (get_or cards i d).id ≤ (get_or cards k d).id) equal (omega arith)
+]
