@@ -86,9 +86,9 @@ module _ {X : Type 0} where
       ∙ got_in_full full last group q r (All-tail (λ group. length group ≡ 128) first full whole) is small
 
   -- or behind the full ones
-  pub got_in_open : (full : List (List X)) (last : List X) (k : ℕ) → All (λ group. length group ≡ 128) full
+  pub got_in_last : (full : List (List X)) (last : List X) (k : ℕ) → All (λ group. length group ≡ 128) full
       → length full * 128 ≤ k → slice_get (grouped full last) k ≡ slice_get last (k - length full * 128)
-  got_in_open full last k whole past =
+  got_in_last full last k whole past =
       slice_get-append_right (flat_map (λ group. group) full) last k (omega (arith, length-full full whole))
       ∙ ap (slice_get last) (omega (arith, length-full full whole))
 
@@ -110,10 +110,10 @@ module _ {X : Type 0} where
       ∙ ap₂ take (let e : length first + (q * 128 + r) ≡ suc q * 128 + r = omega arith in e)
       (sym (append_assoc first (flat_map (λ group. group) full) last))
 
-  -- or those of all full groups and of a part of the open one
-  pub first_in_open : (full : List (List X)) (last : List X) (count : ℕ) → All (λ group. length group ≡ 128) full
+  -- or those of all full groups and of a part of the last one
+  pub first_in_last : (full : List (List X)) (last : List X) (count : ℕ) → All (λ group. length group ≡ 128) full
       → length full * 128 ≤ count → grouped full (take (count - length full * 128) last) ≡ take count (grouped full last)
-  first_in_open full last count whole past =
+  first_in_last full last count whole past =
       sym (take-append-add (flat_map (λ group. group) full) last (count - length full * 128))
       ∙ ap (λ n. take n (grouped full last)) (omega (arith, length-full full whole))
 

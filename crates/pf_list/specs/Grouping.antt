@@ -1,13 +1,13 @@
--- A list in groups: full ones, and an open one behind them.
+-- A list in groups: full ones, and a last one behind them.
 use Rattle.std.specs.Prelude.{◌≡◌, ℕ, ◌^◌, ◌≤◌, List, ◌++◌, length}
 use Rattle.std.specs.List.{All, flat_map}
 
 module _ {X : Type 0} where
-  -- the items of the full groups, and behind them those of the open one
+  -- the items of the full groups, and behind them those of the last one
   abbrev pub grouped : List (List X) → List X → List X
   grouped full last = flat_map (λ group. group) full ++ last
 
-  -- each full group has 128 items, the open one at most as many
+  -- each full group has 128 items, the last one at most as many
   pub record AreGroups (full : List (List X)) (last : List X) : Type 0 where
     pub whole : All (λ group. length group ≡ 128) full
     pub part : length last ≤ 128

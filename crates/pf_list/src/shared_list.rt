@@ -21,7 +21,7 @@ const MOST_GROUPS: usize = 0x40_0000_0000_0000;
 #[derive(Debug, Drop)]
 pub struct SharedList<T> {
     full: Group<Group<T>>,
-    open: Group<T>,
+    last: Group<T>,
 
     /// How many items of the groups are in the list: the others were taken off.
     count: usize,
@@ -33,9 +33,9 @@ impl<T> Model for SharedList<T> {
 
     ghost Value = { List T };
 
-    ghost view = { λ l. take l.count (grouped l.full l.open) };
+    ghost view = { λ l. take l.count (grouped l.full l.last) };
 
-    ghost invariant = { λ l. HoldFirst l.full l.open l.count };
+    ghost invariant = { λ l. HoldFirst l.full l.last l.count };
 }
 
 impl<T: Drop> SharedList<T> {
@@ -45,7 +45,7 @@ impl<T: Drop> SharedList<T> {
     {
         SharedList {
             full: Group::new(alloc),
-            open: Group::new(alloc),
+            last: Group::new(alloc),
             count: 0,
         }
     }
@@ -73,7 +73,7 @@ impl<T: Drop> SharedList<T> {
         }
         match self.full.get(k / GROUP) {
             Some(group) => group.get(k % GROUP),
-            None => self.open.get(k - self.full.len() * GROUP),
+            None => self.last.get(k - self.full.len() * GROUP),
         }
     }
 
@@ -94,10 +94,10 @@ impl<T: Drop> SharedList<T> {
         ensures err { OnErr result (self.new ≡ self.old) }
         ensures item { IfErr result (λ refused. refused.value ≡ item) }
     {
-        if make_room(&mut self.full, &mut self.open, self.count).is_err() {
+        if make_room(&mut self.full, &mut self.last, self.count).is_err() {
             return Err(AllocFailed { value: item });
         }
-        self.open.push(item)?;
+        self.last.push(item)?;
         self.count += 1;
         Ok(())
     }
@@ -119,7 +119,7 @@ impl<T: Drop> SharedList<T> {
     {
         Ok(SharedList {
             full: self.full.copy()?,
-            open: self.open.copy()?,
+            last: self.last.copy()?,
             count: self.count.min(count),
         })
     }
@@ -136,7 +136,7 @@ impl<T: Drop> SharedList<T> {
     }
 }
 
-/// Leaves the first `count` items, in an open group that has room for one more. Where memory is refused, they are there
+/// Leaves the first `count` items, with room for one more in the last group. Where memory is refused, they are there
 /// still, and maybe others.
 fn make_room<T: Drop>(
     full: &mut Group<Group<T>>,
@@ -180,7 +180,7 @@ fn trim<T: Drop>(
     }
 }
 
-/// Puts the open group behind the full ones where it is full, and goes on with another. Where memory is refused, both are
+/// Puts the last group behind the full ones where it is full, and goes on with another. Where memory is refused, both are
 /// as before.
 fn close<T: Drop>(full: &mut Group<Group<T>>, last: &mut Group<T>) -> Result<(), AllocError>
     requires { AreGroups full.old last.old }

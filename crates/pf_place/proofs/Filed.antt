@@ -1,12 +1,11 @@
--- Rows in full blocks and an open one: where the t-th stands, which is the last, and what is filed anew.
-use Rattle.std.proofs.Common.{◌≡◌, Some, lit≤, ◌^◌, ℕ, zero, suc, ◌+◌, ◌-◌, ◌*◌, ◌<◌, ◌≤◌, Option, List, [], ◌∷◌, ◌++◌, length, get_or, take, ap, ap₂, sym, ◌∙◌, refl, arith, inl, inr, append_assoc, length-append}
+-- Rows in full blocks and a last one: where the t-th stands, which is the last, and what is filed anew.
+use Rattle.std.proofs.Common.{◌≡◌, Some, None, lit≤, ◌^◌, ℕ, zero, suc, ◌+◌, ◌-◌, ◌*◌, ◌<◌, ◌≤◌, Option, List, [], ◌∷◌, ◌++◌, length, take, ap, ap₂, sym, ◌∙◌, refl, arith, inl, inr, append_assoc, length-append}
 use Rattle.std.specs.List.{All, slice_get}
 use Rattle.std.proofs.Math.Seq.{take-append-add}
 use Rattle.std.proofs.lemmas.Bool.{cases_lt}
 use Rattle.std.proofs.lemmas.Grind.{flat_map-append}
-use Rattle.std.specs.Arc.{arc_value}
-use Rattle.std.specs.declared.sync.Arc.{Arc}
-use Rattle.std.proofs.lemmas.List.{append-nil, length-map, get_or-map, map-append}
+use Rattle.std.specs.Option.{option_map}
+use Rattle.std.proofs.lemmas.List.{append-nil, length-map, map-append}
 use Rattle.std.proofs.lemmas.List.Elements.{All-head, All-tail, All-nil, All-cons, All-append}
 use Rattle.std.proofs.lemmas.Option.{slice_get-get_or}
 use Rattle.pf_order.specs.declared.pick.Pick.{Pick}
@@ -41,24 +40,26 @@ module _ {X : Type 0} where
       )
 
   -- the t-th stands in block t / 256
-  pub got_in_full : (full : List (List X)) (back : List X) (q r : ℕ) → All (λ rows. length rows ≡ 256) full → q < length full → r < 256
-      → slice_get (all_rows_of full ++ back) (q * 256 + r) ≡ slice_get (get_or full q []) r
-  got_in_full [] back q r whole l small = absurd (omega arith)
-  got_in_full (rows ∷ full) back zero r whole l small =
-      let long = All-head (λ rows. length rows ≡ 256) rows full whole in
-      ap₂ slice_get (append_assoc rows (all_rows_of full) back) (omega arith)
-      ∙ slice_get-append_left rows (all_rows_of full ++ back) r (omega arith)
-  got_in_full (rows ∷ full) back (suc q) r whole l small =
-      let long = All-head (λ rows. length rows ≡ 256) rows full whole in
-      ap₂ slice_get (append_assoc rows (all_rows_of full) back) refl
-      ∙ slice_get-append_right rows (all_rows_of full ++ back) (suc q * 256 + r) (omega arith)
+  pub got_in_full : (full : List (List X)) (back rows : List X) (q r : ℕ) → All (λ rows. length rows ≡ 256) full
+      → Some rows ≡ slice_get full q → r < 256 → slice_get (all_rows_of full ++ back) (q * 256 + r) ≡ slice_get rows r
+  got_in_full [] back rows q r whole is small = absurd (let none : Some rows ≡ None = is in cc)
+  got_in_full (first ∷ full) back rows zero r whole is small =
+      let long = All-head (λ rows. length rows ≡ 256) first full whole in
+      let same : first ≡ rows = (let e : Some rows ≡ Some first = is in cc) in
+      ap₂ slice_get (append_assoc first (all_rows_of full) back) (omega arith)
+      ∙ slice_get-append_left first (all_rows_of full ++ back) r (omega arith)
+      ∙ ap (λ rows. slice_get rows r) same
+  got_in_full (first ∷ full) back rows (suc q) r whole is small =
+      let long = All-head (λ rows. length rows ≡ 256) first full whole in
+      ap₂ slice_get (append_assoc first (all_rows_of full) back) refl
+      ∙ slice_get-append_right first (all_rows_of full ++ back) (suc q * 256 + r) (omega arith)
       ∙ ap (slice_get (all_rows_of full ++ back)) (omega arith)
-      ∙ got_in_full full back q r (All-tail (λ rows. length rows ≡ 256) rows full whole) (omega arith) small
+      ∙ got_in_full full back rows q r (All-tail (λ rows. length rows ≡ 256) first full whole) is small
 
   -- or behind the full ones
-  pub got_in_open : (full : List (List X)) (back : List X) (t : ℕ) → All (λ rows. length rows ≡ 256) full → length full * 256 ≤ t
+  pub got_in_last : (full : List (List X)) (back : List X) (t : ℕ) → All (λ rows. length rows ≡ 256) full → length full * 256 ≤ t
       → slice_get (all_rows_of full ++ back) t ≡ slice_get back (t - length full * 256)
-  got_in_open full back t whole past =
+  got_in_last full back t whole past =
       slice_get-append_right (all_rows_of full) back t (omega (arith, length-full full whole))
       ∙ ap (slice_get back) (omega (arith, length-full full whole))
 
@@ -73,47 +74,29 @@ last-append : (before : List (Option Pick)) (xs ys : List (List (Option Pick))) 
 last-append before [] ys = refl
 last-append before (row ∷ xs) ys = last-append row xs ys
 
--- the last row of all is that of the open block
-pub last_in_open : (before other : List (Option Pick)) (front rows : List (List (Option Pick))) → 0 < length rows → last_row before (front ++ rows) ≡ last_row other rows
-last_in_open before other front rows some = last-append before front rows ∙ last_of_some (last_row before front) other rows some
+-- the last row of all is that of the last block
+pub last_behind_full : (before other : List (Option Pick)) (front rows : List (List (Option Pick))) → 0 < length rows → last_row before (front ++ rows) ≡ last_row other rows
+last_behind_full before other front rows some = last-append before front rows ∙ last_of_some (last_row before front) other rows some
 
--- and those before it are the full blocks' and the others of the open one
-pub but_last_in_open : (front rows : List (List (Option Pick))) → 0 < length rows → but_last (front ++ rows) ≡ front ++ but_last rows
-but_last_in_open front rows some =
+-- and those before it are the full blocks' and the others of the last one
+pub but_last_behind_full : (front rows : List (List (Option Pick))) → 0 < length rows → but_last (front ++ rows) ≡ front ++ but_last rows
+but_last_behind_full front rows some =
     ap (λ n. take n (front ++ rows)) (let n : length (front ++ rows) - 1 ≡ length front + (length rows - 1) = omega (arith, length-append front rows) in n)
     ∙ take-append-add front rows (length rows - 1)
 
 module _ (full : List (List (List (Option Pick)))) (old : Held) (filed : AreFiled full old) where
-  -- where there is a row, the open block has one
-  pub some_in_open : 0 < length (all_rows_of full ++ old.rows) → 0 < length old.rows
-  some_in_open some = elim (cases_lt 0 (length full)) [
+  -- where there is a row, the last block has one
+  pub some_in_last : 0 < length (all_rows_of full ++ old.rows) → 0 < length old.rows
+  some_in_last some = elim (cases_lt 0 (length full)) [
     | inl l ↦ filed.some l
     | inr none ↦ omega (arith, length-append (all_rows_of full) old.rows, length-full full filed.whole)
   ]
-
-  -- other rows in the open block
-  pub filed_anew : (new : Held) → KeepsRoom old new → 0 < length new.rows → length new.rows ≤ 256 → AreFiled full new
-  filed_anew new room some part = record {
-    whole = filed.whole;
-    part = part;
-    some = λ _. some;
-    room = λ k d l. let fits = filed.room k d l in
-        record { for_places = omega (arith, fits.for_places, room.for_places); for_rows = omega (arith, fits.for_rows, room.for_rows) };
-    few = filed.few;
-  }
 
 -- more room is room enough
 pub room_kept : (old new : Held) (rows : List (List (Option Pick))) → KeepsRoom old new → HasRoomFor old rows → HasRoomFor new rows
 room_kept old new rows room fits = record {
   for_places = omega (arith, fits.for_places, room.for_places);
   for_rows = omega (arith, fits.for_rows, room.for_rows);
-}
-
--- room is kept step by step
-pub room_more : (old mid new : Held) → KeepsRoom old mid → KeepsRoom mid new → KeepsRoom old new
-room_more old mid new first then = record {
-  for_places = omega (arith, first.for_places, then.for_places);
-  for_rows = omega (arith, first.for_rows, then.for_rows);
 }
 
 pub nothing_left : {X : Type 0} (xs : List X) → length xs ≡ 0 → xs ≡ []
@@ -135,7 +118,11 @@ All-kept : {X : Type 0} (P Q : X → Type 0) → ((x : X) → P x → Q x) → (
 All-kept P Q keep [] h = All-nil Q
 All-kept P Q keep (x ∷ xs) h = All-cons Q x xs (keep x (All-head P x xs h)) (All-kept P Q keep xs (All-tail P x xs h))
 
--- the open block was closed, and the next one has a row
+-- there is room for the rows of each block still
+pub room_for_each : (old new : Held) (full : List (List (List (Option Pick)))) → KeepsRoom old new → All (HasRoomFor old) full → All (HasRoomFor new) full
+room_for_each old new full room fits = All-kept (HasRoomFor old) (HasRoomFor new) (λ rows h. room_kept old new rows room h) full fits
+
+-- the last block was closed, and the next one has a row
 pub filed_closed : (full : List (List (List (Option Pick)))) (old next new : Held) → AreFiled full old → length old.rows ≡ 256 → length full < 2 ^ 54
     → KeepsRoom old next → HasRoomFor next old.rows → KeepsRoom next new → length new.rows ≡ 1 → AreFiled (full ++ old.rows ∷ []) new
 filed_closed full old next new filed long few same fits room one = record {
@@ -149,26 +136,22 @@ filed_closed full old next new filed long few same fits room one = record {
 }
 
 -- the last full block was opened again
-pub filed_opened : (full : List (List (List (Option Pick)))) (rows : List (List (Option Pick))) (old new : Held) → AreFiled (full ++ rows ∷ []) old
+pub filed_opened : (full : List (List (List (Option Pick)))) (rows : List (List (Option Pick))) (old new : Held)
+    → All (λ rows. length rows ≡ 256) (full ++ rows ∷ []) → length (full ++ rows ∷ []) ≤ 2 ^ 54 → All (HasRoomFor old) (full ++ rows ∷ [])
     → KeepsRoom old new → new.rows ≡ rows → AreFiled full new
-filed_opened full rows old new filed room is =
-    let long = All-end (λ rows. length rows ≡ 256) full rows filed.whole in
+filed_opened full rows old new whole few fits room is =
+    let long = All-end (λ rows. length rows ≡ 256) full rows whole in
     record {
-      whole = All-front (λ rows. length rows ≡ 256) full rows filed.whole;
+      whole = All-front (λ rows. length rows ≡ 256) full rows whole;
       part = omega (arith, ap length is);
       some = λ _. omega (arith, ap length is);
-      room = All-kept (HasRoomFor old) (HasRoomFor new) (λ rows h. room_kept old new rows room h) full (All-front (HasRoomFor old) full rows filed.room);
-      few = omega (arith, filed.few, length-append full (rows ∷ []));
+      room = room_for_each old new full room (All-front (HasRoomFor old) full rows fits);
+      few = omega (arith, few, length-append full (rows ∷ []));
     }
 
--- and has room for its rows
-pub room_for_last : (full : List (List (List (Option Pick)))) (rows : List (List (Option Pick))) (old new : Held) → AreFiled (full ++ rows ∷ []) old
-    → KeepsRoom old new → HasRoomFor new rows
-room_for_last full rows old new filed room = room_kept old new rows room (All-end (HasRoomFor old) full rows filed.room)
-
 -- no full blocks
-pub filed_open : (full : List (List (List (Option Pick)))) (new : Held) → length full ≡ 0 → length new.rows ≤ 256 → AreFiled full new
-filed_open full new none part = record {
+pub filed_last : (full : List (List (List (Option Pick)))) (new : Held) → length full ≡ 0 → length new.rows ≤ 256 → AreFiled full new
+filed_last full new none part = record {
   whole = λ k d l. absurd (omega arith);
   part = part;
   some = λ l. absurd (omega arith);
@@ -177,12 +160,12 @@ filed_open full new none part = record {
 }
 
 -- the last row of the full blocks
-pub last_of_full : (full : List (List (List (Option Pick)))) → All (λ rows. length rows ≡ 256) full → 0 < length full
-    → slice_get (get_or full (length full - 1) []) 255 ≡ Some (last_row [] (all_rows_of full))
-last_of_full full whole some =
+pub last_of_full : (full : List (List (List (Option Pick)))) (rows : List (List (Option Pick))) → All (λ rows. length rows ≡ 256) full
+    → 0 < length full → Some rows ≡ slice_get full (length full - 1) → slice_get rows 255 ≡ Some (last_row [] (all_rows_of full))
+last_of_full full rows whole some is =
     let long = length-full full whole in
     let at : (length full - 1) * 256 + 255 ≡ length (all_rows_of full) - 1 = omega arith in
-    sym (got_in_full full [] (length full - 1) 255 whole (omega arith) (omega arith))
+    sym (got_in_full full [] rows (length full - 1) 255 whole is (omega arith))
     ∙ ap₂ slice_get (append-nil (all_rows_of full)) at
     ∙ slice_get-get_or (all_rows_of full) (length (all_rows_of full) - 1) [] (omega arith)
     ∙ ap Some (sym (last_is_read [] [] (all_rows_of full) (omega arith)))
@@ -190,37 +173,56 @@ last_of_full full whole some =
 -- a row in place of the idle one that was appended
 pub idle_is_last : (front rows old : List (List (Option Pick))) (idle : List (Option Pick)) → 0 < length rows → front ++ rows ≡ old ++ idle ∷ []
     → last_row [] rows ≡ idle
-idle_is_last front rows old idle some is = sym (last_in_open [] [] front rows some) ∙ ap (last_row []) is ∙ last_behind [] old idle
+idle_is_last front rows old idle some is = sym (last_behind_full [] [] front rows some) ∙ ap (last_row []) is ∙ last_behind [] old idle
 
 pub row_pushed : (front rows old : List (List (Option Pick))) (idle row : List (Option Pick)) → 0 < length rows → front ++ rows ≡ old ++ idle ∷ []
     → front ++ (but_last rows ++ row ∷ []) ≡ old ++ row ∷ []
 row_pushed front rows old idle row some is =
     sym (append_assoc front (but_last rows) (row ∷ []))
-    ∙ ap (λ xs. xs ++ row ∷ []) (sym (but_last_in_open front rows some) ∙ ap but_last is ∙ but_last_behind old idle)
+    ∙ ap (λ xs. xs ++ row ∷ []) (sym (but_last_behind_full front rows some) ∙ ap but_last is ∙ but_last_behind old idle)
 
-module _ {A : Type 0} where
-  -- as many lists of rows as blocks
-  pub count_blocks : (blocks : List (Arc Held A)) → length (rows_of_each blocks) ≡ length blocks
-  count_blocks blocks = length-map blocks (λ (block : Arc Held A). (arc_value {X = Held} {Z = A} block).rows)
+-- as many lists of rows as blocks
+pub count_blocks : (blocks : List Held) → length (rows_of_each blocks) ≡ length blocks
+count_blocks blocks = length-map blocks (λ (held : Held). held.rows)
 
-  -- the rows of one of the blocks
-  pub block_at : (blocks : List (Arc Held A)) (q : ℕ) (block : Arc Held A) → q < length blocks → block ≡ get_or blocks q block
-      → (arc_value {X = Held} {Z = A} block).rows ≡ get_or (rows_of_each blocks) q []
-  block_at blocks q block l is =
-      ap (λ (b : Arc Held A). (arc_value {X = Held} {Z = A} b).rows) is
-      ∙ sym (get_or-map (λ (b : Arc Held A). (arc_value {X = Held} {Z = A} b).rows) blocks q block [] l)
+-- the rows of one of the blocks
+pub block_at : (blocks : List Held) (q : ℕ) (block : Held) → Some block ≡ slice_get blocks q → Some block.rows ≡ slice_get (rows_of_each blocks) q
+block_at [] q block is = absurd (let none : Some block ≡ None = is in cc)
+block_at (first ∷ blocks) zero block is = (let e : Some block ≡ Some first = is in ap (λ (held : Option Held). option_map (λ (h : Held). h.rows) held) e)
+block_at (first ∷ blocks) (suc q) block is = block_at blocks q block is
 
-  -- one block more
-  pub blocks_more : (blocks : List (Arc Held A)) (block : Arc Held A) → rows_of_each (blocks ++ block ∷ []) ≡ rows_of_each blocks ++ (arc_value {X = Held} {Z = A} block).rows ∷ []
-  blocks_more blocks block = map-append (λ (b : Arc Held A). (arc_value {X = Held} {Z = A} b).rows) blocks (block ∷ [])
+-- behind the last one is none
+pub none_within : {X : Type 0} (xs : List X) (k : ℕ) → None ≡ slice_get xs k → length xs ≤ k
+none_within [] k none = omega arith
+none_within (x ∷ xs) zero none = absurd (let some : None ≡ Some x = none in cc)
+none_within (x ∷ xs) (suc k) none = omega (arith, none_within xs k none)
+
+pub some_within : {X : Type 0} (xs : List X) (k : ℕ) (x : X) → Some x ≡ slice_get xs k → k < length xs
+some_within [] k x is = absurd (let none : Some x ≡ None = is in cc)
+some_within (y ∷ xs) zero x is = omega arith
+some_within (y ∷ xs) (suc k) x is = omega (arith, some_within xs k x is)
+
+-- the others, and the last one
+last_taken : {X : Type 0} (n : ℕ) (xs : List X) (x : X) → length xs ≡ suc n → Some x ≡ slice_get xs n → take n xs ++ x ∷ [] ≡ xs
+last_taken n [] x long is = absurd (omega arith)
+last_taken zero (y ∷ []) x long is = (let e : Some x ≡ Some y = is in let same : x ≡ y = cc in ap (λ z. z ∷ []) same)
+last_taken zero (y ∷ z ∷ xs) x long is = absurd (omega arith)
+last_taken (suc n) (y ∷ xs) x long is = ap (λ rest. y ∷ rest) (last_taken n xs x (omega arith) is)
+
+-- the rows of the blocks before the last
+pub blocks_less : (blocks : List Held) (block : Held) → Some block ≡ slice_get blocks (length blocks - 1)
+    → rows_of_each (take (length blocks - 1) blocks) ++ block.rows ∷ [] ≡ rows_of_each blocks
+blocks_less blocks block is =
+    sym (map-append (λ (held : Held). held.rows) (take (length blocks - 1) blocks) (block ∷ []))
+    ∙ ap rows_of_each (last_taken (length blocks - 1) blocks block (omega (arith, some_within blocks (length blocks - 1) block is)) is)
 
 -- Picks in the last row.
 module _ (front rows now : List (List (Option Pick))) (some : 0 < length rows) (is : front ++ rows ≡ now) where
   pub last_is : last_row [] rows ≡ last_row [] now
-  last_is = sym (last_in_open [] [] front rows some) ∙ ap (last_row []) is
+  last_is = sym (last_behind_full [] [] front rows some) ∙ ap (last_row []) is
 
   pub front_is : front ++ but_last rows ≡ but_last now
-  front_is = sym (but_last_in_open front rows some) ∙ ap but_last is
+  front_is = sym (but_last_behind_full front rows some) ∙ ap but_last is
 
   pub row_seated : (count : ℕ) (picks : List Pick) → count ≤ length (last_row [] now)
       → front ++ (but_last rows ++ row_of (length (last_row [] rows)) count (last_row (last_row [] front) (but_last rows)) picks ∷ [])

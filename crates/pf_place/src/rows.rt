@@ -1,8 +1,8 @@
-ghost use Rattle.std.specs.Prelude.{◌≡◌, ◌==◌, ◌<◌, ◌≤◌, ◌-◌, [], ◌∷◌, ◌++◌, length, IfOk, OnOk, OnErr};
+ghost use Rattle.std.specs.Prelude.{◌≡◌, ◌==◌, ◌<◌, ◌≤◌, ◌-◌, ◌^◌, [], ◌∷◌, ◌++◌, length, IfOk, OnOk, OnErr};
 ghost use Rattle.std.specs.List.{All, slice_get};
 ghost use Rattle.std.specs.List.Sorted.{IsPermutation};
-ghost use Rattle.pf_place.specs.Blocks.{all_rows_of};
-ghost use Rattle.pf_place.specs.Filed.{rows_of_each};
+ghost use Rattle.pf_place.specs.Blocks.{all_rows_of, HasRoomFor};
+ghost use Rattle.pf_place.specs.Filed.{rows_of_each, AreFiled};
 ghost use Rattle.pf_place.specs.Lent.{places_lent, lent_row};
 ghost use Rattle.pf_place.specs.Occupancy.{sitters, row_of, idle_row};
 ghost use Rattle.pf_place.specs.RunRows.{last_row, but_last, row_before};
@@ -12,10 +12,10 @@ use crate::block::Block;
 use crate::place::Place;
 use crate::row::Row;
 use crate::row_view::RowView;
+use pf_list::shared_list::SharedList;
 use pf_order::pick::Pick;
 use std::alloc::{AllocError, Global};
 use std::marker::Model;
-use std::sync::Arc;
 
 /// How many rows a full block has.
 const BLOCK: usize = 256;
@@ -23,11 +23,12 @@ const BLOCK: usize = 256;
 /// The most full blocks, so that the rows can be counted: far beyond what a memory holds.
 const MOST_BLOCKS: usize = 0x40_0000_0000_0000;
 
-/// The rows of the slots from 0 on. Copies share the blocks of 256 rows that are full.
+/// The rows of the slots from 0 on. Copies share the blocks of 256 rows that are full: a copy costs the same however many
+/// rows there are.
 #[derive(Debug, Drop)]
 pub struct Rows {
-    full: Vec<Arc<Block>>,
-    open: Block,
+    full: SharedList<Block>,
+    last: Block,
 }
 
 impl Model for Rows {
@@ -38,9 +39,9 @@ impl Model for Rows {
 
     ghost Value = { List (List (Option Pick)) };
 
-    ghost view = { λ rows. all_rows_of (rows_of_each rows.full.items) ++ rows.open.rows };
+    ghost view = { λ rows. all_rows_of (rows_of_each rows.full) ++ rows.last.rows };
 
-    ghost invariant = { λ rows. AreFiled (rows_of_each rows.full.items) rows.open };
+    ghost invariant = { λ rows. AreFiled (rows_of_each rows.full) rows.last };
 }
 
 impl Rows {
@@ -49,8 +50,8 @@ impl Rows {
         ensures { result ≡ [] }
     {
         Rows {
-            full: Vec::new(alloc),
-            open: Block::new(alloc),
+            full: SharedList::new(alloc),
+            last: Block::new(alloc),
         }
     }
 
@@ -65,7 +66,7 @@ impl Rows {
     {
         let places = row.view().places();
         self.append_idle(places.len())?;
-        self.open.assign_last(places);
+        self.last.assign_last(places);
         Ok(())
     }
 
@@ -83,20 +84,20 @@ impl Rows {
     }
 
     /// Appends the idle row of m processors. A block that is full is closed here and not when it gets full, and only once
-    /// the row has its room, so that the last row is always in the open block.
+    /// the row has its room, so that the last row is always in the last block.
     fn append_idle(&mut self, m: usize) -> Result<(), AllocError>
         ensures ok { OnOk result (self.new ≡ self.old ++ idle_row m ∷ []) }
         ensures err { OnErr result (self.new ≡ self.old) }
     {
-        if self.open.len() < BLOCK {
-            return self.open.push_idle(m);
+        if self.last.len() < BLOCK {
+            return self.last.push_idle(m);
         }
         if self.full.len() >= MOST_BLOCKS {
             return Err(AllocError);
         }
-        let mut next = self.open.empty_like()?;
+        let mut next = self.last.empty_like()?;
         next.push_idle(m)?;
-        close(&mut self.full, &mut self.open, next)?;
+        close(&mut self.full, &mut self.last, next)?;
         Ok(())
     }
 
@@ -104,14 +105,12 @@ impl Rows {
     pub fn pop(&mut self)
         ensures { self.new ≡ but_last self.old }
     {
-        if self.open.len() == 0 {
+        if self.last.len() == 0 {
             return;
         }
-        self.open.pop();
-        if self.open.len() == 0 {
-            if let Some(block) = self.full.pop() {
-                self.open.assign(&block);
-            }
+        self.last.pop();
+        if self.last.len() == 0 {
+            reopen(&mut self.full, &mut self.last);
         }
     }
 
@@ -123,7 +122,7 @@ impl Rows {
         requires long { length (lent_row row) ≡ length (last_row [] self.old) }
         ensures { self.new ≡ but_last self.old ++ lent_row row.entry ∷ [] }
     {
-        self.open.assign_last(row.places());
+        self.last.assign_last(row.places());
     }
 
     /// Makes the last row the row of a slot in which `picks` run on the processors below `count`, as `Row::place` does:
@@ -144,14 +143,14 @@ impl Rows {
         ensures row { IsRow (length (last_row [] self.old)) (last_row [] self.new) }
     {
         let above = last_places(&self.full);
-        self.open.seat_last(above, count as usize, picks);
+        self.last.seat_last(above, count as usize, picks);
     }
 
     /// How many slots have a row.
     pub fn len(&self) -> usize
         ensures { result ≡ length self.now }
     {
-        self.full.len() * BLOCK + self.open.len()
+        self.full.len() * BLOCK + self.last.len()
     }
 
     /// Whether no slot has a row.
@@ -166,11 +165,9 @@ impl Rows {
         ensures { places_lent result ≡ slice_get self.now t }
     {
         let t = t as usize;
-        let block = t / BLOCK;
-        if block < self.full.len() {
-            self.full[block].row(t % BLOCK)
-        } else {
-            self.open.row(t - self.full.len() * BLOCK)
+        match self.full.get(t / BLOCK) {
+            Some(block) => block.row(t % BLOCK),
+            None => self.last.row(t - self.full.len() * BLOCK),
         }
     }
 
@@ -190,38 +187,22 @@ impl Rows {
     pub fn copy(&self) -> Result<Self, AllocError>
         ensures { IfOk result (λ rows. rows ≡ self.now) }
     {
-        let open = self.open.copy()?;
-        let full = share(&self.full)?;
-        Ok(Rows { full, open })
+        let last = self.last.copy()?;
+        let full = self.full.copy()?;
+        Ok(Rows { full, last })
     }
 }
 
-/// The same blocks, each with one owner more.
-fn share(full: &Vec<Arc<Block>>) -> Result<Vec<Arc<Block>>, AllocError>
-    ensures { IfOk result (λ shared. rows_of_each shared.items ≡ rows_of_each full.now.items) }
-{
-    let mut shared = Vec::with_capacity(*full.allocator(), full.len())?;
-    for block in full {
-        shared.push(Arc::try_clone(block)?)?;
-    }
-    Ok(shared)
-}
-
-/// Puts the open block behind the full ones, and goes on with the next. Where memory is refused, both are as before.
-fn close(full: &mut Vec<Arc<Block>>, last: &mut Block, next: Block) -> Result<(), AllocError>
-    ensures full { OnOk result (rows_of_each full.new.items ≡ rows_of_each full.old.items ++ last.old.rows ∷ []) }
+/// Puts the last block behind the full ones, and goes on with the next. Where memory is refused, both are as before.
+fn close(full: &mut SharedList<Block>, last: &mut Block, next: Block) -> Result<(), AllocError>
+    ensures full { OnOk result (rows_of_each full.new ≡ rows_of_each full.old ++ last.old.rows ∷ []) }
     ensures opened { OnOk result (last.new ≡ next) }
-    ensures err_full { OnErr result (full.new.items ≡ full.old.items) }
-    ensures err_open { OnErr result (last.new ≡ last.old) }
+    ensures err_full { OnErr result (full.new ≡ full.old) }
+    ensures err_last { OnErr result (last.new ≡ last.old) }
 {
-    let alloc = *full.allocator();
-    full.reserve(1)?;
     let closed = std::mem::replace(last, next);
-    match Arc::new(alloc, closed) {
-        Ok(block) => {
-            full.push_reserved(block);
-            Ok(())
-        }
+    match full.push(closed) {
+        Ok(()) => Ok(()),
         Err(refused) => {
             *last = refused.value;
             Err(AllocError)
@@ -229,17 +210,31 @@ fn close(full: &mut Vec<Arc<Block>>, last: &mut Block, next: Block) -> Result<()
     }
 }
 
+/// Puts the last full block, where there is one, in place of the last block, which has no rows; it takes no memory.
+fn reopen(full: &mut SharedList<Block>, last: &mut Block)
+    requires whole { All (λ rows. length rows ≡ 256) (rows_of_each full.old) }
+    requires few { length full.old ≤ 2 ^ 54 }
+    requires room { All (HasRoomFor last.old) (rows_of_each full.old) }
+    requires empty { length last.old.rows ≡ 0 }
+    ensures filed { AreFiled (rows_of_each full.new) last.new }
+    ensures same { all_rows_of (rows_of_each full.new) ++ last.new.rows ≡ all_rows_of (rows_of_each full.old) }
+{
+    if let Some(block) = full.last() {
+        last.assign(block);
+        full.pop();
+    }
+}
+
 /// The last row of these blocks; no places where there are none.
-fn last_places(full: &[Arc<Block>]) -> &[Place]
+fn last_places(full: &SharedList<Block>) -> &[Place]
     requires { All (λ rows. length rows ≡ 256) (rows_of_each full.now) }
     ensures { result.now ≡ last_row [] (all_rows_of (rows_of_each full.now)) }
 {
-    let count = full.len();
-    if count == 0 {
-        return &[];
-    }
-    match full[count - 1].row(BLOCK - 1) {
-        Some(row) => row.places(),
-        None => unreachable!(),
+    match full.last() {
+        None => &[],
+        Some(block) => match block.row(BLOCK - 1) {
+            Some(row) => row.places(),
+            None => unreachable!(),
+        },
     }
 }

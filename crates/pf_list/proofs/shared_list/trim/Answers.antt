@@ -1,13 +1,13 @@
 use Rattle.std.proofs.Common.{rules, ◌≡◌, ◌+◌, ◌*◌, ◌/◌, ◌%◌, ◌≤◌, length, take, ap, ap₂, ◌∙◌, arith}
 use Rattle.pf_list.specs.Grouping.{grouped}
-use Rattle.pf_list.proofs.Groups.{first_in_full, first_in_open, none_within}
+use Rattle.pf_list.proofs.Groups.{first_in_full, first_in_last, none_within}
 use Rattle.pf_list.proofs.shared_list.trim.Goals as goal
 
 pub returns-in-None-clause-ok : goal.returns-in-None-clause-ok
 returns-in-None-clause-ok g c =
     let full = c.args.full.now in
     let past : length full ≤ c.args.count / 128 = none_within full (c.args.count / 128) c.in-None.ensures in
-    let first = first_in_open full c.args.last.now c.args.count c.requires.groups.whole (omega arith) in
+    let first = first_in_last full c.args.last.now c.args.count c.requires.groups.whole (omega arith) in
     search rules
 
 pub returns-in_ok-truncate-in-Some-2-clause-ok : goal.returns-in_ok-truncate-in-Some-2-clause-ok

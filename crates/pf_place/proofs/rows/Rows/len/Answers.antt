@@ -5,20 +5,19 @@ use Rattle.pf_place.proofs.Filed.{length-full, count_blocks}
 use Rattle.pf_place.proofs.rows.Rows.len.Goals as goal
 
 pub overflow_mul-result : goal.overflow_mul-result
-overflow_mul-result c = omega (arith, c.self.invariant.few, count_blocks c.self.inside.full.items, c.self.inside.full.ok.0)
+overflow_mul-result c = omega (arith, c.self.invariant.few, count_blocks c.self.inside.full)
 
 pub overflow_add-result : goal.overflow_add-result
-overflow_add-result c = omega (arith, c.self.invariant.few, c.self.invariant.part, count_blocks c.self.inside.full.items, c.self.inside.full.ok.0)
+overflow_add-result c = omega (arith, c.self.invariant.few, c.self.invariant.part, count_blocks c.self.inside.full)
 
 pub returns : goal.returns
 returns c =
     let inside = c.self.inside in
-    let full = rows_of_each inside.full.items in
+    let full = rows_of_each inside.full in
     omega (
       arith,
       ap length c.self.view_is,
-      length-append (all_rows_of full) inside.open.rows,
+      length-append (all_rows_of full) inside.last.rows,
       length-full full c.self.invariant.whole,
-      count_blocks inside.full.items,
-      inside.full.ok.0,
+      count_blocks inside.full,
     )
