@@ -1,11 +1,17 @@
 -- What a scenario's representation is asked for at each change.
-use Rattle.std.proofs.Common.{◌≡◌, ℕ, ◌<◌, ◌≤◌, Option, Some, None, true, not, List, [], ◌∷◌, ◌++◌, refl, sym, ap, ◌∙◌, subst, arith, IfSome, inl, inr}
-use Rattle.std.specs.Prelude.{◌==◌}
+use Rattle.std.proofs.Common.{◌≡◌, ℕ, ◌<◌, ◌≤◌, ◌%◌, Option, Some, None, true, not, List, [], ◌∷◌, ◌++◌, refl, sym, ap, ◌∙◌, subst, arith, IfSome, inl, inr}
+use Rattle.std.specs.Prelude.{◌==◌, nat_le}
 use Rattle.std.specs.List.{All, AllPairs, find}
 use Rattle.std.specs.Option.{option_map, option_map_or}
 use Rattle.std.proofs.lemmas.Bool.{cases_Bool, ne_eqb, leb-true, ltb-true, and_parts}
 use Rattle.std.proofs.lemmas.List.{append-nil}
 use Rattle.std.proofs.lemmas.List.Elements.{All-weaker}
+use Rattle.std.proofs.lemmas.Bool.Decides.{nat_tests}
+use Rattle.std.proofs.lemmas.Nat.Gcd.{le_of_dvd, dvd_of_mod-eq-zero}
+use Rattle.pf_weight.specs.Share.{IsBase}
+use Rattle.pf_weight.specs.Weighed.{weight_fault}
+use Rattle.pf_weight.specs.declared.fault.WeightFault.{WeightFault}
+use Rattle.pf_weight.specs.declared.base.TheConstants.{LARGEST_BASE}
 use Rattle.pf_weight.specs.declared.task.TheConstants.{LARGEST_TASK}
 use Rattle.pf_scenario.proofs.Lists.{Pairs, Pairs-from_all, All_at, find_none, filter_all}
 use Rattle.std.proofs.lemmas.Bool.{not_from_false}
@@ -14,9 +20,13 @@ use Rattle.pf_scenario.proofs.Indexing.{around_apart}
 use Rattle.pf_scenario.specs.System.{System, IsSystem, wide_horizon}
 use Rattle.pf_scenario.specs.Event.{slot_of, task_of}
 use Rattle.pf_scenario.specs.Scenario.{Plan, with_number, is_held, events_without, plan_after, held_slot}
-use Rattle.pf_scenario.specs.Edit.{IsScenario, IsEvent, is_within, edit_fault}
+use Rattle.pf_scenario.specs.Edit.{IsScenario, IsEvent, is_within, edit_fault, has_early, has_delay, has_count, bad_weight}
+use Rattle.pf_scenario.specs.Held.{HasSmallNumbers}
+use Rattle.pf_scenario.specs.declared.limits.TheConstants.{MOST_EARLY, LONGEST_DELAY}
+use Rattle.pf_scenario.specs.declared.fault.EditFault.TheVariants.{BadWeight}
 use Rattle.pf_scenario.specs.Index.{AreDistinctEvents, IsNewEvent, event_at}
 use Rattle.pf_scenario.specs.declared.event.Event.{Event}
+use Rattle.pf_scenario.specs.declared.event.Event.TheVariants.{Join, Leave, Delay, Limit}
 use Rattle.pf_scenario.specs.declared.event.Numbered.{Numbered}
 use Rattle.pf_scenario.specs.declared.change.Change.{Change}
 use Rattle.pf_scenario.specs.declared.change.Change.TheVariants.{Insert, Alter, Strike}
@@ -36,6 +46,69 @@ slot_within settings event system h =
       | inl near ↦ omega arith
       | inr wide ↦ omega arith
     ]
+
+-- the other tests that an event within its limits passes
+record PassesTests (settings : System) (event : Event) : Type 0 where
+  pub early : has_early event ≡ true
+  pub delay : has_delay event ≡ true
+  pub count : has_count settings.processors event ≡ true
+  pub weight : bad_weight settings.base event ≡ None
+
+passes_tests : (settings : System) (event : Event) → IsEvent settings event → PassesTests settings event
+passes_tests settings event h =
+    let after_task = (or_else_none _ _ ((or_else_none _ _ h).1)).1 in
+    let at_early = or_else_none _ _ after_task in
+    let at_delay = or_else_none _ _ at_early.1 in
+    let at_count = or_else_none _ _ at_delay.1 in
+    let at_weight = or_else_none _ _ at_count.1 in
+    record {
+      early = unless_none _ _ at_early.0;
+      delay = unless_none _ _ at_delay.0;
+      count = unless_none _ _ at_count.0;
+      weight = at_weight.0;
+    }
+
+-- its cost and its period are no greater than the base
+no_fault : (o : Option WeightFault) → option_map (λ f. BadWeight f) o ≡ None → o ≡ None
+no_fault None h = refl
+no_fault (Some f) h = absurd (cc)
+
+weight_low : (base cost period : ℕ) → IsBase base → weight_fault base cost period ≡ None → (cost ≤ base) × (period ≤ base)
+weight_low base cost period of_base none =
+    let some : 1 ≤ cost = grind (arith, nat_tests) in
+    let within : cost ≤ period = grind (arith, nat_tests) in
+    let whole : base % period ≡ 0 = grind (arith, nat_tests) in
+    let short : period ≤ base = le_of_dvd of_base.some (dvd_of_mod-eq-zero period whole) in
+    (omega arith, short)
+
+-- the numbers of an event within its limits are small
+small_numbers : (settings : System) (event : Event) → IsSystem settings → IsEvent settings event → HasSmallNumbers event
+small_numbers settings (Join slot task cost period early) system h =
+    let at = slot_within settings (Join slot task cost period early) system h in
+    let number = task_within settings (Join slot task cost period early) h in
+    let tests = passes_tests settings (Join slot task cost period early) h in
+    let ahead = leb-true early MOST_EARLY tests.early in
+    let low = weight_low settings.base cost period system.limits.base (no_fault _ tests.weight) in
+    let base : settings.base ≤ LARGEST_BASE = system.limits.base.within in
+    let cost_low = low.0 in
+    let period_low = low.1 in
+    (omega arith, omega arith, omega arith, omega arith, omega arith)
+small_numbers settings (Leave slot task) system h =
+    let at = slot_within settings (Leave slot task) system h in
+    let number = task_within settings (Leave slot task) h in
+    (omega arith, omega arith)
+small_numbers settings (Delay slot task by) system h =
+    let at = slot_within settings (Delay slot task by) system h in
+    let number = task_within settings (Delay slot task by) h in
+    let tests = passes_tests settings (Delay slot task by) h in
+    let most = leb-true by LONGEST_DELAY ((and_parts (nat_le 1 by) (nat_le by LONGEST_DELAY) tests.delay).1) in
+    (omega arith, omega arith, omega arith)
+small_numbers settings (Limit slot count) system h =
+    let at = slot_within settings (Limit slot count) system h in
+    let tests = passes_tests settings (Limit slot count) h in
+    let most = leb-true count settings.processors ((and_parts (nat_le 1 count) (nat_le count settings.processors) tests.count).1) in
+    let processors = system.limits.processors_within in
+    (omega arith, omega arith)
 
 -- the events of a scenario are apart
 events_apart : (s : Plan) → IsScenario s → AllPairs AreDistinctEvents s.events
@@ -58,6 +131,10 @@ amid_new s front x back e h =
         slot = slot_within s.settings x.event h.settings limits;
         task = task_within s.settings x.event limits;
         number = omega arith;
+      };
+      small = record {
+        number = omega arith;
+        event = small_numbers s.settings x.event h.settings limits;
       };
       apart = around_apart front x back all;
     }

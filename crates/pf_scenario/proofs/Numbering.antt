@@ -9,7 +9,7 @@ use Rattle.std.proofs.lemmas.List.Elements.{All-nil, All-cons, All-head, All-tai
 use Rattle.std.proofs.lemmas.List.Folds.{list_any_none}
 use Rattle.pf_scenario.proofs.Lists.{Pairs, Pairs-from_all, AllPairs-from_pairs, Pairs_without, Pairs_middle, All_left, All_right, All_at, filter_all, filter_middle, map_middle, find_middle, find_none}
 use Rattle.pf_scenario.specs.Scenario.{with_number, is_held, events_without}
-use Rattle.pf_scenario.specs.Cards.{numbered_on, listed, IsCardAt, IsTable}
+use Rattle.pf_scenario.specs.Cards.{event_on, numbered_on, listed, IsCardAt, IsTable}
 use Rattle.pf_scenario.specs.Index.{event_at, with_event}
 use Rattle.pf_scenario.specs.declared.card.Card.{Card}
 use Rattle.pf_scenario.specs.declared.event.Event.{Event}
@@ -37,7 +37,7 @@ All_more P n None xs here rest = rest
 pub All_listed : (P : ℕ → Type 0) (cards : List Card) → All (λ c. P c.id) cards → All (λ x. P x.id) (listed cards)
 All_listed P [] h = All-nil (λ x. P x.id)
 All_listed P (c ∷ cs) h =
-    All_more P c.id c.event (listed cs) (All-head (λ c. P c.id) c cs h) (All_listed P cs (All-tail (λ c. P c.id) c cs h))
+    All_more P c.id (event_on c) (listed cs) (All-head (λ c. P c.id) c cs h) (All_listed P cs (All-tail (λ c. P c.id) c cs h))
 
 rising_more : (n : ℕ) (o : Option Event) (xs : List Numbered) → All (λ x. n < x.id) xs → Pairs (λ x y. x.id < y.id) xs → Pairs (λ x y. x.id < y.id) (cons_option (option_map (λ e. with_number n e) o) xs)
 rising_more n (Some e) xs above rest = (above, rest)
@@ -45,7 +45,7 @@ rising_more n None xs above rest = rest
 
 pub rising_listed : (cards : List Card) → Pairs (λ x y. x.id < y.id) cards → Pairs (λ x y. x.id < y.id) (listed cards)
 rising_listed [] h = tt
-rising_listed (c ∷ cs) h = rising_more c.id c.event (listed cs) (All_listed (λ n. c.id < n) cs h.0) (rising_listed cs h.1)
+rising_listed (c ∷ cs) h = rising_more c.id (event_on c) (listed cs) (All_listed (λ n. c.id < n) cs h.0) (rising_listed cs h.1)
 
 -- no event has a number that no card has
 pub other_numbers : (cards : List Card) (id : ℕ) → All (λ c. c.id ≢ id) cards → All (λ x. (x.id == id) ≡ false) (listed cards)
@@ -73,7 +73,7 @@ pub record Spot (cards : List Card) (id at : ℕ) : Type 0 where
   pub read : (d : Card) → get_or cards at d ≡ card
   pub written : (c : Card) → set cards at c ≡ front ++ c ∷ back
 
-pub spot : (cards : List Card) (id at : ℕ) → Pairs (λ x y. x.id < y.id) cards → IsCardAt cards id at → Spot cards id at
+spot : (cards : List Card) (id at : ℕ) → Pairs (λ x y. x.id < y.id) cards → IsCardAt cards id at → Spot cards id at
 spot [] id at up h = absurd (omega (arith, h.within))
 spot (c ∷ cs) id zero up h =
     let number = h.number c in
@@ -104,6 +104,11 @@ spot (c ∷ cs) id (suc at) up h =
       read = rest.read;
       written = λ x. ap (λ zs. c ∷ zs) (rest.written x);
     }
+
+-- the card at the place that a search of the cards, as a slice, gave
+pub spot_at : (lent cards : List Card) (held id at : ℕ) → lent ≡ cards → IsTable cards held → IsCardAt lent id at → Spot cards id at
+spot_at lent cards held id at same h here =
+    spot cards id at (Pairs-from_all (λ x y. x.id < y.id) cards h.rising) (subst (λ xs. IsCardAt xs id at) same here)
 
 -- the events about a card have other numbers
 around : (cards : List Card) (id at : ℕ) (s : Spot cards id at) → All (λ c. c.id ≢ id) (s.front ++ s.back)
@@ -150,36 +155,36 @@ left_amid front n None back id same h =
 listed_spot : (cards : List Card) (id at : ℕ) (s : Spot cards id at) → listed cards ≡ listed s.front ++ cons_option (numbered_on s.card) (listed s.back)
 listed_spot cards id at s = ap listed s.is ∙ listed_amid s.front s.card s.back
 
-pub event_at-spot : (cards : List Card) (id at : ℕ) (s : Spot cards id at) → event_at (listed cards) id ≡ s.card.event
+pub event_at-spot : (cards : List Card) (id at : ℕ) (s : Spot cards id at) → event_at (listed cards) id ≡ (event_on s.card)
 event_at-spot cards id at s =
-    ap (λ xs. event_at xs id) (listed_spot cards id at s) ∙ found_amid s.front s.card.id s.card.event s.back id s.number (around cards id at s)
+    ap (λ xs. event_at xs id) (listed_spot cards id at s) ∙ found_amid s.front s.card.id (event_on s.card) s.back id s.number (around cards id at s)
 
 pub listed-set : (cards : List Card) (id at : ℕ) (s : Spot cards id at) (c : Card) (event : Event) → numbered_on c ≡ Some (with_number id event) → is_held (listed cards) id ≡ true → listed (set cards at c) ≡ with_event id event (listed cards)
 listed-set cards id at s c event is held =
     ap listed (s.written c) ∙ listed_amid s.front c s.back ∙ ap (λ o. listed s.front ++ cons_option o (listed s.back)) is
-    ∙ put_amid s.front s.card.id s.card.event s.back id event s.number (around cards id at s) (ap (λ xs. is_held xs id) (sym (listed_spot cards id at s)) ∙ held)
+    ∙ put_amid s.front s.card.id (event_on s.card) s.back id event s.number (around cards id at s) (ap (λ xs. is_held xs id) (sym (listed_spot cards id at s)) ∙ held)
     ∙ ap (with_event id event) (sym (listed_spot cards id at s))
 
 pub table-set : (cards : List Card) (held id at : ℕ) (s : Spot cards id at) (c : Card) (event : Event) → IsTable cards held → numbered_on c ≡ Some (with_number id event) → is_held (listed cards) id ≡ true → IsTable (set cards at c) held
 table-set cards held id at s c event h is some = record {
-  rising = subst (AllPairs (λ x y. x.id < y.id)) (sym (s.written c)) (AllPairs-from_pairs (λ x y. x.id < y.id) (s.front ++ c ∷ s.back) (rising_amid cards id at s c (sym (on_card c.id c.event (with_number id event) is))));
+  rising = subst (AllPairs (λ x y. x.id < y.id)) (sym (s.written c)) (AllPairs-from_pairs (λ x y. x.id < y.id) (s.front ++ c ∷ s.back) (rising_amid cards id at s c (sym (on_card c.id (event_on c) (with_number id event) is))));
   counted = h.counted ∙ sym (ap length (listed-set cards id at s c event is some) ∙ length-map (listed cards) _);
 }
 
 -- a struck card
-pub listed-struck : (cards : List Card) (id at : ℕ) (s : Spot cards id at) (c : Card) → c.event ≡ None → listed (set cards at c) ≡ events_without id (listed cards)
+pub listed-struck : (cards : List Card) (id at : ℕ) (s : Spot cards id at) (c : Card) → event_on c ≡ None → listed (set cards at c) ≡ events_without id (listed cards)
 listed-struck cards id at s c none =
     ap listed (s.written c) ∙ listed_amid s.front c s.back ∙ ap (λ o. listed s.front ++ cons_option (option_map (λ e. with_number c.id e) o) (listed s.back)) none
-    ∙ left_amid s.front s.card.id s.card.event s.back id s.number (around cards id at s)
+    ∙ left_amid s.front s.card.id (event_on s.card) s.back id s.number (around cards id at s)
     ∙ ap (events_without id) (sym (listed_spot cards id at s))
 
 pub rising-struck : (cards : List Card) (id at : ℕ) (s : Spot cards id at) (c : Card) → c.id ≡ id → AllPairs (λ x y. x.id < y.id) (set cards at c)
 rising-struck cards id at s c e = subst (AllPairs (λ x y. x.id < y.id)) (sym (s.written c)) (AllPairs-from_pairs (λ x y. x.id < y.id) (s.front ++ c ∷ s.back) (rising_amid cards id at s c e))
 
 -- one event fewer
-pub fewer-struck : (cards : List Card) (id at : ℕ) (s : Spot cards id at) (c : Card) → c.event ≡ None → is_some s.card.event ≡ true → length (listed cards) ≡ length (listed (set cards at c)) + 1
+pub fewer-struck : (cards : List Card) (id at : ℕ) (s : Spot cards id at) (c : Card) → event_on c ≡ None → is_some (event_on s.card) ≡ true → length (listed cards) ≡ length (listed (set cards at c)) + 1
 fewer-struck cards id at s c none some =
-    ap length (listed_spot cards id at s) ∙ one s.card.event some
+    ap length (listed_spot cards id at s) ∙ one (event_on s.card) some
     ∙ ap (λ n. n + 1) (sym (ap length (ap listed (s.written c) ∙ listed_amid s.front c s.back ∙ ap (λ o. listed s.front ++ cons_option (option_map (λ e. with_number c.id e) o) (listed s.back)) none)))
   where
     one : (o : Option Event) → is_some o ≡ true → length (listed s.front ++ cons_option (option_map (λ e. with_number s.card.id e) o) (listed s.back)) ≡ length (listed s.front ++ listed s.back) + 1
@@ -194,20 +199,20 @@ none_there : (o : Option Event) → is_some o ≡ false → o ≡ None
 none_there (Some e) h = absurd (false≢true (sym h))
 none_there None h = refl
 
-pub without-none : (cards : List Card) (id at : ℕ) (s : Spot cards id at) → is_some s.card.event ≡ false → listed cards ≡ events_without id (listed cards)
+pub without-none : (cards : List Card) (id at : ℕ) (s : Spot cards id at) → is_some (event_on s.card) ≡ false → listed cards ≡ events_without id (listed cards)
 without-none cards id at s none =
-    listed_spot cards id at s ∙ ap (λ o. listed s.front ++ cons_option (option_map (λ e. with_number s.card.id e) o) (listed s.back)) (none_there s.card.event none)
-    ∙ left_amid s.front s.card.id s.card.event s.back id s.number (around cards id at s)
+    listed_spot cards id at s ∙ ap (λ o. listed s.front ++ cons_option (option_map (λ e. with_number s.card.id e) o) (listed s.back)) (none_there (event_on s.card) none)
+    ∙ left_amid s.front s.card.id (event_on s.card) s.back id s.number (around cards id at s)
     ∙ ap (events_without id) (sym (listed_spot cards id at s))
 
 -- the struck cards swept away
-swept_one : (c : Card) (o : Option Event) (kept cs : List Card) → c.event ≡ o → listed kept ≡ listed cs → listed (cond (is_some o) (c ∷ kept) kept) ≡ cons_option (numbered_on c) (listed cs)
+swept_one : (c : Card) (o : Option Event) (kept cs : List Card) → event_on c ≡ o → listed kept ≡ listed cs → listed (cond (is_some o) (c ∷ kept) kept) ≡ cons_option (numbered_on c) (listed cs)
 swept_one c (Some e) kept cs is same = ap (cons_option (numbered_on c)) same
 swept_one c None kept cs is same = same ∙ sym (ap (λ o. cons_option (option_map (λ e. with_number c.id e) o) (listed cs)) is)
 
-pub listed-swept : (cards : List Card) → listed (filter (λ c. is_some c.event) cards) ≡ listed cards
+pub listed-swept : (cards : List Card) → listed (filter (λ c. is_some (event_on c)) cards) ≡ listed cards
 listed-swept [] = refl
-listed-swept (c ∷ cs) = swept_one c c.event (filter (λ c. is_some c.event) cs) cs refl (listed-swept cs)
+listed-swept (c ∷ cs) = swept_one c (event_on c) (filter (λ c. is_some (event_on c)) cs) cs refl (listed-swept cs)
 
 -- the cards from a number on, where no event has such a number
 none_both : (id : ℕ) (xs : List Numbered) → All (λ x. x.id < id) xs → All (λ x. id ≤ x.id) xs → xs ≡ []
@@ -237,11 +242,11 @@ listed-push cards c x is = listed_amid cards c [] ∙ ap (λ o. listed cards ++ 
 
 pub table-push : (cards old : List Card) (held : ℕ) (c : Card) (x : Numbered) → listed cards ≡ listed old → AllPairs (λ x y. x.id < y.id) cards → All (λ c. c.id < x.id) cards → held ≡ length (listed old) → numbered_on c ≡ Some x → IsTable (cards ++ c ∷ []) (held + 1)
 table-push cards old held c x same up low counted is = record {
-  rising = AllPairs-from_pairs (λ x y. x.id < y.id) (cards ++ c ∷ []) (Pairs_middle (λ x y. x.id < y.id) cards c [] (subst (Pairs (λ x y. x.id < y.id)) (sym (append-nil cards)) (Pairs-from_all (λ x y. x.id < y.id) cards up)) (subst (λ n. All (λ y. y.id < n) cards) (on_card c.id c.event x is) low) (All-nil (λ y. c.id < y.id)));
+  rising = AllPairs-from_pairs (λ x y. x.id < y.id) (cards ++ c ∷ []) (Pairs_middle (λ x y. x.id < y.id) cards c [] (subst (Pairs (λ x y. x.id < y.id)) (sym (append-nil cards)) (Pairs-from_all (λ x y. x.id < y.id) cards up)) (subst (λ n. All (λ y. y.id < n) cards) (on_card c.id (event_on c) x is) low) (All-nil (λ y. c.id < y.id)));
   counted =
-    let long = ap length (listed-push cards c x is) ∙ length-append (listed cards) (x ∷ []) in
-    let was = ap length same in
-    omega (arith, long, was, counted);
+      let long = ap length (listed-push cards c x is) ∙ length-append (listed cards) (x ∷ []) in
+      let was = ap length same in
+      omega (arith, long, was, counted);
 }
 
 -- no more events than cards
@@ -257,17 +262,17 @@ fewer-listed (c ∷ cs) =
     omega arith
 
 -- a table after a card was struck, and others swept away
-pub table-struck : (cards swept : List Card) (held id at : ℕ) (s : Spot cards id at) (c : Card) → IsTable cards held → c.event ≡ None → is_some s.card.event ≡ true → listed swept ≡ listed (set cards at c) → AllPairs (λ x y. x.id < y.id) swept → IsTable swept (held - 1)
+pub table-struck : (cards swept : List Card) (held id at : ℕ) (s : Spot cards id at) (c : Card) → IsTable cards held → event_on c ≡ None → is_some (event_on s.card) ≡ true → listed swept ≡ listed (set cards at c) → AllPairs (λ x y. x.id < y.id) swept → IsTable swept (held - 1)
 table-struck cards swept held id at s c h none some same up = record {
   rising = up;
   counted =
-    let fewer = fewer-struck cards id at s c none some in
-    let left = ap length same in
-    let counted = h.counted in
-    omega (arith, fewer, left, counted);
+      let fewer = fewer-struck cards id at s c none some in
+      let left = ap length same in
+      let counted = h.counted in
+      omega (arith, fewer, left, counted);
 }
 
-pub some-held : (cards : List Card) (held id at : ℕ) (s : Spot cards id at) → IsTable cards held → is_some s.card.event ≡ true → 1 ≤ held
+pub some-held : (cards : List Card) (held id at : ℕ) (s : Spot cards id at) → IsTable cards held → is_some (event_on s.card) ≡ true → 1 ≤ held
 some-held cards held id at s h some =
     let fewer = fewer-struck cards id at s (record { id = id; event = None }) refl some in
     let counted = h.counted in

@@ -1,13 +1,19 @@
 -- The cards of a table of events by number.
-use Rattle.std.specs.Prelude.{◌≡◌, ◌≢◌, ℕ, ◌<◌, Option, List, length, filter_map, slice_index_or, All, AllPairs, MatchOption}
+use Rattle.std.specs.Prelude.{◌≡◌, ◌≢◌, ℕ, ◌<◌, ◌^◌, Option, List, length, filter_map, slice_index_or, All, AllPairs, MatchOption}
 use Rattle.std.specs.Option.{option_map}
 use Rattle.pf_scenario.specs.Scenario.{with_number}
+use Rattle.pf_scenario.specs.Held.{event_held, HasSmallNumbers}
 use Rattle.pf_scenario.specs.declared.card.Card.{Card}
+use Rattle.pf_scenario.specs.declared.event.Event.{Event}
 use Rattle.pf_scenario.specs.declared.event.Numbered.{Numbered}
 
--- the event of a card with its number, until it is struck
+-- the event of a card, until it is struck
+abbrev pub event_on : Card → Option Event
+event_on card = option_map event_held card.event
+
+-- the same with its number
 abbrev pub numbered_on : Card → Option Numbered
-numbered_on card = option_map (λ event. with_number card.id event) card.event
+numbered_on card = option_map (λ event. with_number card.id event) (event_on card)
 
 -- the events of the cards that are not struck
 abbrev pub listed : List Card → List Numbered
@@ -30,3 +36,8 @@ IsPlaceOf cards id place = MatchOption place (All (λ card. card.id ≢ id) card
 pub record IsTable (cards : List Card) (held : ℕ) : Type 0 where
   pub rising : AreRising cards
   pub counted : held ≡ length (listed cards)
+
+-- a card has room for the event and its number
+pub record IsSmall (x : Numbered) : Type 0 where
+  pub number : x.id < 2 ^ 32
+  pub event : HasSmallNumbers x.event

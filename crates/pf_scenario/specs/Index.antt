@@ -6,6 +6,7 @@ use Rattle.pf_scenario.specs.Scenario.{with_number}
 use Rattle.pf_scenario.specs.TimeOrder.{in_time_order}
 use Rattle.pf_scenario.specs.Edit.{join_alike, leave_alike}
 use Rattle.pf_scenario.specs.Place.{place_of, IsPlaceable}
+use Rattle.pf_scenario.specs.Cards.{IsSmall}
 use Rattle.pf_scenario.specs.declared.event.Event.{Event}
 use Rattle.pf_scenario.specs.declared.event.Numbered.{Numbered}
 use Rattle.pf_scenario.specs.declared.place.Place.{Place}
@@ -43,6 +44,7 @@ pub record IsIndexed (events : List Numbered) (places : List Place) (joins leave
 pub record IsNewEvent (x : Numbered) (events : List Numbered) : Type 0 where
   pub given : 1 ≤ x.id
   pub placeable : IsPlaceable x
+  pub small : IsSmall x
   pub apart : All (λ y. AreDistinctEvents y x) events
 
 -- the table has a place for the task of the event

@@ -8,6 +8,7 @@ pub mod Refusals
 pub mod Laws
 pub mod TimeOrder
 pub mod Place
+pub mod Held
 pub mod Cards
 pub mod Index
 pub mod Sharing

@@ -1,7 +1,7 @@
 ghost use Rattle.std.specs.Prelude.{◌≡◌, ◌<◌, true, [], ◌∷◌, ◌++◌, length, All, AllPairs, IfOk, OnOk, OnErr};
-ghost use Rattle.pf_scenario.specs.Scenario.{is_held, events_without};
+ghost use Rattle.pf_scenario.specs.Scenario.{with_number, is_held, events_without};
 ghost use Rattle.pf_scenario.specs.Index.{event_at, with_event};
-ghost use Rattle.pf_scenario.specs.Cards.{AreRising, IsPlaceOf, listed};
+ghost use Rattle.pf_scenario.specs.Cards.{AreRising, IsPlaceOf, IsSmall, listed};
 
 use crate::card::Card;
 use crate::event::{Event, Numbered};
@@ -9,7 +9,8 @@ use crate::events::Events;
 use std::alloc::{AllocError, Global};
 use std::marker::Model;
 
-/// Events by number. It takes the memory of about twice the events held, whatever numbers were given.
+/// Events by number. It takes the memory of the events held, and of no more that are struck, whatever numbers were given.
+/// A search costs the logarithm of their number, and so does each change in the mean.
 #[derive(Debug, Drop)]
 pub struct ByNumber {
     /// In rising order of their numbers. No more than half of them are struck.
@@ -36,10 +37,10 @@ fn place_of(cards: &[Card], id: u64) -> Option<usize>
     requires { AreRising cards.now }
     ensures { IsPlaceOf cards.now id result }
 {
-    cards.binary_search_by_key(&id, |card| card.id).ok()
+    cards.binary_search_by_key(&id, |card| card.id()).ok()
 }
 
-/// Drops the cards of this number and above, which are struck.
+/// Drops the cards of this number and above. Those are struck, as no event has such a number.
 fn truncate(cards: &mut Vec<Card>, id: u64)
     requires rising { AreRising cards.old.items }
     requires last { All (λ x. x.id < id) (listed cards.old.items) }
@@ -47,18 +48,19 @@ fn truncate(cards: &mut Vec<Card>, id: u64)
     ensures rising { AreRising cards.new.items }
     ensures below { All (λ card. card.id < id) cards.new.items }
 {
-    let count = cards.partition_point(|card| card.id < id);
+    let count = cards.partition_point(|card| card.id() < id);
     cards.truncate(count);
 }
 
-/// Drops the struck cards where they are more than half.
+/// Drops the struck cards where they are more than half, and gives their memory back.
 fn sweep(cards: &mut Vec<Card>, held: usize)
     requires { AreRising cards.old.items }
     ensures same { listed cards.new.items ≡ listed cards.old.items }
     ensures rising { AreRising cards.new.items }
 {
     if cards.len() / 2 > held {
-        cards.retain(|card| card.event.is_some());
+        cards.retain(|card| !card.is_struck());
+        cards.shrink_to_fit();
     }
 }
 
@@ -86,7 +88,7 @@ impl ByNumber {
         ensures { result ≡ event_at self.now id }
     {
         let at = place_of(&self.cards, id)?;
-        self.cards[at].event
+        self.cards[at].event()
     }
 
     /// Holds an event whose number is above all others.
@@ -95,7 +97,8 @@ impl ByNumber {
     ///
     /// Where memory is refused: the events are as before.
     pub fn push(&mut self, x: Numbered) -> Result<(), AllocError>
-        requires { All (λ y. y.id < x.id) self.old }
+        requires last { All (λ y. y.id < x.id) self.old }
+        requires small { IsSmall x }
         ensures ok { OnOk result (self.new ≡ self.old ++ x ∷ []) }
         ensures err { OnErr result (self.new ≡ self.old) }
     {
@@ -107,7 +110,8 @@ impl ByNumber {
 
     /// Puts the event in place of the one of this number, which is held.
     pub fn set(&mut self, id: u64, event: Event)
-        requires { is_held self.old id ≡ true }
+        requires held { is_held self.old id ≡ true }
+        requires small { IsSmall (with_number id event) }
         ensures { self.new ≡ with_event id event self.old }
     {
         let Some(at) = place_of(&self.cards, id) else {
@@ -123,10 +127,10 @@ impl ByNumber {
         let Some(at) = place_of(&self.cards, id) else {
             return;
         };
-        if self.cards[at].event.is_none() {
+        if self.cards[at].is_struck() {
             return;
         }
-        self.cards[at].event = None;
+        self.cards[at].strike();
         self.held -= 1;
         sweep(&mut self.cards, self.held);
     }

@@ -20,7 +20,7 @@ returns-clause-same c =
     let same = c.deref.ensures.value in
     let bound = subst (λ xs. at ≤ length xs) same c.partition_point-count.ensures.bound in
     let point = cut lent cards c.args.id at same (IsPartitionPoint-from_clause (λ (x : Card). ltb x.id c.args.id) lent at c.partition_point-count.ensures.partitioned
-        (IsPartitionedBy-ltb (λ (x : Card). x.id) lent c.args.id (never_fall lent (subst (λ xs. AllPairs (λ x y. x.id < y.id) xs) (sym same) c.requires.rising))) (λ a r g h. search rules)) in
+    (IsPartitionedBy-ltb (λ (x : Card). x.id) lent c.args.id (never_fall lent (subst (λ xs. AllPairs (λ x y. x.id < y.id) xs) (sym same) c.requires.rising))) (λ a r g h. search rules)) in
     ap listed c.truncate.ensures.items ∙ listed-cut cards at c.args.id c.requires.last (cut_above cards c.args.id at bound point)
 
 pub returns-clause-rising : goal.returns-clause-rising
@@ -35,5 +35,5 @@ returns-clause-below c =
     let same = c.deref.ensures.value in
     let bound = subst (λ xs. at ≤ length xs) same c.partition_point-count.ensures.bound in
     let point = cut lent cards c.args.id at same (IsPartitionPoint-from_clause (λ (x : Card). ltb x.id c.args.id) lent at c.partition_point-count.ensures.partitioned
-        (IsPartitionedBy-ltb (λ (x : Card). x.id) lent c.args.id (never_fall lent (subst (λ xs. AllPairs (λ x y. x.id < y.id) xs) (sym same) c.requires.rising))) (λ a r g h. search rules)) in
+    (IsPartitionedBy-ltb (λ (x : Card). x.id) lent c.args.id (never_fall lent (subst (λ xs. AllPairs (λ x y. x.id < y.id) xs) (sym same) c.requires.rising))) (λ a r g h. search rules)) in
     subst (All (λ card. card.id < c.args.id)) (sym c.truncate.ensures.items) (cut_below cards c.args.id at bound point)

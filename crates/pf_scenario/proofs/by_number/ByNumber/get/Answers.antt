@@ -1,9 +1,7 @@
-use Rattle.std.proofs.Common.{◌≢◌, ◌<◌, sym, ap, ◌∙◌, subst}
+use Rattle.std.proofs.Common.{◌≢◌, sym, ap, ◌∙◌, subst}
 use Rattle.std.specs.List.{All}
-use Rattle.pf_scenario.specs.Cards.{IsCardAt}
-use Rattle.pf_scenario.specs.declared.card.Card.{Card}
-use Rattle.pf_scenario.proofs.Lists.{Pairs-from_all}
-use Rattle.pf_scenario.proofs.Numbering.{spot, event_at-absent, event_at-spot}
+use Rattle.pf_scenario.specs.Cards.{event_on}
+use Rattle.pf_scenario.proofs.Numbering.{spot_at, event_at-absent, event_at-spot}
 use Rattle.pf_scenario.proofs.by_number.ByNumber.get.Goals as goal
 
 pub returns-in_err-at : goal.returns-in_err-at
@@ -15,6 +13,5 @@ returns-in_err-at c =
 pub returns : goal.returns
 returns c =
     let cards = c.self.inside.cards.items in
-    let here : IsCardAt cards c.args.id c.in_ok-at.at = subst (λ xs. IsCardAt xs c.args.id c.in_ok-at.at) c.deref.ensures.value c.in_ok-at.ensures in
-    let s = spot cards c.args.id c.in_ok-at.at (Pairs-from_all (λ x y. x.id < y.id) cards c.self.invariant.rising) here in
-    rw (← c.self.view_is) (ap (λ (x : Card). x.event) (c.index.ensures ∙ s.read c.index.result.now) ∙ sym (event_at-spot cards c.args.id c.in_ok-at.at s))
+    let s = spot_at c.deref.result.now cards c.self.inside.held c.args.id c.in_ok-at.at c.deref.ensures.value c.self.invariant c.in_ok-at.ensures in
+    rw (← c.self.view_is) (c.event.ensures ∙ ap event_on (c.index.ensures ∙ s.read c.index.result.now) ∙ sym (event_at-spot cards c.args.id c.in_ok-at.at s))
