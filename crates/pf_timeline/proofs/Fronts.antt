@@ -1,5 +1,5 @@
 -- The front of a scenario's run: its rows, its denials, and what is kept of it.
-use Rattle.std.proofs.Common.{◌≡◌, ℕ, zero, suc, ◌+◌, ◌-◌, ◌<◌, ◌≤◌, Option, List, [], ◌∷◌, ◌++◌, length, take, drop, refl, sym, ap, ap₂, ◌∙◌, arith, append_assoc, length-append}
+use Rattle.std.proofs.Common.{◌≡◌, ℕ, zero, suc, ◌+◌, ◌-◌, ◌<◌, ◌≤◌, Option, List, [], ◌∷◌, ◌++◌, length, take, drop, refl, sym, ap, ap₂, ◌∙◌, arith, append_assoc}
 use Rattle.std.proofs.Math.Seq.{take-append_seam}
 use Rattle.std.proofs.lemmas.List.{take-append-drop, length-take-le}
 use Rattle.pf_order.specs.declared.pick.Pick.{Pick}
@@ -58,10 +58,6 @@ module _ (s : Plan) (n t : ℕ) (scenario : IsScenario s) (within : t ≤ n) whe
       ap (take (length (denials_in s t))) denials_split
       ∙ take-append_seam (denials_in s t) (denials_of (drop t (run_of s n)))
 
-  denials_fewer : length (denials_in s t) ≤ length (denials_in s n)
-  denials_fewer =
-      omega (arith, ap length denials_split, length-append (denials_in s t) (denials_of (drop t (run_of s n))))
-
 -- Use: what is kept of a front of the run, with the engine of its checkpoint, for a scenario with the same past there.
 pub front_keeps : (s q : Plan) (n t : ℕ) (rows : List (List (Option Pick))) (denials : List Denied) (e : Kept) (c : Checkpoint) → t ≤ n →
     past_below t q ≡ past_below t s → IsScenario s → KeepsRun q n rows denials e → IsCheckpoint q t c →
@@ -79,11 +75,6 @@ front_keeps s q n t rows denials e c within same of_s keeps point =
     })
 
 module _ (q : Plan) (n t : ℕ) (rows : List (List (Option Pick))) (denials : List Denied) (e : Kept) (c : Checkpoint) (within : t ≤ n) (keeps : KeepsRun q n rows denials e) (point : IsCheckpoint q t c) where
-  -- Use: the checkpoint's denials are among those kept.
-  pub point_denials : c.denials ≤ length denials
-  point_denials =
-      omega (arith, point.denials, ap length keeps.of_run.are_denials, denials_fewer q n t keeps.of_run.scenario within)
-
   -- Use: its engine has taken as many slots as it says.
   pub point_now : c.engine.now ≡ t
   point_now = fits_now q (run_of q t) c.engine point.engine ∙ computed_length q t keeps.of_run.scenario

@@ -1,11 +1,9 @@
 -- Checkpoints that fit a run: the next one kept, one slot more, another scenario with the same past, and the first ones.
-use Rattle.std.proofs.Common.{◌≡◌, ℕ, ◌+◌, ◌*◌, ◌/◌, ◌<◌, ◌≤◌, ◌⊎◌, inl, inr, Option, List, [], ◌∷◌, ◌++◌, length, take, get_or, sym, ap, ap₂, ◌∙◌, subst, arith, length-append}
+use Rattle.std.proofs.Common.{◌≡◌, ℕ, ◌+◌, ◌*◌, ◌/◌, ◌<◌, ◌≤◌, ◌⊎◌, inl, inr, Option, List, [], ◌∷◌, ◌++◌, length, take, get_or, sym, ap, ◌∙◌, subst, arith, length-append}
 use Rattle.std.proofs.Math.Nat.{le-div_iff_mul-le, div-lt_iff_lt-mul, div-mul-le_self}
 use Rattle.std.proofs.lemmas.Bool.{cases_lt}
 use Rattle.std.proofs.lemmas.Nat.{mul-le}
-use Rattle.std.proofs.lemmas.List.{get_or-take, get_or_append_left, length-take-le, length-map, get_or-map, map-append, take_more}
-use Rattle.std.specs.Arc.{arc_value}
-use Rattle.std.specs.declared.sync.Arc.{Arc}
+use Rattle.std.proofs.lemmas.List.{get_or-take, get_or_append_left, length-take-le}
 use Rattle.std.proofs.Math.Seq.{get_or-append_seam}
 use Rattle.pf_order.specs.declared.pick.Pick.{Pick}
 use Rattle.pf_scenario.specs.Scenario.{Plan}
@@ -14,8 +12,8 @@ use Rattle.pf_scenario.specs.Edit.{IsScenario}
 use Rattle.pf_engine.specs.Fits.{Kept}
 use Rattle.pf_timeline.specs.declared.checkpoint.Checkpoint.{Checkpoint}
 use Rattle.pf_timeline.specs.Timeline.{KeptRun, StandsFor, AgreesBelow, past_below}
-use Rattle.pf_timeline.specs.Keeping.{Points, points_of, kept_run, KeepsRun, KeepsTimeline, IsCheckpoint, FitRun}
-use Rattle.pf_timeline.proofs.Fronts.{front_keeps, point_denials, point_now}
+use Rattle.pf_timeline.specs.Keeping.{Points, kept_run, KeepsRun, KeepsTimeline, IsCheckpoint, FitRun}
+use Rattle.pf_timeline.proofs.Fronts.{front_keeps, point_now}
 use Rattle.pf_timeline.proofs.Grown.{row_each}
 use Rattle.pf_timeline.proofs.Past.{past_agrees, past_narrowed, same_fit, same_denials}
 
@@ -141,23 +139,6 @@ first_points s q n k c of_s of_q some same fit =
       reach = omega (arith, ap (λ x. x * c.every) long);
     }
 
-module _ {A : Type 0} where
-  -- Use: how many shared checkpoints there are.
-  pub count_points : (points : List (Arc Checkpoint A)) → length (points_of points) ≡ length points
-  count_points points = length-map points (λ (point : Arc Checkpoint A). arc_value {X = Checkpoint} {Z = A} point)
-
-  -- Use: one of the first, and one more.
-  pub points_turn : (points shared : List (Arc Checkpoint A)) (point more : Arc Checkpoint A) (i k : ℕ) → i < k → k ≤ length points →
-      point ≡ get_or (take k points) i point → arc_value {X = Checkpoint} {Z = A} more ≡ arc_value {X = Checkpoint} {Z = A} point →
-      points_of shared ≡ take i (points_of points) → points_of (shared ++ more ∷ []) ≡ take (i + 1) (points_of points)
-  points_turn points shared point more i k below within is same front =
-      let value : Arc Checkpoint A → Checkpoint = λ (point : Arc Checkpoint A). arc_value {X = Checkpoint} {Z = A} point in
-      let at : point ≡ get_or points i point = is ∙ get_or-take k points i point below in
-      map-append value shared (more ∷ [])
-      ∙ ap₂ (λ xs x. xs ++ x ∷ []) front
-      (same ∙ ap value at ∙ sym (get_or-map value points i point (value point) (omega arith)))
-      ∙ sym (take_more (points_of points) i (value point) (omega (arith, count_points points)))
-
 -- Use: the checkpoint of an engine that fits the run, with the number of its denials.
 pub point_now_fits : (s : Plan) (n k : ℕ) (rows : List (List (Option Pick))) (denials : List Denied) (e : Kept) → KeepsRun s n rows denials e →
     k ≡ length denials → IsCheckpoint s n (record { engine = e; denials = k })
@@ -207,12 +188,9 @@ module _ (q s : Plan) (n from : ℕ) (rows : List (List (Option Pick))) (denials
   pub front_near : from < p.engine.now + c.every
   front_near = omega (arith, now_is, last.near)
 
-  -- Use: there are so many rows and denials.
+  -- Use: there are so many rows.
   pub front_rows_few : p.engine.now ≤ length rows
   front_rows_few = omega (arith, now_is, within, row_each q n rows denials keeps.run.of_run)
-
-  pub front_denials_few : p.denials ≤ length denials
-  front_denials_few = point_denials q n (k * c.every) rows denials e p within keeps.run point
 
   past_there : past_below (k * c.every) q ≡ past_below (k * c.every) s
   past_there = past_narrowed q s (k * c.every) from last.not_after same

@@ -1,8 +1,6 @@
 -- What a timeline keeps.
-use Rattle.std.specs.Prelude.{◌≡◌, ℕ, ◌*◌, ◌<◌, ◌≤◌, Option, List, length, map}
+use Rattle.std.specs.Prelude.{◌≡◌, ℕ, ◌*◌, ◌<◌, ◌≤◌, Option, List, length}
 use Rattle.std.specs.List.{slice_index_or}
-use Rattle.std.specs.Arc.{arc_value}
-use Rattle.std.specs.declared.sync.Arc.{Arc}
 use Rattle.pf_order.specs.declared.pick.Pick.{Pick}
 use Rattle.pf_scenario.specs.Scenario.{Plan}
 use Rattle.pf_run.specs.declared.denied.Denied.{Denied}
@@ -16,10 +14,6 @@ use Rattle.pf_timeline.specs.Timeline.{KeptRun, past_below}
 pub record Points : Type 0 where
   pub every : ℕ
   pub points : List Checkpoint
-
--- what these shared checkpoints are
-abbrev pub points_of : {A : Type 0} → List (Arc Checkpoint A) → List Checkpoint
-points_of {A = A} points = map (λ (point : Arc Checkpoint A). arc_value {X = Checkpoint} {Z = A} point) points
 
 -- what these rows and denials of a scenario show, with this engine behind them and checkpoints so far apart
 abbrev pub kept_run : Plan → ℕ → List (List (Option Pick)) → List Denied → Kept → KeptRun

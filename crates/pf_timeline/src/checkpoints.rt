@@ -1,27 +1,26 @@
 ghost use Rattle.std.specs.Prelude.{◌≡◌, ◌<◌, ◌≤◌, ◌+◌, ◌*◌, ◌/◌, [], ◌∷◌, ◌++◌, length, take, IfOk, OnOk, OnErr};
-ghost use Rattle.std.specs.Arc.{arc_value};
 ghost use Rattle.std.specs.List.{slice_index_or};
-ghost use Rattle.pf_timeline.specs.Keeping.{points_of};
 
 use crate::checkpoint::Checkpoint;
 use pf_engine::engine::Engine;
+use pf_list::shared_list::SharedList;
 use std::alloc::{AllocError, Global};
 use std::marker::Model;
-use std::sync::Arc;
 
-/// The checkpoints of a timeline, by slot: one each `every` slots, from slot 0 on. Copies share them.
+/// The checkpoints of a timeline, by slot: one each `every` slots, from slot 0 on. A copy shares them, and costs the same
+/// however many there are.
 #[derive(Drop)]
 pub struct Checkpoints {
     every: u64,
-    points: Vec<Arc<Checkpoint>>,
+    points: SharedList<Checkpoint>,
 }
 
 impl Model for Checkpoints {
-    ghost use Rattle.pf_timeline.specs.Keeping.{Points, points_of};
+    ghost use Rattle.pf_timeline.specs.Keeping.{Points};
 
     ghost Value = { Points };
 
-    ghost view = { λ c. record { every = c.every; points = points_of c.points.items } };
+    ghost view = { λ c. record { every = c.every; points = c.points } };
 }
 
 impl Checkpoints {
@@ -31,7 +30,7 @@ impl Checkpoints {
     {
         Checkpoints {
             every,
-            points: Vec::new(alloc),
+            points: SharedList::new(alloc),
         }
     }
 
@@ -58,16 +57,9 @@ impl Checkpoints {
         if engine.now() / self.every < self.points.len() as u64 {
             return Ok(());
         }
-        let alloc = *self.points.allocator();
         let engine = engine.save()?;
-        self.points.reserve(1)?;
-        match Arc::new(alloc, Checkpoint { engine, denials }) {
-            Ok(point) => {
-                self.points.push_reserved(point);
-                Ok(())
-            }
-            Err(_) => Err(AllocError),
-        }
+        self.points.push(Checkpoint { engine, denials })?;
+        Ok(())
     }
 
     /// The checkpoint of number k.
@@ -75,7 +67,10 @@ impl Checkpoints {
         requires { k < length self.now.points }
         ensures { result.now ≡ slice_index_or self.now.points k result.now }
     {
-        &self.points[k]
+        match self.points.get(k) {
+            Some(point) => point,
+            None => unreachable!(),
+        }
     }
 
     /// The first of these, shared.
@@ -87,13 +82,9 @@ impl Checkpoints {
         requires { count ≤ length self.now.points }
         ensures { IfOk result (λ c. c ≡ record self.now { points = take count self.now.points }) }
     {
-        let mut points = Vec::with_capacity(*self.points.allocator(), count)?;
-        for point in &self.points[..count] {
-            points.push(Arc::try_clone(point)?)?;
-        }
         Ok(Checkpoints {
             every: self.every,
-            points,
+            points: self.points.first(count)?,
         })
     }
 

@@ -1,4 +1,4 @@
-ghost use Rattle.std.specs.Prelude.{◌≡◌, ◌⊎◌, ◌<◌, ◌≤◌, ◌+◌, ◌-◌, ◌++◌, ◌↔◌, length, take, vec_len, vec_capacity, IfOk, OnOk, OnErr, Err};
+ghost use Rattle.std.specs.Prelude.{◌≡◌, ◌⊎◌, ◌<◌, ◌≤◌, ◌+◌, ◌-◌, ◌↔◌, length, take, IfOk, OnOk, OnErr, Err};
 ghost use Rattle.pf_order.specs.Counts.{one_more};
 ghost use Rattle.pf_order.specs.Counted.{CountsAtMost};
 ghost use Rattle.pf_scenario.specs.Scenario.{Plan};
@@ -12,6 +12,7 @@ ghost use Rattle.pf_timeline.specs.declared.fault.NewFault.TheVariants.{BadSetti
 use crate::checkpoints::Checkpoints;
 use crate::fault::{NewFault, StepFault};
 use pf_engine::engine::Engine;
+use pf_list::shared_vec::SharedVec;
 use pf_order::meter::Meter;
 use pf_place::rows::Rows;
 use pf_run::denied::Denied;
@@ -27,7 +28,7 @@ pub const LARGEST_DISTANCE: u64 = 4096;
 /// The kept run of a scenario: the rows and the denials of its first slots.
 pub struct Timeline {
     rows: Rows,
-    denials: Vec<Denied>,
+    denials: SharedVec<Denied>,
     engine: Engine,
 
     checkpoints: Checkpoints,
@@ -88,7 +89,7 @@ impl Timeline {
         let opening = Scenario::new(alloc, settings);
         Ok(Timeline {
             rows: Rows::new(alloc),
-            denials: Vec::new(alloc),
+            denials: SharedVec::new(alloc),
             engine,
             checkpoints: Checkpoints::new(alloc, every),
             scenario: Snapshot::of(&opening),
@@ -150,7 +151,8 @@ impl Timeline {
             }
         };
         self.rows.seat_last(taken.count(), taken.picks());
-        append(&mut self.denials, taken.denials());
+        self.denials.extend_reserved(taken.denials());
+        self.denials.share();
         self.scenario = Snapshot::of(scenario);
         Ok(())
     }
@@ -226,14 +228,15 @@ impl Timeline {
         let start = self.checkpoints.get(last);
         Ok(Timeline {
             rows: first_rows(&self.rows, start.engine.now())?,
-            denials: Vec::from_slice(*self.denials.allocator(), &self.denials[..start.denials])?,
+            denials: self.denials.first(start.denials)?,
             engine: start.engine.engine(meter)?,
             checkpoints: self.checkpoints.first(last + 1)?,
             scenario: Snapshot::of(scenario),
         })
     }
 
-    /// An equal timeline, where this one stands for the scenario.
+    /// An equal timeline, where this one stands for the scenario. It shares the checkpoints, the denials and the full blocks
+    /// of rows with this one, so it costs the same however many slots there are.
     ///
     /// # Errors
     ///
@@ -244,7 +247,7 @@ impl Timeline {
     {
         Ok(Timeline {
             rows: self.rows.copy()?,
-            denials: Vec::from_slice(*self.denials.allocator(), &self.denials)?,
+            denials: self.denials.copy()?,
             engine: self.engine.copy()?,
             checkpoints: self.checkpoints.copy()?,
             scenario: Snapshot::of(scenario),
@@ -290,14 +293,4 @@ fn first_rows(rows: &Rows, count: u64) -> Result<Rows, AllocError>
         first.pop();
     }
     Ok(first)
-}
-
-/// Appends these denials, for which there is room.
-fn append(denials: &mut Vec<Denied>, more: &[Denied])
-    requires { vec_len denials.old + length more.now ≤ vec_capacity denials.old }
-    ensures { denials.new.items ≡ denials.old.items ++ more.now }
-{
-    for denied in more {
-        denials.push_reserved(*denied);
-    }
 }

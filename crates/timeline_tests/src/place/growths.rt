@@ -104,7 +104,7 @@ fn many_rows(alloc: Global) -> Result<Rows, AllocError> {
     }
 }
 
-/// Full blocks are shared: a copy asks for the list of them and for the two pieces of the open one.
+/// Full blocks are shared: a copy asks for the two pieces of the last one alone.
 #[test]
 fn many_rows_are_copied_again(rt: HostRuntime) -> Result<(), Fail> {
     let rows = many_rows(rt.alloc())?;

@@ -1,7 +1,7 @@
 use Rattle.std.proofs.Common.{◌≡◌, ◌-◌, [], ◌∷◌, ◌++◌, length, ap, sym, subst, ◌∙◌, arith}
 use Rattle.std.specs.List.{All}
 use Rattle.std.proofs.lemmas.List.{append-nil}
-use Rattle.pf_place.specs.Blocks.{all_rows_of, Held, HasRoomFor}
+use Rattle.pf_place.specs.Blocks.{all_rows_of, HasRoomFor}
 use Rattle.pf_place.specs.Filed.{rows_of_each}
 use Rattle.pf_place.proofs.Filed.{filed_opened, filed_last, blocks_less, joined-more, count_blocks, none_within}
 use Rattle.pf_place.proofs.rows.reopen.Goals as goal

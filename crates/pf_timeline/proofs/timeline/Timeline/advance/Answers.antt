@@ -36,15 +36,15 @@ seat_last-requires-clause-before c =
     rw (c.in_ok-push_idle.ensures.ok, but_last_behind, idle_width, c.processors.ensures.value, c.settings.ensures.value)
     (last_stands _ _ _ _ _ keeps)
 
-pub append-requires : goal.append-requires
-append-requires c =
+pub extend_reserved-requires : goal.extend_reserved-requires
+extend_reserved-requires c =
     let keeps = keeps_standing _ _ _ _ _ _ _ _ c.self.invariant.run c.self.view_is c.requires.stands in
     let events = c.deref.ensures.value ∙ c.in_ok-events.ensures.value ∙ ap (events_of c.args.scenario.now) c.now.ensures in
     let few = few_denials _ _ _ _ _ keeps _ events _ (takes_slot _ _ _ _ _ keeps _ events _ _ c.in-Ok.ensures.slot).next in
-    omega (arith, few, ap length c.denials.ensures, c.in_ok-reserve.ensures, c.deref.ensures.len, c.len.ensures)
+    omega (arith, few, ap length c.denials.ensures, c.in_ok-reserve.ensures.room, c.deref.ensures.len, c.len.ensures)
 
 keeps_next : (c : After-drop-events-2) →
-    KeepsRun c.args.scenario.now (c.args.self.now.now + 1) c.seat_last.new.self c.append.new.denials.items c.slot.new.self
+    KeepsRun c.args.scenario.now (c.args.self.now.now + 1) c.seat_last.new.self c.share.new.self.items c.slot.new.self
 keeps_next c =
     let keeps = keeps_standing _ _ _ _ _ _ _ _ c.self.invariant.run c.self.view_is c.requires.stands in
     let events = c.deref.ensures.value ∙ c.in_ok-events.ensures.value ∙ ap (events_of c.args.scenario.now) c.now.ensures in
@@ -59,11 +59,11 @@ keeps_next c =
       c.count.ensures,
       c.picks.ensures,
     ))
-    (rw (c.append.ensures, c.in_ok-reserve.ensures.items, c.denials.ensures))
+    (rw (c.share.ensures, c.extend_reserved.ensures, c.in_ok-reserve.ensures.items, c.denials.ensures))
 
 pub invariant_of-self-in_err-push_idle : goal.invariant_of-self-in_err-push_idle
 invariant_of-self-in_err-push_idle c =
-    let long = c.len-2.ensures ∙ c.reserve.new.self.ok.0 ∙ ap length c.in_ok-reserve.ensures.items in
+    let long = c.len-2.ensures ∙ ap length c.in_ok-reserve.ensures.items in
     rw (c.in_err-push_idle.ensures.err, c.in_ok-reserve.ensures.items) (record {
       run = c.self.invariant.run;
       points = (point_kept _ _ _ _ _ c.self.invariant.points (point_now_fits _ _ _ _ _ _ c.self.invariant.run long)
@@ -72,7 +72,7 @@ invariant_of-self-in_err-push_idle c =
 
 pub invariant_of-self-in-Err : goal.invariant_of-self-in-Err
 invariant_of-self-in-Err c =
-    let long = c.len-2.ensures ∙ c.reserve.new.self.ok.0 ∙ ap length c.in_ok-reserve.ensures.items in
+    let long = c.len-2.ensures ∙ ap length c.in_ok-reserve.ensures.items in
     rw (c.in-Err.ensures.err, c.pop.ensures, c.in_ok-push_idle.ensures.ok, but_last_behind, c.in_ok-reserve.ensures.items) (record {
       run = c.self.invariant.run;
       points = (point_kept _ _ _ _ _ c.self.invariant.points (point_now_fits _ _ _ _ _ _ c.self.invariant.run long)
@@ -81,7 +81,7 @@ invariant_of-self-in-Err c =
 
 pub invariant_of-self-2 : goal.invariant_of-self-2
 invariant_of-self-2 c =
-    let long = c.len-2.ensures ∙ c.reserve.new.self.ok.0 ∙ ap length c.in_ok-reserve.ensures.items in
+    let long = c.len-2.ensures ∙ ap length c.in_ok-reserve.ensures.items in
     let reach = point_kept _ _ _ _ _ (points_standing _ _ _ _ _ _ _ _ _ c.self.invariant c.self.view_is c.requires.stands)
     (point_now_fits _ _ _ _ _ _ (keeps_now _ _ _ _ _ (keeps_standing _ _ _ _ _ _ _ _ c.self.invariant.run c.self.view_is c.requires.stands)) long)
     c.in_ok-keep.ensures.due c.in_ok-keep.ensures.early in

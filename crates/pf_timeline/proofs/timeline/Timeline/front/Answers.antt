@@ -1,9 +1,8 @@
 -- The last checkpoint not after `from` stands for the run up to it.
-use Rattle.std.proofs.Common.{◌≡◌, ◌<◌, ◌/◌, length, get_or, sym, ap, ◌∙◌, arith}
-use Rattle.std.proofs.lemmas.List.{length-take-le}
+use Rattle.std.proofs.Common.{◌≡◌, ◌<◌, ◌/◌, get_or, ap, ◌∙◌, arith}
 use Rattle.pf_timeline.specs.Timeline.{past_below}
 use Rattle.pf_timeline.proofs.Past.{stands_kept}
-use Rattle.pf_timeline.proofs.Points.{last_at, agreed_past, front_rows_few, front_denials_few, front_not_behind, front_near, front_run, front_points}
+use Rattle.pf_timeline.proofs.Points.{last_at, agreed_past, front_rows_few, front_not_behind, front_near, front_run, front_points}
 use Rattle.pf_timeline.proofs.timeline.Timeline.front.Goals as goal
 
 pub first_rows-requires : goal.first_rows-requires
@@ -13,15 +12,6 @@ first_rows-requires c =
     let same = agreed_past c.args.scenario.now c.self.inside.scenario.value c.args.from _ _ _ c.self.inside.engine _ (omega (arith, below)) c.self.view_is c.requires.agrees in
     let is = c.get-start.ensures ∙ ap (λ v. get_or c.self.inside.checkpoints.points (c.args.from / v) c.get-start.result.now) c.every.ensures in
     omega (arith, c.now.ensures, front_rows_few _ _ _ c.args.from _ _ _ _ c.self.invariant below c.settings.ensures.scenario same _ is)
-
-pub slice_bounds-from_slice-end : goal.slice_bounds-from_slice-end
-slice_bounds-from_slice-end c =
-    let now : c.self.inside.engine.now ≡ c.args.self.now.now = ap (λ t. t.now) c.self.view_is in
-    let below : c.args.from < c.self.inside.engine.now = omega (arith, now, c.requires.below) in
-    let same = agreed_past c.args.scenario.now c.self.inside.scenario.value c.args.from _ _ _ c.self.inside.engine _ (omega (arith, below)) c.self.view_is c.requires.agrees in
-    let is = c.get-start.ensures ∙ ap (λ v. get_or c.self.inside.checkpoints.points (c.args.from / v) c.get-start.result.now) c.every.ensures in
-    sym (length-take-le c.get-start.result.now.denials c.deref.result.now
-    (omega (arith, ap length c.deref.ensures.value, front_denials_few _ _ _ c.args.from _ _ _ _ c.self.invariant below c.settings.ensures.scenario same _ is)))
 
 pub invariant_of-result : goal.invariant_of-result
 invariant_of-result c =
@@ -34,9 +24,8 @@ invariant_of-result c =
       c.in_ok-engine.ensures.engine,
       c.in_ok-first_rows.ensures,
       c.now.ensures,
-      c.in_ok-from_slice.ensures.items,
-      c.deref.ensures.value,
       c.in_ok-first.ensures,
+      c.in_ok-first-2.ensures,
       c.every.ensures,
     ) (record {
       run = front_run _ _ _ c.args.from _ _ _ _ c.self.invariant below c.settings.ensures.scenario same _ is;
@@ -53,8 +42,7 @@ returns-clause-stands c =
       c.in_ok-engine.ensures.engine,
       c.in_ok-first_rows.ensures,
       c.now.ensures,
-      c.in_ok-from_slice.ensures.items,
-      c.deref.ensures.value,
+      c.in_ok-first.ensures,
     )
     (stands_kept c.args.scenario.now c.of.result.value _ _ _ _ _ (front_run _ _ _ c.args.from _ _ _ _ c.self.invariant below c.settings.ensures.scenario same _ is)
     (ap (past_below c.get-start.result.now.engine.now) c.of.ensures))
@@ -76,8 +64,8 @@ returns-clause-near c =
     let every : c.self.inside.checkpoints.every ≡ c.args.self.now.every = ap (λ t. t.every) c.self.view_is in
     omega (arith, every, ap (λ e. e.now) c.in_ok-engine.ensures.engine, front_near _ _ _ c.args.from _ _ _ _ c.self.invariant below c.settings.ensures.scenario same _ is)
 
-pub first-requires : goal.first-requires
-first-requires c =
+pub first-requires-2 : goal.first-requires-2
+first-requires-2 c =
     let now : c.self.inside.engine.now ≡ c.args.self.now.now = ap (λ t. t.now) c.self.view_is in
     let below : c.args.from < c.self.inside.engine.now = omega (arith, now, c.requires.below) in
     omega (arith, ap (λ v. c.args.from / v) c.every.ensures, (last_at _ _ c.args.from _ c.self.invariant.points below).some)
