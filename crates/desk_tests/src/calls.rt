@@ -37,7 +37,7 @@ fn texts_of_faults(rt: HostRuntime) -> Result<(), Fail> {
 fn last_reply_told(alloc: Global, desk: &Desk) -> Result<String, AllocError> {
     let mut text = String::new(alloc);
     if let Some(entry) = desk.history().last() {
-        tell_reply(&mut text, &entry.reply)?;
+        tell_reply(&mut text, entry.reply)?;
     }
     Ok(text)
 }

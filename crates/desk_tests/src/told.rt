@@ -4,6 +4,7 @@ use pf_desk::command::Command;
 use pf_desk::desk::Desk;
 use pf_desk::fault::OpenFault;
 use pf_desk::reply::Reply;
+use pf_desk::reply_view::ReplyView;
 use pf_desk::snapshot::Snapshot;
 use pf_order::meter::Meter;
 use pf_place::row_view::RowView;
@@ -75,21 +76,22 @@ pub(crate) fn tell_replies(
     commands: &[Command],
 ) -> Result<(), AllocError> {
     for command in commands {
-        tell_reply(text, &apply(desk, *command)?)?;
+        let reply = apply(desk, *command)?;
+        tell_reply(text, reply.view())?;
     }
     Ok(())
 }
 
 /// A reply's line.
-pub(crate) fn tell_reply(text: &mut String, reply: &Reply) -> Result<(), AllocError> {
+pub(crate) fn tell_reply(text: &mut String, reply: ReplyView<'_>) -> Result<(), AllocError> {
     match reply {
-        Reply::Edited { id } => writeln!(text, "event {id}"),
-        Reply::Stepped { slot, row } => {
+        ReplyView::Edited { id } => writeln!(text, "event {id}"),
+        ReplyView::Stepped { slot, row } => {
             write!(text, "slot {slot}:")?;
-            tell_row(text, row.view())?;
+            tell_row(text, row)?;
             writeln!(text)
         }
-        Reply::Refused(fault) => writeln!(text, "refused {fault:?}"),
+        ReplyView::Refused(fault) => writeln!(text, "refused {fault:?}"),
     }
 }
 

@@ -68,7 +68,7 @@ fn apply_again(
 /// A reply, and what is then kept.
 fn reply_told(alloc: Global, reply: &Reply, desk: &Desk) -> Result<String, AllocError> {
     let mut text = String::new(alloc);
-    tell_reply(&mut text, reply)?;
+    tell_reply(&mut text, reply.view())?;
     tell_kept(&mut text, desk)?;
     Ok(text)
 }

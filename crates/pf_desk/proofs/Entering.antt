@@ -21,9 +21,10 @@ use Rattle.pf_desk.specs.declared.reply.Reply.TheVariants.{Edited, Refused}
 use Rattle.pf_desk.specs.declared.entry.Entry.{Entry}
 use Rattle.pf_desk.specs.Machine.{State, opening_state, edit_reply, strict_reply, reply_to, state_after}
 use Rattle.pf_desk.specs.History.{IsLegal, last_state}
-use Rattle.pf_desk.specs.Desk.{IsDesk, Handles, entry_of}
-use Rattle.pf_desk.specs.Kept.{state_of, shown_by, IsKeptDesk}
-use Rattle.pf_desk.proofs.Histories.{legal_append, behind_append, settings_after}
+use Rattle.pf_desk.specs.Desk.{IsDesk, IsAsBefore, Handles, entry_of}
+use Rattle.pf_desk.specs.Recorded.{Recorded, entered_in, HasNoLessRoom}
+use Rattle.pf_desk.specs.Kept.{state_of, shown_by, IsKeptDesk, ArePartsOfDesk}
+use Rattle.pf_desk.proofs.Histories.{legal_append, behind_append, settings_changed, settings_after}
 use Rattle.pf_desk.proofs.Changes.{past_rest}
 
 -- at the opening
@@ -94,15 +95,38 @@ refused_handles plan kept es spare spare' caller command fault is answer = recor
   refused = refl;
 }
 
--- Use: want of memory leaves the parts, with no less room.
-pub wanted_handles : (plan : Plan) (kept : KeptRun) (es es' : List Entry) (spare spare' caller : ℕ) (command : Command) (error : AllocError) →
-    IsKeptDesk plan kept es → es' ≡ es → spare ≤ spare' →
-    Handles caller command (shown_by plan kept es spare) (Err error) (shown_by plan kept es' spare')
-wanted_handles plan kept es es' spare spare' caller command error is same room = record {
+-- Use: with no less room the parts stay.
+pub parts_roomier : (plan : Plan) (kept : KeptRun) (h h' : Recorded) → ArePartsOfDesk plan kept h → HasNoLessRoom h h' →
+    ArePartsOfDesk plan kept h'
+parts_roomier plan kept h h' is more =
+    subst (ArePartsOfDesk plan kept) (sym more.rest) (record { keeps = is.keeps; processors = is.processors })
+
+pub as_before : (plan : Plan) (kept : KeptRun) (h h' : Recorded) → HasNoLessRoom h h' →
+    IsAsBefore (shown_by plan kept h.entries h.spare) (shown_by plan kept h'.entries h'.spare)
+as_before plan kept h h' more =
+    record { rest = ap (λ (k : Recorded). shown_by plan kept k.entries h'.spare) more.rest; room = more.room }
+
+-- Use: so does want of memory leave them.
+pub wanted_handles : (plan : Plan) (kept : KeptRun) (h h' : Recorded) (caller : ℕ) (command : Command) (error : AllocError) →
+    ArePartsOfDesk plan kept h → HasNoLessRoom h h' →
+    Handles caller command (shown_by plan kept h.entries h.spare) (Err error) (shown_by plan kept h'.entries h'.spare)
+wanted_handles plan kept h h' caller command error is more = record {
   ok = tt;
-  err = record { rest = ap (λ (es : List Entry). shown_by plan kept es spare') same; room = room };
-  desk = is_desk _ _ _ _ (subst (IsKeptDesk plan kept) (sym same) is);
+  err = as_before plan kept h h' more;
+  desk = is_desk _ _ _ _ (parts_roomier plan kept h h' is more).keeps;
   refused = tt;
+}
+
+-- Use: one entry more, for which room was made.
+pub entries_then : (h h' h'' : Recorded) (e : Entry) → HasNoLessRoom h h' → h'' ≡ entered_in h' e → h''.entries ≡ h.entries ++ e ∷ []
+entries_then h h' h'' e more entered =
+    ap (λ (k : Recorded). k.entries) entered ∙ ap (λ (k : Recorded). k.entries ++ e ∷ []) more.rest
+
+pub parts_entered : (plan : Plan) (kept : KeptRun) (h h' h'' : Recorded) (e : Entry) → HasNoLessRoom h h' → h'' ≡ entered_in h' e →
+    IsKeptDesk plan kept (h.entries ++ e ∷ []) → h.processors ≡ plan.settings.processors → ArePartsOfDesk plan kept h''
+parts_entered plan kept h h' h'' e more entered keeps processors = record {
+  keeps = subst (IsKeptDesk plan kept) (sym (entries_then h h' h'' e more entered)) keeps;
+  processors = ap (λ (k : Recorded). k.processors) entered ∙ ap (λ (k : Recorded). k.processors) more.rest ∙ processors;
 }
 
 -- the reply to an edit without a fault, by the first denial where it is strict
@@ -123,53 +147,59 @@ denied_reply st change true denials d faultless are some =
 denied_reply st change false denials d faultless are some = cc
 
 -- an edit that is made: the changed scenario, its kept run without an objection, and one entry more
-pub record Edits (plan plan' : Plan) (kept kept' : KeptRun) (es es' : List Entry) (caller : ℕ) (change : Change) (strict : Bool) (id : ℕ) : Type 0 where
+pub record Edits (plan plan' : Plan) (kept kept' : KeptRun) (es : List Entry) (caller : ℕ) (change : Change) (strict : Bool) (id : ℕ) : Type 0 where
   pub is : IsKeptDesk plan kept es
   pub faultless : edit_fault plan change ≡ None
   pub plan_is : plan' ≡ plan_after plan change
   pub id_is : id ≡ number_of_change plan change
-  pub entered : es' ≡ es ++ entry_of caller (Edit change strict) (Edited id) ∷ []
   pub stands : StandsFor plan' kept.now kept'
   pub every : kept'.every ≡ kept.every
   pub none : (if strict then slice_get kept'.denials 0 else None) ≡ None
 
-pub made_reply : (plan plan' : Plan) (kept kept' : KeptRun) (es es' : List Entry) (caller : ℕ) (change : Change) (strict : Bool) (id : ℕ) →
-    Edits plan plan' kept kept' es es' caller change strict id → Edited id ≡ reply_to (state_of plan kept) (Edit change strict)
-made_reply plan plan' kept kept' es es' caller change strict id edits =
+pub made_reply : (plan plan' : Plan) (kept kept' : KeptRun) (es : List Entry) (caller : ℕ) (change : Change) (strict : Bool) (id : ℕ) →
+    Edits plan plan' kept kept' es caller change strict id → Edited id ≡ reply_to (state_of plan kept) (Edit change strict)
+made_reply plan plan' kept kept' es caller change strict id edits =
     ap (λ n. Edited n) edits.id_is
     ∙ sym (edited_reply (state_of plan kept) change strict kept'.denials edits.faultless
     (edits.stands.of_run.are_denials ∙ ap (λ s. denials_in s kept.now) edits.plan_is) edits.none)
 
-pub made_state : (plan plan' : Plan) (kept kept' : KeptRun) (es es' : List Entry) (caller : ℕ) (change : Change) (strict : Bool) (id : ℕ) →
-    Edits plan plan' kept kept' es es' caller change strict id →
+pub made_state : (plan plan' : Plan) (kept kept' : KeptRun) (es : List Entry) (caller : ℕ) (change : Change) (strict : Bool) (id : ℕ) →
+    Edits plan plan' kept kept' es caller change strict id →
     state_after (state_of plan kept) (Edit change strict) (Edited id) ≡ state_of plan' kept'
-made_state plan plan' kept kept' es es' caller change strict id edits =
+made_state plan plan' kept kept' es caller change strict id edits =
     λ i. record { plan = sym edits.plan_is i; now = sym edits.stands.slots i }
 
 -- Use: what is kept then, and that the machine answers so.
-pub edited_kept : (plan plan' : Plan) (kept kept' : KeptRun) (es es' : List Entry) (caller : ℕ) (change : Change) (strict : Bool) (id : ℕ) →
-    Edits plan plan' kept kept' es es' caller change strict id → IsKeptDesk plan' kept' es'
-edited_kept plan plan' kept kept' es es' caller change strict id edits =
-    subst (IsKeptDesk plan' kept') (sym edits.entered)
-    (kept_entered plan plan' kept kept' es (entry_of caller (Edit change strict) (Edited id)) edits.is
+pub edited_kept : (plan plan' : Plan) (kept kept' : KeptRun) (es : List Entry) (caller : ℕ) (change : Change) (strict : Bool) (id : ℕ) →
+    Edits plan plan' kept kept' es caller change strict id →
+    IsKeptDesk plan' kept' (es ++ entry_of caller (Edit change strict) (Edited id) ∷ [])
+edited_kept plan plan' kept kept' es caller change strict id edits =
+    kept_entered plan plan' kept kept' es (entry_of caller (Edit change strict) (Edited id)) edits.is
     (record {
-      answer = made_reply plan plan' kept kept' es es' caller change strict id edits;
-      state = made_state plan plan' kept kept' es es' caller change strict id edits;
+      answer = made_reply plan plan' kept kept' es caller change strict id edits;
+      state = made_state plan plan' kept kept' es caller change strict id edits;
       stands = stands_now plan' kept.now kept' edits.stands;
-    }))
+    })
 
-pub edited_handles : (plan plan' : Plan) (kept kept' : KeptRun) (es es' : List Entry) (spare spare' caller : ℕ) (change : Change) (strict : Bool) (id : ℕ) →
-    Edits plan plan' kept kept' es es' caller change strict id →
-    Handles caller (Edit change strict) (shown_by plan kept es spare) (Ok (Edited id)) (shown_by plan' kept' es' spare')
-edited_handles plan plan' kept kept' es es' spare spare' caller change strict id edits = record {
+-- Use: its settings are those of the desk.
+pub edited_processors : (plan plan' : Plan) (kept kept' : KeptRun) (es : List Entry) (caller m : ℕ) (change : Change) (strict : Bool) (id : ℕ) →
+    Edits plan plan' kept kept' es caller change strict id → m ≡ plan.settings.processors → m ≡ plan'.settings.processors
+edited_processors plan plan' kept kept' es caller m change strict id edits same =
+    same ∙ ap (λ s. s.processors) (sym (ap (λ (s : Plan). s.settings) edits.plan_is ∙ settings_changed plan change))
+
+pub edited_handles : (plan plan' : Plan) (kept kept' : KeptRun) (es : List Entry) (spare spare' caller : ℕ) (change : Change) (strict : Bool) (id : ℕ) →
+    Edits plan plan' kept kept' es caller change strict id →
+    Handles caller (Edit change strict) (shown_by plan kept es spare) (Ok (Edited id))
+    (shown_by plan' kept' (es ++ entry_of caller (Edit change strict) (Edited id) ∷ []) spare')
+edited_handles plan plan' kept kept' es spare spare' caller change strict id edits = record {
   ok = record {
-    answer = made_reply plan plan' kept kept' es es' caller change strict id edits;
-    entered = edits.entered;
-    state = sym (made_state plan plan' kept kept' es es' caller change strict id edits);
+    answer = made_reply plan plan' kept kept' es caller change strict id edits;
+    entered = refl;
+    state = sym (made_state plan plan' kept kept' es caller change strict id edits);
     every = edits.every;
   };
   err = tt;
-  desk = is_desk _ _ _ _ (edited_kept plan plan' kept kept' es es' caller change strict id edits);
+  desk = is_desk _ _ _ _ (edited_kept plan plan' kept kept' es caller change strict id edits);
   refused = tt;
 }
 

@@ -22,11 +22,13 @@ use Rattle.pf_desk.specs.declared.entry.Entry.{Entry}
 use Rattle.pf_desk.specs.Machine.{State, opening_state, edit_reply, reply_to, state_after}
 use Rattle.pf_desk.specs.History.{IsLegal, IsLegalFrom, state_behind, last_state}
 use Rattle.pf_desk.specs.Desk.{Shown, AnswersAll, most_replayed, entry_of}
-use Rattle.pf_desk.specs.Kept.{state_of, shown_by, IsKeptDesk}
+use Rattle.pf_desk.specs.Recorded.{Recorded, slots_of, Gains}
+use Rattle.pf_desk.specs.Kept.{state_of, shown_by, IsKeptDesk, ArePartsOfDesk}
 use Rattle.pf_desk.specs.Plain.{IsPlain, IsPlainFrom, ArePlainFrom}
 use Rattle.pf_desk.specs.Gathered.{IsBatch, least_slot, AnswersFirst}
 use Rattle.pf_desk.proofs.Changes.{past_rest}
 use Rattle.pf_desk.proofs.Histories.{legal_append, behind_append, settings_behind}
+use Rattle.pf_desk.proofs.Slots.{took_none}
 
 -- one edit more is judged: its reply is the machine's, and the scenario is then that of the machine
 pub record Judges (b c : Batch) (change : Change) (reply : Reply) : Type 0 where
@@ -101,47 +103,64 @@ judges_edited b c change id caller same number from entries faultless scenario =
     }
 
 -- a desk that makes a batch: the kept run of its scenario over as many slots, and all its entries
-pub record Makes (plan : Plan) (kept kept' : KeptRun) (es es' : List Entry) (spare : ℕ) (b : Batch) : Type 0 where
+pub record Makes (plan : Plan) (kept kept' : KeptRun) (es : List Entry) (spare : ℕ) (b : Batch) : Type 0 where
   pub is : IsKeptDesk plan kept es
   pub batch : IsBatch (shown_by plan kept es spare) b
   pub stands : StandsFor b.scenario kept.now kept'
   pub every : kept'.every ≡ kept.every
-  pub entered : es' ≡ es ++ b.entries.items
 
-module _ (plan : Plan) (kept kept' : KeptRun) (es es' : List Entry) (spare : ℕ) (b : Batch) (makes : Makes plan kept kept' es es' spare b) where
+module _ (plan : Plan) (kept kept' : KeptRun) (es : List Entry) (spare : ℕ) (b : Batch) (makes : Makes plan kept kept' es spare b) where
   made_state : state_behind (state_of plan kept) b.entries.items ≡ state_of b.scenario kept'
   made_state = makes.batch.state ∙ ap (λ n. record { plan = b.scenario; now = n }) (sym makes.stands.slots)
 
+  -- Use: its settings are those of the desk.
+  pub batch_settings : plan.settings ≡ b.scenario.settings
+  batch_settings = sym (settings_behind (state_of plan kept) b.entries.items) ∙ ap (λ st. st.plan.settings) makes.batch.state
+
   -- Use: what is kept then.
-  pub batch_kept : IsKeptDesk b.scenario kept' es'
+  pub batch_kept : IsKeptDesk b.scenario kept' (es ++ b.entries.items)
   batch_kept =
-      let settings : plan.settings ≡ b.scenario.settings =
-      sym (settings_behind (state_of plan kept) b.entries.items) ∙ ap (λ st. st.plan.settings) makes.batch.state in
       let opened = opening_state plan.settings in
       let all = es ++ b.entries.items in
       let legal = legal_append opened es b.entries.items makes.is.legal
       (subst (λ st. IsLegalFrom st b.entries.items) (sym makes.is.last) makes.batch.answers) in
-      subst (IsKeptDesk b.scenario kept') (sym makes.entered) (record {
+      record {
         stands = stands_now b.scenario kept.now kept' makes.stands;
-        legal = subst (λ system. IsLegal system all) settings legal;
-        last = ap (λ system. last_state system all) (sym settings)
+        legal = subst (λ system. IsLegal system all) batch_settings legal;
+        last = ap (λ system. last_state system all) (sym batch_settings)
             ∙ behind_append opened es b.entries.items
             ∙ ap (λ st. state_behind st b.entries.items) makes.is.last
             ∙ made_state;
-      })
+      }
 
   -- Use: the machine answers so.
   pub batch_answers : (spare' : ℕ) →
-      AnswersAll b.caller (map (λ e. e.command) b.entries.items) (shown_by plan kept es spare) (shown_by b.scenario kept' es' spare')
+      AnswersAll b.caller (map (λ e. e.command) b.entries.items) (shown_by plan kept es spare)
+      (shown_by b.scenario kept' (es ++ b.entries.items) spare')
   batch_answers spare' = record {
     entries = b.entries.items;
     commands_in_order = refl;
     callers = makes.batch.callers;
     answers = makes.batch.answers;
-    entered = makes.entered;
+    entered = refl;
     state = sym made_state;
     every = makes.every;
   }
+
+-- Use: the parts that a batch makes.
+pub batch_parts : (plan : Plan) (kept kept' : KeptRun) (h h' : Recorded) (spare : ℕ) (b : Batch) → Makes plan kept kept' h.entries spare b →
+    h.processors ≡ plan.settings.processors → Gains h b.entries.items h' → ArePartsOfDesk b.scenario kept' h'
+batch_parts plan kept kept' h h' spare b makes processors gains = record {
+  keeps = subst (IsKeptDesk b.scenario kept') (sym (ap (λ (k : Recorded). k.entries) gains))
+      (batch_kept plan kept kept' h.entries spare b makes);
+  processors = ap (λ (k : Recorded). k.processors) gains
+      ∙ processors
+      ∙ ap (λ system. system.processors) (batch_settings plan kept kept' h.entries spare b makes);
+}
+
+-- Use: no edit of a batch took a slot.
+pub batch_took_none : (d : Shown) (b : Batch) → IsBatch d b → All (λ e. slots_of e.reply ≡ 0) b.entries.items
+batch_took_none d b is = took_none d.state b.entries.items is.answers (ap (λ (st : State). st.now) is.state)
 
 -- Use: what a batch that touches no slot below now leaves standing.
 pub batch_ahead : (plan : Plan) (kept : KeptRun) (es : List Entry) (spare : ℕ) (b : Batch) → IsKeptDesk plan kept es →

@@ -1,9 +1,11 @@
 pub mod Histories
 pub mod Changes
 pub mod Pasts
+pub mod Slots
 pub mod Entering
 pub mod Stepping
 pub mod Readying
 pub mod Metered
 pub mod Horizons
 pub mod Gathering
+pub mod Laying

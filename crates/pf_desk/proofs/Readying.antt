@@ -1,5 +1,5 @@
 -- A command made ready, and made so.
-use Rattle.std.proofs.Common.{◌≡◌, ℕ, ◌+◌, ◌≤◌, Bool, if◌then◌else◌, Option, Some, None, List, [], ◌∷◌, ◌++◌, length, refl, sym, ap, ◌∙◌, subst, length-append}
+use Rattle.std.proofs.Common.{◌≡◌, ℕ, ◌+◌, Bool, if◌then◌else◌, Option, Some, None, List, [], ◌∷◌, ◌++◌, length, refl, sym, ap, ◌∙◌, subst, length-append}
 use Rattle.std.specs.List.{slice_get}
 use Rattle.pf_order.specs.declared.pick.Pick.{Pick}
 use Rattle.pf_scenario.specs.Scenario.{Plan}
@@ -21,37 +21,39 @@ use Rattle.pf_desk.specs.declared.outcome.Outcome.{Outcome}
 use Rattle.pf_desk.specs.Machine.{State, opening_state, reply_to, state_after}
 use Rattle.pf_desk.specs.History.{IsLegalFrom, state_behind, last_state}
 use Rattle.pf_desk.specs.Desk.{Shown, Seen, Ready, IsAsBefore, AnswersCaller, LeavesRest, MakesReady, entry_of, seen_of}
-use Rattle.pf_desk.specs.Kept.{state_of, shown_by, IsKeptDesk, ready_by, IsMadeReady}
+use Rattle.pf_desk.specs.Recorded.{Recorded, entered_in}
+use Rattle.pf_desk.specs.Kept.{state_of, shown_by, IsKeptDesk, ArePartsOfDesk, ready_by, IsMadeReady}
 use Rattle.pf_desk.specs.Apart.{IsCandidate, IsOutcome}
 use Rattle.pf_desk.proofs.Histories.{behind_append, settings_after}
 use Rattle.pf_desk.proofs.Entering.{kept_entered, edited_reply, denied_reply}
 use Rattle.pf_desk.proofs.Stepping.{seen_stands, seen_is_shown}
 
--- an outcome that is made ready: the caller, the copy of its reply, and the snapshot of the desk as it would then be
-pub record Readies (plan : Plan) (kept : KeptRun) (es : List Entry) (spare caller : ℕ) (command : Command) (o : Outcome) (e : Entry) (version : ℕ) (rows : List (List (Option Pick))) (denials : List Denied) (seen : Seen) : Type 0 where
+-- an outcome that is made ready: the caller, and the snapshot of the desk as it would then be
+pub record Readies (plan : Plan) (kept : KeptRun) (es : List Entry) (spare caller : ℕ) (command : Command) (o : Outcome) (version : ℕ) (rows : List (List (Option Pick))) (denials : List Denied) (seen : Seen) : Type 0 where
   pub is : IsKeptDesk plan kept es
   pub outcome : IsOutcome (shown_by plan kept es spare) command o
-  pub entry : e ≡ entry_of caller command o.reply
   pub version_is : version ≡ length es + 1
   pub rows_are : rows ≡ o.timeline.rows
   pub denials_are : denials ≡ o.timeline.denials
   pub shows : seen ≡ record { version = version; state = record { plan = o.scenario; now = length rows }; rows = rows; denials = denials }
 
-module _ (plan : Plan) (kept : KeptRun) (es : List Entry) (spare caller : ℕ) (command : Command) (o : Outcome) (e : Entry) (version : ℕ) (rows : List (List (Option Pick))) (denials : List Denied) (seen : Seen) (ready : Readies plan kept es spare caller command o e version rows denials seen) where
-  then_kept : IsKeptDesk o.scenario o.timeline (es ++ e ∷ [])
-  then_kept =
-      kept_entered plan o.scenario kept o.timeline es e ready.is
-      (rw ready.entry (record { answer = ready.outcome.answer; state = ready.outcome.state; stands = ready.outcome.stands }))
+module _ (plan : Plan) (kept : KeptRun) (es : List Entry) (spare caller : ℕ) (command : Command) (o : Outcome) (version : ℕ) (rows : List (List (Option Pick))) (denials : List Denied) (seen : Seen) (ready : Readies plan kept es spare caller command o version rows denials seen) where
+  abbrev entry : Entry
+  entry = entry_of caller command o.reply
 
-  counted : version ≡ length (es ++ e ∷ [])
-  counted = ready.version_is ∙ sym (length-append es (e ∷ []))
+  then_kept : IsKeptDesk o.scenario o.timeline (es ++ entry ∷ [])
+  then_kept =
+      kept_entered plan o.scenario kept o.timeline es entry ready.is
+      (record { answer = ready.outcome.answer; state = ready.outcome.state; stands = ready.outcome.stands })
+
+  counted : version ≡ length (es ++ entry ∷ [])
+  counted = ready.version_is ∙ sym (length-append es (entry ∷ []))
 
   -- Use: the parts.
-  pub made_ready : IsMadeReady o.scenario o.timeline es e o.reply seen
+  pub made_ready : IsMadeReady o.scenario o.timeline es entry seen
   made_ready = record {
     keeps = then_kept;
-    reply = ap (λ e. e.reply) (sym ready.entry);
-    seen = seen_is_shown o.scenario o.timeline (es ++ e ∷ []) version rows denials seen then_kept counted ready.rows_are
+    seen = seen_is_shown o.scenario o.timeline (es ++ entry ∷ []) version rows denials seen then_kept counted ready.rows_are
         ready.denials_are ready.shows;
   }
 
@@ -60,14 +62,14 @@ module _ (plan : Plan) (kept : KeptRun) (es : List Entry) (spare caller : ℕ) (
       ap (λ st. st.plan.settings) (sym ready.outcome.state) ∙ settings_after (state_of plan kept) command o.reply
 
   -- Use: what they show.
-  pub makes_ready : MakesReady caller command (shown_by plan kept es spare) (ready_by o.scenario o.timeline es e seen)
+  pub makes_ready : MakesReady caller command (shown_by plan kept es spare) (ready_by o.scenario o.timeline es entry seen)
   makes_ready = record {
     desk = record { settings = settings_same; every = ready.outcome.every; history = refl };
-    entry = ready.entry ∙ ap (entry_of caller command) ready.outcome.answer;
+    entry = ap (entry_of caller command) ready.outcome.answer;
     state = ap (λ s. s.state) made_ready.seen
         ∙ sym ready.outcome.state
         ∙ ap (state_after (state_of plan kept) command) ready.outcome.answer;
-    seen = seen_stands o.scenario o.timeline (es ++ e ∷ []) version rows denials seen then_kept counted ready.rows_are
+    seen = seen_stands o.scenario o.timeline (es ++ entry ∷ []) version rows denials seen then_kept counted ready.rows_are
         ready.denials_are ready.shows;
   }
 
@@ -77,18 +79,18 @@ legal_last st [] e legal = legal.0
 legal_last st (x ∷ es) e legal = legal_last (state_after st x.command x.reply) es e legal.1
 
 -- a desk with the settings and the history that a command was made ready for, and one entry more
-pub record Commits (plan plan' : Plan) (kept kept' : KeptRun) (es es' : List Entry) (e : Entry) : Type 0 where
+pub record Commits (plan plan' : Plan) (kept kept' : KeptRun) (es : List Entry) (e : Entry) : Type 0 where
   pub is : IsKeptDesk plan kept es
   pub after : IsKeptDesk plan' kept' (es ++ e ∷ [])
   pub settings : plan'.settings ≡ plan.settings
   pub every : kept'.every ≡ kept.every
-  pub entered : es' ≡ es ++ e ∷ []
 
-module _ (plan plan' : Plan) (kept kept' : KeptRun) (es es' : List Entry) (e : Entry) (commits : Commits plan plan' kept kept' es es' e) where
+module _ (plan plan' : Plan) (kept kept' : KeptRun) (es : List Entry) (e : Entry) (commits : Commits plan plan' kept kept' es e) where
   state_then : state_behind (opening_state plan'.settings) es ≡ state_of plan kept
   state_then = ap (λ system. last_state system es) commits.settings ∙ commits.is.last
 
-  commit_reply : e.reply ≡ reply_to (state_of plan kept) e.command
+  -- Use: the machine's reply.
+  pub commit_reply : e.reply ≡ reply_to (state_of plan kept) e.command
   commit_reply =
       legal_last (opening_state plan'.settings) es e commits.after.legal ∙ ap (λ st. reply_to st e.command) state_then
 
@@ -98,23 +100,14 @@ module _ (plan plan' : Plan) (kept kept' : KeptRun) (es es' : List Entry) (e : E
       ∙ behind_append (opening_state plan'.settings) es (e ∷ [])
       ∙ ap (λ st. state_after st e.command e.reply) state_then
 
-  -- Use: what is kept then.
-  pub commit_keeps : IsKeptDesk plan' kept' es'
-  commit_keeps = subst (IsKeptDesk plan' kept') (sym commits.entered) commits.after
-
   -- Use: the machine answers so.
-  pub commit_answers : (spare spare' : ℕ) (reply : Reply) → reply ≡ e.reply →
-      AnswersCaller e.caller e.command (shown_by plan kept es spare) reply (shown_by plan' kept' es' spare')
-  commit_answers spare spare' reply same = record {
-    answer = same ∙ commit_reply;
-    entered = commits.entered ∙ ap (λ r. es ++ entry_of e.caller e.command r ∷ []) (sym same);
-    state = commit_state ∙ ap (state_after (state_of plan kept) e.command) (sym same);
-    every = commits.every;
-  }
+  pub commit_answers : (spare spare' : ℕ) →
+      AnswersCaller e.caller e.command (shown_by plan kept es spare) e.reply (shown_by plan' kept' (es ++ e ∷ []) spare')
+  commit_answers spare spare' = record { answer = commit_reply; entered = refl; state = commit_state; every = commits.every }
 
   -- Use: a refusal leaves the rest.
   pub commit_rest : (spare spare' : ℕ) (reply : Reply) → reply ≡ e.reply →
-      LeavesRest reply (shown_by plan kept es spare) (shown_by plan' kept' es' spare')
+      LeavesRest reply (shown_by plan kept es spare) (shown_by plan' kept' (es ++ e ∷ []) spare')
   commit_rest spare spare' (Edited id) same = tt
   commit_rest spare spare' (Stepped slot row) same = tt
   commit_rest spare spare' (Refused fault) same =
@@ -128,10 +121,18 @@ module _ (plan plan' : Plan) (kept kept' : KeptRun) (es es' : List Entry) (e : E
         state = state i;
         rows = rows i;
         denials = denials i;
-        history = es';
+        history = es ++ e ∷ [];
         every = commits.every i;
         spare = spare';
       }
+
+-- Use: the parts with that entry.
+pub commit_parts : (plan plan' : Plan) (kept kept' : KeptRun) (h h' : Recorded) (e : Entry) → Commits plan plan' kept kept' h.entries e →
+    h.processors ≡ plan.settings.processors → h' ≡ entered_in h e → ArePartsOfDesk plan' kept' h'
+commit_parts plan plan' kept kept' h h' e commits processors entered = record {
+  keeps = subst (IsKeptDesk plan' kept') (sym (ap (λ (k : Recorded). k.entries) entered)) commits.after;
+  processors = ap (λ (k : Recorded). k.processors) entered ∙ processors ∙ sym (ap (λ system. system.processors) commits.settings);
+}
 
 -- Use: the snapshot of a history shows the desk with an equal one.
 pub seen_alike : (plan : Plan) (kept : KeptRun) (es es' : List Entry) (spare spare' : ℕ) → es ≡ es' →
@@ -165,12 +166,6 @@ pub candidate_denied : (d : Shown) (change : Change) (strict : Bool) (c : Candid
 candidate_denied d change strict c x is faultless some =
     denied_reply d.state change strict c.timeline.denials x faultless
     (is.stands.of_run.are_denials ∙ ap (λ s. denials_in s d.state.now) is.scenario) some
-
--- Use: an equal history, with no less room.
-pub as_before : (plan : Plan) (kept : KeptRun) (es es' : List Entry) (spare spare' : ℕ) → es' ≡ es → spare ≤ spare' →
-    IsAsBefore (shown_by plan kept es spare) (shown_by plan kept es' spare')
-as_before plan kept es es' spare spare' same room =
-    record { rest = ap (λ (es : List Entry). shown_by plan kept es spare') same; room = room }
 
 -- Use: what was made ready for a desk was so for the same one before it had room.
 pub ready_before : (caller : ℕ) (command : Command) (d d' : Shown) (ready : Ready) → IsAsBefore d d' → MakesReady caller command d' ready →

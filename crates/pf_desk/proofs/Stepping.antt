@@ -19,13 +19,12 @@ use Rattle.pf_timeline.proofs.Past.{stands_now}
 use Rattle.pf_desk.proofs.Entering.{is_desk, kept_entered}
 
 -- a slot that is taken: the kept run is one slot longer, the row is its last, and there is one entry more
-pub record Steps (plan : Plan) (kept kept' : KeptRun) (es es' : List Entry) (caller slot : ℕ) (row : List (Option Pick)) : Type 0 where
+pub record Steps (plan : Plan) (kept kept' : KeptRun) (es : List Entry) (caller slot : ℕ) (row : List (Option Pick)) : Type 0 where
   pub is : IsKeptDesk plan kept es
   pub below : kept.now ≢ plan.settings.horizon
   pub stands : StandsFor plan (kept.now + 1) kept'
   pub slot_is : slot ≡ kept.now
   pub row_is : row ≡ slice_index_or kept'.rows slot []
-  pub entered : es' ≡ es ++ entry_of caller Step (Stepped slot row) ∷ []
   pub every : kept'.every ≡ kept.every
 
 -- the machine's reply, on either side of the horizon
@@ -35,42 +34,43 @@ reply_below st below = cond-false (st.now == st.plan.settings.horizon) _ _ (ne_e
 pub reply_at : (st : State) → st.now ≡ st.plan.settings.horizon → reply_to st Step ≡ Refused AtHorizon
 reply_at st at = cond-true (st.now == st.plan.settings.horizon) _ _ (eq-eqb _ _ at)
 
-pub step_reply_is : (plan : Plan) (kept kept' : KeptRun) (es es' : List Entry) (caller slot : ℕ) (row : List (Option Pick)) →
-    Steps plan kept kept' es es' caller slot row → Stepped slot row ≡ reply_to (state_of plan kept) Step
-step_reply_is plan kept kept' es es' caller slot row steps =
+pub step_reply_is : (plan : Plan) (kept kept' : KeptRun) (es : List Entry) (caller slot : ℕ) (row : List (Option Pick)) →
+    Steps plan kept kept' es caller slot row → Stepped slot row ≡ reply_to (state_of plan kept) Step
+step_reply_is plan kept kept' es caller slot row steps =
     ap₂ (λ t places. Stepped t places) steps.slot_is
     (steps.row_is ∙ ap₂ (λ rows t. slice_index_or rows t []) steps.stands.of_run.are_rows steps.slot_is)
     ∙ sym (reply_below (state_of plan kept) steps.below)
 
-pub step_state_is : (plan : Plan) (kept kept' : KeptRun) (es es' : List Entry) (caller slot : ℕ) (row : List (Option Pick)) →
-    Steps plan kept kept' es es' caller slot row → state_after (state_of plan kept) Step (Stepped slot row) ≡ state_of plan kept'
-step_state_is plan kept kept' es es' caller slot row steps =
+pub step_state_is : (plan : Plan) (kept kept' : KeptRun) (es : List Entry) (caller slot : ℕ) (row : List (Option Pick)) →
+    Steps plan kept kept' es caller slot row → state_after (state_of plan kept) Step (Stepped slot row) ≡ state_of plan kept'
+step_state_is plan kept kept' es caller slot row steps =
     ap (λ n. record { plan = plan; now = n }) (sym steps.stands.slots)
 
 -- Use: what is kept then, and that the machine answers so.
-pub stepped_kept : (plan : Plan) (kept kept' : KeptRun) (es es' : List Entry) (caller slot : ℕ) (row : List (Option Pick)) →
-    Steps plan kept kept' es es' caller slot row → IsKeptDesk plan kept' es'
-stepped_kept plan kept kept' es es' caller slot row steps =
-    subst (IsKeptDesk plan kept') (sym steps.entered)
-    (kept_entered plan plan kept kept' es (entry_of caller Step (Stepped slot row)) steps.is
+pub stepped_kept : (plan : Plan) (kept kept' : KeptRun) (es : List Entry) (caller slot : ℕ) (row : List (Option Pick)) →
+    Steps plan kept kept' es caller slot row →
+    IsKeptDesk plan kept' (es ++ entry_of caller Step (Stepped slot row) ∷ [])
+stepped_kept plan kept kept' es caller slot row steps =
+    kept_entered plan plan kept kept' es (entry_of caller Step (Stepped slot row)) steps.is
     (record {
-      answer = step_reply_is plan kept kept' es es' caller slot row steps;
-      state = step_state_is plan kept kept' es es' caller slot row steps;
+      answer = step_reply_is plan kept kept' es caller slot row steps;
+      state = step_state_is plan kept kept' es caller slot row steps;
       stands = stands_now plan (kept.now + 1) kept' steps.stands;
-    }))
+    })
 
-pub stepped_handles : (plan : Plan) (kept kept' : KeptRun) (es es' : List Entry) (spare spare' caller slot : ℕ) (row : List (Option Pick)) →
-    Steps plan kept kept' es es' caller slot row →
-    Handles caller Step (shown_by plan kept es spare) (Ok (Stepped slot row)) (shown_by plan kept' es' spare')
-stepped_handles plan kept kept' es es' spare spare' caller slot row steps = record {
+pub stepped_handles : (plan : Plan) (kept kept' : KeptRun) (es : List Entry) (spare spare' caller slot : ℕ) (row : List (Option Pick)) →
+    Steps plan kept kept' es caller slot row →
+    Handles caller Step (shown_by plan kept es spare) (Ok (Stepped slot row))
+    (shown_by plan kept' (es ++ entry_of caller Step (Stepped slot row) ∷ []) spare')
+stepped_handles plan kept kept' es spare spare' caller slot row steps = record {
   ok = record {
-    answer = step_reply_is plan kept kept' es es' caller slot row steps;
-    entered = steps.entered;
-    state = sym (step_state_is plan kept kept' es es' caller slot row steps);
+    answer = step_reply_is plan kept kept' es caller slot row steps;
+    entered = refl;
+    state = sym (step_state_is plan kept kept' es caller slot row steps);
     every = steps.every;
   };
   err = tt;
-  desk = is_desk _ _ _ _ (stepped_kept plan kept kept' es es' caller slot row steps);
+  desk = is_desk _ _ _ _ (stepped_kept plan kept kept' es caller slot row steps);
   refused = tt;
 }
 

@@ -6,7 +6,7 @@ use Rattle.pf_desk.specs.declared.entry.Entry.{Entry}
 use Rattle.pf_desk.specs.Machine.{State}
 use Rattle.pf_desk.specs.History.{IsLegal, last_state}
 use Rattle.pf_desk.specs.Desk.{Shown, Seen, Ready, seen_of}
-use Rattle.pf_desk.specs.declared.reply.Reply.{Reply}
+use Rattle.pf_desk.specs.Recorded.{Recorded}
 
 -- the state of a scenario with its kept run
 abbrev pub state_of : Plan → KeptRun → State
@@ -29,6 +29,11 @@ pub record IsKeptDesk (plan : Plan) (kept : KeptRun) (history : List Entry) : Ty
   pub legal : IsLegal plan.settings history
   pub last : last_state plan.settings history ≡ state_of plan kept
 
+-- the parts of a desk with their history, each row of which has the processors of the settings
+pub record ArePartsOfDesk (plan : Plan) (kept : KeptRun) (h : Recorded) : Type 0 where
+  pub keeps : IsKeptDesk plan kept h.entries
+  pub processors : h.processors ≡ plan.settings.processors
+
 -- what a command made ready of these parts shows
 abbrev pub ready_by : Plan → KeptRun → List Entry → Entry → Seen → Ready
 ready_by plan kept history entry seen = record {
@@ -39,9 +44,7 @@ ready_by plan kept history entry seen = record {
   seen = seen;
 }
 
--- the parts of a command made ready: a desk with them keeps what it must, the reply is that of the entry, and the
--- snapshot is of that desk
-pub record IsMadeReady (plan : Plan) (kept : KeptRun) (history : List Entry) (entry : Entry) (answer : Reply) (shown : Seen) : Type 0 where
+-- the parts of a command made ready: a desk with them keeps what it must, and the snapshot is of that desk
+pub record IsMadeReady (plan : Plan) (kept : KeptRun) (history : List Entry) (entry : Entry) (shown : Seen) : Type 0 where
   pub keeps : IsKeptDesk plan kept (history ++ entry ∷ [])
-  pub reply : answer ≡ entry.reply
   pub seen : shown ≡ seen_of (shown_by plan kept (history ++ entry ∷ []) 0)

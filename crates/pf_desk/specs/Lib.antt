@@ -17,8 +17,11 @@ pub use Rattle.pf_tally.specs.Misses
 pub mod Machine
 pub mod History
 pub mod Desk
+pub mod Recorded
 pub mod Kept
 pub mod Horizon
 pub mod Apart
 pub mod Plain
 pub mod Gathered
+pub mod Views
+pub mod Laid

@@ -24,6 +24,7 @@ use crate::candidate::Candidate;
 use crate::command::Command;
 use crate::entry::Entry;
 use crate::fault::OpenFault;
+use crate::history::History;
 use crate::outcome::Outcome;
 use crate::prepared::Prepared;
 use crate::reply::{Fault, Reply};
@@ -50,19 +51,18 @@ use std::sync::Arc;
 pub struct Desk {
     scenario: Scenario,
     timeline: Timeline,
-    history: Vec<Entry>,
+    history: History,
 }
 
 impl Model for Desk {
-    ghost use Rattle.std.specs.Prelude.{◌-◌, vec_len, vec_capacity};
     ghost use Rattle.pf_desk.specs.Desk.{Shown};
-    ghost use Rattle.pf_desk.specs.Kept.{shown_by, IsKeptDesk};
+    ghost use Rattle.pf_desk.specs.Kept.{shown_by, ArePartsOfDesk};
 
     ghost Value = { Shown };
 
-    ghost view = { λ d. shown_by d.scenario d.timeline d.history.items (vec_capacity d.history - vec_len d.history) };
+    ghost view = { λ d. shown_by d.scenario d.timeline d.history.entries d.history.spare };
 
-    ghost invariant = { λ d. IsKeptDesk d.scenario d.timeline d.history.items };
+    ghost invariant = { λ d. ArePartsOfDesk d.scenario d.timeline d.history };
 }
 
 impl Desk {
@@ -86,7 +86,7 @@ impl Desk {
         Ok(Desk {
             scenario: Scenario::new(alloc, settings),
             timeline,
-            history: Vec::new(alloc),
+            history: History::new(alloc, settings.processors()),
         })
     }
 
@@ -149,7 +149,7 @@ impl Desk {
         ensures compared { meter.old.compared ≤ meter.new.compared }
         ensures comparisons { command ≡ Step → meter.new.compared ≤ meter.old.compared + most_comparisons_at self.old.state.plan self.old.state.now }
     {
-        self.history.reserve(1)?;
+        self.history.reserve()?;
         let outcome = self.outcome(meter, command)?;
         self.make_ready(caller, command, outcome)
     }
@@ -172,13 +172,17 @@ impl Desk {
             scenario,
             timeline,
             entry,
-            reply,
             snapshot: _,
             history: _,
         } = prepared;
+        let Entry {
+            caller,
+            command,
+            reply,
+        } = entry;
         self.scenario = scenario;
         self.timeline = timeline;
-        self.history.push_reserved(entry);
+        self.history.enter(caller, command, &reply);
         reply
     }
 
@@ -198,7 +202,7 @@ impl Desk {
             timeline,
             reply,
         } = outcome;
-        let alloc = *self.history.allocator();
+        let alloc = self.history.alloc();
         let version = self.history.len() as u64 + 1;
         let shown = Snapshot::of(
             alloc,
@@ -207,11 +211,6 @@ impl Desk {
             timeline.rows(),
             timeline.denials(),
         )?;
-        let entry = Entry {
-            caller,
-            command,
-            reply: reply.copy()?,
-        };
         let snapshot = match Arc::new(alloc, shown) {
             Ok(snapshot) => snapshot,
             Err(_) => return Err(AllocError),
@@ -219,8 +218,11 @@ impl Desk {
         Ok(Prepared {
             scenario,
             timeline,
-            entry,
-            reply,
+            entry: Entry {
+                caller,
+                command,
+                reply,
+            },
             snapshot,
             history: snapshot::Snapshot::of(&self.history),
         })
@@ -256,10 +258,7 @@ impl Desk {
         }
         let scenario = self.scenario.copy()?;
         let mut timeline = self.timeline.copy(&self.scenario)?;
-        let mut row = Row::idle(
-            *self.history.allocator(),
-            self.scenario.settings().processors(),
-        )?;
+        let mut row = Row::idle(self.history.alloc(), self.scenario.settings().processors())?;
         timeline.advance(meter, &self.scenario)?;
         fill(&mut row, timeline.rows(), slot);
         Ok(Outcome {
@@ -409,7 +408,7 @@ impl Desk {
             CountsAtMost (most_replayed self.old.state.now self.old.every (Some s)) meter.old meter.new }
         ensures compared { meter.old.compared ≤ meter.new.compared }
     {
-        let alloc = *self.history.allocator();
+        let alloc = self.history.alloc();
         let mut batch = Batch::new(alloc, caller, self.scenario.copy()?, self.timeline.now());
         for command in commands {
             match *command {
@@ -448,9 +447,9 @@ impl Desk {
             caller: _,
             scenario,
             from: _,
-            mut entries,
+            entries,
         } = batch;
-        self.history.append(&mut entries)?;
+        self.history.enter_all(&entries)?;
         self.scenario = scenario;
         Ok(())
     }
@@ -469,10 +468,10 @@ impl Desk {
             caller: _,
             scenario,
             from,
-            mut entries,
+            entries,
         } = batch;
         let timeline = self.timeline.rewritten(meter, from, &scenario)?;
-        self.history.append(&mut entries)?;
+        self.history.enter_all(&entries)?;
         self.scenario = scenario;
         self.timeline = timeline;
         Ok(())
@@ -521,11 +520,11 @@ impl Desk {
     }
 
     /// All entries, in the order of the answers.
-    pub fn history(&self) -> &[Entry]
-        ensures value { result.now ≡ self.now.history }
+    pub fn history(&self) -> &History
+        ensures value { result.now.entries ≡ self.now.history }
         ensures desk { IsDesk self.now }
     {
-        self.history.as_slice()
+        &self.history
     }
 
     /// How far each task inside is from its fair share, by task number.
@@ -537,7 +536,7 @@ impl Desk {
         ensures { IfOk result (λ v. v.items ≡ lags_of self.now.state.plan (run_of self.now.state.plan self.now.state.now)) }
     {
         lags::lags(
-            *self.history.allocator(),
+            self.history.alloc(),
             &self.scenario,
             self.timeline.rows(),
             self.timeline.denials(),
@@ -553,7 +552,7 @@ impl Desk {
         ensures { IfOk result (λ v. v.items ≡ misses_of self.now.state.plan (run_of self.now.state.plan self.now.state.now)) }
     {
         misses::misses(
-            *self.history.allocator(),
+            self.history.alloc(),
             &self.scenario,
             self.timeline.rows(),
             self.timeline.denials(),
@@ -571,7 +570,7 @@ impl Desk {
             (λ s. s ≡ record { version = length self.now.history; state = self.now.state; rows = self.now.rows; denials = self.now.denials }) }
     {
         Snapshot::of(
-            *self.history.allocator(),
+            self.history.alloc(),
             self.history.len() as u64,
             &self.scenario,
             self.timeline.rows(),
@@ -592,21 +591,15 @@ impl Desk {
         if self.timeline.now() == self.scenario.settings().horizon() {
             return self.refuse(caller, Command::Step, Fault::AtHorizon);
         }
-        let alloc = *self.history.allocator();
+        self.history.reserve()?;
         let processors = self.scenario.settings().processors();
-        let mut row = Row::idle(alloc, processors)?;
-        let mut entered = Row::idle(alloc, processors)?;
-        self.history.reserve(1)?;
+        let mut row = Row::idle(self.history.alloc(), processors)?;
         let slot = self.timeline.now();
         self.timeline.advance(meter, &self.scenario)?;
         fill(&mut row, self.timeline.rows(), slot);
-        fill(&mut entered, self.timeline.rows(), slot);
-        self.history.push_reserved(Entry {
-            caller,
-            command: Command::Step,
-            reply: Reply::Stepped { slot, row: entered },
-        });
-        Ok(Reply::Stepped { slot, row })
+        let reply = Reply::Stepped { slot, row };
+        self.history.enter(caller, Command::Step, &reply);
+        Ok(reply)
     }
 
     /// Makes a change.
@@ -646,14 +639,11 @@ impl Desk {
         if let Some(denied) = objection(strict, self.timeline.denials()) {
             return self.deny(caller, command, denied);
         }
-        self.history.reserve(1)?;
+        self.history.reserve()?;
         let id = self.scenario.make(change)?;
-        self.history.push_reserved(Entry {
-            caller,
-            command,
-            reply: Reply::Edited { id },
-        });
-        Ok(Reply::Edited { id })
+        let reply = Reply::Edited { id };
+        self.history.enter(caller, command, &reply);
+        Ok(reply)
     }
 
     /// Makes a change without a fault whose least touched slot `from` is below now: the run so far is replayed apart.
@@ -678,7 +668,7 @@ impl Desk {
         if let Some(denied) = objection(strict, candidate.timeline.denials()) {
             return self.deny(caller, command, denied);
         }
-        self.history.reserve(1)?;
+        self.history.reserve()?;
         let Candidate {
             id,
             scenario,
@@ -686,12 +676,9 @@ impl Desk {
         } = candidate;
         self.scenario = scenario;
         self.timeline = timeline;
-        self.history.push_reserved(Entry {
-            caller,
-            command,
-            reply: Reply::Edited { id },
-        });
-        Ok(Reply::Edited { id })
+        let reply = Reply::Edited { id };
+        self.history.enter(caller, command, &reply);
+        Ok(reply)
     }
 
     /// Refuses a strict edit after which this event would be the first denied.
@@ -709,12 +696,10 @@ impl Desk {
         ensures handles { Handles caller command self.old result self.new }
         ensures unstepped { IfOk result (λ reply. ¬ IsStepped reply) }
     {
-        self.history.push(Entry {
-            caller,
-            command,
-            reply: Reply::Refused(fault),
-        })?;
-        Ok(Reply::Refused(fault))
+        self.history.reserve()?;
+        let reply = Reply::Refused(fault);
+        self.history.enter(caller, command, &reply);
+        Ok(reply)
     }
 }
 

@@ -3,13 +3,18 @@
 #![tactic(auto)]
 
 mod batch;
+mod brief;
 mod candidate;
 pub mod command;
 pub mod desk;
 pub mod entry;
+pub mod entry_view;
 pub mod fault;
+pub mod history;
 pub mod laws;
 mod outcome;
 pub mod prepared;
 pub mod reply;
+pub mod reply_view;
+mod settled;
 pub mod snapshot;

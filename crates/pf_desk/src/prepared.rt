@@ -2,6 +2,7 @@ ghost use Rattle.std.specs.Prelude.{◌≡◌};
 ghost use Rattle.std.specs.Arc.{arc_value};
 
 use crate::entry::Entry;
+use crate::history::History;
 use crate::reply::Reply;
 use crate::snapshot::Snapshot;
 use pf_scenario::scenario::Scenario;
@@ -16,11 +17,10 @@ pub struct Prepared {
     pub(crate) scenario: Scenario,
     pub(crate) timeline: Timeline,
     pub(crate) entry: Entry,
-    pub(crate) reply: Reply,
     pub(crate) snapshot: Arc<Snapshot>,
 
     /// The history that it was made ready for, which clauses alone see.
-    pub(crate) history: snapshot::Snapshot<Vec<Entry>>,
+    pub(crate) history: snapshot::Snapshot<History>,
 }
 
 impl Model for Prepared {
@@ -30,9 +30,9 @@ impl Model for Prepared {
 
     ghost Value = { Ready };
 
-    ghost view = { λ p. ready_by p.scenario p.timeline p.history.value.items p.entry (arc_value p.snapshot) };
+    ghost view = { λ p. ready_by p.scenario p.timeline p.history.value.entries p.entry (arc_value p.snapshot) };
 
-    ghost invariant = { λ p. IsMadeReady p.scenario p.timeline p.history.value.items p.entry p.reply (arc_value p.snapshot) };
+    ghost invariant = { λ p. IsMadeReady p.scenario p.timeline p.history.value.entries p.entry (arc_value p.snapshot) };
 }
 
 impl Prepared {
@@ -40,7 +40,7 @@ impl Prepared {
     pub fn reply(&self) -> &Reply
         ensures { result.now ≡ self.now.entry.reply }
     {
-        &self.reply
+        &self.entry.reply
     }
 
     /// What the desk would then show.

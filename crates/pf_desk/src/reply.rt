@@ -1,5 +1,7 @@
 ghost use Rattle.std.specs.Prelude.{◌≡◌, IfOk};
+ghost use Rattle.pf_desk.specs.Views.{lent_reply};
 
+use crate::reply_view::ReplyView;
 use pf_admit::denial::Denial;
 use pf_place::row::Row;
 use pf_scenario::fault::EditFault;
@@ -41,6 +43,20 @@ pub enum Reply {
 }
 
 impl Reply {
+    /// The reply, lent: a copy of it copies no row.
+    pub fn view(&self) -> ReplyView<'_>
+        ensures { lent_reply result ≡ self.now }
+    {
+        match self {
+            Reply::Edited { id } => ReplyView::Edited { id: *id },
+            Reply::Stepped { slot, row } => ReplyView::Stepped {
+                slot: *slot,
+                row: row.view(),
+            },
+            Reply::Refused(fault) => ReplyView::Refused(*fault),
+        }
+    }
+
     /// An equal reply.
     ///
     /// # Errors

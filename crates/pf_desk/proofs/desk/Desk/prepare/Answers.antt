@@ -1,14 +1,15 @@
-use Rattle.std.proofs.Common.{subst, arith}
+use Rattle.std.proofs.Common.{subst}
 use Rattle.std.proofs.lemmas.Result.{IfOk-weaker}
 use Rattle.pf_desk.specs.Machine.{IsStepped}
-use Rattle.pf_desk.proofs.Readying.{as_before, ready_before}
+use Rattle.pf_desk.proofs.Entering.{as_before}
+use Rattle.pf_desk.proofs.Readying.{ready_before}
 use Rattle.pf_desk.proofs.desk.Desk.prepare.Goals as goal
 
 pub returns-clause-ok : goal.returns-clause-ok
 returns-clause-ok c =
     IfOk-weaker c.make_ready.result _ _
     (λ p made. ready_before c.args.caller c.args.command c.args.self.now _ p
-    (rw (← c.self.view_is) (as_before c.self.inside.scenario c.self.inside.timeline _ _ _ _ c.in_ok-reserve.ensures.items (omega arith))) made)
+    (rw (← c.self.view_is) (as_before c.self.inside.scenario c.self.inside.timeline _ _ c.in_ok-reserve.ensures.same)) made)
     c.make_ready.ensures.ready
 
 pub returns-clause-ready : goal.returns-clause-ready

@@ -1,12 +1,9 @@
-use Rattle.std.proofs.Common.{◌≡◌, ◌<◌, ◌≤◌, ◌+◌, length, get_or, [], ◌∷◌, ◌++◌, refl, sym, ap, ◌∙◌, subst, arith}
+use Rattle.std.proofs.Common.{◌≡◌, ◌<◌, ◌≤◌, ◌+◌, length, get_or, [], sym, ap, ◌∙◌, subst, arith}
 use Rattle.std.proofs.lemmas.List.{length-replicate}
 use Rattle.pf_timeline.proofs.Grown.{row_each}
 use Rattle.pf_timeline.proofs.Past.{stands_now}
 use Rattle.pf_timeline.specs.Timeline.{KeptRun, StandsFor}
 use Rattle.pf_timeline.specs.Comparisons.{most_comparisons_at}
-use Rattle.pf_desk.specs.declared.command.Command.TheVariants.{Step}
-use Rattle.pf_desk.specs.declared.reply.Reply.TheVariants.{Stepped}
-use Rattle.pf_desk.specs.Desk.{entry_of}
 use Rattle.pf_desk.proofs.Pasts.{places_taken}
 use Rattle.pf_desk.proofs.Stepping.{Steps, step_reply_is, step_state_is}
 use Rattle.pf_desk.proofs.desk.Desk.stepped.Goals as goal
@@ -31,24 +28,22 @@ fill-requires-clause-places c =
     rw (c.in_ok-row.ensures.row, length-replicate, c.rows.ensures) (m ∙ sym long)
 
 steps : (c : After-fill) →
-    Steps c.self.inside.scenario c.self.inside.timeline c.advance.new.self c.self.inside.history.items
-    (c.self.inside.history.items ++ entry_of 0 Step (Stepped c.now-slot.result c.fill.new.row) ∷ [])
+    Steps c.self.inside.scenario c.self.inside.timeline c.advance.new.self c.self.inside.history.entries
     0 c.now-slot.result c.fill.new.row
 steps c = record {
-  is = c.self.invariant;
+  is = c.self.invariant.keeps;
   below = λ at. c.if-slot-horizon.false (c.now-slot.ensures ∙ at ∙ sym (c.horizon.ensures.value ∙ ap (λ s. s.horizon) c.settings.ensures.value));
   stands = subst (λ (t : KeptRun). StandsFor c.self.inside.scenario (t.now + 1) c.advance.new.self) c.in_ok-timeline.ensures c.in_ok-advance.ensures.ok;
   every = c.advance.ensures.every ∙ ap (λ t. t.every) c.in_ok-timeline.ensures;
   slot_is = c.now-slot.ensures;
   row_is = c.fill.ensures ∙ ap (λ rows. get_or rows c.now-slot.result []) c.rows.ensures;
-  entered = refl;
 }
 
 pub returns-clause-outcome : goal.returns-clause-outcome
 returns-clause-outcome c =
     rw (← c.self.view_is, c.in_ok-scenario.ensures.value) (record {
-      answer = step_reply_is _ _ _ _ _ _ _ _ (steps c);
-      state = step_state_is _ _ _ _ _ _ _ _ (steps c);
+      answer = step_reply_is _ _ _ _ _ _ _ (steps c);
+      state = step_state_is _ _ _ _ _ _ _ (steps c);
       stands = stands_now _ _ _ (steps c).stands;
       every = (steps c).every;
     })

@@ -1,0 +1,60 @@
+ghost use Rattle.std.specs.Prelude.{◌≡◌, ◌<◌, [], length};
+ghost use Rattle.std.specs.List.{slice_index_or};
+ghost use Rattle.pf_desk.specs.declared.reply.Reply.TheVariants.{Stepped};
+ghost use Rattle.pf_desk.specs.Laid.{IsLaid, entry_of_brief};
+ghost use Rattle.pf_desk.specs.Views.{lent_reply, lent_entry};
+
+use crate::command::Command;
+use crate::entry_view::EntryView;
+use crate::reply_view::ReplyView;
+use crate::settled::Settled;
+use pf_place::rows::Rows;
+
+/// What a history keeps of an entry beside the rows and the commands that took no slot.
+#[derive(Clone, Copy, Debug)]
+pub(crate) enum Brief {
+    /// A step that took a slot.
+    OfSlot {
+        /// Who asked.
+        caller: u32,
+        /// The slot, which is the place of its row too.
+        slot: u64,
+    },
+    /// A command that took no slot.
+    OfCommand {
+        /// Who asked.
+        caller: u32,
+        /// Its place among these commands.
+        index: usize,
+    },
+}
+
+const _: () = prove!(size_of::<Brief>() == 16);
+
+impl Brief {
+    /// The entry, where these are the commands that took no slot and the rows of the slots that were taken.
+    pub(crate) fn entry<'a>(&self, settled: &[Settled], rows: &'a Rows) -> EntryView<'a>
+        requires { IsLaid settled.now (length rows.now) self.now }
+        ensures { lent_entry result ≡ entry_of_brief settled.now rows.entry.now self.now }
+    {
+        match self {
+            Brief::OfSlot { caller, slot } => EntryView {
+                caller: *caller,
+                command: Command::Step,
+                reply: stepped(rows, *slot),
+            },
+            Brief::OfCommand { caller, index } => settled[*index].entry(*caller),
+        }
+    }
+}
+
+/// The reply to the step that took the slot.
+fn stepped(rows: &Rows, slot: u64) -> ReplyView<'_>
+    requires { slot < length rows.now }
+    ensures { lent_reply result ≡ Stepped slot (slice_index_or rows.entry.now slot []) }
+{
+    match rows.get(slot) {
+        Some(row) => ReplyView::Stepped { slot, row },
+        None => unreachable!(),
+    }
+}
