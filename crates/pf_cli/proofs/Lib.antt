@@ -2,7 +2,6 @@ pub mod Batches
 pub mod Checking
 pub mod Courses
 pub mod Ends
-pub mod Limits
 pub mod Openings
 pub mod Outside
 pub mod Replying

@@ -1,8 +1,7 @@
 -- What a script means: a text and an end.
-use Rattle.std.specs.Prelude.{ℕ, ◌+◌, ◌^◌, Bool, false, ◌&&◌, ◌||◌, nat_le, nat_lt, if◌then◌else◌, Option, None, Some, option_map, List, [], ◌∷◌, ◌++◌, codes, length, replicate}
+use Rattle.std.specs.Prelude.{ℕ, ◌+◌, Bool, false, ◌||◌, nat_lt, if◌then◌else◌, Option, None, Some, option_map, List, [], ◌∷◌, ◌++◌, codes, length, replicate}
 use Rattle.pf_scenario.specs.System.{System}
 use Rattle.pf_run.specs.RunRows.{rows_in, denials_in}
-use Rattle.pf_timeline.specs.Checkpoints.{largest_distance}
 use Rattle.pf_desk.specs.declared.command.Command.{Command}
 use Rattle.pf_desk.specs.declared.command.Command.TheVariants as command
 use Rattle.pf_desk.specs.Machine.{State, opening_state, reply_to, state_after}
@@ -23,7 +22,8 @@ use Rattle.pf_script.specs.declared.line.Line.TheVariants as line
 use Rattle.pf_script.specs.declared.line.Opening.{Opening}
 use Rattle.pf_stream.specs.Reading.{longest_script}
 use Rattle.pf_script.specs.Script.{script_records}
-use Rattle.pf_script.specs.Grammar.{horizon_of, is_heading, opening_of, line_of}
+use Rattle.pf_opening.specs.Opened.{system_of}
+use Rattle.pf_script.specs.Grammar.{is_heading, opening_of, line_of}
 use Rattle.pf_words.specs.declared.format.Format.{Format}
 use Rattle.pf_words.specs.declared.format.Format.TheVariants.{Schedule, Tables, Json, Report, Replies, Lags, Misses, Denials, Events, Script, Processors, Stats, Chart, Svg}
 use Rattle.pf_words.specs.declared.range_fault.RangeFault.{RangeFault}
@@ -147,17 +147,6 @@ abbrev pub lines_meaning : Format → Version → ℕ → ScriptCourse → List 
 lines_meaning format version number c [] = report_meaning format c
 lines_meaning format version number c (fields ∷ records) =
     line_meaning format number c (λ d. lines_meaning format version (number + 1) d records) (line_of version fields)
-
--- n is 1 to most
-abbrev pub is_one_to : ℕ → ℕ → Bool
-is_one_to most n = nat_le 1 n && nat_le n most
-
--- the settings of an opening whose numbers are within their limits
-abbrev pub system_of : Version → Opening → Option System
-system_of version o =
-    if is_one_to 64 o.processors && is_one_to (2 ^ 30) o.base && is_one_to (2 ^ 44) o.cap && is_one_to largest_distance o.every
-    then Some (record { processors = o.processors; base = o.base; cap = o.cap; horizon = horizon_of version })
-    else None
 
 -- the course that a script begins with, where its settings are within their limits
 abbrev pub course_opened_by : Version → Option Opening → Option ScriptCourse

@@ -8,7 +8,7 @@ ghost use Rattle.pf_words.specs.FailLists.{on_nothing};
 ghost use Rattle.pf_cli.specs.declared.fault.RunFault.TheVariants.{ReadFault};
 ghost use Rattle.pf_cli.specs.Answers.{Answers, CountsReads, CountsWrites, IsOutside, IsPastReading};
 ghost use Rattle.pf_cli.specs.Ended.{course_through, fails_on, script_course};
-ghost use Rattle.pf_cli.specs.Meaning.{script_meaning, settings_meaning, lines_meaning, text_and_then, course_opened_by, system_of};
+ghost use Rattle.pf_cli.specs.Meaning.{script_meaning, settings_meaning, lines_meaning, text_and_then, course_opened_by};
 ghost use Rattle.pf_cli.specs.Session.{course_at};
 
 use crate::batching::BatchingSession;
@@ -17,16 +17,14 @@ use crate::fault::RunFault;
 use crate::session::Session;
 use csv::ByteRecord;
 use pf_desk::desk::Desk;
-use pf_scenario::settings::Settings;
+use pf_opening::settings;
 use pf_script::fields::Fields;
 use pf_script::grammar::{read_heading, read_line, read_opening};
-use pf_script::line::Opening;
 use pf_script::script::Script;
 use pf_script::version::Version;
 use pf_stream::reading::read_script;
 use pf_stream::sink::Sink;
 use pf_stream::source::Source;
-use pf_timeline::timeline::LARGEST_DISTANCE;
 use pf_words::fail_on::FailOn;
 use pf_words::format::Format;
 use std::alloc::Global;
@@ -177,20 +175,6 @@ fn carry_out_from<W: Sink>(
     let mut session = Session::open(alloc, settings, opening.every, format)?;
     session.ready(writer)?;
     carry_out_lines(alloc, session, script, row, writer, version, number + 1)
-}
-
-/// The settings of an opening, where its numbers are within their limits.
-pub fn settings(version: Version, opening: Opening) -> Option<Settings>
-    ensures { result ≡ system_of version opening }
-{
-    if opening.every == 0 || opening.every > LARGEST_DISTANCE {
-        return None;
-    }
-    let (m, h, cap) = (opening.processors, opening.base, opening.cap);
-    match version {
-        Version::First => Settings::new(m, h, cap).ok(),
-        Version::Second => Settings::wide(m, h, cap).ok(),
-    }
 }
 
 /// Carries out the records behind the settings, the first of which has this number, and answers the desk at their end. Each

@@ -3,7 +3,6 @@ mod Ends
 mod Entered
 mod Issued
 mod Legal
-mod Limits
 mod Rows
 mod Scripts
 mod Worked

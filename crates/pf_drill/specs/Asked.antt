@@ -1,7 +1,6 @@
 -- What a script asks of a drill: settings and commands, or nothing where a record is bad.
-use Rattle.std.specs.Prelude.{ℕ, ◌+◌, ◌^◌, Bool, ◌&&◌, nat_le, if◌then◌else◌, Option, None, Some, List, [], ◌∷◌, ◌++◌, replicate}
+use Rattle.std.specs.Prelude.{ℕ, ◌+◌, if◌then◌else◌, Option, None, Some, List, [], ◌∷◌, ◌++◌, replicate}
 use Rattle.pf_scenario.specs.System.{System}
-use Rattle.pf_timeline.specs.Checkpoints.{largest_distance}
 use Rattle.pf_desk.specs.declared.command.Command.{Command}
 use Rattle.pf_desk.specs.declared.command.Command.TheVariants as command
 use Rattle.pf_script.specs.declared.version.Version.{Version}
@@ -10,7 +9,8 @@ use Rattle.pf_script.specs.declared.line.Line.{Line}
 use Rattle.pf_script.specs.declared.line.Line.TheVariants as line
 use Rattle.pf_script.specs.declared.line.Opening.{Opening}
 use Rattle.pf_script.specs.Script.{script_records}
-use Rattle.pf_script.specs.Grammar.{horizon_of, is_heading, opening_of, line_of}
+use Rattle.pf_opening.specs.Opened.{system_of}
+use Rattle.pf_script.specs.Grammar.{is_heading, opening_of, line_of}
 
 -- a desk with these settings and these commands in order; or nothing, as the record of this number is bad, the first such
 pub data Asked : Type 0 where
@@ -32,17 +32,6 @@ abbrev pub lines_asked : Version → System → ℕ → List Command → List (L
 lines_asked version settings number commands [] = Whole settings commands
 lines_asked version settings number commands (fields ∷ records) =
     line_asked number commands (λ more. lines_asked version settings (number + 1) more records) (line_of version fields)
-
--- n is 1 to most
-abbrev pub is_one_to : ℕ → ℕ → Bool
-is_one_to most n = nat_le 1 n && nat_le n most
-
--- the settings of an opening whose numbers are within their limits
-abbrev pub system_of : Version → Opening → Option System
-system_of version o =
-    if is_one_to 64 o.processors && is_one_to (2 ^ 30) o.base && is_one_to (2 ^ 44) o.cap && is_one_to largest_distance o.every
-    then Some (record { processors = o.processors; base = o.base; cap = o.cap; horizon = horizon_of version })
-    else None
 
 abbrev pub system_opened_by : Version → Option Opening → Option System
 system_opened_by version None = None

@@ -1,3 +1,4 @@
+pub use Rattle.pf_opening.specs.Opened
 pub mod Asked
 pub mod Drilled
 pub mod Rounds

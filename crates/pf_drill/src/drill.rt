@@ -1,7 +1,7 @@
 ghost use Rattle.std.specs.Prelude.{◌≡◌, ◌+◌, ◌-◌, ◌^◌, ◌<◌, ◌≤◌, length, IfOk, IfErr, IfSome};
 ghost use Rattle.std.specs.Io.KnownBytes.{Keeps};
 ghost use Rattle.csv.specs.Records.{fields_of};
-ghost use Rattle.pf_drill.specs.Asked.{script_asked, settings_asked, system_of, system_opened_by};
+ghost use Rattle.pf_drill.specs.Asked.{script_asked, settings_asked, system_opened_by};
 ghost use Rattle.pf_drill.specs.Drilled.{AnswersDrill, CountsReads, CountsWrites, Drills, IsUnwritten, Stops};
 ghost use Rattle.pf_script.specs.Grammar.{opening_of};
 ghost use Rattle.pf_stream.specs.Reading.{longest_script, TakesAtMost};
@@ -10,10 +10,9 @@ use crate::fault::DrillFault;
 use crate::gate::Gate;
 use crate::lines::drill_lines;
 use csv::ByteRecord;
-use pf_scenario::settings::Settings;
+use pf_opening::settings;
 use pf_script::fields::Fields;
 use pf_script::grammar::{read_heading, read_opening};
-use pf_script::line::Opening;
 use pf_script::script::Script;
 use pf_script::version::Version;
 use pf_share::blank::Blank;
@@ -22,7 +21,6 @@ use pf_stream::reading::read_script;
 use pf_stream::sink::Sink;
 use pf_stream::source::Source;
 use pf_stream::writing::write_out;
-use pf_timeline::timeline::LARGEST_DISTANCE;
 use std::alloc::Global;
 use std::marker::Brand;
 use std::sync::Wait;
@@ -123,18 +121,4 @@ fn drill_from<R: Threads + Wait + Sync, G: Gate + Sync>(
         Err(OpenFault::NoMemory) => return Err(DrillFault::NoMemory),
     };
     drill_lines::<Brand, _, _, _>(rt, alloc, blank, script, row, gate, version, number + 1)
-}
-
-/// The settings of an opening, where its numbers are within their limits.
-fn settings(version: Version, opening: Opening) -> Option<Settings>
-    ensures { result ≡ system_of version opening }
-{
-    if opening.every == 0 || opening.every > LARGEST_DISTANCE {
-        return None;
-    }
-    let (m, h, cap) = (opening.processors, opening.base, opening.cap);
-    match version {
-        Version::First => Settings::new(m, h, cap).ok(),
-        Version::Second => Settings::wide(m, h, cap).ok(),
-    }
 }

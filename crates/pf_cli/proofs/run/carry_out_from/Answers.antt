@@ -6,7 +6,7 @@ use Rattle.pf_cli.specs.Answers.{CountsWrites}
 use Rattle.pf_cli.specs.Meaning.{course_opened_by, opening_course}
 use Rattle.pf_cli.specs.Session.{course_at}
 use Rattle.pf_cli.proofs.Courses.{course_opened}
-use Rattle.pf_cli.proofs.Limits.{every_of}
+use Rattle.pf_opening.proofs.Limits.{every_of}
 use Rattle.pf_cli.proofs.Sessions.{none_written}
 use Rattle.pf_cli.proofs.Scripts.{answers_stopped, bad_opening, counts_stopped, opened_answers, opened_stopped, past_stopped}
 use Rattle.pf_cli.proofs.run.carry_out_from.Goals as goal

@@ -1,8 +1,8 @@
 use Rattle.std.proofs.Common.{◌≤◌, sym, ◌∙◌, arith}
 use Rattle.pf_script.specs.declared.version.Version.TheVariants.{First, Second}
-use Rattle.pf_cli.proofs.Limits.{settings_are, system_refused}
-use Rattle.pf_cli.proofs.run.settings.Goals as goal
-use Rattle.pf_cli.proofs.run.settings.Goals.{then-opening-eq0-via-then-opening-eq0, then-opening-eq0-via-else-opening-eq0+then-opening-gt-LARGEST_DISTANCE}
+use Rattle.pf_opening.proofs.Limits.{settings_are, system_refused}
+use Rattle.pf_opening.proofs.settings.Goals as goal
+use Rattle.pf_opening.proofs.settings.Goals.{then-opening-eq0-via-then-opening-eq0, then-opening-eq0-via-else-opening-eq0+then-opening-gt-LARGEST_DISTANCE}
 
 pub returns-then-opening-eq0 : goal.returns-then-opening-eq0
 returns-then-opening-eq0 c =

@@ -7,7 +7,7 @@ use Rattle.pf_scenario.specs.System.{System, IsInLimits}
 use Rattle.pf_script.specs.declared.line.Opening.{Opening}
 use Rattle.pf_script.specs.declared.version.Version.{Version}
 use Rattle.pf_script.specs.Grammar.{horizon_of}
-use Rattle.pf_cli.specs.Meaning.{is_one_to, system_of}
+use Rattle.pf_opening.specs.Opened.{is_one_to, system_of}
 use Rattle.pf_timeline.specs.Checkpoints.{largest_distance}
 
 within_of : (most n : ℕ) → is_one_to most n ≡ true → (1 ≤ n) × (n ≤ most)
