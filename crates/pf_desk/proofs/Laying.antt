@@ -19,8 +19,9 @@ use Rattle.pf_desk.specs.declared.settled.Settled.{Settled}
 use Rattle.pf_desk.specs.declared.settled.Answer.{Answer}
 use Rattle.pf_desk.specs.declared.settled.Answer.TheVariants.{Edited as EditedAnswer, Refused as RefusedAnswer}
 use Rattle.pf_desk.specs.Desk.{entry_of}
+use Rattle.pf_desk.specs.Settled.{nothing_settled}
 use Rattle.pf_desk.specs.Recorded.{slots_of, slots_taken, HasNoLessRoom}
-use Rattle.pf_desk.specs.Laid.{reply_of_answer, answer_of, settled_of, briefs_from, nothing_settled, entry_of_settled, entry_of_brief, entries_laid, IsLaid, AreKept, IsRowLaid, AreLaid, recorded_by}
+use Rattle.pf_desk.specs.Laid.{reply_of_answer, answer_of, settled_of, briefs_from, entry_of_settled, entry_of_brief, entries_laid, IsLaid, AreKept, IsRowLaid, AreLaid, recorded_by}
 
 pub taken-append : (es fs : List Entry) → slots_taken (es ++ fs) ≡ slots_taken es + slots_taken fs
 taken-append [] fs = omega arith
@@ -149,7 +150,7 @@ idle_row_laid processors slots rows rows' is long =
 module _ (processors slots : ℕ) (has_room : Bool) (briefs : List Brief) (settled : List Settled) (rows : List (List (Option Pick))) (for_briefs for_commands : ℕ) (are : AreLaid processors slots has_room briefs settled rows for_briefs for_commands) where
   -- Use: there is room for an entry.
   pub laid_with_room : (rows' : List (List (Option Pick))) (for_briefs' for_commands' : ℕ) → IsRowLaid processors slots rows rows' →
-      length briefs < for_briefs' → length settled < for_commands' →
+      length briefs < for_briefs' → 1 ≤ for_commands' →
       AreLaid processors slots true briefs settled rows' for_briefs' for_commands'
   laid_with_room rows' for_briefs' for_commands' lays more_briefs more_commands = record {
     laid = are.laid;

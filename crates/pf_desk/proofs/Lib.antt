@@ -8,4 +8,5 @@ pub mod Readying
 pub mod Metered
 pub mod Horizons
 pub mod Gathering
+pub mod Settling
 pub mod Laying

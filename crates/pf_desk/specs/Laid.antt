@@ -1,6 +1,6 @@
 -- How a history lies in memory: a brief for each entry, the commands that took no slot apart, and the rows of the slots
 -- that were taken one behind another.
-use Rattle.std.specs.Prelude.{◌≡◌, ◌⊎◌, ℕ, ◌<◌, ◌+◌, Bool, true, if◌then◌else◌, Option, List, [], ◌∷◌, length, map, All}
+use Rattle.std.specs.Prelude.{◌≡◌, ◌⊎◌, ℕ, ◌<◌, ◌≤◌, ◌+◌, Bool, true, if◌then◌else◌, Option, List, [], ◌∷◌, length, map, All}
 use Rattle.std.specs.List.{slice_index_or}
 use Rattle.pf_order.specs.declared.pick.Pick.{Pick}
 use Rattle.pf_place.specs.RunRows.{last_row}
@@ -15,6 +15,7 @@ use Rattle.pf_desk.specs.declared.settled.Settled.{Settled}
 use Rattle.pf_desk.specs.declared.settled.Answer.{Answer}
 use Rattle.pf_desk.specs.declared.settled.Answer.TheVariants.{Edited as EditedAnswer, Refused as RefusedAnswer}
 use Rattle.pf_desk.specs.Desk.{entry_of}
+use Rattle.pf_desk.specs.Settled.{nothing_settled}
 use Rattle.pf_desk.specs.Recorded.{Recorded, slots_taken}
 
 -- the reply that an answer stands for
@@ -36,10 +37,6 @@ settled_of e = record { command = e.command; answer = answer_of e.reply }
 abbrev pub briefs_from : ℕ → List Entry → List Brief
 briefs_from index [] = []
 briefs_from index (e ∷ es) = OfCommand e.caller index ∷ briefs_from (index + 1) es
-
--- what stands for a command that is not there
-abbrev pub nothing_settled : Settled
-nothing_settled = record { command = Step; answer = RefusedAnswer AtHorizon }
 
 -- the entry of a command that took no slot
 abbrev pub entry_of_settled : ℕ → Settled → Entry
@@ -78,7 +75,7 @@ pub record AreLaid (processors slots : ℕ) (has_room : Bool) (briefs : List Bri
   pub kept : AreKept processors slots rows
   pub next : has_room ≡ true → length rows ≡ slots + 1
   pub for_brief : has_room ≡ true → length briefs < briefs_room
-  pub for_command : has_room ≡ true → length settled < settled_room
+  pub for_command : has_room ≡ true → 1 ≤ settled_room
 
 -- the history of these parts
 abbrev pub recorded_by : ℕ → Bool → List Brief → List Settled → List (List (Option Pick)) → Recorded

@@ -25,3 +25,6 @@ pub mod Plain
 pub mod Gathered
 pub mod Views
 pub mod Laid
+pub mod Small
+pub mod Settled
+pub mod Settlements

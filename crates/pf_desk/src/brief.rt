@@ -7,7 +7,7 @@ ghost use Rattle.pf_desk.specs.Views.{lent_reply, lent_entry};
 use crate::command::Command;
 use crate::entry_view::EntryView;
 use crate::reply_view::ReplyView;
-use crate::settled::Settled;
+use crate::settlements::Settlements;
 use pf_place::rows::Rows;
 
 /// What a history keeps of an entry beside the rows and the commands that took no slot.
@@ -33,9 +33,9 @@ const _: () = prove!(size_of::<Brief>() == 16);
 
 impl Brief {
     /// The entry, where these are the commands that took no slot and the rows of the slots that were taken.
-    pub(crate) fn entry<'a>(&self, settled: &[Settled], rows: &'a Rows) -> EntryView<'a>
-        requires { IsLaid settled.now (length rows.now) self.now }
-        ensures { lent_entry result ≡ entry_of_brief settled.now rows.entry.now self.now }
+    pub(crate) fn entry<'a>(&self, settled: &Settlements, rows: &'a Rows) -> EntryView<'a>
+        requires { IsLaid settled.now.items (length rows.now) self.now }
+        ensures { lent_entry result ≡ entry_of_brief settled.now.items rows.entry.now self.now }
     {
         match self {
             Brief::OfSlot { caller, slot } => EntryView {
@@ -43,7 +43,7 @@ impl Brief {
                 command: Command::Step,
                 reply: stepped(rows, *slot),
             },
-            Brief::OfCommand { caller, index } => settled[*index].entry(*caller),
+            Brief::OfCommand { caller, index } => settled.get(*index).entry(*caller),
         }
     }
 }

@@ -5,6 +5,7 @@ ghost use Rattle.pf_desk.specs.declared.command.Command.TheVariants.{Step};
 ghost use Rattle.pf_desk.specs.declared.reply.Reply.TheVariants.{Stepped};
 ghost use Rattle.pf_desk.specs.Desk.{entry_of};
 ghost use Rattle.pf_desk.specs.Recorded.{slots_of, slots_taken, CanFollow, entered_in, Gains, HasNoLessRoom};
+ghost use Rattle.pf_desk.specs.Settled.{HasRoomFor};
 ghost use Rattle.pf_desk.specs.Laid.{reply_of_answer, settled_of, briefs_from, AreKept, IsRowLaid};
 ghost use Rattle.pf_desk.specs.Views.{entry_lent};
 
@@ -14,6 +15,7 @@ use crate::entry::Entry;
 use crate::entry_view::EntryView;
 use crate::reply::Reply;
 use crate::settled::{Answer, Settled};
+use crate::settlements::Settlements;
 use pf_place::row_view::RowView;
 use pf_place::rows::Rows;
 use std::alloc::{AllocError, Global};
@@ -26,7 +28,7 @@ pub struct History {
     alloc: Global,
     processors: u32,
     briefs: Vec<Brief>,
-    settled: Vec<Settled>,
+    settled: Settlements,
 
     /// The row of each slot that was taken, and behind them at most the one that is laid for the next step.
     rows: Rows,
@@ -35,16 +37,18 @@ pub struct History {
 }
 
 impl Model for History {
+    ghost use Rattle.std.specs.Prelude.{min};
     ghost use Rattle.std.specs.Vec.{vec_capacity};
     ghost use Rattle.pf_desk.specs.Recorded.{Recorded};
 
     ghost Value = { Recorded };
 
+    ghost use Rattle.pf_desk.specs.Settled.{HasRoomFor};
     ghost use Rattle.pf_desk.specs.Laid.{AreLaid, recorded_by};
 
     ghost view = { λ h. recorded_by h.processors h.has_room h.briefs.items h.settled.items h.rows };
 
-    ghost invariant = { λ h. AreLaid h.processors h.slots h.has_room h.briefs.items h.settled.items h.rows (vec_capacity h.briefs) (vec_capacity h.settled) };
+    ghost invariant = { λ h. AreLaid h.processors h.slots h.has_room h.briefs.items h.settled.items h.rows (vec_capacity h.briefs) (min h.settled.room h.settled.wide_room) };
 }
 
 impl History {
@@ -56,7 +60,7 @@ impl History {
             alloc,
             processors,
             briefs: Vec::new(alloc),
-            settled: Vec::new(alloc),
+            settled: Settlements::new(alloc),
             rows: Rows::new(alloc),
             slots: 0,
             has_room: false,
@@ -109,7 +113,7 @@ impl History {
         ensures same { HasNoLessRoom self.old self.new }
     {
         self.briefs.reserve(1)?;
-        self.settled.reserve(1)?;
+        self.settled.reserve()?;
         lay_row(&mut self.rows, self.slots, self.processors)?;
         self.has_room = true;
         Ok(())
@@ -141,7 +145,7 @@ impl History {
         ensures err { OnErr result (HasNoLessRoom self.old self.new) }
     {
         self.briefs.reserve(entries.len())?;
-        self.settled.reserve(entries.len())?;
+        self.settled.reserve_for(entries)?;
         settle(&mut self.briefs, &mut self.settled, entries);
         self.has_room = false;
         Ok(())
@@ -190,11 +194,11 @@ fn lay_row(rows: &mut Rows, slots: u64, processors: u32) -> Result<(), AllocErro
 }
 
 /// Appends what is kept of entries that took no slot; it takes no memory, since there must be room.
-fn settle(briefs: &mut Vec<Brief>, settled: &mut Vec<Settled>, entries: &[Entry])
+fn settle(briefs: &mut Vec<Brief>, settled: &mut Settlements, entries: &[Entry])
     requires took_none { All (λ e. slots_of e.reply ≡ 0) entries.now }
     requires for_briefs { vec_len briefs.old + length entries.now ≤ vec_capacity briefs.old }
-    requires for_commands { vec_len settled.old + length entries.now ≤ vec_capacity settled.old }
-    ensures briefs { briefs.new.items ≡ briefs.old.items ++ briefs_from (vec_len settled.old) entries.now }
+    requires for_commands { HasRoomFor settled.old (map settled_of entries.now) }
+    ensures briefs { briefs.new.items ≡ briefs.old.items ++ briefs_from (length settled.old.items) entries.now }
     ensures commands { settled.new.items ≡ settled.old.items ++ map settled_of entries.now }
 {
     for entry in entries {

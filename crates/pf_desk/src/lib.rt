@@ -17,4 +17,7 @@ pub mod prepared;
 pub mod reply;
 pub mod reply_view;
 mod settled;
+mod settlements;
+mod small_edit;
+mod small_event;
 pub mod snapshot;

@@ -10,7 +10,7 @@ invariant_of-self-2 c =
     rw (c.in_ok-reserve.ensures.items, c.in_ok-reserve-2.ensures.items)
     (laid_with_room inside.processors inside.slots inside.has_room inside.briefs.items inside.settled.items inside.rows _ _ c.self.invariant
     c.lay_row.new.rows _ _ c.in_ok-lay_row.ensures.ok
-    (omega (arith, c.in_ok-reserve.ensures.ok, inside.briefs.ok.0)) (omega (arith, c.in_ok-reserve-2.ensures.ok, inside.settled.ok.0)))
+    (omega (arith, c.in_ok-reserve.ensures.ok, inside.briefs.ok.0)) c.in_ok-reserve-2.ensures.ok)
 
 pub returns-clause-same : goal.returns-clause-same
 returns-clause-same c =
