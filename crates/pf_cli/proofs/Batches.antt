@@ -1,12 +1,13 @@
 -- Edits that wait, and what they come to when they are answered together.
-use Rattle.std.proofs.Common.{◌≡◌, ◌<◌, ◌≤◌, ℕ, ◌+◌, Bool, true, false, List, [], ◌∷◌, ◌++◌, All, length, map, drop, get_or, Option, Result, Ok, Err, refl, sym, ap, ap₂, subst, ◌∙◌, arith, append_assoc}
+use Rattle.std.proofs.Common.{◌≡◌, ◌≤◌, ℕ, ◌+◌, Bool, true, false, List, [], ◌∷◌, ◌++◌, All, length, map, drop, Option, Some, Result, Ok, Err, refl, sym, ap, ap₂, subst, ◌∙◌, arith, append_assoc}
 use Rattle.std.specs.Io.KnownBytes.{Appends}
 use Rattle.std.proofs.KnownBytes.{Appends-nil}
 use Rattle.std.specs.Prelude.{◌||◌, OnOk, OnErr}
-use Rattle.std.specs.List.{flat_map, AllByRecursion}
+use Rattle.std.specs.List.{flat_map, slice_get, AllByRecursion}
 use Rattle.std.proofs.Math.Bool.{or-false, or_assoc}
 use Rattle.std.proofs.lemmas.List.{append-nil, drop_at, drop_more, length-append}
 use Rattle.std.proofs.lemmas.List.Folds.{list_any-append}
+use Rattle.std.proofs.lemmas.Option.{get_or_from_slice_get, slice_get_within}
 use Rattle.std.proofs.lemmas.List.Elements.{All-nil, All-cons, All-append, All-from_recursion, recursion_from_All}
 use Rattle.pf_order.specs.declared.pick.Pick.{Pick}
 use Rattle.pf_scenario.specs.Edit.{edit_fault}
@@ -101,12 +102,10 @@ pub lines_put : (s : Session) (commands : List Command) (lines : List ℕ) → h
     → lines ≡ replies_of s commands
 lines_put s commands lines shows is = is ∙ sym (shown_whole s.format (reply_lines (course_at s.desk) commands) shows)
 
--- the lines of entries, of which one is next
-pub next_line : (entries : List Entry) (i : ℕ) (e : Entry) → i < length entries → e ≡ get_or entries i e
-    → flat_map (λ e. reply_line e.reply) (drop i entries) ≡ reply_line e.reply ++ flat_map (λ e. reply_line e.reply) (drop (i + 1) entries)
-next_line entries i e within is =
-    ap (flat_map (λ e. reply_line e.reply)) (drop_more entries i e within)
-    ∙ ap (λ x. reply_line x.reply ++ flat_map (λ e. reply_line e.reply) (drop (i + 1) entries)) (sym is)
+-- the entries left, of which one is next
+pub next_entry : (entries : List Entry) (k : ℕ) (e : Entry) → Some e ≡ slice_get entries k → drop k entries ≡ e ∷ drop (k + 1) entries
+next_entry entries k e at =
+    drop_more entries k e (slice_get_within entries k e (sym at)) ∙ ap (λ x. x ∷ drop (k + 1) entries) (get_or_from_slice_get entries k e e (sym at))
 
 -- Use: no edit waits.
 pub none_waits : (b : BatchingSession) → b.waiting.items ≡ [] → text_to_be b ≡ b.session.lines

@@ -1,9 +1,11 @@
 ghost use Rattle.std.specs.Prelude.{◌≡◌, IfOk};
+ghost use Rattle.pf_desk.specs.Views.{lent_reply};
 ghost use Rattle.pf_cli.specs.Ended.{has_denials, has_misses, is_failing};
+ghost use Rattle.pf_cli.specs.Replies.{is_refusal};
 ghost use Rattle.pf_cli.specs.Session.{course_at};
 
 use pf_desk::desk::Desk;
-use pf_desk::reply::Reply;
+use pf_desk::reply_view::ReplyView;
 use pf_words::fail_on::FailOn;
 use std::alloc::AllocError;
 
@@ -32,9 +34,23 @@ pub(crate) fn is_failing(desk: &Desk, fail_on: FailOn) -> Result<bool, AllocErro
 fn has_refusal(desk: &Desk) -> bool
     ensures { result ≡ (course_at desk.now).refused }
 {
-    desk.history()
-        .iter()
-        .any(|entry| matches!(entry.reply, Reply::Refused(_)))
+    let history = desk.history();
+    for k in 0..history.len() {
+        let Some(entry) = history.entry(k) else {
+            unreachable!();
+        };
+        if is_refusal(entry.reply) {
+            return true;
+        }
+    }
+    false
+}
+
+/// Whether the reply refuses its command.
+fn is_refusal(reply: ReplyView<'_>) -> bool
+    ensures { result ≡ is_refusal (lent_reply reply.entry) }
+{
+    matches!(reply, ReplyView::Refused(_))
 }
 
 /// Whether an event is denied.

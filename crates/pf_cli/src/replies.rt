@@ -1,18 +1,21 @@
-ghost use Rattle.std.specs.Prelude.{◌≡◌, ◌++◌, ◌≤◌, ◌<◌, ◌-◌, ◌^◌, All, codes, length, OnOk, OnErr};
+ghost use Rattle.std.specs.Prelude.{◌≡◌, ◌++◌, ◌≤◌, ◌<◌, ◌-◌, ◌^◌, All, codes, drop, length, OnOk, OnErr};
 ghost use Rattle.std.specs.Fmt.{decimal};
 ghost use Rattle.std.specs.List.{flat_map};
+ghost use Rattle.pf_place.specs.Lent.{lent_row};
 ghost use Rattle.pf_desk.specs.declared.reply.Fault.TheVariants.{WouldDeny};
+ghost use Rattle.pf_desk.specs.Views.{lent_reply};
 ghost use Rattle.pf_stream.specs.Written.{TookAllBut, TookFront};
 ghost use Rattle.pf_cli.specs.Answers.{CountsOutput};
 ghost use Rattle.pf_cli.specs.Replies.{reply_line, reply_text, fault_text, edit_fault_text, weight_text, place_text, HasFewPlaces};
 
 use crate::output_fault::OutputFault;
 use pf_admit::denial::Denial;
-use pf_desk::entry::Entry;
-use pf_desk::reply::{Fault, Reply};
+use pf_desk::history::History;
+use pf_desk::reply::Fault;
+use pf_desk::reply_view::ReplyView;
 use pf_digits::pair_text::PairText;
 use pf_order::pick::Pick;
-use pf_place::row::Row;
+use pf_place::row_view::RowView;
 use pf_scenario::fault::EditFault;
 use pf_stream::sink::Sink;
 use pf_stream::text_buffer::TextBuffer;
@@ -20,16 +23,16 @@ use std::alloc::AllocError;
 
 /// Adds a reply's line behind a text. Its row has at most 64 places.
 #[tactic(auto, unfolding(crate::specs::Replies::reply_line))]
-pub fn push_reply(text: &mut TextBuffer, reply: &Reply) -> Result<(), AllocError>
-    requires { HasFewPlaces reply.now }
-    ensures { OnOk result (text.new ≡ text.old ++ reply_line reply.now) }
+pub fn push_reply(text: &mut TextBuffer, reply: ReplyView<'_>) -> Result<(), AllocError>
+    requires { HasFewPlaces (lent_reply reply) }
+    ensures { OnOk result (text.new ≡ text.old ++ reply_line (lent_reply reply.entry)) }
 {
     push_reply_text(text, reply)?;
     text.push(b"\n")
 }
 
-/// Puts the lines of the replies of these entries, each of which has at most 64 places. The writer's count of failures must
-/// be below `u64::MAX` before the call.
+/// Puts the lines of the replies of a history's entries from the `first` on, counted from 0, each of which has at most 64
+/// places. The writer's count of failures must be below `u64::MAX` before the call.
 ///
 /// # Errors
 ///
@@ -37,36 +40,40 @@ pub fn push_reply(text: &mut TextBuffer, reply: &Reply) -> Result<(), AllocError
 pub fn put_replies<W: Sink>(
     text: &mut TextBuffer,
     writer: &mut W,
-    entries: &[Entry],
+    history: &History,
+    first: usize,
 ) -> Result<(), OutputFault>
-    requires places { All (λ e. HasFewPlaces e.reply) entries.now }
+    requires places { All (λ e. HasFewPlaces e.reply) (drop first history.now.entries) }
     requires writes { W.failed writer.old < 2 ^ 64 - 1 }
     ensures ok { OnOk result
-        (TookAllBut text.new (W.contents writer.old) (W.contents writer.new) (text.old ++ flat_map (λ e. reply_line e.reply) entries.now)) }
+        (TookAllBut text.new (W.contents writer.old) (W.contents writer.new) (text.old ++ flat_map (λ e. reply_line e.reply) (drop first history.now.entries))) }
     ensures err { OnErr result
-        (TookFront (W.contents writer.old) (W.contents writer.new) (text.old ++ flat_map (λ e. reply_line e.reply) entries.now)) }
+        (TookFront (W.contents writer.old) (W.contents writer.new) (text.old ++ flat_map (λ e. reply_line e.reply) (drop first history.now.entries))) }
     ensures count { CountsOutput result (W.failed writer.old) (W.failed writer.new) }
 {
-    for entry in entries {
+    for k in first..history.len() {
+        let Some(entry) = history.entry(k) else {
+            unreachable!();
+        };
         text.make_room(writer)?;
-        push_reply(text, &entry.reply)?;
+        push_reply(text, entry.reply)?;
     }
     Ok(())
 }
 
-fn push_reply_text(text: &mut TextBuffer, reply: &Reply) -> Result<(), AllocError>
-    requires { HasFewPlaces reply.now }
-    ensures { OnOk result (text.new ≡ text.old ++ reply_text reply.now) }
+fn push_reply_text(text: &mut TextBuffer, reply: ReplyView<'_>) -> Result<(), AllocError>
+    requires { HasFewPlaces (lent_reply reply) }
+    ensures { OnOk result (text.new ≡ text.old ++ reply_text (lent_reply reply.entry)) }
 {
     match reply {
-        Reply::Edited { id } => push_edited(text, *id),
-        Reply::Stepped { slot, row } => {
-            push_slot(text, *slot)?;
+        ReplyView::Edited { id } => push_edited(text, id),
+        ReplyView::Stepped { slot, row } => {
+            push_slot(text, slot)?;
             push_row(text, row)
         }
-        Reply::Refused(fault) => {
+        ReplyView::Refused(fault) => {
             text.push(b"refused ")?;
-            push_fault(text, *fault)
+            push_fault(text, fault)
         }
     }
 }
@@ -89,9 +96,9 @@ fn push_slot(text: &mut TextBuffer, slot: u64) -> Result<(), AllocError>
 }
 
 /// Who sits on each processor, in order.
-fn push_row(text: &mut TextBuffer, row: &Row) -> Result<(), AllocError>
-    requires { length row.now ≤ 64 }
-    ensures { OnOk result (text.new ≡ text.old ++ flat_map place_text row.now) }
+fn push_row(text: &mut TextBuffer, row: RowView<'_>) -> Result<(), AllocError>
+    requires { length (lent_row row) ≤ 64 }
+    ensures { OnOk result (text.new ≡ text.old ++ flat_map place_text (lent_row row.entry)) }
 {
     let processors = row.processors() as u32;
     for processor in 0..processors {

@@ -139,7 +139,7 @@ impl Session {
             return Ok(());
         }
         self.lines.make_room(writer)?;
-        push_reply(&mut self.lines, &reply)?;
+        push_reply(&mut self.lines, reply.view())?;
         Ok(())
     }
 
@@ -162,7 +162,7 @@ impl Session {
         if !self.format.has_replies() {
             return Ok(());
         }
-        put_replies(&mut self.lines, writer, &self.desk.history()[answered..])
+        put_replies(&mut self.lines, writer, self.desk.history(), answered)
     }
 
     /// Whether a change touches a slot that was stepped.

@@ -1,6 +1,5 @@
 -- A history with one entry more.
-use Rattle.std.proofs.Common.{◌≡◌, ℕ, ◌+◌, ◌-◌, true, false, Some, List, [], ◌∷◌, ◌++◌, length, length-append, refl, sym, ap, ◌∙◌, subst, subst₂, arith}
-use Rattle.std.specs.List.{slice_get}
+use Rattle.std.proofs.Common.{◌≡◌, ℕ, ◌+◌, true, false, List, [], ◌∷◌, ◌++◌, length, length-append, refl, sym, ap, ◌∙◌, subst, subst₂}
 use mathlib.Core.List.{IsPrefix}
 use Rattle.logbook.specs.Pages.{Book}
 use Rattle.pf_scenario.specs.System.{System}
@@ -82,20 +81,6 @@ entered settings d d' whole command done v w desk desk' of answers is begins pas
       front = front ∙ sym (ap length seen ∙ length-append whole ((v.me, e) ∷ []));
     }
 
--- the newest entry of a history
-last_at : (log : List Entry) (e : Entry) → slice_get (log ++ e ∷ []) (length log) ≡ Some e
-last_at [] e = refl
-last_at (x ∷ log) e = last_at log e
-
-some_same : (x y : Entry) → Some x ≡ Some y → x ≡ y
-some_same x y e = cc
-
-newest : (log log' found : List Entry) (e x : Entry) → log' ≡ log ++ e ∷ [] → found ≡ log' → Some x ≡ slice_get found (length found - 1) → x ≡ e
-newest log log' found e x more same at =
-    let whole : found ≡ log ++ e ∷ [] = same ∙ more in
-    let n : length (log ++ e ∷ []) - 1 ≡ length log = omega (arith, length-append log (e ∷ [])) in
-    some_same x e (at ∙ (ap (λ xs. slice_get xs (length xs - 1)) whole ∙ (ap (slice_get (log ++ e ∷ [])) n ∙ last_at log e)))
-
 -- a command of the pass `me` was committed to the desk d, whose history is `whole`; e is the entry
 pub record IsCommitted (me : ℕ) (command : Command) (d d' : Shown) (whole : List (ℕ × Entry)) (reply : Reply) (e : Entry) : Type 0 where
   pub desk : IsDesk d
@@ -104,19 +89,18 @@ pub record IsCommitted (me : ℕ) (command : Command) (d d' : Shown) (whole : Li
   pub whole_is : whole ≡ numbered d.history
   pub entry : e ≡ entry_of me command reply
 
-pub committed : (me caller : ℕ) (command : Command) (old d d' : Shown) (keeper : Keeping Entry System) (turn : Turning Entry) (ready : Ready) (reply : Reply) (found : List Entry) (e : Entry) →
+pub committed : (me caller : ℕ) (command : Command) (old d d' : Shown) (keeper : Keeping Entry System) (turn : Turning Entry) (ready : Ready) (reply : Reply) →
     IsDesk d → IsDesk d' → caller ≡ me → ready.entry ≡ entry_of caller command (reply_to old.state command) → AnswersCaller ready.entry.caller ready.entry.command d reply d' →
     keeper.seen ≡ numbered d.history → turn ≡ record { board = keeper.board; whole = keeper.seen; empty = keeper.empty; left = keeper.left } →
-    found ≡ d'.history → Some e ≡ slice_get found (length found - 1) → IsCommitted me command d d' turn.whole reply e
-committed me caller command old d d' keeper turn ready reply found e desk desk' number entry answers seen turned same at =
+    IsCommitted me command d d' turn.whole reply (entry_of caller command reply)
+committed me caller command old d d' keeper turn ready reply desk desk' number entry answers seen turned =
     let by : ready.entry.caller ≡ me = ap (λ x. x.caller) entry ∙ number in
-    let asked : ready.entry.command ≡ command = ap (λ x. x.command) entry in
-    let all = subst₂ (λ a b. AnswersCaller a b d reply d') by asked answers in record {
+    let asked : ready.entry.command ≡ command = ap (λ x. x.command) entry in record {
       desk = desk;
       desk' = desk';
-      answers = all;
+      answers = subst₂ (λ a b. AnswersCaller a b d reply d') by asked answers;
       whole_is = ap (λ t. t.whole) turned ∙ seen;
-      entry = newest d.history d'.history found (entry_of me command reply) e all.entered same at;
+      entry = ap (λ n. entry_of n command reply) number;
     }
 
 -- so the board may note the entry

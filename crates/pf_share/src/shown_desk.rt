@@ -25,6 +25,7 @@ use pf_board::handed::Handed;
 use pf_board::quantum::Quantum;
 use pf_desk::command::Command;
 use pf_desk::desk::Desk;
+use pf_desk::entry::Entry;
 use pf_desk::prepared::Prepared;
 use pf_desk::reply::Reply;
 use pf_order::meter::Meter;
@@ -142,7 +143,8 @@ impl<N: Naming, H: Wait + Drop> ShownDesk<N, H> {
         ensures same_pass { OnErr result (pass.new ≡ pass.old) }
         ensures front { IsFront IsHistory pass.new }
     {
-        let (prepared, shown) = self.make_ready(pass.me(), command)?;
+        let caller = pass.me();
+        let (prepared, shown) = self.make_ready(caller, command)?;
         let stamp = shown.stamp().again();
         let Ok(()) = self.publisher.publish(rt, shown) else {
             return Err(AllocError);
@@ -151,11 +153,16 @@ impl<N: Naming, H: Wait + Drop> ShownDesk<N, H> {
         self.stamp = stamp;
         let turn = board.turn(&mut self.keeper);
         let reply = self.desk.commit(prepared);
-        let Some(entry) = self.desk.history().last() else {
-            unreachable!();
+        let entry = Entry {
+            caller,
+            command,
+            reply,
         };
-        let front = board.note(&mut self.keeper, pass, turn, entry);
-        Ok(Done { reply, front })
+        let front = board.note(&mut self.keeper, pass, turn, &entry);
+        Ok(Done {
+            reply: entry.reply,
+            front,
+        })
     }
 
     /// Looks at each processor's word for the pass, from processor 0 on: the first on which a quantum lies.

@@ -6,7 +6,8 @@ use crate::answers::join as join_change;
 use crate::calls::edit;
 use crate::passes::{close, pop_two, put_two};
 use pf_desk::command::Command;
-use pf_desk::entry::Entry;
+use pf_desk::entry_view::EntryView;
+use pf_desk::history::History;
 use pf_scenario::change::Change;
 use pf_scenario::event::Event;
 use pf_scenario::settings::Settings;
@@ -62,7 +63,7 @@ fn insert_at_once<N: Naming + Send + Sync, H: Wait + Drop + Send, R: Threads + W
 }
 
 /// The task whose join was inserted.
-fn joined(entry: &Entry) -> Option<u64> {
+fn joined(entry: EntryView<'_>) -> Option<u64> {
     match entry.command {
         Command::Edit {
             change: Change::Insert(Event::Join { task, .. }),
@@ -73,10 +74,10 @@ fn joined(entry: &Entry) -> Option<u64> {
 }
 
 /// That the caller's entries are the joins of these tasks, in this order.
-fn check_order(rt: &impl Abort, history: &[Entry], caller: u32, tasks: Range<u64>) {
+fn check_order(rt: &impl Abort, history: &History, caller: u32, tasks: Range<u64>) {
     let mut wanted = tasks;
-    for entry in history {
-        if entry.caller == caller {
+    for k in 0..history.len() {
+        if let Some(entry) = history.entry(k).filter(|entry| entry.caller == caller) {
             assert_eq!(rt; joined(entry), wanted.next());
         }
     }

@@ -3,13 +3,14 @@ ghost use Rattle.std.specs.Prelude.{◌<◌, length, IfSome};
 use crate::fault::Fault;
 use crate::replay::MOST_PROCESSORS;
 use pf_board::quantum::Quantum;
-use pf_desk::entry::Entry;
-use pf_desk::reply::Reply;
-use pf_place::row::Row;
+use pf_desk::entry_view::EntryView;
+use pf_desk::history::History;
+use pf_desk::reply_view::ReplyView;
+use pf_place::row_view::RowView;
 use std::alloc::{AllocError, Global};
 
 /// Lists the quanta of a slot's row.
-fn list_row(quanta: &mut Vec<Quantum>, slot: u64, row: &Row) -> Result<(), AllocError> {
+fn list_row(quanta: &mut Vec<Quantum>, slot: u64, row: RowView<'_>) -> Result<(), AllocError> {
     for processor in 0..MOST_PROCESSORS {
         if let Some(pick) = row.get(processor) {
             quanta.push(Quantum {
@@ -23,12 +24,20 @@ fn list_row(quanta: &mut Vec<Quantum>, slot: u64, row: &Row) -> Result<(), Alloc
     Ok(())
 }
 
+/// Lists the quanta of the row that was answered, where one was.
+fn list_entry(quanta: &mut Vec<Quantum>, entry: EntryView<'_>) -> Result<(), AllocError> {
+    match entry.reply {
+        ReplyView::Stepped { slot, row } => list_row(quanta, slot, row),
+        _ => Ok(()),
+    }
+}
+
 /// The quanta of all rows that were answered.
-fn list_all(alloc: Global, history: &[Entry]) -> Result<Vec<Quantum>, AllocError> {
+fn list_all(alloc: Global, history: &History) -> Result<Vec<Quantum>, AllocError> {
     let mut quanta = Vec::new(alloc);
-    for entry in history {
-        if let Reply::Stepped { slot, row } = &entry.reply {
-            list_row(&mut quanta, *slot, row)?;
+    for k in 0..history.len() {
+        if let Some(entry) = history.entry(k) {
+            list_entry(&mut quanta, entry)?;
         }
     }
     Ok(quanta)
@@ -58,7 +67,7 @@ fn strike_all(issued: &mut Vec<Quantum>, quanta: &[Quantum]) -> Result<(), Fault
 /// number of these.
 pub(crate) fn account(
     alloc: Global,
-    history: &[Entry],
+    history: &History,
     got: &[Quantum],
     left: &[Quantum],
 ) -> Result<usize, Fault> {

@@ -1,7 +1,8 @@
 use crate::fault::Fault;
 use crate::worker::EVERY;
 use pf_desk::desk::Desk;
-use pf_desk::reply::Reply;
+use pf_desk::entry_view::EntryView;
+use pf_desk::reply_view::ReplyView;
 use pf_order::meter::Meter;
 use pf_place::row_view::RowView;
 use pf_scenario::settings::Settings;
@@ -21,32 +22,44 @@ fn is_same_row(one: RowView<'_>, other: RowView<'_>) -> bool {
 }
 
 /// Whether the replies are the same.
-fn is_same_reply(one: &Reply, other: &Reply) -> bool {
+fn is_same_reply(one: ReplyView<'_>, other: ReplyView<'_>) -> bool {
     match (one, other) {
-        (Reply::Edited { id: one }, Reply::Edited { id: other }) => one == other,
+        (ReplyView::Edited { id: one }, ReplyView::Edited { id: other }) => one == other,
         (
-            Reply::Stepped { slot: one, row },
-            Reply::Stepped {
+            ReplyView::Stepped { slot: one, row },
+            ReplyView::Stepped {
                 slot: other,
                 row: other_row,
             },
-        ) => one == other && is_same_row(row.view(), other_row.view()),
-        (Reply::Refused(one), Reply::Refused(other)) => one == other,
+        ) => one == other && is_same_row(row, other_row),
+        (ReplyView::Refused(one), ReplyView::Refused(other)) => one == other,
         _ => false,
     }
 }
 
-/// Answers the desk's history again on a fresh desk, which is to reply the same.
-fn answer_again(fresh: &mut Desk, desk: &Desk) -> Result<(), Fault> {
+/// Answers the entry with this number again on a fresh desk, which is to reply the same.
+fn answer_again(
+    fresh: &mut Desk,
+    meter: &mut Meter,
+    at: u64,
+    entry: EntryView<'_>,
+) -> Result<(), Fault> {
+    match fresh.apply(meter, entry.caller, entry.command) {
+        Ok(reply) if is_same_reply(reply.view(), entry.reply) => Ok(()),
+        Ok(_) => Err(Fault::Reply(at)),
+        Err(_) => Err(Fault::NoMemory),
+    }
+}
+
+/// Answers the desk's history again on a fresh desk.
+fn answer_all_again(fresh: &mut Desk, desk: &Desk) -> Result<(), Fault> {
     let mut meter = Meter::new();
     let history = desk.history();
     for at in 0..history.len() {
-        let entry = &history[at];
-        match fresh.apply(&mut meter, entry.caller, entry.command) {
-            Ok(reply) if is_same_reply(&reply, &entry.reply) => (),
-            Ok(_) => return Err(Fault::Reply(at as u64)),
-            Err(_) => return Err(Fault::NoMemory),
-        }
+        let Some(entry) = history.entry(at) else {
+            return Err(Fault::Entries(at as u64));
+        };
+        answer_again(fresh, &mut meter, at as u64, entry)?;
     }
     Ok(())
 }
@@ -70,7 +83,7 @@ pub(crate) fn replay(alloc: Global, settings: Settings, desk: &Desk) -> Result<(
     let Ok(mut fresh) = Desk::open(alloc, settings, EVERY) else {
         return Err(Fault::NoMemory);
     };
-    match answer_again(&mut fresh, desk) {
+    match answer_all_again(&mut fresh, desk) {
         Ok(()) => compare_rows(&fresh, desk),
         Err(fault) => Err(fault),
     }

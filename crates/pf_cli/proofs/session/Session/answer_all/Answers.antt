@@ -1,7 +1,6 @@
-use Rattle.std.proofs.Common.{◌++◌, ◌∙◌, refl, sym, ap₂, subst, drop, length, All}
+use Rattle.std.proofs.Common.{◌++◌, ◌∙◌, refl, sym, ap, ap₂, subst, drop, length, All}
 use Rattle.std.specs.Prelude.{OnOk, OnErr}
 use Rattle.std.specs.List.{flat_map}
-use Rattle.std.proofs.lemmas.List.{take_rest}
 use Rattle.pf_stream.specs.Written.{TookAllBut, TookFront}
 use Rattle.pf_cli.specs.Replies.{HasFewPlaces, reply_line}
 use Rattle.pf_cli.proofs.Batches.{all_shown, all_stopped, all_unshown, answered_places}
@@ -17,15 +16,13 @@ returns-then-not-has_replies-clause-ok g c =
 
 pub put_replies-requires-clause-places : goal.put_replies-requires-clause-places
 put_replies-requires-clause-places g c =
-    let same = take_rest c.history.result.now (length c.history-answered.result.now)
-    ∙ ap₂ (λ x y. drop (length x) y) c.history-answered.ensures.value c.history.ensures.value in
+    let same = ap₂ drop (c.len-answered.ensures.value ∙ ap length c.history-answered.ensures.value) c.history.ensures.value in
     subst (All (λ e. HasFewPlaces e.reply)) (sym same)
     (answered_places _ c.args.edits.now c.args.self.now.desk c.apply_all.new.self c.in_ok-apply_all.ensures.ok c.requires.plain)
 
 pub returns-clause-ok : goal.returns-clause-ok
 returns-clause-ok g c =
-    let same = take_rest c.history.result.now (length c.history-answered.result.now)
-    ∙ ap₂ (λ x y. drop (length x) y) c.history-answered.ensures.value c.history.ensures.value in
+    let same = ap₂ drop (c.len-answered.ensures.value ∙ ap length c.history-answered.ensures.value) c.history.ensures.value in
     all_shown _ c.args.edits.now c.args.self.now _ c.in_ok-apply_all.ensures.ok c.put_replies.result _ _ refl
     (sym c.has_replies.ensures ∙ c.if-not-has_replies.false)
     (subst (λ es. OnOk c.put_replies.result (TookAllBut c.put_replies.new.text (g.W.Write.contents c.args.writer.now) (g.W.Write.contents c.put_replies.new.writer)
@@ -33,8 +30,7 @@ returns-clause-ok g c =
 
 pub returns-clause-err : goal.returns-clause-err
 returns-clause-err g c =
-    let same = take_rest c.history.result.now (length c.history-answered.result.now)
-    ∙ ap₂ (λ x y. drop (length x) y) c.history-answered.ensures.value c.history.ensures.value in
+    let same = ap₂ drop (c.len-answered.ensures.value ∙ ap length c.history-answered.ensures.value) c.history.ensures.value in
     all_stopped _ c.args.edits.now c.args.self.now
     (record { desk = c.apply_all.new.self; meter = c.apply_all.new.meter; lines = c.args.self.now.lines; format = c.args.self.now.format })
     c.in_ok-apply_all.ensures.ok c.put_replies.result _ _
