@@ -6,6 +6,7 @@ use Rattle.std.proofs.Crossing.{crosses}
 use Rattle.std.proofs.marker.PhantomData.TheSendSync as phantom
 use Rattle.pf_order.proofs.meter.Meter.TheSendSync as meter
 use Rattle.pf_scenario.proofs.scenario.Scenario.TheSendSync as scenario
+use Rattle.pf_list.proofs.shared_vec.SharedVec.TheSendSync as shared_vec
 use Rattle.pf_place.proofs.rows.Rows.TheSendSync as rows
 use Rattle.pf_run.proofs.denied.Denied.TheSendSync as denied
 use Rattle.pf_engine.proofs.engine.Engine.TheSendSync as engine
@@ -24,7 +25,7 @@ use Rattle.pf_share.specs.contracts.locked.Locked as Locked
 use Rattle.pf_share.specs.contracts.shared.Shared as Shared
 
 timeline_send : IsSend Timeline.the_row
-timeline_send = search (sendable, crosses, rows.the_send, denied.the_send, engine.the_send, checkpoints.the_send) depth 20
+timeline_send = search (sendable, crosses, rows.the_send, denied.the_send, denied.the_sync, shared_vec.the_send, engine.the_send, checkpoints.the_send) depth 20
 
 desk_send : IsSend Desk.the_row
 desk_send = search (sendable, crosses, scenario.the_send, timeline_send, entry.the_send) depth 20

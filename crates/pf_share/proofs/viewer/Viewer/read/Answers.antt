@@ -1,6 +1,7 @@
 use Rattle.std.proofs.Common.{◌++◌, ◌∷◌, [], length, ap, ◌∙◌, refl, inl, inr}
 use Rattle.left_right.specs.Sides.{view}
 use Rattle.pf_share.proofs.Growing.{enters, prefix_into, viewed}
+use Rattle.pf_share.proofs.Prefixes.{prefix_self}
 use Rattle.pf_share.proofs.viewer.Viewer.read.Goals as goal
 
 pub enter_as-requires : goal.enter_as-requires
@@ -23,6 +24,9 @@ returns-in-Ok-snapshot-clause-grew c =
     let stamp = c.again-stamp.ensures ∙ (c.stamp.ensures ∙ c.get-shown.ensures) in
     let is = rw (← c.in-Some.ensures.value) at c.self.invariant in
     rw (← ap (λ s. s.read) c.self.view_is) (prefix_into c.self.inside.read.history v.seen x.history c.again-stamp.result.history is.seen_read sees.grew (ap (λ s. s.history) stamp))
+
+pub returns-in_default-snapshot-clause-grew : goal.returns-in_default-snapshot-clause-grew
+returns-in_default-snapshot-clause-grew c = rw (← ap (λ s. s.read) c.self.view_is) (prefix_self c.self.inside.read.history)
 
 pub returns-in-Ok-snapshot-clause-told : goal.returns-in-Ok-snapshot-clause-told
 returns-in-Ok-snapshot-clause-told c =
