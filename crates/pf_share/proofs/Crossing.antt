@@ -12,7 +12,7 @@ use Rattle.pf_run.proofs.denied.Denied.TheSendSync as denied
 use Rattle.pf_engine.proofs.engine.Engine.TheSendSync as engine
 use Rattle.pf_timeline.proofs.checkpoints.Checkpoints.TheSendSync as checkpoints
 use Rattle.pf_timeline.specs.contracts.timeline.Timeline as Timeline
-use Rattle.pf_desk.proofs.entry.Entry.TheSendSync as entry
+use Rattle.pf_desk.proofs.history.History.TheSendSync as history
 use Rattle.pf_desk.specs.contracts.desk.Desk as Desk
 use Rattle.pf_board.proofs.board.Board.TheSendSync as board
 use Rattle.pf_board.proofs.keeper.Keeper.TheSendSync as keeper
@@ -28,7 +28,7 @@ timeline_send : IsSend Timeline.the_row
 timeline_send = search (sendable, crosses, rows.the_send, denied.the_send, denied.the_sync, shared_vec.the_send, engine.the_send, checkpoints.the_send) depth 20
 
 desk_send : IsSend Desk.the_row
-desk_send = search (sendable, crosses, scenario.the_send, timeline_send, entry.the_send) depth 20
+desk_send = search (sendable, crosses, scenario.the_send, timeline_send, history.the_send) depth 20
 
 module _ (N H : RattleType) (g : Ghosts N.Denot) where
   shown_desk_send : IsSend H → IsSend (ShownDesk.the_row N H g)
