@@ -1,4 +1,5 @@
-ghost use Rattle.std.specs.Prelude.{◌≡◌};
+ghost use Rattle.std.specs.Prelude.{◌≡◌, ◌<◌, ◌^◌};
+ghost use Rattle.pf_admit.specs.Member.{IsMember};
 
 use pf_admit::denial::Denial;
 use pf_admit::member::Member;
@@ -13,9 +14,8 @@ fn weight(rt: &impl Abort, cost: u64, period: u64) -> Weight {
 }
 
 fn member(weight: Weight, done: u64) -> Member
-    ensures done { result.done ≡ done }
-    ensures shift { result.shift ≡ 0 }
-    ensures last { result.last ≡ 0 }
+    requires { done < 2 ^ 24 }
+    ensures { IsMember result }
 {
     Member {
         weight,
@@ -29,28 +29,50 @@ fn member(weight: Weight, done: u64) -> Member
 
 #[test]
 fn joins(rt: HostRuntime) {
-    assert_eq!(rt; may_join(11, 1, 12), Ok(()));
-    assert_eq!(rt; may_join(12, 1, 12), Err(Denial::OverCapacity));
-    assert_eq!(rt; may_join(u64::MAX, 1, u64::MAX), Err(Denial::OverCapacity));
+    let answers = [
+        may_join(11, 1, 12),
+        may_join(12, 1, 12),
+        may_join(u64::MAX, 1, u64::MAX),
+    ];
+    let over = Err(Denial::OverCapacity);
+    assert_eq!(rt; answers, [Ok(()), over, over]);
+}
+
+/// Whether the member may leave in the slot, and in the next.
+fn leave_at(slot: u32, member: &Member) -> [Result<(), Denial>; 2]
+    requires { IsMember member.now }
+{
+    let slot = u64::from(slot);
+    [
+        may_leave(slot, Some(member)),
+        may_leave(slot + 1, Some(member)),
+    ]
 }
 
 #[test]
 fn leaves(rt: HostRuntime) {
+    let early = Err(Denial::TooEarly);
     let heavy = member(weight(&rt, 8, 11), 1);
-    assert_eq!(rt; may_leave(4, Some(&heavy)), Err(Denial::TooEarly));
-    assert_eq!(rt; may_leave(5, Some(&heavy)), Ok(()));
-    let fresh = member(weight(&rt, 8, 11), 0);
-    assert_eq!(rt; may_leave(0, Some(&fresh)), Ok(()));
+    assert_eq!(rt; leave_at(4, &heavy), [early, Ok(())]);
     let light = member(weight(&rt, 3, 7), 1);
-    assert_eq!(rt; may_leave(3, Some(&light)), Err(Denial::TooEarly));
-    assert_eq!(rt; may_leave(4, Some(&light)), Ok(()));
-    assert_eq!(rt; may_leave(0, None), Err(Denial::NotInside));
+    assert_eq!(rt; leave_at(3, &light), [early, Ok(())]);
+}
+
+#[test]
+fn leaves_at_once(rt: HostRuntime) {
+    let fresh = member(weight(&rt, 8, 11), 0);
+    let answers = [may_leave(0, Some(&fresh)), may_leave(0, None)];
+    assert_eq!(rt; answers, [Ok(()), Err(Denial::NotInside)]);
 }
 
 #[test]
 fn delays(rt: HostRuntime) {
     let half = member(weight(&rt, 1, 2), 1);
-    assert_eq!(rt; may_delay(2, Some(&half)), Ok(()));
-    assert_eq!(rt; may_delay(3, Some(&half)), Err(Denial::Released));
-    assert_eq!(rt; may_delay(0, None), Err(Denial::NotInside));
+    let answers = [
+        may_delay(2, Some(&half)),
+        may_delay(3, Some(&half)),
+        may_delay(0, None),
+    ];
+    let wanted = [Ok(()), Err(Denial::Released), Err(Denial::NotInside)];
+    assert_eq!(rt; answers, wanted);
 }

@@ -7,6 +7,7 @@ ghost use Rattle.timeline_tests.specs.Fitting.{FitsSome};
 mod growths;
 
 use crate::events::three_tasks;
+use crate::picks::{both, pick};
 use pf_engine::engine::Engine;
 use pf_engine::outcome::Outcome;
 use pf_order::meter::Meter;
@@ -43,44 +44,60 @@ fn take_slot(
     engine.slot(meter, events)
 }
 
+/// The first two picks of a slot, how many events were denied, and how many processors are in use.
+type Seen = ([Option<Pick>; 2], usize, u32);
+
+fn seen(outcome: &Outcome) -> Seen {
+    let picks = outcome.picks();
+    let first = [picks.first().copied(), picks.get(1).copied()];
+    (first, outcome.denials().len(), outcome.count())
+}
+
 /// Takes the slot that comes next.
 fn next_slot(
     engine: &mut Engine,
     meter: &mut Meter,
     scenario: &Scenario,
-) -> Result<Outcome, AllocError>
+) -> Result<Seen, AllocError>
     requires below { engine.old.now < 2 ^ 20 }
     requires fits { FitsSome scenario.now engine.old }
     ensures now { OnOk result (engine.new.now ≡ engine.old.now + 1) }
     ensures fits { OnOk result (FitsSome scenario.now engine.new) }
 {
     let events = scenario.slot_events(engine.now())?;
-    take_slot(engine, meter, scenario, &events)
+    match take_slot(engine, meter, scenario, &events) {
+        Ok(outcome) => Ok(seen(&outcome)),
+        Err(error) => Err(error),
+    }
+}
+
+/// An engine that keeps the same.
+fn copy(engine: &Engine) -> Result<Engine, AllocError>
+    ensures { IfOk result (λ e. e ≡ engine.now) }
+{
+    engine.copy()
+}
+
+/// The first slot, the second, and the second again on a copy; and then the two engines.
+type Slots = ([Seen; 3], Engine, Engine);
+
+fn two_slots(alloc: Global, scenario: &Scenario) -> Result<Slots, AllocError> {
+    let mut meter = Meter::new();
+    let mut engine = start(alloc, scenario)?;
+    let first = next_slot(&mut engine, &mut meter, scenario)?;
+    let mut copy = copy(&engine)?;
+    let second = next_slot(&mut engine, &mut meter, scenario)?;
+    let again = next_slot(&mut copy, &mut meter, scenario)?;
+    Ok(([first, second, again], engine, copy))
 }
 
 #[test]
 fn three_tasks_on_two_processors(rt: HostRuntime) -> Result<(), Fail> {
-    let mut meter = Meter::new();
-    let scenario = three_tasks(rt.alloc())?;
-    let mut engine = start(rt.alloc(), &scenario)?;
-    let first = next_slot(&mut engine, &mut meter, &scenario)?;
-    assert_eq!(rt;
-        first.picks(),
-        [Pick { task: 1, sub: 1 }, Pick { task: 2, sub: 1 }].as_slice()
-    );
-    assert!(rt; first.denials().is_empty());
-    assert_eq!(rt; first.count(), 2);
-    let mut copy = engine.copy()?;
-    let wanted = [Pick { task: 3, sub: 1 }, Pick { task: 1, sub: 2 }];
-    let second = next_slot(&mut engine, &mut meter, &scenario)?;
-    assert_eq!(rt; second.picks(), wanted.as_slice());
-    assert!(rt; second.denials().is_empty());
-    assert_eq!(rt; engine.now(), 2);
-    let again = next_slot(&mut copy, &mut meter, &scenario)?;
-    assert_eq!(rt; again.picks(), wanted.as_slice());
-    assert!(rt; again.denials().is_empty());
-    assert_eq!(rt; again.count(), second.count());
-    assert_eq!(rt; copy.now(), 2);
-    assert_eq!(rt; copy.settings().processors(), 2);
+    let (slots, engine, copy) = two_slots(rt.alloc(), &three_tasks(rt.alloc())?)?;
+    let first = (both(pick(1, 1), pick(2, 1)), 0, 2);
+    let second = (both(pick(3, 1), pick(1, 2)), 0, 2);
+    assert_eq!(rt; slots, [first, second, second]);
+    let nows = (engine.now(), copy.now(), copy.settings().processors());
+    assert_eq!(rt; nows, (2, 2, 2));
     Ok(())
 }

@@ -45,7 +45,7 @@ pub(crate) fn holds(scenario: &Scenario, events: &[Numbered]) -> bool {
 }
 
 /// Inserts the events, one after another.
-pub(crate) fn insert_all(scenario: &mut Scenario, events: &[Event]) -> Result<(), ApplyFault> {
+fn insert_all(scenario: &mut Scenario, events: &[Event]) -> Result<(), ApplyFault> {
     for event in events {
         apply(scenario, Change::Insert(*event))?;
     }
@@ -53,7 +53,7 @@ pub(crate) fn insert_all(scenario: &mut Scenario, events: &[Event]) -> Result<()
 }
 
 /// The scenario of these events, where no memory is refused.
-fn scenario_of(
+pub(crate) fn scenario_of(
     alloc: Global,
     settings: Settings,
     events: &[Event],

@@ -50,15 +50,17 @@ fn a_meter_counts(rt: HostRuntime) {
     let f = key(&rt, 5, 2, 3, 1);
     let g = key(&rt, 6, 2, 3, 2);
     let mut meter = Meter::new();
-    assert!(rt; meter.before(&c, &f));
-    assert!(rt; !meter.before(&f, &c));
-    assert!(rt; !meter.before(&c, &c));
-    assert!(rt; meter.before(&a, &g));
-    assert_eq!(rt; meter.compared(), 4);
-    assert_eq!(rt; meter.slots(), 0);
+    let order = [
+        meter.before(&c, &f),
+        meter.before(&f, &c),
+        meter.before(&c, &c),
+        meter.before(&a, &g),
+    ];
+    assert_eq!(rt; order, [true, false, false, true]);
+    let before = (meter.compared(), meter.slots());
     meter.slot();
-    assert_eq!(rt; meter.slots(), 1);
-    assert_eq!(rt; meter.compared(), 4);
+    let counts = [before, (meter.compared(), meter.slots())];
+    assert_eq!(rt; counts, [(4, 0), (4, 1)]);
 }
 
 #[test]

@@ -38,43 +38,48 @@ fn placed(alloc: Global, earlier: &[Pick], picks: &[Pick]) -> Result<Row, AllocE
     Row::place(alloc, 3, 3, &before, picks)
 }
 
-/// Who sits on the processors 0 to 3 of a row of three.
-fn places(row: &Row) -> [Option<Pick>; 4] {
-    [row.get(0), row.get(1), row.get(2), row.get(3)]
+/// How many processors a row has, and who sits on the processors 0 to 3.
+type Seats = (usize, [Option<Pick>; 4]);
+
+fn seats(row: RowView<'_>) -> Seats {
+    let places = [row.get(0), row.get(1), row.get(2), row.get(3)];
+    (row.processors(), places)
+}
+
+/// Task 7 keeps its place, and the two others fill those around it.
+fn passed_over(alloc: Global) -> Result<Seats, AllocError> {
+    let row = placed(alloc, &[FIVE, SEVEN], &[NINE, SEVEN_NEXT, TWO])?;
+    Ok(seats(row.view()))
 }
 
 #[test]
 fn a_kept_place_is_passed_over(rt: HostRuntime) -> Result<(), Fail> {
-    let row = placed(rt.alloc(), &[FIVE, SEVEN], &[NINE, SEVEN_NEXT, TWO])?;
     let wanted = [Some(NINE), Some(SEVEN_NEXT), Some(TWO), None];
-    assert_eq!(rt; places(&row).as_slice(), wanted.as_slice());
-    assert_eq!(rt; row.processors(), 3);
+    assert_eq!(rt; passed_over(rt.alloc())?, (3, wanted));
     Ok(())
+}
+
+/// A row that is assigned this one.
+fn assigned(alloc: Global, row: &Row) -> Result<Row, AllocError>
+    requires { length row.now ≡ 3 }
+{
+    let mut other = Row::idle(alloc, 3)?;
+    other.assign(row.view());
+    Ok(other)
+}
+
+/// Task 7 alone has run: a copy of its row, and a row that is assigned it.
+fn lone_twice(alloc: Global) -> Result<(Seats, Seats), AllocError> {
+    let row = placed(alloc, &[FIVE, SEVEN], &[SEVEN_NEXT])?;
+    let copy = row.copy()?;
+    let other = assigned(alloc, &row)?;
+    Ok((seats(copy.view()), seats(other.view())))
 }
 
 #[test]
 fn a_lone_task_keeps_its_place(rt: HostRuntime) -> Result<(), Fail> {
-    let row = placed(rt.alloc(), &[FIVE, SEVEN], &[SEVEN_NEXT])?;
-    let wanted = [None, Some(SEVEN_NEXT), None, None];
-    assert_eq!(rt; places(&row.copy()?).as_slice(), wanted.as_slice());
-    let mut other = Row::idle(rt.alloc(), 3)?;
-    other.assign(row.view());
-    assert_eq!(rt; places(&other).as_slice(), wanted.as_slice());
-    Ok(())
-}
-
-#[test]
-fn rows_are_kept_in_order(rt: HostRuntime) -> Result<(), Fail> {
-    let idle = Row::idle(rt.alloc(), 3)?;
-    let busy = placed(rt.alloc(), &[], &[FIVE])?;
-    let mut rows = Rows::new(rt.alloc());
-    assert!(rt; rows.is_empty());
-    rows.push(&idle)?;
-    rows.push(&busy)?;
-    let copy = rows.copy()?;
-    assert_eq!(rt; two_rows(&rows), (2, None, Some(FIVE), Some(FIVE)));
-    assert_eq!(rt; two_rows(&copy), (2, None, Some(FIVE), Some(FIVE)));
-    assert!(rt; rows.get(2).is_none());
+    let wanted = (3, [None, Some(SEVEN_NEXT), None, None]);
+    assert_eq!(rt; lone_twice(rt.alloc())?, (wanted, wanted));
     Ok(())
 }
 
@@ -84,13 +89,40 @@ fn sitter(row: Option<RowView<'_>>) -> Option<Pick> {
 }
 
 /// How many rows there are, and who sits on the lowest place of the first, the second and the last.
-fn two_rows(rows: &Rows) -> (usize, Option<Pick>, Option<Pick>, Option<Pick>) {
-    (
-        rows.len(),
+type Lowest = (usize, [Option<Pick>; 3]);
+
+fn lowest(rows: &Rows) -> Lowest {
+    let places = [
         sitter(rows.get(0)),
         sitter(rows.get(1)),
         sitter(rows.last()),
-    )
+    ];
+    (rows.len(), places)
+}
+
+/// An idle row, and one on which task 5 runs.
+fn idle_and_busy(alloc: Global) -> Result<Rows, AllocError> {
+    let idle = Row::idle(alloc, 3)?;
+    let busy = placed(alloc, &[], &[FIVE])?;
+    let mut rows = Rows::new(alloc);
+    rows.push(&idle)?;
+    rows.push(&busy)?;
+    Ok(rows)
+}
+
+/// The two rows and a copy, and whether there is no third.
+fn two_rows(alloc: Global) -> Result<(Lowest, Lowest, bool), AllocError> {
+    let rows = idle_and_busy(alloc)?;
+    let copy = rows.copy()?;
+    Ok((lowest(&rows), lowest(&copy), rows.get(2).is_none()))
+}
+
+#[test]
+fn rows_are_kept_in_order(rt: HostRuntime) -> Result<(), Fail> {
+    let wanted = (2, [None, Some(FIVE), Some(FIVE)]);
+    assert_eq!(rt; two_rows(rt.alloc())?, (wanted, wanted, true));
+    assert!(rt; Rows::new(rt.alloc()).is_empty());
+    Ok(())
 }
 
 /// The row of one processor, on which the task runs.
@@ -115,67 +147,81 @@ fn task_at(rows: &Rows, t: u64) -> Option<u32> {
     Some(sitter(rows.get(t))?.task)
 }
 
-/// How many rows there are, and which tasks run in the slots 0, 255 and 256.
-fn tasks_at_bounds(rows: &Rows) -> (usize, Option<u32>, Option<u32>, Option<u32>) {
-    (
-        rows.len(),
+/// How many rows there are, and which tasks run in the slots 0, 255, 256 and 512.
+type Tasks = (usize, [Option<u32>; 4]);
+
+fn tasks(rows: &Rows) -> Tasks {
+    let tasks = [
         task_at(rows, 0),
         task_at(rows, 255),
         task_at(rows, 256),
-    )
+        task_at(rows, 512),
+    ];
+    (rows.len(), tasks)
+}
+
+/// The tasks of as many rows, and whether there is no row behind them.
+fn tasks_of(alloc: Global, count: u32) -> Result<(Tasks, bool), AllocError> {
+    let rows = rows_of_tasks(alloc, count)?;
+    Ok((tasks(&rows), rows.get(u64::from(count)).is_none()))
 }
 
 #[test]
 fn rows_go_on_behind_a_full_block(rt: HostRuntime) -> Result<(), Fail> {
-    let rows = rows_of_tasks(rt.alloc(), 255)?;
-    assert_eq!(rt; tasks_at_bounds(&rows), (255, Some(1), None, None));
-    assert!(rt; rows.get(255).is_none());
-    let rows = rows_of_tasks(rt.alloc(), 256)?;
-    assert_eq!(rt; tasks_at_bounds(&rows), (256, Some(1), Some(256), None));
-    assert!(rt; rows.get(256).is_none());
-    let rows = rows_of_tasks(rt.alloc(), 257)?;
-    assert_eq!(rt;
-        tasks_at_bounds(&rows),
-        (257, Some(1), Some(256), Some(257))
-    );
-    assert!(rt; rows.get(257).is_none());
-    let rows = rows_of_tasks(rt.alloc(), 513)?;
-    assert_eq!(rt;
-        tasks_at_bounds(&rows),
-        (513, Some(1), Some(256), Some(257))
-    );
-    assert_eq!(rt; task_at(&rows, 512), Some(513));
-    assert!(rt; rows.get(513).is_none());
+    let cases = [
+        (255, (255, [Some(1), None, None, None])),
+        (256, (256, [Some(1), Some(256), None, None])),
+        (257, (257, [Some(1), Some(256), Some(257), None])),
+        (513, (513, [Some(1), Some(256), Some(257), Some(513)])),
+    ];
+    for (count, wanted) in cases {
+        assert_eq!(rt; tasks_of(rt.alloc(), count)?, (wanted, true));
+    }
     Ok(())
+}
+
+/// Of 257 rows two are taken off, and then one of task 9 is appended: the tasks in between, at the end, and of a copy that
+/// was made before.
+fn taken_off(alloc: Global) -> Result<[Tasks; 3], AllocError> {
+    let mut rows = rows_of_tasks(alloc, 257)?;
+    let copy = rows.copy()?;
+    rows.pop();
+    rows.pop();
+    let fewer = tasks(&rows);
+    rows.push(&row_of_task(alloc, 9)?)?;
+    Ok([fewer, tasks(&rows), tasks(&copy)])
 }
 
 #[test]
 fn a_copy_keeps_rows_that_are_taken_off(rt: HostRuntime) -> Result<(), Fail> {
-    let mut rows = rows_of_tasks(rt.alloc(), 257)?;
-    let copy = rows.copy()?;
-    rows.pop();
-    rows.pop();
-    assert_eq!(rt; tasks_at_bounds(&rows), (255, Some(1), None, None));
-    rows.push(&row_of_task(rt.alloc(), 9)?)?;
-    assert_eq!(rt; tasks_at_bounds(&rows), (256, Some(1), Some(9), None));
-    assert_eq!(rt;
-        tasks_at_bounds(&copy),
-        (257, Some(1), Some(256), Some(257))
-    );
+    let wanted = [
+        (255, [Some(1), None, None, None]),
+        (256, [Some(1), Some(9), None, None]),
+        (257, [Some(1), Some(256), Some(257), None]),
+    ];
+    assert_eq!(rt; taken_off(rt.alloc())?, wanted);
     Ok(())
 }
 
-#[test]
-fn picks_are_seated_in_the_last_row(rt: HostRuntime) -> Result<(), Fail> {
-    let mut rows = Rows::new(rt.alloc());
+/// Two rows of three processors, in which these picks are seated.
+fn seated(alloc: Global) -> Result<Rows, AllocError> {
+    let mut rows = Rows::new(alloc);
     rows.push_idle(3)?;
     rows.seat_last(3, &[FIVE, SEVEN]);
     rows.push_idle(3)?;
     rows.seat_last(3, &[NINE, SEVEN_NEXT, TWO]);
-    let last = rows.last().ok_or("no row")?;
-    let wanted = [Some(NINE), Some(SEVEN_NEXT), Some(TWO)];
-    let seated = [last.get(0), last.get(1), last.get(2)];
-    assert_eq!(rt; seated.as_slice(), wanted.as_slice());
-    assert_eq!(rt; last.processors(), 3);
+    Ok(rows)
+}
+
+/// The last row of the two.
+fn last_seated(alloc: Global) -> Result<Option<Seats>, AllocError> {
+    let rows = seated(alloc)?;
+    Ok(rows.last().map(seats))
+}
+
+#[test]
+fn picks_are_seated_in_the_last_row(rt: HostRuntime) -> Result<(), Fail> {
+    let wanted = [Some(NINE), Some(SEVEN_NEXT), Some(TWO), None];
+    assert_eq!(rt; last_seated(rt.alloc())?, Some((3, wanted)));
     Ok(())
 }

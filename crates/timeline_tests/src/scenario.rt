@@ -3,14 +3,14 @@
 mod edits;
 mod growths;
 
-use crate::events::{apply, delay, holds, insert_all, join, leave, limit, numbered};
+use crate::events::{apply, delay, holds, join, leave, limit, numbered, scenario_of};
 use pf_scenario::apply_fault::ApplyFault;
 use pf_scenario::change::Change;
 use pf_scenario::event::{Event, Numbered};
 use pf_scenario::fault::{BadSettings, EditFault};
 use pf_scenario::scenario::Scenario;
 use pf_scenario::settings::Settings;
-use std::alloc::Global;
+use std::alloc::{AllocError, Global};
 use std::process::Abort;
 use std::test::Fail;
 
@@ -59,10 +59,10 @@ fn parts(settings: Settings) -> [u64; 4] {
 #[test]
 fn settings_at_their_limits(rt: HostRuntime) -> Result<(), Fail> {
     let (h, cap) = (1_073_741_824, 17_592_186_044_416);
-    let near = parts(Settings::new(64, h, cap)?);
-    assert_eq!(rt; near.as_slice(), [64, h, cap, 1_048_576].as_slice());
-    let wide = parts(Settings::wide(64, h, cap)?);
-    assert_eq!(rt; wide.as_slice(), [64, h, cap, 4_194_304].as_slice());
+    let near = Settings::new(64, h, cap)?;
+    let wide = Settings::wide(64, h, cap)?;
+    let wanted = [[64, h, cap, 1_048_576], [64, h, cap, 4_194_304]];
+    assert_eq!(rt; [parts(near), parts(wide)], wanted);
     Ok(())
 }
 
@@ -84,26 +84,36 @@ fn events_out_of_their_limits(rt: HostRuntime) -> Result<(), Fail> {
 
 #[test]
 fn events_at_their_limits(rt: HostRuntime) -> Result<(), Fail> {
-    let mut s = Scenario::new(rt.alloc(), Settings::new(2, 1, 2)?);
     let last = join(1_048_575, 4095, 1, 1, 1_048_576);
-    insert_all(&mut s, &[last, delay(0, 4095, 1_048_576), limit(0, 2)])?;
+    let events = [last, delay(0, 4095, 1_048_576), limit(0, 2)];
+    let s = scenario_of(rt.alloc(), Settings::new(2, 1, 2)?, &events)?;
     assert_eq!(rt; s.events().count(), 3);
     Ok(())
 }
 
-/// The lesser number is altered last, and the greater still comes later in the slot.
-#[test]
-fn two_limits_of_one_slot(rt: HostRuntime) -> Result<(), Fail> {
-    let mut s = Scenario::new(rt.alloc(), Settings::new(2, 1, 2)?);
-    insert_all(&mut s, &[join(0, 1, 1, 1, 0), limit(0, 1), limit(0, 2)])?;
+/// A join, and two limits of its slot. The lesser number is altered last.
+fn two_limits(alloc: Global) -> Result<Scenario, Fail> {
+    let events = [join(0, 1, 1, 1, 0), limit(0, 1), limit(0, 2)];
+    let mut s = scenario_of(alloc, Settings::new(2, 1, 2)?, &events)?;
     apply(&mut s, Change::Alter(3, limit(0, 1)))?;
     apply(&mut s, Change::Alter(2, limit(0, 2)))?;
+    Ok(s)
+}
+
+/// Whether these are the events of slot t.
+fn has_in_slot(s: &Scenario, t: u64, wanted: &[Numbered]) -> Result<bool, AllocError> {
+    Ok(s.slot_events(t)?.as_slice() == wanted)
+}
+
+/// The greater number still comes later in the slot.
+#[test]
+fn two_limits_of_one_slot(rt: HostRuntime) -> Result<(), Fail> {
     let slot = [
         numbered(2, limit(0, 2)),
         numbered(3, limit(0, 1)),
         numbered(1, join(0, 1, 1, 1, 0)),
     ];
-    assert_eq!(rt; s.slot_events(0)?.as_slice(), slot.as_slice());
+    assert!(rt; has_in_slot(&two_limits(rt.alloc())?, 0, &slot)?);
     Ok(())
 }
 
@@ -118,9 +128,8 @@ fn small_events() -> [Numbered; 3] {
 
 /// The scenario of these three events, if there is memory.
 fn small(alloc: Global) -> Result<Scenario, Fail> {
-    let mut s = Scenario::new(alloc, Settings::new(1, 6, 6)?);
-    insert_all(&mut s, &[leave(9, 1), join(2, 1, 1, 6, 0), delay(2, 1, 4)])?;
-    Ok(s)
+    let events = [leave(9, 1), join(2, 1, 1, 6, 0), delay(2, 1, 4)];
+    Ok(scenario_of(alloc, Settings::new(1, 6, 6)?, &events)?)
 }
 
 /// Checks the change, and then makes it.
@@ -129,61 +138,67 @@ fn check_and_make(s: &mut Scenario, change: Change) -> Result<u64, ApplyFault> {
     Ok(s.make(change)?)
 }
 
+/// What is answered to an insert, to an alteration and to a strike, and whether the events differ before the strike alone.
+fn answers(s: &mut Scenario) -> Result<([u64; 3], [bool; 2]), ApplyFault> {
+    let inserted = check_and_make(s, Change::Insert(delay(4, 1, 1)))?;
+    let altered = check_and_make(s, Change::Alter(4, delay(5, 1, 1)))?;
+    let before = !holds(s, &small_events());
+    let struck = check_and_make(s, Change::Strike(4))?;
+    Ok((
+        [inserted, altered, struck],
+        [before, holds(s, &small_events())],
+    ))
+}
+
 #[test]
 fn changes_made_once_checked(rt: HostRuntime) -> Result<(), Fail> {
     let mut s = small(rt.alloc())?;
-    assert_eq!(rt; check_and_make(&mut s, Change::Insert(delay(4, 1, 1)))?, 4);
-    assert_eq!(rt;
-        check_and_make(&mut s, Change::Alter(4, delay(5, 1, 1)))?,
-        4
-    );
-    assert!(rt; !holds(&s, &small_events()));
-    assert_eq!(rt; check_and_make(&mut s, Change::Strike(4))?, 4);
-    assert!(rt; holds(&s, &small_events()));
+    assert_eq!(rt; answers(&mut s)?, ([4; 3], [true; 2]));
     Ok(())
 }
 
 #[test]
 fn slots_of_a_small_scenario(rt: HostRuntime) -> Result<(), Fail> {
     let s = small(rt.alloc())?;
-    assert_eq!(rt; s.slot_events(2)?.as_slice(), &small_events()[1..]);
-    assert!(rt; s.slot_events(3)?.is_empty());
+    let events = small_events();
+    assert!(rt; has_in_slot(&s, 2, &events[1..])? && has_in_slot(&s, 3, &[])?);
     Ok(())
 }
 
 #[test]
 fn first_slots(rt: HostRuntime) -> Result<(), Fail> {
     let s = small(rt.alloc())?;
-    for (change, slot) in &[
-        (Change::Insert(leave(7, 2)), Some(7)),
-        (Change::Alter(1, leave(4, 1)), Some(4)),
-        (Change::Alter(2, join(11, 1, 1, 6, 0)), Some(2)),
-        (Change::Strike(8), None),
-    ] {
-        assert_eq!(rt; s.first_slot(change), *slot);
-    }
+    let slots = [
+        s.first_slot(&Change::Insert(leave(7, 2))),
+        s.first_slot(&Change::Alter(1, leave(4, 1))),
+        s.first_slot(&Change::Alter(2, join(11, 1, 1, 6, 0))),
+        s.first_slot(&Change::Strike(8)),
+    ];
+    assert_eq!(rt; slots, [Some(7), Some(4), Some(2), None]);
     Ok(())
+}
+
+/// A copy of the scenario, of which event 1 is then struck.
+fn struck_once_copied(s: &mut Scenario) -> Result<Scenario, ApplyFault> {
+    let copy = s.copy()?;
+    apply(s, Change::Strike(1))?;
+    Ok(copy)
 }
 
 #[test]
 fn copies(rt: HostRuntime) -> Result<(), Fail> {
     let mut s = small(rt.alloc())?;
-    let copy = s.copy()?;
-    apply(&mut s, Change::Strike(1))?;
-    assert_eq!(rt; s.events().count(), 2);
-    assert!(rt; holds(&copy, &small_events()));
-    assert_eq!(rt; copy.next_number(), 4);
-    assert_eq!(rt; copy.settings(), s.settings());
+    let copy = struck_once_copied(&mut s)?;
+    let counts = (s.events().count(), copy.next_number());
+    let is_kept = holds(&copy, &small_events()) && copy.settings() == s.settings();
+    assert_eq!(rt; (counts, is_kept), ((2, 4), true));
     Ok(())
 }
 
 #[test]
 fn wide_settings(rt: HostRuntime) -> Result<(), Fail> {
-    let mut s = Scenario::new(rt.alloc(), Settings::wide(1, 6, 6)?);
-    insert_all(
-        &mut s,
-        &[join(1_048_576, 1, 1, 6, 0), delay(4_194_303, 1, 1)],
-    )?;
+    let events = [join(1_048_576, 1, 1, 6, 0), delay(4_194_303, 1, 1)];
+    let mut s = scenario_of(rt.alloc(), Settings::wide(1, 6, 6)?, &events)?;
     let late = delay(4_194_304, 1, 1);
     refusals(&rt, &mut s, &[(late, EditFault::SlotOutOfRange)]);
     Ok(())
@@ -198,13 +213,23 @@ fn fill(s: &mut Scenario) -> Result<(), ApplyFault> {
     Ok(())
 }
 
-fn room_for_events(rt: &impl Abort, s: &mut Scenario) -> Result<(), Fail> {
-    fill(s)?;
-    assert_eq!(rt; s.events().count(), 65_535);
-    let more = delay(0, 1, 1);
-    refusals(rt, s, &[(more, EditFault::TooManyEvents)]);
+/// The answer to one event more, once one is struck.
+fn more_once_struck(s: &mut Scenario, more: Event) -> Result<u64, ApplyFault> {
     apply(s, Change::Strike(7))?;
-    assert_eq!(rt; apply(s, Change::Insert(more)), Ok(65_536));
+    apply(s, Change::Insert(more))
+}
+
+#[test]
+fn room_for_events(rt: HostRuntime) -> Result<(), Fail> {
+    let mut s = Scenario::new(rt.alloc(), Settings::new(1, 6, 6)?);
+    fill(&mut s)?;
+    let more = delay(0, 1, 1);
+    refusals(&rt, &mut s, &[(more, EditFault::TooManyEvents)]);
+    let count = s.events().count();
+    assert_eq!(rt;
+        (count, more_once_struck(&mut s, more)),
+        (65_535, Ok(65_536))
+    );
     Ok(())
 }
 
@@ -218,20 +243,13 @@ fn gives_each_number(s: &mut Scenario, event: Event) -> bool {
     true
 }
 
-fn room_for_numbers(rt: &impl Abort, s: &mut Scenario) {
-    let event = join(0, 1, 1, 6, 0);
-    assert!(rt; gives_each_number(s, event));
-    refusals(rt, s, &[(event, EditFault::NumbersSpent)]);
-    assert_eq!(rt; s.next_number(), 1_048_576);
-}
-
 #[test]
-fn room_for_events_and_numbers(rt: HostRuntime) -> Result<(), Fail> {
-    let settings = Settings::new(1, 6, 6)?;
-    let mut full = Scenario::new(rt.alloc(), settings);
-    room_for_events(&rt, &mut full)?;
-    let mut spent = Scenario::new(rt.alloc(), settings);
-    room_for_numbers(&rt, &mut spent);
+fn room_for_numbers(rt: HostRuntime) -> Result<(), Fail> {
+    let mut s = Scenario::new(rt.alloc(), Settings::new(1, 6, 6)?);
+    let event = join(0, 1, 1, 6, 0);
+    let is_given = gives_each_number(&mut s, event);
+    refusals(&rt, &mut s, &[(event, EditFault::NumbersSpent)]);
+    assert_eq!(rt; (is_given, s.next_number()), (true, 1_048_576));
     Ok(())
 }
 
@@ -265,11 +283,16 @@ fn refuses_twice(s: &Scenario) -> bool {
     true
 }
 
-#[test]
-fn checks_beside_many_events(rt: HostRuntime) -> Result<(), Fail> {
-    let mut s = Scenario::new(rt.alloc(), Settings::new(1, 6, 6)?);
+/// A scenario of as many delays, and of a join and a leave of each task.
+fn many_events(alloc: Global) -> Result<Scenario, Fail> {
+    let mut s = Scenario::new(alloc, Settings::new(1, 6, 6)?);
     delay_much(&mut s)?;
     join_all(&mut s)?;
-    assert!(rt; refuses_twice(&s));
+    Ok(s)
+}
+
+#[test]
+fn checks_beside_many_events(rt: HostRuntime) -> Result<(), Fail> {
+    assert!(rt; refuses_twice(&many_events(rt.alloc())?));
     Ok(())
 }

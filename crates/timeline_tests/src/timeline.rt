@@ -89,14 +89,22 @@ fn sitters(alloc: Global, timeline: &Timeline) -> Result<Vec<Pick>, AllocError> 
     Ok(sitters)
 }
 
+/// What it becomes without event 3, and then a slot longer.
+fn without_third(meter: &mut Meter, kept: &Timeline, scenario: &Scenario) -> Result<Timeline, Fail>
+    requires some { 0 < kept.now.now }
+    requires stands { StandsFor scenario.now kept.now.now kept.now }
+{
+    let struck = struck(scenario, 3)?;
+    let rewritten = rewritten(meter, kept, 0, scenario, &struck)?;
+    Ok(rewritten.stepped(meter, &struck)?)
+}
+
 /// The timeline of three slots without event 3, and then a slot longer.
 fn with_a_strike(rt: &impl Abort, alloc: Global, scenario: &Scenario) -> Result<Timeline, Fail> {
     let mut meter = Meter::new();
     let kept = slots(alloc, &mut meter, scenario, 3)?;
     assert!(rt; kept.now() > 0);
-    let struck = struck(scenario, 3)?;
-    let rewritten = rewritten(&mut meter, &kept, 0, scenario, &struck)?;
-    Ok(rewritten.stepped(&mut meter, &struck)?)
+    without_third(&mut meter, &kept, scenario)
 }
 
 #[test]
@@ -110,8 +118,8 @@ fn a_strike_in_the_past(rt: HostRuntime) -> Result<(), Fail> {
         pick(1, 3),
         pick(2, 3),
     ];
-    assert_eq!(rt; longer.now(), 4);
-    assert_eq!(rt; sitters(rt.alloc(), &longer)?.as_slice(), wanted.as_slice());
+    let are_there = sitters(rt.alloc(), &longer)?.as_slice() == wanted.as_slice();
+    assert_eq!(rt; (longer.now(), are_there), (4, true));
     Ok(())
 }
 
@@ -125,25 +133,27 @@ fn the_distance_of_checkpoints_has_limits(rt: HostRuntime) -> Result<(), Fail> {
     Ok(())
 }
 
+/// How many slots, rows and denials a timeline has.
+fn counts(timeline: &Timeline) -> (u64, usize, usize) {
+    (
+        timeline.now(),
+        timeline.rows().len(),
+        timeline.denials().len(),
+    )
+}
+
 #[test]
 fn checkpoints_may_be_at_each_limit(rt: HostRuntime) -> Result<(), Fail> {
     let settings = Settings::new(1, 1, 1)?;
     for every in [1, 4096] {
         let timeline = Timeline::new(rt.alloc(), settings, every)?;
-        assert_eq!(rt; timeline.now(), 0);
-        assert!(rt; timeline.rows().is_empty());
-        assert_eq!(rt; timeline.denials().len(), 0);
+        assert_eq!(rt; counts(&timeline), (0, 0, 0));
     }
     Ok(())
 }
 
-/// A timeline, and what is answered where one slot more is asked for, in both ways.
-#[derive(Drop)]
-struct Ended {
-    timeline: Timeline,
-    stepped: Option<StepFault>,
-    step: Option<StepFault>,
-}
+/// How many rows a timeline has, and what is answered where one slot more is asked for, in both ways.
+type Ended = (usize, [Option<StepFault>; 2]);
 
 /// The timeline of all slots of wide settings.
 fn all_slots(alloc: Global, scenario: &Scenario) -> Result<Ended, Fail> {
@@ -151,19 +161,13 @@ fn all_slots(alloc: Global, scenario: &Scenario) -> Result<Ended, Fail> {
     let mut timeline = slots(alloc, &mut meter, scenario, 4_194_304)?;
     let stepped = timeline.stepped(&mut meter, scenario).err();
     let step = step(&mut timeline, &mut meter, scenario).err();
-    Ok(Ended {
-        timeline,
-        stepped,
-        step,
-    })
+    Ok((timeline.rows().len(), [stepped, step]))
 }
 
 #[test]
 fn a_wide_timeline_ends_at_its_horizon(rt: HostRuntime) -> Result<(), Fail> {
     let scenario = Scenario::new(rt.alloc(), Settings::wide(1, 1, 1)?);
     let ended = all_slots(rt.alloc(), &scenario)?;
-    assert_eq!(rt; ended.stepped, Some(StepFault::AtHorizon));
-    assert_eq!(rt; ended.step, Some(StepFault::AtHorizon));
-    assert_eq!(rt; ended.timeline.rows().len(), 4_194_304);
+    assert_eq!(rt; ended, (4_194_304, [Some(StepFault::AtHorizon); 2]));
     Ok(())
 }

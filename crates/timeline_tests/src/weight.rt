@@ -9,9 +9,20 @@ fn base(rt: &impl Abort, h: u64) -> Base {
 
 #[test]
 fn bases_are_one_to_two_to_the_thirty(rt: HostRuntime) {
-    assert_eq!(rt; Base::new(0), Err(BaseOutOfRange));
-    assert_eq!(rt; Base::new(1_073_741_825), Err(BaseOutOfRange));
+    for bad in [0, 1_073_741_825] {
+        assert_eq!(rt; Base::new(bad), Err(BaseOutOfRange));
+    }
     assert_eq!(rt; base(&rt, 1_073_741_824).get(), 1_073_741_824);
+}
+
+/// The cost, the period and the units, and whether it is heavy.
+fn parts(weight: Weight) -> (u64, u64, u64, bool) {
+    (
+        weight.cost(),
+        weight.period(),
+        weight.units(),
+        weight.is_heavy(),
+    )
 }
 
 #[test]
@@ -24,17 +35,18 @@ fn weights_over_462(rt: HostRuntime) {
         (1, 1, 462, true),
     ] {
         let weight = Weight::new(base, cost, period).expect(&rt, "a weight");
-        assert_eq!(rt; weight.cost(), cost);
-        assert_eq!(rt; weight.period(), period);
-        assert_eq!(rt; weight.units(), units);
-        assert_eq!(rt; weight.is_heavy(), is_heavy);
+        assert_eq!(rt; parts(weight), (cost, period, units, is_heavy));
     }
 }
 
 #[test]
 fn faults_come_in_order(rt: HostRuntime) {
     let base = base(&rt, 462);
-    assert_eq!(rt; Weight::new(base, 0, 5), Err(WeightFault::ZeroCost));
-    assert_eq!(rt; Weight::new(base, 3, 0), Err(WeightFault::CostAbovePeriod));
-    assert_eq!(rt; Weight::new(base, 1, 5), Err(WeightFault::PeriodNotInBase));
+    for (cost, period, fault) in [
+        (0, 5, WeightFault::ZeroCost),
+        (3, 0, WeightFault::CostAbovePeriod),
+        (1, 5, WeightFault::PeriodNotInBase),
+    ] {
+        assert_eq!(rt; Weight::new(base, cost, period), Err(fault));
+    }
 }

@@ -4,7 +4,7 @@ ghost use Rattle.std.specs.Prelude.{◌≡◌, ◌+◌, ◌^◌, ◌<◌, ◌≤
 ghost use Rattle.pf_scenario.specs.Scenario.{events_of};
 ghost use Rattle.timeline_tests.specs.Fitting.{FitsSome};
 
-use super::{start, take_slot};
+use super::{copy, seen, start, take_slot};
 use crate::events::{delay, join, leave, scenario_again, three_tasks};
 use crate::picks::{IDLE, alone, both, pick};
 use crate::refused::say;
@@ -20,15 +20,19 @@ use std::process::Abort;
 use std::test::Fail;
 
 /// An engine before any slot of the scenario, again where memory is refused.
-fn start_again(rt: &impl Print, alloc: Global, scenario: &Scenario) -> Result<Engine, Fail>
+fn start_again(
+    rt: &(impl Abort + Print),
+    alloc: Global,
+    scenario: &Scenario,
+) -> Result<Engine, AllocError>
     ensures now { IfOk result (λ e. e.now ≡ 0) }
     ensures fits { IfOk result (λ e. FitsSome scenario.now e) }
 {
     match start(alloc, scenario) {
         Ok(engine) => Ok(engine),
         Err(AllocError) => {
-            say(rt, "Engine::new", true)?;
-            Ok(start(alloc, scenario)?)
+            say(rt, "Engine::new", true);
+            start(alloc, scenario)
         }
     }
 }
@@ -43,48 +47,92 @@ fn events_again(scenario: &Scenario, t: u64) -> Result<Vec<Numbered>, AllocError
     }
 }
 
+/// What can be read of an engine, and what was counted.
+fn reading(engine: &Engine, meter: &Meter) -> (u64, Settings, u64, u64) {
+    (
+        engine.now(),
+        engine.settings(),
+        meter.slots(),
+        meter.compared(),
+    )
+}
+
 /// Takes the slot that comes next, again where memory is refused: then the engine is as before, and nothing was counted.
 fn slot_again(
     rt: &(impl Abort + Print),
     engine: &mut Engine,
     meter: &mut Meter,
     scenario: &Scenario,
-) -> Result<Outcome, Fail>
+    events: &[Numbered],
+) -> Result<Outcome, AllocError>
+    requires below { engine.old.now < 2 ^ 20 }
+    requires fits { FitsSome scenario.now engine.old }
+    requires events { events.now ≡ events_of scenario.now engine.old.now }
+    ensures now { OnOk result (engine.new.now ≡ engine.old.now + 1) }
+    ensures fits { OnOk result (FitsSome scenario.now engine.new) }
+{
+    let before = reading(engine, meter);
+    match take_slot(engine, meter, scenario, events) {
+        Ok(outcome) => Ok(outcome),
+        Err(AllocError) => {
+            say(rt, "Engine::slot", true);
+            assert_eq!(rt; reading(engine, meter), before);
+            take_slot(engine, meter, scenario, events)
+        }
+    }
+}
+
+/// Who runs in the slot that comes next. No event is denied.
+fn next_again(
+    rt: &(impl Abort + Print),
+    engine: &mut Engine,
+    meter: &mut Meter,
+    scenario: &Scenario,
+) -> Result<[Option<Pick>; 2], AllocError>
     requires below { engine.old.now < 2 ^ 20 }
     requires fits { FitsSome scenario.now engine.old }
     ensures now { OnOk result (engine.new.now ≡ engine.old.now + 1) }
     ensures fits { OnOk result (FitsSome scenario.now engine.new) }
 {
     let events = events_again(scenario, engine.now())?;
-    let before = (engine.now(), meter.slots(), meter.compared());
-    match take_slot(engine, meter, scenario, &events) {
-        Ok(outcome) => Ok(outcome),
-        Err(AllocError) => {
-            say(rt, "Engine::slot", true)?;
-            assert_eq!(rt; (engine.now(), meter.slots(), meter.compared()), before);
-            assert_eq!(rt; engine.settings(), scenario.settings());
-            Ok(take_slot(engine, meter, scenario, &events)?)
+    match slot_again(rt, engine, meter, scenario, &events) {
+        Ok(outcome) => {
+            let (picks, denials, _) = seen(&outcome);
+            assert_eq!(rt; denials, 0);
+            Ok(picks)
         }
+        Err(error) => Err(error),
     }
 }
 
 /// An engine that keeps the same, again where memory is refused.
-fn copy_again(rt: &impl Print, engine: &Engine) -> Result<Engine, Fail>
+fn copy_again(rt: &(impl Abort + Print), engine: &Engine) -> Result<Engine, AllocError>
     ensures { IfOk result (λ e. e ≡ engine.now) }
 {
-    match engine.copy() {
+    match copy(engine) {
         Ok(copy) => Ok(copy),
         Err(AllocError) => {
-            say(rt, "Engine::copy", true)?;
-            Ok(engine.copy()?)
+            say(rt, "Engine::copy", true);
+            copy(engine)
         }
     }
 }
 
-/// The first two picks.
-fn two_picks(outcome: &Outcome) -> [Option<Pick>; 2] {
-    let picks = outcome.picks();
-    [picks.first().copied(), picks.get(1).copied()]
+/// Who runs in the slot that comes next, also by a copy.
+fn next_twice(
+    rt: &(impl Abort + Print),
+    engine: &mut Engine,
+    meter: &mut Meter,
+    scenario: &Scenario,
+) -> Result<[[Option<Pick>; 2]; 2], AllocError>
+    requires below { engine.old.now < 2 ^ 20 }
+    requires fits { FitsSome scenario.now engine.old }
+    ensures fits { OnOk result (FitsSome scenario.now engine.new) }
+{
+    let mut copy = copy_again(rt, engine)?;
+    let again = next_again(rt, &mut copy, meter, scenario)?;
+    let picks = next_again(rt, engine, meter, scenario)?;
+    Ok([picks, again])
 }
 
 /// Takes the first slots of the scenario, each by a copy too, and compares what runs in them.
@@ -93,19 +141,15 @@ fn take_again(
     alloc: Global,
     scenario: &Scenario,
     wanted: &[[Option<Pick>; 2]],
-) -> Result<(), Fail>
+) -> Result<(), AllocError>
     requires { length wanted.now ≤ 2 ^ 20 }
 {
     let mut meter = Meter::new();
     let mut engine = start_again(rt, alloc, scenario)?;
     for (slot, picks) in wanted.iter().enumerate() {
         assert!(rt; engine.now() == slot as u64);
-        let mut copy = copy_again(rt, &engine)?;
-        let outcome = slot_again(rt, &mut engine, &mut meter, scenario)?;
-        let again = slot_again(rt, &mut copy, &mut meter, scenario)?;
-        assert_eq!(rt; two_picks(&outcome), *picks);
-        assert_eq!(rt; two_picks(&again), *picks);
-        assert!(rt; outcome.denials().is_empty() && again.denials().is_empty());
+        let taken = next_twice(rt, &mut engine, &mut meter, scenario)?;
+        assert_eq!(rt; taken, [*picks; 2]);
     }
     Ok(())
 }
@@ -114,7 +158,7 @@ fn take_again(
 fn three_tasks_are_run_again(rt: HostRuntime) -> Result<(), Fail> {
     let scenario = three_tasks(rt.alloc())?;
     let wanted = [both(pick(1, 1), pick(2, 1)), both(pick(3, 1), pick(1, 2))];
-    take_again(&rt, rt.alloc(), &scenario, &wanted)
+    Ok(take_again(&rt, rt.alloc(), &scenario, &wanted)?)
 }
 
 /// The delay takes task 2's key out of the ready heap.
@@ -128,5 +172,5 @@ fn a_key_is_taken_out_again(rt: HostRuntime) -> Result<(), Fail> {
     ];
     let scenario = scenario_again(rt.alloc(), Settings::new(1, 4, 8)?, &events)?;
     let wanted = [alone(2, 1), alone(1, 1), IDLE, alone(2, 2)];
-    take_again(&rt, rt.alloc(), &scenario, &wanted)
+    Ok(take_again(&rt, rt.alloc(), &scenario, &wanted)?)
 }

@@ -5,9 +5,11 @@ ghost use Rattle.pf_place.specs.Occupancy.{idle_row};
 
 use super::{FIVE, rows_of_tasks, sitter};
 use crate::refused::say;
+use pf_order::pick::Pick;
 use pf_place::row::Row;
 use pf_place::rows::Rows;
 use std::alloc::{AllocError, Global};
+use std::process::Abort;
 use std::test::Fail;
 
 /// The row of m idle processors, and whether memory was refused.
@@ -30,15 +32,21 @@ fn place_again(alloc: Global, before: &Row) -> Result<(Row, bool), AllocError>
     }
 }
 
+/// Who sits on the one processor of 64 that is in use, and before that.
+fn placed(
+    rt: &(impl Abort + Print),
+    alloc: Global,
+) -> Result<(usize, Option<Pick>, Option<Pick>), AllocError> {
+    let (before, refused) = idle_again(alloc, 64)?;
+    say(rt, "Row::idle", refused);
+    let (row, refused) = place_again(alloc, &before)?;
+    say(rt, "Row::place", refused);
+    Ok((row.processors(), row.get(0), before.get(0)))
+}
+
 #[test]
 fn a_row_is_placed_again(rt: HostRuntime) -> Result<(), Fail> {
-    let (before, refused) = idle_again(rt.alloc(), 64)?;
-    say(&rt, "Row::idle", refused)?;
-    let (row, refused) = place_again(rt.alloc(), &before)?;
-    say(&rt, "Row::place", refused)?;
-    assert_eq!(rt; row.processors(), 64);
-    assert_eq!(rt; row.get(0), Some(FIVE));
-    assert_eq!(rt; before.get(0), None);
+    assert_eq!(rt; placed(&rt, rt.alloc())?, (64, Some(FIVE), None));
     Ok(())
 }
 
@@ -50,14 +58,18 @@ fn copy_again(row: &Row) -> Result<(Row, bool), AllocError> {
     }
 }
 
+/// How many processors the copy of a row of two has, and the row itself.
+fn copied(rt: &(impl Abort + Print), alloc: Global) -> Result<(usize, usize), AllocError> {
+    let (row, refused) = idle_again(alloc, 2)?;
+    say(rt, "Row::idle", refused);
+    let (copy, refused) = copy_again(&row)?;
+    say(rt, "Row::copy", refused);
+    Ok((copy.processors(), row.processors()))
+}
+
 #[test]
 fn a_row_is_copied_again(rt: HostRuntime) -> Result<(), Fail> {
-    let (row, refused) = idle_again(rt.alloc(), 2)?;
-    say(&rt, "Row::idle", refused)?;
-    let (copy, refused) = copy_again(&row)?;
-    say(&rt, "Row::copy", refused)?;
-    assert_eq!(rt; copy.processors(), 2);
-    assert_eq!(rt; row.processors(), 2);
+    assert_eq!(rt; copied(&rt, rt.alloc())?, (2, 2));
     Ok(())
 }
 
@@ -83,16 +95,34 @@ fn copy_all_again(rows: &Rows) -> Result<(Rows, bool), AllocError> {
     }
 }
 
+/// A copy of the rows, which says where it was refused.
+fn copied_all(rt: &(impl Abort + Print), rows: &Rows) -> Result<Rows, AllocError> {
+    let (copy, refused) = copy_all_again(rows)?;
+    say(rt, "Rows::copy", refused);
+    Ok(copy)
+}
+
+/// An idle row, appended.
+fn one_row(rt: &(impl Abort + Print), alloc: Global) -> Result<Rows, AllocError> {
+    let mut rows = Rows::new(alloc);
+    let refused = push_again(&mut rows, alloc)?;
+    say(rt, "Rows::push", refused);
+    Ok(rows)
+}
+
+/// How many rows there are in one of them and in its copy, and who sits in the last of the copy.
+fn one_twice(
+    rt: &(impl Abort + Print),
+    alloc: Global,
+) -> Result<(usize, usize, Option<Pick>), AllocError> {
+    let rows = one_row(rt, alloc)?;
+    let copy = copied_all(rt, &rows)?;
+    Ok((rows.len(), copy.len(), sitter(copy.last())))
+}
+
 #[test]
 fn rows_are_pushed_and_copied_again(rt: HostRuntime) -> Result<(), Fail> {
-    let mut rows = Rows::new(rt.alloc());
-    let refused = push_again(&mut rows, rt.alloc())?;
-    say(&rt, "Rows::push", refused)?;
-    let (copy, refused) = copy_all_again(&rows)?;
-    say(&rt, "Rows::copy", refused)?;
-    assert_eq!(rt; rows.len(), 1);
-    assert_eq!(rt; copy.len(), 1);
-    assert_eq!(rt; sitter(copy.last()), None);
+    assert_eq!(rt; one_twice(&rt, rt.alloc())?, (1, 1, None));
     Ok(())
 }
 
@@ -104,13 +134,16 @@ fn many_rows(alloc: Global) -> Result<Rows, AllocError> {
     }
 }
 
+/// How many rows there are in many and in their copy.
+fn many_twice(rt: &(impl Abort + Print), alloc: Global) -> Result<(usize, usize), AllocError> {
+    let rows = many_rows(alloc)?;
+    let copy = copied_all(rt, &rows)?;
+    Ok((rows.len(), copy.len()))
+}
+
 /// Full blocks are shared: a copy asks for the two pieces of the last one alone.
 #[test]
 fn many_rows_are_copied_again(rt: HostRuntime) -> Result<(), Fail> {
-    let rows = many_rows(rt.alloc())?;
-    let (copy, refused) = copy_all_again(&rows)?;
-    say(&rt, "Rows::copy", refused)?;
-    assert_eq!(rt; rows.len(), 512);
-    assert_eq!(rt; copy.len(), 512);
+    assert_eq!(rt; many_twice(&rt, rt.alloc())?, (512, 512));
     Ok(())
 }

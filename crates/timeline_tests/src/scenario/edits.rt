@@ -190,22 +190,54 @@ fn edit_both(s: &mut Scenario, plain: &mut Plain, random: &mut Random) -> Result
     Ok(alike)
 }
 
-#[test]
-fn random_edits_of_a_full_scenario(rt: HostRuntime) -> Result<(), Fail> {
-    let mut s = Scenario::new(rt.alloc(), Settings::new(1, 6, 6)?);
+/// Edits both 1,000 times, and looks at a random slot; the answer is whether all was alike.
+fn round(
+    s: &mut Scenario,
+    plain: &mut Plain,
+    random: &mut Random,
+    alloc: Global,
+) -> Result<bool, AllocError> {
+    let alike = edit_both(s, plain, random)?;
+    let t = random.below(SLOTS);
+    Ok(alike && slots_alike(s, plain, alloc, t)?)
+}
+
+/// Edits both 100,000 times; the answer is whether all was alike.
+fn rounds(
+    s: &mut Scenario,
+    plain: &mut Plain,
+    random: &mut Random,
+    alloc: Global,
+) -> Result<bool, AllocError> {
+    let mut alike = true;
+    for _round in 0..100u64 {
+        alike &= round(s, plain, random, alloc)?;
+    }
+    Ok(alike)
+}
+
+/// Whether both hold the same events.
+fn all_alike(s: &Scenario, plain: &Plain, alloc: Global) -> Result<bool, AllocError> {
+    Ok(holds(s, &plain.list(alloc)?))
+}
+
+/// How many events a full scenario has, and whether it was like the list when it was filled, as it was edited, and then.
+fn edited(alloc: Global, settings: Settings) -> Result<(usize, [bool; 3]), AllocError> {
+    let mut s = Scenario::new(alloc, settings);
     let mut plain = Plain {
-        events: Vec::new(rt.alloc()),
+        events: Vec::new(alloc),
         held: 0,
     };
     let mut random = Random(18);
-    assert!(rt; fill_both(&mut s, &mut plain, &mut random)?);
-    assert_eq!(rt; s.events().count(), 65_535);
-    for _round in 0..100u64 {
-        assert!(rt; edit_both(&mut s, &mut plain, &mut random)?);
-        let t = random.below(SLOTS);
-        assert!(rt; slots_alike(&s, &plain, rt.alloc(), t)?);
-    }
-    let wanted = plain.list(rt.alloc())?;
-    assert!(rt; holds(&s, &wanted));
+    let filled = fill_both(&mut s, &mut plain, &mut random)?;
+    let count = s.events().count();
+    let edited = rounds(&mut s, &mut plain, &mut random, alloc)?;
+    Ok((count, [filled, edited, all_alike(&s, &plain, alloc)?]))
+}
+
+#[test]
+fn random_edits_of_a_full_scenario(rt: HostRuntime) -> Result<(), Fail> {
+    let settings = Settings::new(1, 6, 6)?;
+    assert_eq!(rt; edited(rt.alloc(), settings)?, (65_535, [true; 3]));
     Ok(())
 }

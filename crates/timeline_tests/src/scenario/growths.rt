@@ -10,6 +10,7 @@ use pf_scenario::fault::EditFault;
 use pf_scenario::scenario::Scenario;
 use pf_scenario::settings::Settings;
 use std::alloc::{AllocError, Global};
+use std::process::Abort;
 use std::test::Fail;
 
 /// Makes the change; the answer is whether memory was refused.
@@ -48,23 +49,28 @@ fn insert_again(s: &mut Scenario, events: &[Numbered]) -> Result<bool, ApplyFaul
     Ok(refused)
 }
 
+/// The small events, and then a join of a greater task; the answer is whether memory was refused.
+fn made_again(s: &mut Scenario, later: Event) -> Result<bool, ApplyFault> {
+    let events = small_events();
+    let first = insert_again(s, &events)?;
+    let second = apply_again(s, Change::Alter(2, later), &events)?;
+    Ok(first || second)
+}
+
+/// Whether the scenario holds just these events, and another join or leave is refused as one too many.
+fn refuses(s: &Scenario, events: &[Numbered], twice: Event, fault: EditFault) -> bool {
+    holds(s, events) && s.check(&Change::Insert(twice)) == Err(fault)
+}
+
 /// The table of joins grows twice: for the task's first join, and for a join of a greater task.
 #[test]
 fn changes_are_made_again(rt: HostRuntime) -> Result<(), Fail> {
     let mut s = Scenario::new(rt.alloc(), Settings::new(1, 6, 6)?);
-    let events = small_events();
-    let first = insert_again(&mut s, &events)?;
     let later = join(3, 4000, 1, 6, 0);
-    let second = apply_again(&mut s, Change::Alter(2, later), &events)?;
-    say(&rt, "Scenario::apply", first || second)?;
-    let after = [
-        numbered(1, leave(9, 1)),
-        numbered(2, later),
-        numbered(3, delay(2, 1, 4)),
-    ];
-    assert!(rt; holds(&s, &after));
-    let twice = s.check(&Change::Insert(later));
-    assert_eq!(rt; twice, Err(EditFault::JoinTwice));
+    say(&rt, "Scenario::apply", made_again(&mut s, later)?);
+    let mut after = small_events();
+    after[1] = numbered(2, later);
+    assert!(rt; refuses(&s, &after, later, EditFault::JoinTwice));
     Ok(())
 }
 
@@ -83,13 +89,22 @@ fn slot_again(s: &Scenario, t: u64) -> Result<(Vec<Numbered>, bool), AllocError>
     }
 }
 
+/// Whether this event alone is in slot t, and in the scenario.
+fn is_alone(
+    rt: &(impl Abort + Print),
+    s: &Scenario,
+    t: u64,
+    event: Event,
+) -> Result<bool, AllocError> {
+    let (events, refused) = slot_again(s, t)?;
+    say(rt, "Scenario::slot_events", refused);
+    Ok(events.as_slice() == [numbered(1, event)].as_slice() && holds(s, &events))
+}
+
 #[test]
 fn events_of_a_slot_are_listed_again(rt: HostRuntime) -> Result<(), Fail> {
-    let s = one_event(rt.alloc(), leave(9, 1))?;
-    let (events, refused) = slot_again(&s, 9)?;
-    say(&rt, "Scenario::slot_events", refused)?;
-    assert_eq!(rt; events.as_slice(), [numbered(1, leave(9, 1))].as_slice());
-    assert!(rt; holds(&s, &events));
+    let event = leave(9, 1);
+    assert!(rt; is_alone(&rt, &one_event(rt.alloc(), event)?, 9, event)?);
     Ok(())
 }
 
@@ -101,25 +116,35 @@ fn copy_again(s: &Scenario) -> Result<(Scenario, bool), AllocError> {
     }
 }
 
+/// A copy, which says where it was refused.
+fn copied(rt: &(impl Abort + Print), s: &Scenario) -> Result<Scenario, AllocError> {
+    let (copy, refused) = copy_again(s)?;
+    say(rt, "Scenario::copy", refused);
+    Ok(copy)
+}
+
+/// Whether a copy of the scenario of one event holds it, and refuses a second one like it.
+fn is_copied(
+    rt: &(impl Abort + Print),
+    alloc: Global,
+    event: Event,
+    fault: EditFault,
+) -> Result<bool, Fail> {
+    let s = one_event(alloc, event)?;
+    let copy = copied(rt, &s)?;
+    Ok(refuses(&copy, &[numbered(1, event)], event, fault))
+}
+
 #[test]
 fn a_join_is_copied_again(rt: HostRuntime) -> Result<(), Fail> {
-    let s = one_event(rt.alloc(), join(2, 1, 1, 6, 0))?;
-    let (copy, refused) = copy_again(&s)?;
-    say(&rt, "Scenario::copy", refused)?;
-    assert!(rt; holds(&copy, &[numbered(1, join(2, 1, 1, 6, 0))]));
-    let twice = copy.check(&Change::Insert(join(2, 1, 1, 6, 0)));
-    assert_eq!(rt; twice, Err(EditFault::JoinTwice));
+    let join = join(2, 1, 1, 6, 0);
+    assert!(rt; is_copied(&rt, rt.alloc(), join, EditFault::JoinTwice)?);
     Ok(())
 }
 
 #[test]
 fn a_leave_is_copied_again(rt: HostRuntime) -> Result<(), Fail> {
-    let s = one_event(rt.alloc(), leave(9, 1))?;
-    let (copy, refused) = copy_again(&s)?;
-    say(&rt, "Scenario::copy", refused)?;
-    assert!(rt; holds(&copy, &[numbered(1, leave(9, 1))]));
-    let twice = copy.check(&Change::Insert(leave(9, 1)));
-    assert_eq!(rt; twice, Err(EditFault::LeaveTwice));
+    assert!(rt; is_copied(&rt, rt.alloc(), leave(9, 1), EditFault::LeaveTwice)?);
     Ok(())
 }
 
@@ -133,18 +158,21 @@ fn many_events() -> [Numbered; 30] {
     events
 }
 
+/// These events, the first of which is then altered; the answer is whether memory was refused.
+fn held_again(s: &mut Scenario, events: &[Numbered], later: Event) -> Result<bool, ApplyFault> {
+    let held = insert_again(s, events)?;
+    let altered = apply_again(s, Change::Alter(1, later), events)?;
+    Ok(held || altered)
+}
+
 #[test]
 fn many_events_are_held_and_copied_again(rt: HostRuntime) -> Result<(), Fail> {
     let mut s = Scenario::new(rt.alloc(), Settings::new(1, 6, 6)?);
-    let events = many_events();
-    let held = insert_again(&mut s, &events)?;
+    let mut events = many_events();
     let later = delay(60, 1, 1);
-    let altered = apply_again(&mut s, Change::Alter(1, later), &events)?;
-    say(&rt, "Scenario::apply", held || altered)?;
-    let (copy, refused) = copy_again(&s)?;
-    say(&rt, "Scenario::copy", refused)?;
-    let mut after = events;
-    after[0] = numbered(1, later);
-    assert!(rt; holds(&s, &after) && holds(&copy, &after));
+    say(&rt, "Scenario::apply", held_again(&mut s, &events, later)?);
+    let copy = copied(&rt, &s)?;
+    events[0] = numbered(1, later);
+    assert!(rt; holds(&s, &events) && holds(&copy, &events));
     Ok(())
 }

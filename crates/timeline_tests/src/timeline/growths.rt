@@ -24,7 +24,7 @@ use std::process::Abort;
 use std::test::Fail;
 
 /// What can be read of a timeline on two processors at most.
-#[derive(Debug, PartialEq, Drop)]
+#[derive(PartialEq, Drop)]
 struct Reading {
     now: u64,
     distance: u64,
@@ -56,16 +56,37 @@ fn read(alloc: Global, timeline: &Timeline) -> Result<Reading, AllocError> {
 }
 
 /// A timeline of no slots with checkpoints two slots apart, again where memory is refused.
-fn start_again(rt: &impl Print, alloc: Global, scenario: &Scenario) -> Result<Timeline, Fail>
+fn start_again(
+    rt: &(impl Abort + Print),
+    alloc: Global,
+    scenario: &Scenario,
+) -> Result<Timeline, NewFault>
     ensures { IfOk result (λ t. StandsFor scenario.now t.now t) }
 {
     match start(alloc, scenario, 2) {
         Err(NewFault::NoMemory) => {
-            say(rt, "Timeline::new", true)?;
-            Ok(start(alloc, scenario, 2)?)
+            say(rt, "Timeline::new", true);
+            start(alloc, scenario, 2)
         }
-        started => Ok(started?),
+        started => started,
     }
+}
+
+/// That the timeline is as before.
+fn is_as_before(
+    rt: &impl Abort,
+    alloc: Global,
+    timeline: &Timeline,
+    before: &Reading,
+) -> Result<(), AllocError> {
+    let reading = read(alloc, timeline)?;
+    assert!(rt; reading == *before);
+    Ok(())
+}
+
+/// That nothing was counted.
+fn is_unused(rt: &impl Abort, meter: &Meter) {
+    assert_eq!(rt; (meter.slots(), meter.compared()), (0, 0));
 }
 
 /// Takes the next slot, again where memory is refused: then the timeline is as before, and nothing was counted.
@@ -74,7 +95,7 @@ fn step_again(
     alloc: Global,
     timeline: &mut Timeline,
     scenario: &Scenario,
-) -> Result<(), Fail>
+) -> Result<(), StepFault>
     requires { StandsFor scenario.now timeline.old.now timeline.old }
     ensures { OnOk result (StandsFor scenario.now timeline.new.now timeline.new) }
 {
@@ -82,12 +103,12 @@ fn step_again(
     let mut meter = Meter::new();
     match step(timeline, &mut meter, scenario) {
         Err(StepFault::NoMemory) => {
-            say(rt, "Timeline::step", true)?;
-            assert_eq!(rt; read(alloc, timeline)?, before);
-            assert_eq!(rt; (meter.slots(), meter.compared()), (0, 0));
-            Ok(step(timeline, &mut meter, scenario)?)
+            say(rt, "Timeline::step", true);
+            is_unused(rt, &meter);
+            is_as_before(rt, alloc, timeline, &before)?;
+            step(timeline, &mut meter, scenario)
         }
-        stepped => Ok(stepped?),
+        stepped => stepped,
     }
 }
 
@@ -107,47 +128,67 @@ fn steps_again(
     Ok(timeline)
 }
 
-/// The timeline with the next slot too, again where memory is refused: then the first one is as before, and nothing was
-/// counted.
+/// The timeline with the next slot too, again where memory is refused: then nothing was counted.
+fn longer_again(
+    rt: &(impl Abort + Print),
+    timeline: &Timeline,
+    scenario: &Scenario,
+) -> Result<Timeline, StepFault>
+    requires { StandsFor scenario.now timeline.now.now timeline.now }
+{
+    let mut meter = Meter::new();
+    match timeline.stepped(&mut meter, scenario) {
+        Err(StepFault::NoMemory) => {
+            say(rt, "Timeline::stepped", true);
+            is_unused(rt, &meter);
+            timeline.stepped(&mut meter, scenario)
+        }
+        longer => longer,
+    }
+}
+
+/// The same. The first one is then as before.
 fn stepped_again(
     rt: &(impl Abort + Print),
     alloc: Global,
     timeline: &Timeline,
     scenario: &Scenario,
-) -> Result<Timeline, Fail>
+) -> Result<Timeline, StepFault>
     requires { StandsFor scenario.now timeline.now.now timeline.now }
 {
     let before = read(alloc, timeline)?;
-    let mut meter = Meter::new();
-    let longer = match timeline.stepped(&mut meter, scenario) {
-        Err(StepFault::NoMemory) => {
-            say(rt, "Timeline::stepped", true)?;
-            assert_eq!(rt; (meter.slots(), meter.compared()), (0, 0));
-            timeline.stepped(&mut meter, scenario)
-        }
-        stepped => stepped,
-    };
-    assert_eq!(rt; read(alloc, timeline)?, before);
-    Ok(longer?)
+    let longer = longer_again(rt, timeline, scenario)?;
+    is_as_before(rt, alloc, timeline, &before)?;
+    Ok(longer)
+}
+
+/// That these picks ran, slot by slot.
+fn has_places(rt: &impl Abort, reading: &Reading, wanted: &[[Option<Pick>; 2]]) {
+    assert_eq!(rt; reading.places.as_slice(), wanted);
 }
 
 fn denied(slot: u64, id: u64, denial: Denial) -> Denied {
     Denied { slot, id, denial }
 }
 
+/// What is shown of three slots of the three tasks, and how many rows there are with a slot more.
+fn three_slots(rt: &(impl Abort + Print), alloc: Global) -> Result<(Reading, usize), Fail> {
+    let scenario = three_tasks(alloc)?;
+    let timeline = steps_again(rt, alloc, &scenario, 3)?;
+    let longer = stepped_again(rt, alloc, &timeline, &scenario)?;
+    Ok((read(alloc, &timeline)?, longer.rows().len()))
+}
+
 #[test]
 fn slots_are_stepped_again(rt: HostRuntime) -> Result<(), Fail> {
-    let scenario = three_tasks(rt.alloc())?;
-    let timeline = steps_again(&rt, rt.alloc(), &scenario, 3)?;
-    let longer = stepped_again(&rt, rt.alloc(), &timeline, &scenario)?;
+    let (reading, longer) = three_slots(&rt, rt.alloc())?;
     let wanted = [
         both(pick(1, 1), pick(2, 1)),
         both(pick(1, 2), pick(3, 1)),
         both(pick(2, 2), pick(3, 2)),
     ];
-    let places = read(rt.alloc(), &timeline)?.places;
-    assert_eq!(rt; places.as_slice(), wanted.as_slice());
-    assert_eq!(rt; longer.rows().len(), 4);
+    has_places(&rt, &reading, &wanted);
+    assert_eq!(rt; longer, 4);
     Ok(())
 }
 
@@ -158,24 +199,48 @@ fn leaver(alloc: Global) -> Result<Scenario, Fail> {
 }
 
 /// What is shown of its four slots, once it is delayed.
-fn check_delayed(rt: &impl Abort, reading: &Reading) {
-    let wanted = [IDLE, alone(1, 1), IDLE, IDLE];
-    assert_eq!(rt; reading.places.as_slice(), wanted.as_slice());
-    assert_eq!(rt;
-        reading.denials.as_slice(),
-        [denied(3, 2, Denial::TooEarly)].as_slice()
-    );
+fn is_delayed(rt: &impl Abort, reading: &Reading) {
+    has_places(rt, reading, &[IDLE, alone(1, 1), IDLE, IDLE]);
+    let denials = [denied(3, 2, Denial::TooEarly)];
+    assert_eq!(rt; reading.denials.as_slice(), denials.as_slice());
+}
+
+/// What is shown of its four slots.
+fn delayed_slots(rt: &(impl Abort + Print), alloc: Global) -> Result<Reading, Fail> {
+    let scenario = with_event_again(&leaver(alloc)?, delay(0, 1, 1))?;
+    let timeline = steps_again(rt, alloc, &scenario, 4)?;
+    Ok(read(alloc, &timeline)?)
 }
 
 #[test]
 fn a_denied_event_is_stepped_over_again(rt: HostRuntime) -> Result<(), Fail> {
-    let scenario = with_event_again(&leaver(rt.alloc())?, delay(0, 1, 1))?;
-    let timeline = steps_again(&rt, rt.alloc(), &scenario, 4)?;
-    check_delayed(&rt, &read(rt.alloc(), &timeline)?);
+    is_delayed(&rt, &delayed_slots(&rt, rt.alloc())?);
     Ok(())
 }
 
-/// What the timeline becomes for another scenario, again where memory is refused: then the timeline is as before.
+/// What the timeline becomes for another scenario, again where memory is refused.
+fn fresh_again(
+    rt: &(impl Abort + Print),
+    kept: &Timeline,
+    from: u64,
+    former: &Scenario,
+    scenario: &Scenario,
+) -> Result<Timeline, AllocError>
+    requires below { from < kept.now.now }
+    requires stands { StandsFor former.now kept.now.now kept.now }
+    requires past { past_below from scenario.now ≡ past_below from former.now }
+{
+    let mut meter = Meter::new();
+    match rewritten(&mut meter, kept, from, former, scenario) {
+        Ok(fresh) => Ok(fresh),
+        Err(AllocError) => {
+            say(rt, "Timeline::rewritten", true);
+            rewritten(&mut meter, kept, from, former, scenario)
+        }
+    }
+}
+
+/// The same. The timeline is then as before.
 fn rewritten_again(
     rt: &(impl Abort + Print),
     alloc: Global,
@@ -183,22 +248,15 @@ fn rewritten_again(
     from: u64,
     former: &Scenario,
     scenario: &Scenario,
-) -> Result<Timeline, Fail>
+) -> Result<Timeline, AllocError>
     requires below { from < kept.now.now }
     requires stands { StandsFor former.now kept.now.now kept.now }
     requires past { past_below from scenario.now ≡ past_below from former.now }
 {
     let before = read(alloc, kept)?;
-    let mut meter = Meter::new();
-    let fresh = match rewritten(&mut meter, kept, from, former, scenario) {
-        Err(AllocError) => {
-            say(rt, "Timeline::rewritten", true)?;
-            rewritten(&mut meter, kept, from, former, scenario)
-        }
-        fresh => fresh,
-    };
-    assert_eq!(rt; read(alloc, kept)?, before);
-    Ok(fresh?)
+    let fresh = fresh_again(rt, kept, from, former, scenario)?;
+    is_as_before(rt, alloc, kept, &before)?;
+    Ok(fresh)
 }
 
 /// What is shown once that many slots of the former scenario are written anew for one that differs from `from` on.
@@ -218,20 +276,32 @@ fn replayed(
     Ok(read(alloc, &fresh)?)
 }
 
+/// The scenario without this event, though memory may be refused once.
+fn struck_again(scenario: &Scenario, id: u64) -> Result<Scenario, ApplyFault>
+    ensures { IfOk result (λ s. past_below 0 s ≡ past_below 0 scenario.now) }
+{
+    match struck(scenario, id) {
+        Ok(rest) => Ok(rest),
+        Err(_) => struck(scenario, id),
+    }
+}
+
+/// What is shown once the third of three tasks is struck behind three slots.
+fn without_third(rt: &(impl Abort + Print), alloc: Global) -> Result<Reading, Fail> {
+    let scenario = three_tasks(alloc)?;
+    let rest = struck_again(&scenario, 3)?;
+    replayed(rt, alloc, 3, 0, &scenario, &rest)
+}
+
 #[test]
 fn for_a_strike_in_the_past(rt: HostRuntime) -> Result<(), Fail> {
-    let scenario = three_tasks(rt.alloc())?;
-    let rest = match struck(&scenario, 3) {
-        Ok(rest) => rest,
-        Err(_) => struck(&scenario, 3)?,
-    };
-    let reading = replayed(&rt, rt.alloc(), 3, 0, &scenario, &rest)?;
+    let reading = without_third(&rt, rt.alloc())?;
     let wanted = [
         both(pick(1, 1), pick(2, 1)),
         both(pick(1, 2), pick(2, 2)),
         IDLE,
     ];
-    assert_eq!(rt; reading.places.as_slice(), wanted.as_slice());
+    has_places(&rt, &reading, &wanted);
     Ok(())
 }
 
@@ -272,7 +342,7 @@ fn for_a_delay_in_the_past(rt: HostRuntime) -> Result<(), Fail> {
     let scenario = scenario_again(rt.alloc(), settings, &[join(0, 1, 1, 2, 0)])?;
     let reading = inserted(&rt, rt.alloc(), 6, &scenario, delay(2, 1, 3))?;
     let wanted = [alone(1, 1), IDLE, IDLE, IDLE, IDLE, alone(1, 2)];
-    assert_eq!(rt; reading.places.as_slice(), wanted.as_slice());
+    has_places(&rt, &reading, &wanted);
     Ok(())
 }
 
@@ -280,7 +350,7 @@ fn for_a_delay_in_the_past(rt: HostRuntime) -> Result<(), Fail> {
 fn for_a_delay_with_a_denial(rt: HostRuntime) -> Result<(), Fail> {
     let scenario = leaver(rt.alloc())?;
     let reading = inserted(&rt, rt.alloc(), 4, &scenario, delay(0, 1, 1))?;
-    check_delayed(&rt, &reading);
+    is_delayed(&rt, &reading);
     Ok(())
 }
 
@@ -289,6 +359,6 @@ fn for_a_limit_in_the_past(rt: HostRuntime) -> Result<(), Fail> {
     let scenario = three_tasks(rt.alloc())?;
     let reading = inserted(&rt, rt.alloc(), 3, &scenario, limit(1, 1))?;
     let wanted = [both(pick(1, 1), pick(2, 1)), alone(3, 1), alone(1, 2)];
-    assert_eq!(rt; reading.places.as_slice(), wanted.as_slice());
+    has_places(&rt, &reading, &wanted);
     Ok(())
 }
