@@ -16,13 +16,13 @@ returns-then-not-has_replies-clause-ok g c =
 
 pub put_replies-requires-clause-places : goal.put_replies-requires-clause-places
 put_replies-requires-clause-places g c =
-    let same = ap₂ drop (c.len-answered.ensures.value ∙ ap length c.history-answered.ensures.value) c.history.ensures.value in
+    let same = ap₂ drop (c.len-answered.ensures.value ∙ ap length c.history.ensures.value) c.history-2.ensures.value in
     subst (All (λ e. HasFewPlaces e.reply)) (sym same)
     (answered_places _ c.args.edits.now c.args.self.now.desk c.apply_all.new.self c.in_ok-apply_all.ensures.ok c.requires.plain)
 
 pub returns-clause-ok : goal.returns-clause-ok
 returns-clause-ok g c =
-    let same = ap₂ drop (c.len-answered.ensures.value ∙ ap length c.history-answered.ensures.value) c.history.ensures.value in
+    let same = ap₂ drop (c.len-answered.ensures.value ∙ ap length c.history.ensures.value) c.history-2.ensures.value in
     all_shown _ c.args.edits.now c.args.self.now _ c.in_ok-apply_all.ensures.ok c.put_replies.result _ _ refl
     (sym c.has_replies.ensures ∙ c.if-not-has_replies.false)
     (subst (λ es. OnOk c.put_replies.result (TookAllBut c.put_replies.new.text (g.W.Write.contents c.args.writer.now) (g.W.Write.contents c.put_replies.new.writer)
@@ -30,7 +30,7 @@ returns-clause-ok g c =
 
 pub returns-clause-err : goal.returns-clause-err
 returns-clause-err g c =
-    let same = ap₂ drop (c.len-answered.ensures.value ∙ ap length c.history-answered.ensures.value) c.history.ensures.value in
+    let same = ap₂ drop (c.len-answered.ensures.value ∙ ap length c.history.ensures.value) c.history-2.ensures.value in
     all_stopped _ c.args.edits.now c.args.self.now
     (record { desk = c.apply_all.new.self; meter = c.apply_all.new.meter; lines = c.args.self.now.lines; format = c.args.self.now.format })
     c.in_ok-apply_all.ensures.ok c.put_replies.result _ _
