@@ -1,5 +1,5 @@
 -- Entries beside their callers' numbers.
-use Rattle.std.proofs.Common.{◌≡◌, ℕ, List, [], ◌∷◌, ◌++◌, refl, sym, ap, ◌∙◌}
+use Rattle.std.proofs.Common.{◌≡◌, ℕ, suc, List, [], ◌∷◌, ◌++◌, length, refl, sym, ap, ◌∙◌}
 use mathlib.Core.List.{IsPrefix}
 use Rattle.pf_desk.specs.declared.entry.Entry.{Entry}
 use Rattle.pf_share.specs.Histories.{numbered, entries_of}
@@ -7,6 +7,10 @@ use Rattle.pf_share.specs.Histories.{numbered, entries_of}
 pub entries_numbered : (log : List Entry) → entries_of (numbered log) ≡ log
 entries_numbered [] = refl
 entries_numbered (e ∷ log) = ap (λ l. e ∷ l) (entries_numbered log)
+
+pub length_numbered : (log : List Entry) → length (numbered log) ≡ length log
+length_numbered [] = refl
+length_numbered (e ∷ log) = ap suc (length_numbered log)
 
 pub entries_append : (xs ys : List (ℕ × Entry)) → entries_of (xs ++ ys) ≡ entries_of xs ++ entries_of ys
 entries_append [] ys = refl

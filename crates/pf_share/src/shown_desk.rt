@@ -153,6 +153,8 @@ impl<N: Naming, H: Wait + Drop> ShownDesk<N, H> {
         self.stamp = stamp;
         let turn = board.turn(&mut self.keeper);
         let reply = self.desk.commit(prepared);
+        // That the entries can be counted is known once they are.
+        let _ = self.desk.history().len();
         let entry = Entry {
             caller,
             command,

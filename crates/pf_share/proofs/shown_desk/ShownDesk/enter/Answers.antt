@@ -1,4 +1,4 @@
-use Rattle.std.proofs.Common.{◌++◌, ◌∷◌, [], ap, sym, ◌∙◌, subst}
+use Rattle.std.proofs.Common.{◌++◌, ◌∷◌, [], length, length-append, ap, sym, ◌∙◌, subst, arith}
 use Rattle.pf_board.specs.Passes.{IsIn}
 use Rattle.pf_board.specs.Quanta.{is_step}
 use Rattle.pf_desk.specs.Desk.{entry_of}
@@ -7,6 +7,7 @@ use Rattle.pf_share.specs.Histories.{quanta_of, asks_step, is_step_command}
 use Rattle.pf_share.specs.Locked.{origin_of}
 use Rattle.pf_share.proofs.Awaiting.{awaits}
 use Rattle.pf_share.proofs.Entering.{stamp_after, committed, committed_history, committed_numbered, entered, keeper_after, settings_stay}
+use Rattle.pf_share.proofs.Numbering.{length_numbered}
 use Rattle.pf_share.proofs.Rising.{steps_ask}
 use Rattle.pf_share.proofs.shown_desk.ShownDesk.enter.Goals as goal
 
@@ -27,6 +28,17 @@ note-front-requires-clause-legal g c =
     c.self.invariant.is_desk c.commit-reply.ensures.desk c.me-caller.ensures.number c.in_ok-prepared.ensures.entry c.commit-reply.ensures.answers c.self.invariant.seen c.turn-turn.ensures.turn in
     committed_history c.args.board.now.terms c.args.pass.now.me c.args.command s.desk c.commit-reply.new.self c.turn-turn.result.whole c.commit-reply.result e
     (c.self.invariant.settings ∙ ap (λ b. b.terms) (sym c.requires.board.0)) is
+
+pub note-front-requires-clause-room : goal.note-front-requires-clause-room
+note-front-requires-clause-room g c =
+    let s = c.self.inside in
+    let e = entry_of c.me-caller.result c.args.command c.commit-reply.result in
+    let is = committed c.args.pass.now.me c.me-caller.result c.args.command c.args.self.now.desk s.desk c.commit-reply.new.self s.keeper c.turn-turn.result c.in_ok-prepared.prepared c.commit-reply.result
+    c.self.invariant.is_desk c.commit-reply.ensures.desk c.me-caller.ensures.number c.in_ok-prepared.ensures.entry c.commit-reply.ensures.answers c.self.invariant.seen c.turn-turn.ensures.turn in
+    let whole = committed_numbered c.args.pass.now.me c.args.command s.desk c.commit-reply.new.self c.turn-turn.result.whole c.commit-reply.result e is in
+    let counted = c.len.ensures.value ∙ ap length c.history.ensures.value in
+    let small = c.len.ensures.small in
+    omega (arith, small, counted, ap length whole, length-append c.turn-turn.result.whole ((c.args.pass.now.me, e) ∷ []), length_numbered c.commit-reply.new.self.history)
 
 pub note-front-requires-clause-step : goal.note-front-requires-clause-step
 note-front-requires-clause-step g c step =
