@@ -7,7 +7,7 @@ ghost use Rattle.pf_script.specs.Grammar.{opening_of};
 ghost use Rattle.pf_words.specs.FailLists.{on_nothing};
 ghost use Rattle.pf_cli.specs.declared.fault.RunFault.TheVariants.{ReadFault};
 ghost use Rattle.pf_cli.specs.Answers.{Answers, CountsReads, CountsWrites, IsOutside, IsPastReading};
-ghost use Rattle.pf_cli.specs.Ended.{course_through, fails_on, script_course};
+ghost use Rattle.pf_cli.specs.Ended.{course_through, fails_on, is_failing, script_course};
 ghost use Rattle.pf_cli.specs.Meaning.{script_meaning, settings_meaning, lines_meaning, text_and_then, course_opened_by};
 ghost use Rattle.pf_cli.specs.Session.{course_at};
 
@@ -27,7 +27,7 @@ use pf_stream::sink::Sink;
 use pf_stream::source::Source;
 use pf_words::fail_on::FailOn;
 use pf_words::format::Format;
-use std::alloc::Global;
+use std::alloc::{AllocError, Global};
 
 /// Reads a whole script, carries it out, and writes its replies and its report in the format: what it writes, and how it
 /// ends, is what the script's bytes mean. Plain edits that follow one another, from the first of them that touches a slot
@@ -58,7 +58,10 @@ pub fn run<R: Source, W: Sink>(
     ensures writes { CountsWrites result (W.failed writer.old) (W.failed writer.new) }
 {
     match run_to_end(alloc, reader, writer, format) {
-        Ok(_) => Ok(()),
+        Ok(desk) => {
+            let_go(desk);
+            Ok(())
+        }
         Err(fault) => Err(fault),
     }
 }
@@ -91,9 +94,23 @@ pub fn run_judged<R: Source, W: Sink>(
     ensures writes { CountsWrites result (W.failed writer.old) (W.failed writer.new) }
 {
     match run_to_end(alloc, reader, writer, format) {
-        Ok(desk) => Ok(is_failing(&desk, fail_on)?),
+        Ok(desk) => Ok(judge(desk, fail_on)?),
         Err(fault) => Err(fault),
     }
+}
+
+/// Lets a desk go, by a call of its own: so nobody else looks at its parts.
+fn let_go(_desk: Desk) {}
+
+/// Whether a run fails on this that ended with this desk, which is let go.
+///
+/// # Errors
+///
+/// Where memory is refused.
+fn judge(desk: Desk, fail_on: FailOn) -> Result<bool, AllocError>
+    ensures { IfOk result (λ failing. failing ≡ is_failing fail_on (course_at desk)) }
+{
+    is_failing(&desk, fail_on)
 }
 
 /// Does what `run` does, and answers the desk at the end.
