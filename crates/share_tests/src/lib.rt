@@ -17,7 +17,6 @@ mod passes;
 #[cfg(test)]
 mod planners;
 #[cfg(test)]
-mod race;
 #[cfg(test)]
 mod refused;
 #[cfg(test)]
