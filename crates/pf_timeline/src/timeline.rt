@@ -268,6 +268,14 @@ impl Timeline {
         self.denials.as_slice()
     }
 
+    /// The denials of its slots, in run order, as they are kept: a copy shares them, so it costs the same however many there
+    /// are.
+    pub fn shared_denials(&self) -> &SharedVec<Denied>
+        ensures { result.now.items ≡ self.now.denials }
+    {
+        &self.denials
+    }
+
     /// How many slots it has.
     pub fn now(&self) -> u64
         ensures { result ≡ self.now.now }
