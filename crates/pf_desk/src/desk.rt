@@ -209,7 +209,7 @@ impl Desk {
             version,
             &scenario,
             timeline.rows(),
-            timeline.denials(),
+            timeline.shared_denials(),
         )?;
         let snapshot = match Arc::new(alloc, shown) {
             Ok(snapshot) => snapshot,
@@ -574,7 +574,7 @@ impl Desk {
             self.history.len() as u64,
             &self.scenario,
             self.timeline.rows(),
-            self.timeline.denials(),
+            self.timeline.shared_denials(),
         )
     }
 

@@ -7,6 +7,7 @@ ghost use Rattle.pf_tally.specs.Lags.{lags_of};
 ghost use Rattle.pf_tally.specs.Misses.{misses_of};
 ghost use Rattle.pf_tally.specs.Figures.{figures_of};
 
+use pf_list::shared_vec::SharedVec;
 use pf_place::row_view::RowView;
 use pf_place::rows::Rows;
 use pf_run::denied::Denied;
@@ -23,10 +24,11 @@ use std::marker::Model;
 /// What a desk showed at one point of its history.
 #[derive(Debug, Drop)]
 pub struct Snapshot {
+    alloc: Global,
     version: u64,
     scenario: Scenario,
     rows: Rows,
-    denials: Vec<Denied>,
+    denials: SharedVec<Denied>,
 }
 
 impl Model for Snapshot {
@@ -43,7 +45,7 @@ impl Model for Snapshot {
 
 impl Snapshot {
     /// The snapshot of a history of `version` entries that ends in this scenario with these rows and denials, those of
-    /// its run.
+    /// its run. It shares the denials, the events and the full blocks of rows, so it costs the same however many there are.
     ///
     /// # Errors
     ///
@@ -53,16 +55,17 @@ impl Snapshot {
         version: u64,
         scenario: &Scenario,
         rows: &Rows,
-        denials: &[Denied],
+        denials: &SharedVec<Denied>,
     ) -> Result<Self, AllocError>
-        requires { AreOfRun scenario.now (length rows.now) rows.now denials.now }
+        requires { AreOfRun scenario.now (length rows.now) rows.now denials.now.items }
         ensures { IfOk result
-            (λ s. s ≡ record { version = version; state = record { plan = scenario.now; now = length rows.now }; rows = rows.now; denials = denials.now }) }
+            (λ s. s ≡ record { version = version; state = record { plan = scenario.now; now = length rows.now }; rows = rows.now; denials = denials.now.items }) }
     {
         let scenario = scenario.copy()?;
         let rows = rows.copy()?;
-        let denials = Vec::from_slice(alloc, denials)?;
+        let denials = denials.copy()?;
         Ok(Snapshot {
+            alloc,
             version,
             scenario,
             rows,
@@ -136,10 +139,10 @@ impl Snapshot {
         ensures { IfOk result (λ v. v.items ≡ lags_of self.now.state.plan (run_of self.now.state.plan self.now.state.now)) }
     {
         lags::lags(
-            *self.denials.allocator(),
+            self.alloc,
             &self.scenario,
             &self.rows,
-            &self.denials,
+            self.denials.as_slice(),
         )
     }
 
@@ -152,12 +155,13 @@ impl Snapshot {
         ensures { IfOk result (λ v. v.items ≡ misses_of self.now.state.plan (run_of self.now.state.plan self.now.state.now)) }
     {
         misses::misses(
-            *self.denials.allocator(),
+            self.alloc,
             &self.scenario,
             &self.rows,
-            &self.denials,
+            self.denials.as_slice(),
         )
     }
+
     /// What every simulator tells of each task admitted in a slot below now, by task number.
     ///
     /// # Errors
@@ -167,10 +171,10 @@ impl Snapshot {
         ensures { IfOk result (λ v. v.items ≡ figures_of self.now.state.plan (run_of self.now.state.plan self.now.state.now) self.now.rows) }
     {
         task_figures::task_figures(
-            *self.denials.allocator(),
+            self.alloc,
             &self.scenario,
             &self.rows,
-            &self.denials,
+            self.denials.as_slice(),
         )
     }
 }

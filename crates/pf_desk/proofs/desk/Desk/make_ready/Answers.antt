@@ -5,18 +5,18 @@ use Rattle.pf_desk.proofs.desk.Desk.make_ready.Goals as goal
 use Rattle.pf_desk.proofs.desk.Desk.make_ready.Goals.{After-of-2}
 
 pub of-requires : goal.of-requires
-of-requires c = rw (c.rows.ensures, c.denials.ensures) (stood_of_run _ _ c.requires.stands)
+of-requires c = rw (c.rows.ensures, c.shared_denials.ensures) (stood_of_run _ _ c.requires.stands)
 
 ready : (c : After-of-2) →
     Readies c.self.inside.scenario c.self.inside.timeline c.self.inside.history.entries c.self.inside.history.spare
     c.args.caller c.args.command c.args.outcome
-    (c.len.result + 1) c.rows.result.now c.denials.result.now (arc_value c.in-Ok.snapshot)
+    (c.len.result + 1) c.rows.result.now c.shared_denials.result.now.items (arc_value c.in-Ok.snapshot)
 ready c = record {
   is = c.self.invariant.keeps;
   outcome = rw (← c.self.view_is) at c.requires;
   version_is = omega (arith, c.len.ensures.value);
   rows_are = c.rows.ensures;
-  denials_are = c.denials.ensures;
+  denials_are = c.shared_denials.ensures;
   shows = c.in-Ok.ensures.ok ∙ c.in_ok-shown.ensures;
 }
 
