@@ -38,8 +38,8 @@ impl Kept {
     }
 }
 
-/// The commands that took no slot, each with its answer. An edit that was made takes 40 bytes, where each of its numbers is
-/// below 2^32; any other stands apart too.
+/// The commands that took no slot, each with its answer. An edit that was made or has a fault takes 40 bytes, where each of its
+/// numbers is below 2^32; any other command stands apart too.
 #[derive(Debug, Drop)]
 pub(crate) struct Settlements {
     kept: Vec<Kept>,

@@ -1,12 +1,14 @@
 ghost use Rattle.std.specs.Prelude.{◌≡◌, true};
-ghost use Rattle.pf_desk.specs.Small.{is_small_change, is_small, change_of, settled_of_edit};
+ghost use Rattle.pf_desk.specs.Small.{is_small_change, is_small_beside, is_small, number_named, change_of, settled_of_edit};
 
 use crate::command::Command;
+use crate::reply::Fault;
 use crate::settled::{Answer, Settled};
 use crate::small_event::{LARGEST, SmallEvent};
 use pf_scenario::change::Change;
+use pf_scenario::fault::EditFault;
 
-/// A change that was made, in small. The number of the event that it concerns stands beside it.
+/// A change in small. The number of the event that it concerns stands beside it.
 #[derive(Clone, Copy, Debug)]
 enum SmallChange {
     Insert(SmallEvent),
@@ -50,24 +52,30 @@ impl SmallChange {
     }
 }
 
-/// An edit that was made, with its answer, in small.
+/// An edit that was made or has a fault, with its answer, in small.
 #[derive(Clone, Copy, Debug)]
 pub(crate) struct SmallEdit {
     change: SmallChange,
     strict: bool,
+
+    /// Why it was refused, where it was.
+    fault: Option<EditFault>,
+
+    /// The number of the event concerned, and 0 where an insert was refused.
     id: u32,
 }
 
 const _: () = prove!(size_of::<SmallEdit>() == 36);
 
 impl SmallEdit {
-    /// Whether the command is an edit that was made and has a small form.
+    /// Whether the command is an edit that was made or has a fault, and has a small form.
     pub(crate) fn fits(settled: &Settled) -> bool
         ensures { result ≡ is_small settled.now }
     {
         match (&settled.command, &settled.answer) {
-            (Command::Edit { change, .. }, Answer::Edited { id }) => {
-                *id <= LARGEST && SmallChange::fits(change, *id)
+            (Command::Edit { change, .. }, Answer::Edited { id }) => { fits_beside(change, *id) }
+            (Command::Edit { change, .. }, Answer::Refused(Fault::BadEdit(_))) => {
+                fits_beside(change, number_named(change))
             }
             _ => false,
         }
@@ -82,8 +90,18 @@ impl SmallEdit {
             (Command::Edit { change, strict }, Answer::Edited { id }) => SmallEdit {
                 change: SmallChange::of(change, id),
                 strict,
+                fault: None,
                 id: id as u32,
             },
+            (Command::Edit { change, strict }, Answer::Refused(Fault::BadEdit(fault))) => {
+                let id = number_named(&change);
+                SmallEdit {
+                    change: SmallChange::of(change, id),
+                    strict,
+                    fault: Some(fault),
+                    id: id as u32,
+                }
+            }
             _ => unreachable!(),
         }
     }
@@ -93,12 +111,33 @@ impl SmallEdit {
         ensures { result ≡ settled_of_edit self }
     {
         let id = self.id.into();
+        let answer = match self.fault {
+            Some(fault) => Answer::Refused(Fault::BadEdit(fault)),
+            None => Answer::Edited { id },
+        };
         Settled {
             command: Command::Edit {
                 change: self.change.change(id),
                 strict: self.strict,
             },
-            answer: Answer::Edited { id },
+            answer,
         }
     }
+}
+
+/// The number of the event that the change names, and 0 where it names none.
+fn number_named(change: &Change) -> u64
+    ensures { result ≡ number_named change.now }
+{
+    match change {
+        Change::Insert(_) => 0,
+        Change::Alter(id, _) | Change::Strike(id) => *id,
+    }
+}
+
+/// Whether the change has a small form beside this number, which is that of the event concerned.
+fn fits_beside(change: &Change, id: u64) -> bool
+    ensures { result ≡ is_small_beside id change.now }
+{
+    id <= LARGEST && SmallChange::fits(change, id)
 }
