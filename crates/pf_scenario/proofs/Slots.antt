@@ -1,12 +1,12 @@
 -- The events of a slot, found by their places.
-use Rattle.std.proofs.Common.{◌≡◌, ℕ, ◌+◌, ◌<◌, ◌≤◌, Some, None, List, [], ◌∷◌, ◌++◌, map, get_or, refl, sym, ap, ◌∙◌, subst, arith, inl, inr}
+use Rattle.std.proofs.Common.{◌≡◌, ℕ, ◌+◌, ◌<◌, ◌≤◌, false, true, Some, None, List, [], ◌∷◌, ◌++◌, length, map, get_or, refl, sym, ap, ◌∙◌, subst, arith, inl, inr}
 use Rattle.std.specs.Prelude.{nat_le}
 use Rattle.std.specs.List.{All, AllPairs, filter}
 use Rattle.std.specs.declared.ops.Bound.TheVariants.{Included, Excluded}
-use Rattle.std.specs.Ordering.{is_le}
+use Rattle.std.specs.Ordering.{is_le, is_lt}
 use Rattle.std.specs.Option.{unwrap_or}
 use Rattle.std.specs.BTreeMap.Range.{range_contains}
-use Rattle.std.proofs.lemmas.Bool.{cases_Bool, cond-false, eq-eqb, ne_eqb}
+use Rattle.std.proofs.lemmas.Bool.{cases_Bool, cond-false, eq-eqb, ne_eqb, true≢false}
 use Rattle.std.proofs.lemmas.Bool.Decides.{nat_tests}
 use Rattle.std.proofs.lemmas.List.{append_assoc, append-nil}
 use Rattle.std.proofs.lemmas.List.Elements.{All-nil, All-cons, All-head, All-tail, All-filter}
@@ -52,6 +52,39 @@ filter_places t (x ∷ xs) =
 
 pub slot_places : (t : ℕ) (events : List Numbered) → filter (range_contains place_cmp (Included (first_of t)) (Excluded (first_of (t + 1)))) (places_of events) ≡ map place_of (in_run_order (filter (is_of_slot t) events))
 slot_places t events = filter_places t (in_time_order events) ∙ ap (map place_of) (slot_in_time events t)
+
+-- the later of two places is not in an earlier slot
+not_before : (k q : Place) → is_lt (place_cmp k q) ≡ false → q.slot ≤ k.slot
+not_before k q h = grind (arith, nat_tests)
+
+-- a slot behind all places has none of them
+none_between : (t : ℕ) (ps : List Place) → All (λ q. q.slot < t) ps → filter (range_contains place_cmp (Included (first_of t)) (Excluded (first_of (t + 1)))) ps ≡ []
+none_between t [] h = refl
+none_between t (q ∷ ps) h =
+    let low = All-head (λ (q : Place). q.slot < t) q ps h in
+    cond-false (range_contains place_cmp (Included (first_of t)) (Excluded (first_of (t + 1))) q) _ _ (rw (from_first t q, from_first (t + 1) q) (grind (arith, nat_tests)))
+    ∙ none_between t ps (All-tail (λ (q : Place). q.slot < t) q ps h)
+
+none_placed : (xs : List Numbered) → map place_of xs ≡ [] → xs ≡ []
+none_placed [] h = refl
+none_placed (x ∷ xs) h = absurd (cc)
+
+-- Use: the last of the places is before the slot.
+pub behind_last : (t : ℕ) (events : List Numbered) (last : Place) → All (λ q. is_lt (place_cmp last q) ≡ false) (places_of events) → last.slot < t → in_run_order (filter (is_of_slot t) events) ≡ []
+behind_last t events last up_to before =
+    none_placed _ (sym (slot_places t events) ∙ none_between t (places_of events) (λ k d low. omega (arith, not_before last (get_or (places_of events) k d) (up_to k d low))))
+
+no_places : (ps : List Place) → (0 < length ps → false ≡ true) → ps ≡ []
+no_places [] h = refl
+no_places (p ∷ ps) h = absurd (off (h (omega arith)))
+  where
+    off : false ≡ true → ⊥
+    off h = true≢false (sym h)
+
+-- Use: there are no places.
+pub behind_none : (t : ℕ) (events : List Numbered) → (0 < length (places_of events) → false ≡ true) → in_run_order (filter (is_of_slot t) events) ≡ []
+behind_none t events h =
+    none_placed _ (sym (slot_places t events) ∙ ap (filter (range_contains place_cmp (Included (first_of t)) (Excluded (first_of (t + 1))))) (no_places (places_of events) h))
 
 -- each event is found by its number
 own_events : (events : List Numbered) → Pairs (λ x y. x.id < y.id) events → All (λ y. event_at events y.id ≡ Some y.event) events

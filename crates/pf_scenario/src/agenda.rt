@@ -147,6 +147,16 @@ impl Agenda {
         }
     }
 
+    /// Whether each event is of a slot before t, so that t has none.
+    fn is_behind(&self, t: u64) -> bool
+        ensures { result ≡ true → in_run_order (filter (is_of_slot t) self.now) ≡ [] }
+    {
+        match self.order.last() {
+            Some(last) => u64::from(last.slot) < t,
+            None => true,
+        }
+    }
+
     /// The events of slot t, in the order of a run.
     ///
     /// # Errors
@@ -157,6 +167,9 @@ impl Agenda {
     {
         let mut events = Vec::new(*self.joins.allocator());
         if t >= WIDE_HORIZON {
+            return Ok(events);
+        }
+        if self.is_behind(t) {
             return Ok(events);
         }
         let slot = t as u32;

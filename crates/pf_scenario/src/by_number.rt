@@ -1,7 +1,7 @@
-ghost use Rattle.std.specs.Prelude.{◌≡◌, ◌<◌, true, [], ◌∷◌, ◌++◌, length, All, AllPairs, IfOk, OnOk, OnErr};
+ghost use Rattle.std.specs.Prelude.{◌≡◌, ◌<◌, true, [], ◌∷◌, ◌++◌, length, All, AllPairs, IfSome, IfOk, OnOk, OnErr};
 ghost use Rattle.pf_scenario.specs.Scenario.{with_number, is_held, events_without};
 ghost use Rattle.pf_scenario.specs.Index.{event_at, with_event};
-ghost use Rattle.pf_scenario.specs.Cards.{AreRising, IsPlaceOf, IsSmall, listed};
+ghost use Rattle.pf_scenario.specs.Cards.{AreRising, IsCardAt, IsPlaceOf, IsSmall, listed};
 
 use crate::card::Card;
 use crate::event::{Event, Numbered};
@@ -37,7 +37,22 @@ fn place_of(cards: &[Card], id: u64) -> Option<usize>
     requires { AreRising cards.now }
     ensures { IsPlaceOf cards.now id result }
 {
+    if let Some(at) = place_in_row(cards, id) {
+        return Some(at);
+    }
     cards.binary_search_by_key(&id, |card| card.id()).ok()
+}
+
+/// Where the card of this number is, if no number from the first card's to this one is missing.
+fn place_in_row(cards: &[Card], id: u64) -> Option<usize>
+    ensures { IfSome result (λ at. IsCardAt cards.now id at) }
+{
+    let first = cards.first()?;
+    let at = id.checked_sub(first.id())? as usize;
+    if cards.get(at)?.id() != id {
+        return None;
+    }
+    Some(at)
 }
 
 /// Drops the cards of this number and above. Those are struck, as no event has such a number.
