@@ -8,3 +8,5 @@ mod calendar;
 mod heap;
 #[cfg(test)]
 mod keys;
+#[cfg(test)]
+mod refused;

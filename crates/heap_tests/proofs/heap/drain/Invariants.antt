@@ -1,5 +1,5 @@
-use Rattle.std.proofs.Common.{◌≡◌, length}
+use Rattle.std.proofs.Common.{◌<◌, length}
 use Rattle.heap_tests.proofs.heap.drain.Given as goal
 
 abbrev pub invariant-loop-task : goal.invariant-loop-task
-invariant-loop-task g l = length l.arena.lists ≡ length l.initial.arena.lists
+invariant-loop-task g l = l.h < length l.arena.lists

@@ -1,8 +1,8 @@
 use Rattle.std.proofs.Common.{◌≡◌, ◌+◌, length}
-use Rattle.heap_tests.proofs.heap.growths_that_are_refused.Given as goal
+use Rattle.heap_tests.proofs.heap.nine_again.Given as goal
 
 abbrev pub invariant-loop-i : goal.invariant-loop-i
 invariant-loop-i g l = record {
   lists : length l.arena.lists ≡ l._i + 1;
-  first : l.first ≡ 0;
+  first : l.h ≡ 0;
 }
