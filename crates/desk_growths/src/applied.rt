@@ -2,7 +2,8 @@
 
 use crate::commands::{join, strike};
 use crate::plans::{a_whole, two_steps_of_three_tasks};
-use crate::told::{keeps, kept, shows, tell_reply};
+use crate::refused::say;
+use crate::told::{is_text, keeps, kept, shows, tell_reply};
 use pf_desk::command::Command;
 use pf_desk::command::Command::Step;
 use pf_desk::desk::Desk;
@@ -23,14 +24,14 @@ fn apply_again(
     alloc: Global,
     desk: &mut Desk,
     command: Command,
-) -> Result<Reply, Fail> {
+) -> Result<Reply, AllocError> {
     let before = kept(alloc, desk)?;
     match apply(desk, command) {
         Ok(reply) => Ok(reply),
-        Err(_) => {
-            println!(rt; "refused: Desk::apply")?;
+        Err(AllocError) => {
+            say(rt, "Desk::apply");
             keeps(rt, alloc, desk, before.as_str())?;
-            Ok(apply(desk, command)?)
+            apply(desk, command)
         }
     }
 }
@@ -42,23 +43,39 @@ fn line_once(alloc: Global, reply: &Reply) -> Result<String, AllocError> {
     Ok(text)
 }
 
-/// Fails where the reply is another one. Memory may be refused once.
-fn is_told(rt: &impl Abort, alloc: Global, reply: &Reply, wanted: &str) -> Result<(), Fail> {
-    let line = match line_once(alloc, reply) {
-        Ok(line) => line,
-        Err(_) => line_once(alloc, reply)?,
-    };
-    assert_eq!(rt; line.as_str(), wanted);
+/// The same, though memory may be refused once.
+fn line(alloc: Global, reply: &Reply) -> Result<String, AllocError> {
+    match line_once(alloc, reply) {
+        Ok(line) => Ok(line),
+        Err(AllocError) => line_once(alloc, reply),
+    }
+}
+
+/// Carries a command out, and fails where the reply is another one.
+fn is_told(
+    rt: &(impl Abort + Print),
+    alloc: Global,
+    desk: &mut Desk,
+    command: Command,
+    wanted: &str,
+) -> Result<(), AllocError> {
+    let reply = apply_again(rt, alloc, desk, command)?;
+    let line = line(alloc, &reply)?;
+    is_text(rt, line.as_str(), wanted);
     Ok(())
+}
+
+/// Takes a slot.
+fn step(rt: &(impl Abort + Print), alloc: Global, mut desk: Desk) -> Result<(), AllocError> {
+    is_told(rt, alloc, &mut desk, Step, "slot 2: 2/2 3/2\n")?;
+    let wanted = "6 entries\nrows | 1/1 2/1 | 1/2 3/1 | 2/2 3/2\n";
+    shows(rt, alloc, &desk, wanted)
 }
 
 #[test]
 fn a_step(rt: HostRuntime) -> Result<(), Fail> {
-    let mut desk = two_steps_of_three_tasks(rt.alloc())?;
-    let reply = apply_again(&rt, rt.alloc(), &mut desk, Step)?;
-    is_told(&rt, rt.alloc(), &reply, "slot 2: 2/2 3/2\n")?;
-    let wanted = "6 entries\nrows | 1/1 2/1 | 1/2 3/1 | 2/2 3/2\n";
-    shows(&rt, rt.alloc(), &desk, wanted)
+    let desk = two_steps_of_three_tasks(rt.alloc())?;
+    Ok(step(&rt, rt.alloc(), desk)?)
 }
 
 /// The number of the event, where an edit was made.
@@ -69,24 +86,55 @@ fn event_of(reply: &Reply) -> Option<u64> {
     }
 }
 
+/// A task joins in slot 1, and the event has the task's number.
+fn join_next(
+    rt: &(impl Abort + Print),
+    alloc: Global,
+    desk: &mut Desk,
+    task: u64,
+) -> Result<(), AllocError> {
+    let reply = apply_again(rt, alloc, desk, join(1, task, 1, 2))?;
+    assert_eq!(rt; event_of(&reply), Some(task));
+    Ok(())
+}
+
+/// Twenty tasks join.
+fn join_all(rt: &(impl Abort + Print), alloc: Global, desk: &mut Desk) -> Result<(), AllocError> {
+    for task in 2..22 {
+        join_next(rt, alloc, desk, task)?;
+    }
+    Ok(())
+}
+
+/// What a desk of a task of weight 1/1 shows after a step, and twenty commands that change no row.
+const TWENTY_MORE: &str = "22 entries\nrows | 1/1\n";
+
 /// So many that each part of the desk grows.
 #[test]
 fn joins_ahead(rt: HostRuntime) -> Result<(), Fail> {
     let mut desk = a_whole(rt.alloc())?;
-    for task in 2..22 {
-        let reply = apply_again(&rt, rt.alloc(), &mut desk, join(1, task, 1, 2))?;
-        assert_eq!(rt; event_of(&reply), Some(task));
+    join_all(&rt, rt.alloc(), &mut desk)?;
+    Ok(shows(&rt, rt.alloc(), &desk, TWENTY_MORE)?)
+}
+
+/// Twenty strikes of no event.
+fn strike_all(rt: &(impl Abort + Print), alloc: Global, desk: &mut Desk) -> Result<(), AllocError> {
+    for _ in 0..20 {
+        is_told(
+            rt,
+            alloc,
+            desk,
+            strike(7),
+            "refused BadEdit(EventNotFound)\n",
+        )?;
     }
-    shows(&rt, rt.alloc(), &desk, "22 entries\nrows | 1/1\n")
+    Ok(())
 }
 
 /// So many that the history grows.
 #[test]
 fn strikes_of_nothing(rt: HostRuntime) -> Result<(), Fail> {
     let mut desk = a_whole(rt.alloc())?;
-    for _ in 0..20 {
-        let reply = apply_again(&rt, rt.alloc(), &mut desk, strike(7))?;
-        is_told(&rt, rt.alloc(), &reply, "refused BadEdit(EventNotFound)\n")?;
-    }
-    shows(&rt, rt.alloc(), &desk, "22 entries\nrows | 1/1\n")
+    strike_all(&rt, rt.alloc(), &mut desk)?;
+    Ok(shows(&rt, rt.alloc(), &desk, TWENTY_MORE)?)
 }

@@ -2,10 +2,11 @@
 
 use crate::commands::{delay, limit, strike};
 use crate::plans::{a_leave, apply_all, three_tasks};
+use crate::refused::say;
 use crate::told::{keeps, kept, shows};
 use pf_desk::command::Command;
 use pf_desk::desk::Desk;
-use std::alloc::Global;
+use std::alloc::{AllocError, Global};
 use std::process::Abort;
 use std::test::Fail;
 
@@ -15,41 +16,52 @@ fn edit_again(
     alloc: Global,
     desk: &mut Desk,
     edits: &[Command],
-) -> Result<(), Fail> {
+) -> Result<(), AllocError> {
     let before = kept(alloc, desk)?;
     match apply_all(desk, edits) {
         Ok(()) => Ok(()),
-        Err(_) => {
-            println!(rt; "refused: Desk::apply_all")?;
+        Err(AllocError) => {
+            say(rt, "Desk::apply_all");
             keeps(rt, alloc, desk, before.as_str())?;
-            Ok(apply_all(desk, edits)?)
+            apply_all(desk, edits)
         }
     }
 }
 
+/// Carries out plain edits, and fails where the desk then shows anything else.
+fn show_edited(
+    rt: &(impl Abort + Print),
+    alloc: Global,
+    mut desk: Desk,
+    edits: &[Command],
+    wanted: &str,
+) -> Result<(), AllocError> {
+    edit_again(rt, alloc, &mut desk, edits)?;
+    shows(rt, alloc, &desk, wanted)
+}
+
 #[test]
 fn of_two_limits(rt: HostRuntime) -> Result<(), Fail> {
-    let mut desk = three_tasks(rt.alloc())?;
-    edit_again(&rt, rt.alloc(), &mut desk, &[limit(1, 1), limit(2, 2)])?;
+    let desk = three_tasks(rt.alloc())?;
+    let edits = [limit(1, 1), limit(2, 2)];
     let wanted = "8 entries\nrows | 1/1 2/1 | 3/1 - | 1/2 2/2\n";
-    shows(&rt, rt.alloc(), &desk, wanted)
+    Ok(show_edited(&rt, rt.alloc(), desk, &edits, wanted)?)
 }
 
 /// The second strike finds no event, and is refused.
 #[test]
 fn of_two_strikes(rt: HostRuntime) -> Result<(), Fail> {
-    let mut desk = three_tasks(rt.alloc())?;
-    edit_again(&rt, rt.alloc(), &mut desk, &[strike(3), strike(3)])?;
+    let desk = three_tasks(rt.alloc())?;
+    let edits = [strike(3), strike(3)];
     let wanted = "8 entries\nrows | 1/1 2/1 | 1/2 2/2 | - -\n";
-    shows(&rt, rt.alloc(), &desk, wanted)
+    Ok(show_edited(&rt, rt.alloc(), desk, &edits, wanted)?)
 }
 
 /// The delay denies the leave, and once it is struck, it does no more; a third edit delays again.
 #[test]
 fn of_delays(rt: HostRuntime) -> Result<(), Fail> {
-    let mut desk = a_leave(rt.alloc())?;
+    let desk = a_leave(rt.alloc())?;
     let edits = [delay(0, 1, 1), strike(3), delay(0, 1, 1)];
-    edit_again(&rt, rt.alloc(), &mut desk, &edits)?;
     let wanted = "9 entries\nrows | - | 1/1 | - | -\ndenied 3,2,TooEarly\n";
-    shows(&rt, rt.alloc(), &desk, wanted)
+    Ok(show_edited(&rt, rt.alloc(), desk, &edits, wanted)?)
 }

@@ -15,6 +15,8 @@ mod plans;
 #[cfg(test)]
 mod prepared;
 #[cfg(test)]
+mod refused;
+#[cfg(test)]
 mod snapshot;
 #[cfg(test)]
 mod tally;

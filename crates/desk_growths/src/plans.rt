@@ -29,17 +29,23 @@ fn desk_once(alloc: Global, settings: Settings, commands: &[Command]) -> Option<
     Some(desk)
 }
 
-/// A new desk after these commands, though memory may be refused once.
-fn desk_after(alloc: Global, settings: Settings, commands: &[Command]) -> Result<Desk, Fail> {
+/// The same, though memory may be refused once.
+fn desk_again(alloc: Global, settings: Settings, commands: &[Command]) -> Option<Desk> {
     match desk_once(alloc, settings, commands) {
-        Some(desk) => Ok(desk),
-        None => Ok(desk_once(alloc, settings, commands).ok_or("memory was refused")?),
+        Some(desk) => Some(desk),
+        None => desk_once(alloc, settings, commands),
     }
+}
+
+/// The same, on m processors, over the base h and up to the cap.
+fn desk_after(alloc: Global, m: u64, h: u64, cap: u64, commands: &[Command]) -> Result<Desk, Fail> {
+    let settings = Settings::new(m, h, cap)?;
+    Ok(desk_again(alloc, settings, commands).ok_or("memory was refused")?)
 }
 
 /// One processor, and nothing asked.
 pub(crate) fn nothing(alloc: Global) -> Result<Desk, Fail> {
-    desk_after(alloc, Settings::new(1, 1, 1)?, &[])
+    desk_after(alloc, 1, 1, 1, &[])
 }
 
 /// Three tasks of weight 2/3 on two processors, and two steps.
@@ -51,7 +57,7 @@ pub(crate) fn two_steps_of_three_tasks(alloc: Global) -> Result<Desk, Fail> {
         Step,
         Step,
     ];
-    desk_after(alloc, Settings::new(2, 3, 6)?, &commands)
+    desk_after(alloc, 2, 3, 6, &commands)
 }
 
 /// The same, and a third step.
@@ -64,19 +70,19 @@ pub(crate) fn three_tasks(alloc: Global) -> Result<Desk, Fail> {
         Step,
         Step,
     ];
-    desk_after(alloc, Settings::new(2, 3, 6)?, &commands)
+    desk_after(alloc, 2, 3, 6, &commands)
 }
 
 /// A task of weight 1/2, and six steps.
 pub(crate) fn a_half(alloc: Global) -> Result<Desk, Fail> {
     let commands = [join(0, 1, 1, 2), Step, Step, Step, Step, Step, Step];
-    desk_after(alloc, Settings::new(1, 2, 2)?, &commands)
+    desk_after(alloc, 1, 2, 2, &commands)
 }
 
 /// A task of weight 1/3, which leaves in slot 3, and four steps.
 pub(crate) fn a_leave(alloc: Global) -> Result<Desk, Fail> {
     let commands = [join(0, 1, 1, 3), leave(3, 1), Step, Step, Step, Step];
-    desk_after(alloc, Settings::new(1, 3, 3)?, &commands)
+    desk_after(alloc, 1, 3, 3, &commands)
 }
 
 /// The same, and the task is delayed in slot 0: then it may not leave.
@@ -90,16 +96,17 @@ pub(crate) fn a_denied_leave(alloc: Global) -> Result<Desk, Fail> {
         Step,
         delay(0, 1, 1),
     ];
-    desk_after(alloc, Settings::new(1, 3, 3)?, &commands)
+    desk_after(alloc, 1, 3, 3, &commands)
 }
 
 /// A task of weight 1/1 on one processor, and a step.
 pub(crate) fn a_whole(alloc: Global) -> Result<Desk, Fail> {
-    desk_after(alloc, Settings::new(1, 2, 2)?, &[join(0, 1, 1, 1), Step])
+    let commands = [join(0, 1, 1, 1), Step];
+    desk_after(alloc, 1, 2, 2, &commands)
 }
 
 /// Two tasks of weight 1/1 on one processor, and four steps.
 pub(crate) fn overload(alloc: Global) -> Result<Desk, Fail> {
     let commands = [join(0, 1, 1, 1), join(0, 2, 1, 1), Step, Step, Step, Step];
-    desk_after(alloc, Settings::new(1, 1, 2)?, &commands)
+    desk_after(alloc, 1, 1, 2, &commands)
 }

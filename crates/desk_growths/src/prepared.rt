@@ -4,7 +4,8 @@ ghost use Rattle.pf_desk.specs.Desk.{IsReadyFor};
 
 use crate::commands::{delay, join, limit, strict_delay, strike};
 use crate::plans::{a_half, a_leave, a_whole, nothing, three_tasks, two_steps_of_three_tasks};
-use crate::told::{keeps, kept, shows, tell_reply, tell_snapshot};
+use crate::refused::say;
+use crate::told::{is_text, keeps, kept, shows, tell_reply, tell_snapshot};
 use pf_desk::command::Command;
 use pf_desk::command::Command::Step;
 use pf_desk::desk::Desk;
@@ -29,17 +30,17 @@ fn prepare_again(
     alloc: Global,
     desk: &mut Desk,
     command: Command,
-) -> Result<Prepared, Fail>
+) -> Result<Prepared, AllocError>
     ensures ready { IfOk result (λ p. IsReadyFor desk.new p) }
     ensures room { OnOk result (1 ≤ desk.new.spare) }
 {
     let before = kept(alloc, desk)?;
     match prepare(desk, command) {
         Ok(prepared) => Ok(prepared),
-        Err(_) => {
-            println!(rt; "refused: Desk::prepare")?;
+        Err(AllocError) => {
+            say(rt, "Desk::prepare");
             keeps(rt, alloc, desk, before.as_str())?;
-            Ok(prepare(desk, command)?)
+            prepare(desk, command)
         }
     }
 }
@@ -52,19 +53,37 @@ fn ready_once(alloc: Global, prepared: &Prepared) -> Result<String, AllocError> 
     Ok(text)
 }
 
-/// Fails where another reply was made ready, or a desk that shows anything else. Memory may be refused once.
-fn is_ready(rt: &impl Abort, alloc: Global, prepared: &Prepared, wanted: &str) -> Result<(), Fail> {
-    let text = match ready_once(alloc, prepared) {
-        Ok(text) => text,
-        Err(_) => ready_once(alloc, prepared)?,
-    };
-    assert_eq!(rt; text.as_str(), wanted);
+/// The same, though memory may be refused once.
+fn ready(alloc: Global, prepared: &Prepared) -> Result<String, AllocError> {
+    match ready_once(alloc, prepared) {
+        Ok(text) => Ok(text),
+        Err(AllocError) => ready_once(alloc, prepared),
+    }
+}
+
+/// Fails where another reply was made ready, or a desk that shows anything else.
+fn is_ready(
+    rt: &impl Abort,
+    alloc: Global,
+    prepared: &Prepared,
+    wanted: &str,
+) -> Result<(), AllocError> {
+    let text = ready(alloc, prepared)?;
+    is_text(rt, text.as_str(), wanted);
     Ok(())
 }
 
 /// How many entries the history has.
 fn entries(desk: &Desk) -> usize {
     desk.history().len()
+}
+
+/// Carries out what was made ready.
+fn commit(desk: &mut Desk, prepared: Prepared) -> Reply
+    requires ready { IsReadyFor desk.old prepared }
+    requires room { 1 ≤ desk.old.spare }
+{
+    desk.commit(prepared)
 }
 
 /// Makes a command ready, which gives this text and no entry, and carries it out.
@@ -74,81 +93,88 @@ fn answer(
     desk: &mut Desk,
     command: Command,
     wanted: &str,
-) -> Result<Reply, Fail> {
+) -> Result<Reply, AllocError> {
     let before = entries(desk);
     let prepared = prepare_again(rt, alloc, desk, command)?;
     is_ready(rt, alloc, &prepared, wanted)?;
     assert_eq!(rt; entries(desk), before);
-    Ok(desk.commit(prepared))
+    Ok(commit(desk, prepared))
+}
+
+/// The same. What the desk then shows is this.
+fn answers(
+    rt: &(impl Abort + Print),
+    alloc: Global,
+    mut desk: Desk,
+    command: Command,
+    ready: &str,
+    shown: &str,
+) -> Result<(), AllocError> {
+    let _ = answer(rt, alloc, &mut desk, command, ready)?;
+    shows(rt, alloc, &desk, shown)
 }
 
 #[test]
 fn prepared_then_committed(rt: HostRuntime) -> Result<(), Fail> {
-    let mut desk = nothing(rt.alloc())?;
-    let wanted = "slot 0: -\nversion 1\nrows | -\n";
-    let _ = answer(&rt, rt.alloc(), &mut desk, Step, wanted)?;
-    shows(&rt, rt.alloc(), &desk, "1 entries\nrows | -\n")
+    let desk = nothing(rt.alloc())?;
+    let ready = "slot 0: -\nversion 1\nrows | -\n";
+    let shown = "1 entries\nrows | -\n";
+    Ok(answers(&rt, rt.alloc(), desk, Step, ready, shown)?)
 }
 
 #[test]
 fn a_step(rt: HostRuntime) -> Result<(), Fail> {
-    let mut desk = two_steps_of_three_tasks(rt.alloc())?;
-    let wanted = "slot 2: 2/2 3/2\nversion 6\nrows | 1/1 2/1 | 1/2 3/1 | 2/2 3/2\n";
-    let _ = answer(&rt, rt.alloc(), &mut desk, Step, wanted)?;
-    let wanted = "6 entries\nrows | 1/1 2/1 | 1/2 3/1 | 2/2 3/2\n";
-    shows(&rt, rt.alloc(), &desk, wanted)
+    let desk = two_steps_of_three_tasks(rt.alloc())?;
+    let ready = "slot 2: 2/2 3/2\nversion 6\nrows | 1/1 2/1 | 1/2 3/1 | 2/2 3/2\n";
+    let shown = "6 entries\nrows | 1/1 2/1 | 1/2 3/1 | 2/2 3/2\n";
+    Ok(answers(&rt, rt.alloc(), desk, Step, ready, shown)?)
 }
 
 #[test]
 fn a_delay_in_the_past(rt: HostRuntime) -> Result<(), Fail> {
-    let mut desk = a_half(rt.alloc())?;
-    let wanted = "event 2\nversion 8\nrows | 1/1 | - | - | - | - | 1/2\n";
-    let _ = answer(&rt, rt.alloc(), &mut desk, delay(2, 1, 3), wanted)?;
-    let wanted = "8 entries\nrows | 1/1 | - | - | - | - | 1/2\n";
-    shows(&rt, rt.alloc(), &desk, wanted)
+    let desk = a_half(rt.alloc())?;
+    let ready = "event 2\nversion 8\nrows | 1/1 | - | - | - | - | 1/2\n";
+    let shown = "8 entries\nrows | 1/1 | - | - | - | - | 1/2\n";
+    Ok(answers(&rt, rt.alloc(), desk, delay(2, 1, 3), ready, shown)?)
 }
 
 #[test]
 fn a_strike_in_the_past(rt: HostRuntime) -> Result<(), Fail> {
-    let mut desk = three_tasks(rt.alloc())?;
-    let wanted = "event 3\nversion 7\nrows | 1/1 2/1 | 1/2 2/2 | - -\n";
-    let _ = answer(&rt, rt.alloc(), &mut desk, strike(3), wanted)?;
-    let wanted = "7 entries\nrows | 1/1 2/1 | 1/2 2/2 | - -\n";
-    shows(&rt, rt.alloc(), &desk, wanted)
+    let desk = three_tasks(rt.alloc())?;
+    let ready = "event 3\nversion 7\nrows | 1/1 2/1 | 1/2 2/2 | - -\n";
+    let shown = "7 entries\nrows | 1/1 2/1 | 1/2 2/2 | - -\n";
+    Ok(answers(&rt, rt.alloc(), desk, strike(3), ready, shown)?)
 }
 
 #[test]
 fn a_limit_in_the_past(rt: HostRuntime) -> Result<(), Fail> {
-    let mut desk = three_tasks(rt.alloc())?;
-    let wanted = "event 4\nversion 7\nrows | 1/1 2/1 | 3/1 - | 1/2 -\n";
-    let _ = answer(&rt, rt.alloc(), &mut desk, limit(1, 1), wanted)?;
-    let wanted = "7 entries\nrows | 1/1 2/1 | 3/1 - | 1/2 -\n";
-    shows(&rt, rt.alloc(), &desk, wanted)
+    let desk = three_tasks(rt.alloc())?;
+    let ready = "event 4\nversion 7\nrows | 1/1 2/1 | 3/1 - | 1/2 -\n";
+    let shown = "7 entries\nrows | 1/1 2/1 | 3/1 - | 1/2 -\n";
+    Ok(answers(&rt, rt.alloc(), desk, limit(1, 1), ready, shown)?)
 }
 
 #[test]
 fn a_delay_that_denies_a_leave(rt: HostRuntime) -> Result<(), Fail> {
-    let mut desk = a_leave(rt.alloc())?;
-    let wanted = "event 3\nversion 7\nrows | - | 1/1 | - | -\ndenied 3,2,TooEarly\n";
-    let _ = answer(&rt, rt.alloc(), &mut desk, delay(0, 1, 1), wanted)?;
-    let wanted = "7 entries\nrows | - | 1/1 | - | -\ndenied 3,2,TooEarly\n";
-    shows(&rt, rt.alloc(), &desk, wanted)
+    let desk = a_leave(rt.alloc())?;
+    let ready = "event 3\nversion 7\nrows | - | 1/1 | - | -\ndenied 3,2,TooEarly\n";
+    let shown = "7 entries\nrows | - | 1/1 | - | -\ndenied 3,2,TooEarly\n";
+    Ok(answers(&rt, rt.alloc(), desk, delay(0, 1, 1), ready, shown)?)
 }
 
 #[test]
 fn a_strict_edit_that_would_deny(rt: HostRuntime) -> Result<(), Fail> {
-    let mut desk = a_leave(rt.alloc())?;
-    let refused =
+    let desk = a_leave(rt.alloc())?;
+    let ready =
         "refused WouldDeny { id: 2, denial: TooEarly }\nversion 7\nrows | 1/1 | - | - | -\n";
-    let _ = answer(&rt, rt.alloc(), &mut desk, strict_delay(0, 1, 1), refused)?;
-    let wanted = "7 entries\nrows | 1/1 | - | - | -\n";
-    shows(&rt, rt.alloc(), &desk, wanted)
+    let shown = "7 entries\nrows | 1/1 | - | - | -\n";
+    Ok(answers(&rt, rt.alloc(), desk, strict_delay(0, 1, 1), ready, shown)?)
 }
 
 #[test]
 fn a_join_ahead(rt: HostRuntime) -> Result<(), Fail> {
-    let mut desk = a_whole(rt.alloc())?;
-    let wanted = "event 2\nversion 3\nrows | 1/1\n";
-    let _ = answer(&rt, rt.alloc(), &mut desk, join(1, 2, 1, 2), wanted)?;
-    shows(&rt, rt.alloc(), &desk, "3 entries\nrows | 1/1\n")
+    let desk = a_whole(rt.alloc())?;
+    let ready = "event 2\nversion 3\nrows | 1/1\n";
+    let shown = "3 entries\nrows | 1/1\n";
+    Ok(answers(&rt, rt.alloc(), desk, join(1, 2, 1, 2), ready, shown)?)
 }

@@ -1,7 +1,8 @@
 //! A snapshot is taken.
 
 use crate::plans::{a_denied_leave, three_tasks};
-use crate::told::{keeps, kept, tell_snapshot};
+use crate::refused::say;
+use crate::told::{is_text, keeps, kept, tell_snapshot};
 use pf_desk::desk::Desk;
 use pf_desk::snapshot::Snapshot;
 use std::alloc::{AllocError, Global};
@@ -14,14 +15,18 @@ pub(crate) fn snapshot(desk: &Desk) -> Result<Snapshot, AllocError> {
 }
 
 /// A snapshot of the desk, taken again where memory is refused: then the desk is as before.
-fn snapshot_again(rt: &(impl Abort + Print), alloc: Global, desk: &Desk) -> Result<Snapshot, Fail> {
+fn snapshot_again(
+    rt: &(impl Abort + Print),
+    alloc: Global,
+    desk: &Desk,
+) -> Result<Snapshot, AllocError> {
     let before = kept(alloc, desk)?;
     match snapshot(desk) {
         Ok(seen) => Ok(seen),
-        Err(_) => {
-            println!(rt; "refused: Desk::snapshot")?;
+        Err(AllocError) => {
+            say(rt, "Desk::snapshot");
             keeps(rt, alloc, desk, before.as_str())?;
-            Ok(snapshot(desk)?)
+            snapshot(desk)
         }
     }
 }
@@ -37,30 +42,28 @@ fn seen_once(alloc: Global, snapshot: &Snapshot) -> Result<String, AllocError> {
 fn seen(alloc: Global, snapshot: &Snapshot) -> Result<String, AllocError> {
     match seen_once(alloc, snapshot) {
         Ok(text) => Ok(text),
-        Err(_) => seen_once(alloc, snapshot),
+        Err(AllocError) => seen_once(alloc, snapshot),
     }
+}
+
+/// What a snapshot of the desk shows.
+fn seen_of(rt: &(impl Abort + Print), alloc: Global, desk: &Desk) -> Result<String, AllocError> {
+    let shown = snapshot_again(rt, alloc, desk)?;
+    seen(alloc, &shown)
 }
 
 #[test]
 fn of_three_tasks(rt: HostRuntime) -> Result<(), Fail> {
-    let desk = three_tasks(rt.alloc())?;
-    let shown = snapshot_again(&rt, rt.alloc(), &desk)?;
-    let text = seen(rt.alloc(), &shown)?;
-    assert_eq!(rt;
-        text.as_str(),
-        "version 6\nrows | 1/1 2/1 | 1/2 3/1 | 2/2 3/2\n"
-    );
+    let text = seen_of(&rt, rt.alloc(), &three_tasks(rt.alloc())?)?;
+    let wanted = "version 6\nrows | 1/1 2/1 | 1/2 3/1 | 2/2 3/2\n";
+    is_text(&rt, text.as_str(), wanted);
     Ok(())
 }
 
 #[test]
 fn of_a_denied_leave(rt: HostRuntime) -> Result<(), Fail> {
-    let desk = a_denied_leave(rt.alloc())?;
-    let shown = snapshot_again(&rt, rt.alloc(), &desk)?;
-    let text = seen(rt.alloc(), &shown)?;
-    assert_eq!(rt;
-        text.as_str(),
-        "version 7\nrows | - | 1/1 | - | -\ndenied 3,2,TooEarly\n"
-    );
+    let text = seen_of(&rt, rt.alloc(), &a_denied_leave(rt.alloc())?)?;
+    let wanted = "version 7\nrows | - | 1/1 | - | -\ndenied 3,2,TooEarly\n";
+    is_text(&rt, text.as_str(), wanted);
     Ok(())
 }

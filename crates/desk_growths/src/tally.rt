@@ -1,42 +1,64 @@
 //! Lags and misses of a snapshot.
 
 use crate::plans::overload;
+use crate::refused::say;
 use crate::snapshot::snapshot;
+use pf_desk::desk::Desk;
 use pf_desk::snapshot::Snapshot;
 use pf_tally::lag::Lag;
 use pf_tally::miss::Miss;
-use std::alloc::Global;
+use std::alloc::AllocError;
+use std::process::Abort;
 use std::test::Fail;
 
-/// The snapshot of the overload, though memory may be refused once.
-fn seen(alloc: Global) -> Result<Snapshot, Fail> {
-    let desk = overload(alloc)?;
-    match snapshot(&desk) {
+/// A snapshot, though memory may be refused once.
+fn seen(desk: &Desk) -> Result<Snapshot, AllocError> {
+    match snapshot(desk) {
         Ok(seen) => Ok(seen),
-        Err(_) => Ok(snapshot(&desk)?),
+        Err(AllocError) => snapshot(desk),
     }
 }
 
-/// The snapshot's lags, asked for again where memory is refused.
-fn lags_again(rt: &impl Print, snapshot: &Snapshot) -> Result<Vec<Lag>, Fail> {
-    match snapshot.lags() {
+/// The snapshot's lags. A caller that needs no clause of `Snapshot::lags` calls this.
+fn lags(snapshot: &Snapshot) -> Result<Vec<Lag>, AllocError> {
+    snapshot.lags()
+}
+
+/// The same, asked for again where memory is refused.
+fn lags_again(rt: &(impl Abort + Print), snapshot: &Snapshot) -> Result<Vec<Lag>, AllocError> {
+    match lags(snapshot) {
         Ok(lags) => Ok(lags),
-        Err(_) => {
-            println!(rt; "refused: Snapshot::lags")?;
-            Ok(snapshot.lags()?)
+        Err(AllocError) => {
+            say(rt, "Snapshot::lags");
+            lags(snapshot)
         }
     }
 }
 
-/// The snapshot's missed windows, asked for again where memory is refused.
-fn misses_again(rt: &impl Print, snapshot: &Snapshot) -> Result<Vec<Miss>, Fail> {
-    match snapshot.misses() {
+/// The lags of the desk's snapshot.
+fn lags_of(rt: &(impl Abort + Print), desk: &Desk) -> Result<Vec<Lag>, AllocError> {
+    lags_again(rt, &seen(desk)?)
+}
+
+/// The snapshot's missed windows. A caller that needs no clause of `Snapshot::misses` calls this.
+fn misses(snapshot: &Snapshot) -> Result<Vec<Miss>, AllocError> {
+    snapshot.misses()
+}
+
+/// The same, asked for again where memory is refused.
+fn misses_again(rt: &(impl Abort + Print), snapshot: &Snapshot) -> Result<Vec<Miss>, AllocError> {
+    match misses(snapshot) {
         Ok(misses) => Ok(misses),
-        Err(_) => {
-            println!(rt; "refused: Snapshot::misses")?;
-            Ok(snapshot.misses()?)
+        Err(AllocError) => {
+            say(rt, "Snapshot::misses");
+            misses(snapshot)
         }
     }
+}
+
+/// The missed windows of the desk's snapshot.
+fn misses_of(rt: &(impl Abort + Print), desk: &Desk) -> Result<Vec<Miss>, AllocError> {
+    misses_again(rt, &seen(desk)?)
 }
 
 /// The lag of a task of weight 1/1, of which two quanta were received.
@@ -62,14 +84,14 @@ fn miss(task: u32, sub: u32, ran: Option<u64>) -> Miss {
 
 #[test]
 fn both_lag(rt: HostRuntime) -> Result<(), Fail> {
-    let lags = lags_again(&rt, &seen(rt.alloc())?)?;
+    let lags = lags_of(&rt, &overload(rt.alloc())?)?;
     assert_eq!(rt; lags.as_slice(), [lag(1), lag(2)].as_slice());
     Ok(())
 }
 
 #[test]
 fn windows_are_missed(rt: HostRuntime) -> Result<(), Fail> {
-    let misses = misses_again(&rt, &seen(rt.alloc())?)?;
+    let misses = misses_of(&rt, &overload(rt.alloc())?)?;
     let wanted = [
         miss(2, 1, Some(1)),
         miss(1, 2, Some(2)),

@@ -7,10 +7,10 @@ use pf_place::row_view::RowView;
 use pf_place::rows::Rows;
 use pf_run::denied::Denied;
 use pf_scenario::scenario::Scenario;
+use pf_scenario::settings::Settings;
 use std::alloc::{AllocError, Global};
 use std::fmt::Write;
 use std::process::Abort;
-use std::test::Fail;
 
 /// A reply's line.
 pub(crate) fn tell_reply(text: &mut String, reply: &Reply) -> Result<(), AllocError> {
@@ -60,17 +60,23 @@ fn tell_denials(text: &mut String, denials: &[Denied]) -> Result<(), AllocError>
     Ok(())
 }
 
-/// The events and the next number, a line each.
-fn tell_scenario(text: &mut String, scenario: &Scenario) -> Result<(), AllocError> {
+/// The events, a line each.
+fn tell_events(text: &mut String, scenario: &Scenario) -> Result<(), AllocError> {
     for numbered in scenario.events() {
         writeln!(text, "{numbered:?}")?;
     }
-    writeln!(
-        text,
-        "{:?}, the next event is {}",
-        scenario.settings(),
-        scenario.next_number()
-    )
+    Ok(())
+}
+
+/// The settings and the next number, on one line.
+fn tell_settings(text: &mut String, settings: Settings, next: u64) -> Result<(), AllocError> {
+    writeln!(text, "{settings:?}, the next event is {next}")
+}
+
+/// The events, the settings and the next number.
+fn tell_scenario(text: &mut String, scenario: &Scenario) -> Result<(), AllocError> {
+    tell_events(text, scenario)?;
+    tell_settings(text, scenario.settings(), scenario.next_number())
 }
 
 /// What the snapshot shows: its version, rows and denials.
@@ -100,7 +106,7 @@ fn kept_once(alloc: Global, desk: &Desk) -> Result<String, AllocError> {
 pub(crate) fn kept(alloc: Global, desk: &Desk) -> Result<String, AllocError> {
     match kept_once(alloc, desk) {
         Ok(text) => Ok(text),
-        Err(_) => kept_once(alloc, desk),
+        Err(AllocError) => kept_once(alloc, desk),
     }
 }
 
@@ -111,19 +117,39 @@ fn shown_once(alloc: Global, desk: &Desk) -> Result<String, AllocError> {
     Ok(text)
 }
 
+/// The same, though memory may be refused once.
+fn shown(alloc: Global, desk: &Desk) -> Result<String, AllocError> {
+    match shown_once(alloc, desk) {
+        Ok(text) => Ok(text),
+        Err(AllocError) => shown_once(alloc, desk),
+    }
+}
+
+/// Fails where the texts differ.
+pub(crate) fn is_text(rt: &impl Abort, text: &str, wanted: &str) {
+    assert_eq!(rt; text, wanted);
+}
+
 /// Fails where the desk shows anything else. Memory may be refused once.
-pub(crate) fn shows(rt: &impl Abort, alloc: Global, desk: &Desk, wanted: &str) -> Result<(), Fail> {
-    let text = match shown_once(alloc, desk) {
-        Ok(text) => text,
-        Err(_) => shown_once(alloc, desk)?,
-    };
-    assert_eq!(rt; text.as_str(), wanted);
+pub(crate) fn shows(
+    rt: &impl Abort,
+    alloc: Global,
+    desk: &Desk,
+    wanted: &str,
+) -> Result<(), AllocError> {
+    let text = shown(alloc, desk)?;
+    is_text(rt, text.as_str(), wanted);
     Ok(())
 }
 
 /// Fails where anything else can be read of the desk.
-pub(crate) fn keeps(rt: &impl Abort, alloc: Global, desk: &Desk, before: &str) -> Result<(), Fail> {
+pub(crate) fn keeps(
+    rt: &impl Abort,
+    alloc: Global,
+    desk: &Desk,
+    before: &str,
+) -> Result<(), AllocError> {
     let text = kept(alloc, desk)?;
-    assert_eq!(rt; text.as_str(), before);
+    is_text(rt, text.as_str(), before);
     Ok(())
 }
