@@ -21,6 +21,11 @@ impl Ending {
     fn tells(&self, status: u8, text: &[u8]) -> bool {
         self.status == status && self.written.is_empty() && self.told.as_slice() == text
     }
+
+    /// Whether it ended with this status, told nothing and wrote this.
+    fn writes(&self, status: u8, text: &[u8]) -> bool {
+        self.status == status && self.told.is_empty() && self.written.as_slice() == text
+    }
 }
 
 /// Does what the words say over a script. Ends with the want of memory where the program does.
@@ -175,54 +180,43 @@ fn a_drill_writes_what_was_taken(rt: HostRuntime) -> Result<(), AllocError> {
     Ok(())
 }
 
-// An event that is not there, a leave of nobody, and two tasks that each ask for the whole of one processor.
+// An event that is not there, and its reply.
 const REFUSING: &[u8] = b"settings,1,1,2,1\nstrike,7\n";
 
+const REFUSED: &[u8] = b"ready\nrefused 10 EventNotFound\n";
+
+// A leave of nobody, and the replies.
 const DENYING: &[u8] = b"settings,1,1,2,1\nleave,0,1\nstep\n";
 
+const DENIED: &[u8] = b"ready\nevent 1\nslot 0: -\n";
+
+// Two tasks that each ask for the whole of one processor, and the replies.
 const MISSING: &[u8] = b"settings,1,1,2,1\njoin,0,1,1,1,0\njoin,0,2,1,1,0\nstep\n";
+
+const MISSED: &[u8] = b"ready\nevent 1\nevent 2\nslot 0: 1/1\n";
+
+// Scripts: what a run of each is to fail on, the status that it ends with, and its replies.
+const JUDGED: [(&[u8], &str, u8, &[u8]); 8] = [
+    (REFUSING, "refused", 6, REFUSED),
+    (REFUSING, "denied,missed", 0, REFUSED),
+    (DENYING, "denied", 6, DENIED),
+    (DENYING, "missed,refused", 0, DENIED),
+    (MISSING, "missed", 6, MISSED),
+    (MISSING, "refused,denied", 0, MISSED),
+    (MISSING, "refused,denied,missed", 6, MISSED),
+    (
+        b"settings,1,1,2,1\n",
+        "refused,denied,missed",
+        0,
+        b"ready\n",
+    ),
+];
 
 #[test]
 fn a_run_fails_on_what_it_meets(rt: HostRuntime) -> Result<(), AllocError> {
-    let cases: [(&[u8], &str, u8, &[u8]); 8] = [
-        (REFUSING, "refused", 6, b"ready\nrefused 10 EventNotFound\n"),
-        (
-            REFUSING,
-            "denied,missed",
-            0,
-            b"ready\nrefused 10 EventNotFound\n",
-        ),
-        (DENYING, "denied", 6, b"ready\nevent 1\nslot 0: -\n"),
-        (DENYING, "missed,refused", 0, b"ready\nevent 1\nslot 0: -\n"),
-        (
-            MISSING,
-            "missed",
-            6,
-            b"ready\nevent 1\nevent 2\nslot 0: 1/1\n",
-        ),
-        (
-            MISSING,
-            "refused,denied",
-            0,
-            b"ready\nevent 1\nevent 2\nslot 0: 1/1\n",
-        ),
-        (
-            MISSING,
-            "refused,denied,missed",
-            6,
-            b"ready\nevent 1\nevent 2\nslot 0: 1/1\n",
-        ),
-        (
-            b"settings,1,1,2,1\n",
-            "refused,denied,missed",
-            0,
-            b"ready\n",
-        ),
-    ];
-    for (script, list, status, replies) in cases {
+    for (script, list, status, replies) in JUDGED {
         let ending = end_of(&rt, &["run", "-f", "replies", "--fail-on", list], script)?;
-        assert_eq!(rt; (ending.status, ending.told.len()), (status, 0));
-        assert_eq!(rt; ending.written.as_slice(), replies);
+        assert!(rt; ending.writes(status, replies), "{list}");
     }
     Ok(())
 }
