@@ -1,7 +1,7 @@
 //! Examples that no case of the program has: what a desk answers, and what it then shows.
 
 use crate::commands::{delay, join, leave, limit, strict};
-use crate::told::told;
+use crate::told::tells;
 use pf_desk::command::Command::Step;
 use pf_scenario::settings::Settings;
 use std::test::Fail;
@@ -14,19 +14,15 @@ fn a_strict_join_is_denied(rt: HostRuntime) -> Result<(), Fail> {
         strict(join(0, 2, 1, 2, 0)),
         join(1, 2, 1, 2, 0),
     ];
-    let text = told(rt.alloc(), Settings::new(1, 2, 2)?, 1, &commands)?;
-    assert_eq!(rt;
-        text.as_str(),
-        "\
+    let wanted = "\
 event 1
 slot 0: 1/1
 refused WouldDeny { id: 2, denial: OverCapacity }
 event 2
 rows | 1/1
 lag 1,1,1,1,0
-"
-    );
-    Ok(())
+";
+    tells(&rt, Settings::new(1, 2, 2)?, 1, &commands, wanted)
 }
 
 #[test]
@@ -37,10 +33,7 @@ fn a_strict_join_beside_a_denied_one(rt: HostRuntime) -> Result<(), Fail> {
         Step,
         strict(join(0, 3, 1, 2, 0)),
     ];
-    let text = told(rt.alloc(), Settings::new(1, 2, 2)?, 1, &commands)?;
-    assert_eq!(rt;
-        text.as_str(),
-        "\
+    let wanted = "\
 event 1
 event 2
 slot 0: 1/1
@@ -48,9 +41,8 @@ refused WouldDeny { id: 2, denial: OverCapacity }
 rows | 1/1
 lag 1,1,1,1,0
 denied 0,2,OverCapacity
-"
-    );
-    Ok(())
+";
+    tells(&rt, Settings::new(1, 2, 2)?, 1, &commands, wanted)
 }
 
 #[test]
@@ -62,10 +54,7 @@ fn the_later_limit_of_a_slot_holds(rt: HostRuntime) -> Result<(), Fail> {
         limit(0, 2),
         Step,
     ];
-    let text = told(rt.alloc(), Settings::new(2, 1, 2)?, 2, &commands)?;
-    assert_eq!(rt;
-        text.as_str(),
-        "\
+    let wanted = "\
 event 1
 event 2
 event 3
@@ -74,19 +63,15 @@ slot 0: 1/1 2/1
 rows | 1/1 2/1
 lag 1,1,1,1,0
 lag 2,1,1,1,0
-"
-    );
-    Ok(())
+";
+    tells(&rt, Settings::new(2, 1, 2)?, 2, &commands, wanted)
 }
 
 /// The stop is [4, 14), and three slots are counted.
 #[test]
 fn a_stop_after_now(rt: HostRuntime) -> Result<(), Fail> {
     let commands = [join(0, 1, 1, 4, 4), delay(1, 1, 10), Step, Step, Step];
-    let text = told(rt.alloc(), Settings::new(1, 4, 4)?, 2, &commands)?;
-    assert_eq!(rt;
-        text.as_str(),
-        "\
+    let wanted = "\
 event 1
 event 2
 slot 0: 1/1
@@ -94,9 +79,8 @@ slot 1: -
 slot 2: -
 rows | 1/1 | - | -
 lag 1,1,4,1,-1
-"
-    );
-    Ok(())
+";
+    tells(&rt, Settings::new(1, 4, 4)?, 2, &commands, wanted)
 }
 
 /// Of task 2, which leaves in slot 1, the window that ends there stays missed.
@@ -109,10 +93,7 @@ fn a_task_that_leaves_without_having_run(rt: HostRuntime) -> Result<(), Fail> {
         Step,
         Step,
     ];
-    let text = told(rt.alloc(), Settings::new(1, 1, 2)?, 2, &commands)?;
-    assert_eq!(rt;
-        text.as_str(),
-        "\
+    let wanted = "\
 event 1
 event 2
 event 3
@@ -121,7 +102,6 @@ slot 1: 1/2
 rows | 1/1 | 1/2
 lag 1,1,1,2,0
 miss 2,1,1,None
-"
-    );
-    Ok(())
+";
+    tells(&rt, Settings::new(1, 1, 2)?, 2, &commands, wanted)
 }

@@ -16,13 +16,18 @@ fn take(desk: &mut Desk, steps: u64) -> Result<(), AllocError> {
     Ok(())
 }
 
-/// The replies to two steps after 1,048,575 slots of a desk with no events.
+/// The replies to two steps after 1,048,575 others.
+fn late_replies(alloc: Global, desk: &mut Desk) -> Result<String, AllocError> {
+    take(desk, 1_048_575)?;
+    let mut text = String::new(alloc);
+    tell_replies(&mut text, desk, &[Command::Step, Command::Step])?;
+    Ok(text)
+}
+
+/// The same of a desk with no events.
 fn late_steps(alloc: Global, settings: Settings) -> Result<String, Fail> {
     let mut desk = open(alloc, settings, 4096)?;
-    take(&mut desk, 1_048_575)?;
-    let mut text = String::new(alloc);
-    tell_replies(&mut text, &mut desk, &[Command::Step, Command::Step])?;
-    Ok(text)
+    Ok(late_replies(alloc, &mut desk)?)
 }
 
 #[test]
@@ -53,12 +58,17 @@ fn received(desk: &Desk, quanta: u64) -> Result<usize, AllocError> {
     Ok(lags.iter().filter(|lag| lag.received == quanta).count())
 }
 
+/// How many of a hundred tasks receive 800 quanta in 10,000 slots.
+fn even_lags(desk: &mut Desk) -> Result<usize, AllocError> {
+    join_a_hundred(desk)?;
+    take(desk, 10_000)?;
+    received(desk, 800)
+}
+
 /// The tasks fill eight processors, so in 10,000 slots, 400 of their periods, each receives 800 quanta.
 fn even_tasks(alloc: Global, settings: Settings) -> Result<usize, Fail> {
     let mut desk = open(alloc, settings, 4096)?;
-    join_a_hundred(&mut desk)?;
-    take(&mut desk, 10_000)?;
-    Ok(received(&desk, 800)?)
+    Ok(even_lags(&mut desk)?)
 }
 
 #[test]

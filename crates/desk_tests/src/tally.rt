@@ -59,17 +59,29 @@ fn two_steps(alloc: Global) -> Result<Desk, Fail> {
     desk_after(alloc, Settings::new(1, 1, 2)?, 2, &commands)
 }
 
+/// The lags of the two.
+fn two_lags(rt: &(impl AllocGlobal + Print)) -> Result<Vec<Lag>, Fail> {
+    let desk = two_steps(rt.alloc())?;
+    lags_of(rt, &desk)
+}
+
 #[test]
 fn both_lag(rt: HostRuntime) -> Result<(), Fail> {
-    let lags = lags_of(&rt, &two_steps(rt.alloc())?)?;
+    let lags = two_lags(&rt)?;
     let wanted = [lag(1, 1, 1), lag(2, 1, 1)];
     assert_eq!(rt; lags.as_slice(), wanted.as_slice());
     Ok(())
 }
 
+/// The missed windows of the two.
+fn two_misses(rt: &(impl AllocGlobal + Print)) -> Result<Vec<Miss>, Fail> {
+    let desk = two_steps(rt.alloc())?;
+    misses_of(rt, &desk)
+}
+
 #[test]
 fn misses_that_have_not_run_yet(rt: HostRuntime) -> Result<(), Fail> {
-    let misses = misses_of(&rt, &two_steps(rt.alloc())?)?;
+    let misses = two_misses(&rt)?;
     let wanted = [miss(2, 1, Some(1)), miss(1, 2, None), miss(2, 2, None)];
     assert_eq!(rt; misses.as_slice(), wanted.as_slice());
     Ok(())

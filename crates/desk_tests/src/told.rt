@@ -11,6 +11,7 @@ use pf_place::row_view::RowView;
 use pf_scenario::settings::Settings;
 use std::alloc::{AllocError, Global};
 use std::fmt::Write;
+use std::process::Abort;
 use std::test::Fail;
 
 /// A new desk. A caller that needs no clause of `Desk::open` calls this.
@@ -55,17 +56,35 @@ pub(crate) fn desk_after(
     }
 }
 
+/// Fails where a new desk's replies to these commands, a line each, and then what it shows, are another text.
+pub(crate) fn tells(
+    rt: &(impl Abort + AllocGlobal),
+    settings: Settings,
+    every: u64,
+    commands: &[Command],
+    wanted: &str,
+) -> Result<(), Fail> {
+    let text = told(rt.alloc(), settings, every, commands)?;
+    assert_eq!(rt; text.as_str(), wanted);
+    Ok(())
+}
+
 /// A new desk's replies to these commands, a line each, and then what it shows.
-pub(crate) fn told(
+fn told(
     alloc: Global,
     settings: Settings,
     every: u64,
     commands: &[Command],
 ) -> Result<String, Fail> {
     let mut desk = open(alloc, settings, every)?;
+    Ok(desk_told(alloc, &mut desk, commands)?)
+}
+
+/// The desk's replies to these commands, a line each, and then what it shows.
+fn desk_told(alloc: Global, desk: &mut Desk, commands: &[Command]) -> Result<String, AllocError> {
     let mut text = String::new(alloc);
-    tell_replies(&mut text, &mut desk, commands)?;
-    tell_desk(&mut text, &desk)?;
+    tell_replies(&mut text, desk, commands)?;
+    tell_desk(&mut text, desk)?;
     Ok(text)
 }
 
@@ -76,10 +95,17 @@ pub(crate) fn tell_replies(
     commands: &[Command],
 ) -> Result<(), AllocError> {
     for command in commands {
-        let reply = apply(desk, *command)?;
-        tell_reply(text, reply.view())?;
+        tell_answer(text, desk, *command)?;
     }
     Ok(())
+}
+
+/// The line of the desk's reply to the command.
+fn tell_answer(text: &mut String, desk: &mut Desk, command: Command) -> Result<(), AllocError> {
+    match apply(desk, command) {
+        Ok(reply) => tell_reply(text, reply.view()),
+        Err(error) => Err(error),
+    }
 }
 
 /// A reply's line.

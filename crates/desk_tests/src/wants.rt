@@ -73,6 +73,40 @@ fn reply_told(alloc: Global, reply: &Reply, desk: &Desk) -> Result<String, Alloc
     Ok(text)
 }
 
+/// The same, though memory may be refused once.
+fn reply_again(alloc: Global, reply: &Reply, desk: &Desk) -> Result<String, AllocError> {
+    match reply_told(alloc, reply, desk) {
+        Ok(text) => Ok(text),
+        Err(_) => reply_told(alloc, reply, desk),
+    }
+}
+
+/// The desk's reply to an edit, and what is then kept.
+fn edit_told(
+    rt: &(impl Abort + Print),
+    alloc: Global,
+    desk: &mut Desk,
+    edit: Command,
+) -> Result<String, Fail> {
+    match apply_again(rt, alloc, desk, edit) {
+        Ok(reply) => Ok(reply_again(alloc, &reply, desk)?),
+        Err(fail) => Err(fail),
+    }
+}
+
+/// Fails where the reply to an edit after these commands, and what is then kept, are another text.
+fn answers(
+    rt: &(impl Abort + AllocGlobal + Print),
+    settings: Settings,
+    commands: &[Command],
+    edit: Command,
+    wanted: &str,
+) -> Result<(), Fail> {
+    let text = answered(rt, rt.alloc(), settings, commands, edit)?;
+    assert_eq!(rt; text.as_str(), wanted);
+    Ok(())
+}
+
 /// The reply to an edit after these commands, and what is then kept.
 fn answered(
     rt: &(impl Abort + Print),
@@ -82,23 +116,15 @@ fn answered(
     edit: Command,
 ) -> Result<String, Fail> {
     let mut desk = desk_after(alloc, settings, 2, commands)?;
-    let reply = apply_again(rt, alloc, &mut desk, edit)?;
-    match reply_told(alloc, &reply, &desk) {
-        Ok(text) => Ok(text),
-        Err(_) => Ok(reply_told(alloc, &reply, &desk)?),
-    }
+    edit_told(rt, alloc, &mut desk, edit)
 }
 
 #[test]
 fn for_a_delay_in_the_past(rt: HostRuntime) -> Result<(), Fail> {
     let commands = [join(0, 1, 1, 2, 0), Step, Step, Step, Step, Step, Step];
     let settings = Settings::new(1, 2, 2)?;
-    let text = answered(&rt, rt.alloc(), settings, &commands, delay(2, 1, 3))?;
-    assert_eq!(rt;
-        text.as_str(),
-        "event 2\n8 entries, the next event is 3\nrows | 1/1 | - | - | - | - | 1/2\n"
-    );
-    Ok(())
+    let wanted = "event 2\n8 entries, the next event is 3\nrows | 1/1 | - | - | - | - | 1/2\n";
+    answers(&rt, settings, &commands, delay(2, 1, 3), wanted)
 }
 
 #[test]
@@ -112,12 +138,8 @@ fn for_a_strike_in_the_past(rt: HostRuntime) -> Result<(), Fail> {
         Step,
     ];
     let settings = Settings::new(2, 3, 6)?;
-    let text = answered(&rt, rt.alloc(), settings, &commands, strike(3))?;
-    assert_eq!(rt;
-        text.as_str(),
-        "event 3\n7 entries, the next event is 4\nrows | 1/1 2/1 | 1/2 2/2 | - -\n"
-    );
-    Ok(())
+    let wanted = "event 3\n7 entries, the next event is 4\nrows | 1/1 2/1 | 1/2 2/2 | - -\n";
+    answers(&rt, settings, &commands, strike(3), wanted)
 }
 
 #[test]
@@ -125,12 +147,9 @@ fn for_a_strict_edit_that_would_deny(rt: HostRuntime) -> Result<(), Fail> {
     let commands = [join(0, 1, 1, 3, 0), leave(3, 1), Step, Step, Step, Step];
     let settings = Settings::new(1, 3, 3)?;
     let edit = strict(delay(0, 1, 1));
-    let text = answered(&rt, rt.alloc(), settings, &commands, edit)?;
-    assert_eq!(rt;
-        text.as_str(),
-        "refused WouldDeny { id: 2, denial: TooEarly }\n7 entries, the next event is 3\nrows | 1/1 | - | - | -\n"
-    );
-    Ok(())
+    let wanted =
+        "refused WouldDeny { id: 2, denial: TooEarly }\n7 entries, the next event is 3\nrows | 1/1 | - | - | -\n";
+    answers(&rt, settings, &commands, edit, wanted)
 }
 
 #[test]
@@ -144,10 +163,6 @@ fn for_a_limit_in_the_past(rt: HostRuntime) -> Result<(), Fail> {
         Step,
     ];
     let settings = Settings::new(2, 3, 6)?;
-    let text = answered(&rt, rt.alloc(), settings, &commands, limit(1, 1))?;
-    assert_eq!(rt;
-        text.as_str(),
-        "event 4\n7 entries, the next event is 5\nrows | 1/1 2/1 | 3/1 - | 1/2 -\n"
-    );
-    Ok(())
+    let wanted = "event 4\n7 entries, the next event is 5\nrows | 1/1 2/1 | 3/1 - | 1/2 -\n";
+    answers(&rt, settings, &commands, limit(1, 1), wanted)
 }
