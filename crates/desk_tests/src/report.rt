@@ -1,7 +1,7 @@
 //! The report of the strike in the past, also where memory is refused once: then the call is made again.
 
 use crate::commands::{delay, join, leave, limit, strike};
-use crate::told::{desk_after, snapshot};
+use crate::told::snapshot_after;
 use pf_admit::denial::Denial;
 use pf_desk::command::Command::Step;
 use pf_desk::snapshot::Snapshot;
@@ -14,6 +14,7 @@ use pf_report::schedule::schedule_csv;
 use pf_report::script::script_text;
 use pf_scenario::settings::Settings;
 use std::alloc::{AllocError, Global};
+use std::process::Abort;
 use std::test::Fail;
 
 /// Three tasks of weight 2/3 join in slot 0, on two processors; three steps. Memory may be refused once.
@@ -26,11 +27,7 @@ fn three(alloc: Global) -> Result<Snapshot, Fail> {
         Step,
         Step,
     ];
-    let desk = desk_after(alloc, Settings::new(2, 3, 6)?, 64, &commands)?;
-    match snapshot(&desk) {
-        Ok(snapshot) => Ok(snapshot),
-        Err(_) => Ok(snapshot(&desk)?),
-    }
+    snapshot_after(alloc, Settings::new(2, 3, 6)?, 64, &commands)
 }
 
 /// The same, and then the third join is struck.
@@ -44,112 +41,7 @@ fn struck(alloc: Global) -> Result<Snapshot, Fail> {
         Step,
         strike(3),
     ];
-    let desk = desk_after(alloc, Settings::new(2, 3, 6)?, 64, &commands)?;
-    match snapshot(&desk) {
-        Ok(snapshot) => Ok(snapshot),
-        Err(_) => Ok(snapshot(&desk)?),
-    }
-}
-
-/// The table of rows. A caller that needs no clause of `schedule_csv` calls this.
-fn schedule(alloc: Global, snapshot: &Snapshot) -> Result<Vec<u8>, AllocError> {
-    schedule_csv(alloc, snapshot)
-}
-
-#[test]
-fn the_schedule(rt: HostRuntime) -> Result<(), Fail> {
-    let snapshot = struck(rt.alloc())?;
-    let text = match schedule(rt.alloc(), &snapshot) {
-        Ok(text) => text,
-        Err(_) => {
-            println!(rt; "refused: schedule_csv")?;
-            schedule(rt.alloc(), &snapshot)?
-        }
-    };
-    let rows = "slot,p0,p1\n0,1/1,2/1\n1,1/2,2/2\n2,,\n";
-    assert_eq!(rt; text.as_slice(), rows.as_bytes());
-    Ok(())
-}
-
-/// The table of lags. A caller that needs no clause of `lags_csv` calls this.
-fn lags(alloc: Global, snapshot: &Snapshot) -> Result<Vec<u8>, AllocError> {
-    lags_csv(alloc, snapshot)
-}
-
-#[test]
-fn the_lags(rt: HostRuntime) -> Result<(), Fail> {
-    let snapshot = struck(rt.alloc())?;
-    let text = match lags(rt.alloc(), &snapshot) {
-        Ok(text) => text,
-        Err(_) => {
-            println!(rt; "refused: lags_csv")?;
-            lags(rt.alloc(), &snapshot)?
-        }
-    };
-    let rows = "task,cost,period,received,lag\n1,2,3,2,0\n2,2,3,2,0\n";
-    assert_eq!(rt; text.as_slice(), rows.as_bytes());
-    Ok(())
-}
-
-/// The table of missed windows. A caller that needs no clause of `misses_csv` calls this.
-fn misses(alloc: Global, snapshot: &Snapshot) -> Result<Vec<u8>, AllocError> {
-    misses_csv(alloc, snapshot)
-}
-
-#[test]
-fn no_misses(rt: HostRuntime) -> Result<(), Fail> {
-    let snapshot = struck(rt.alloc())?;
-    let text = match misses(rt.alloc(), &snapshot) {
-        Ok(text) => text,
-        Err(_) => {
-            println!(rt; "refused: misses_csv")?;
-            misses(rt.alloc(), &snapshot)?
-        }
-    };
-    assert_eq!(rt; text.as_slice(), b"task,sub,deadline,ran\n".as_slice());
-    Ok(())
-}
-
-/// The table of denials. A caller that needs no clause of `denials_csv` calls this.
-fn denials(alloc: Global, snapshot: &Snapshot) -> Result<Vec<u8>, AllocError> {
-    denials_csv(alloc, snapshot)
-}
-
-#[test]
-fn no_denials(rt: HostRuntime) -> Result<(), Fail> {
-    let snapshot = struck(rt.alloc())?;
-    let text = match denials(rt.alloc(), &snapshot) {
-        Ok(text) => text,
-        Err(_) => {
-            println!(rt; "refused: denials_csv")?;
-            denials(rt.alloc(), &snapshot)?
-        }
-    };
-    assert_eq!(rt; text.as_slice(), b"slot,event,code,reason\n".as_slice());
-    Ok(())
-}
-
-/// The whole report as JSON. A caller that needs no clause of `report_json` calls this.
-fn object(alloc: Global, snapshot: &Snapshot) -> Result<Vec<u8>, AllocError> {
-    report_json(alloc, snapshot)
-}
-
-#[test]
-fn the_json_text(rt: HostRuntime) -> Result<(), Fail> {
-    let snapshot = struck(rt.alloc())?;
-    let text = match object(rt.alloc(), &snapshot) {
-        Ok(text) => text,
-        Err(_) => {
-            println!(rt; "refused: report_json")?;
-            object(rt.alloc(), &snapshot)?
-        }
-    };
-    let wanted =
-        "{\"denials\":[],\"entries\":7,\"lags\":[{\"cost\":2,\"lag\":0,\"period\":3,\"received\":2,\"task\":1},\
-        {\"cost\":2,\"lag\":0,\"period\":3,\"received\":2,\"task\":2}],\"misses\":[],\"now\":3,\
-        \"schedule\":[[[1,1],[2,1]],[[1,2],[2,2]],[null,null]]}";
-    assert_eq!(rt; text.as_slice(), wanted.as_bytes());
-    Ok(())
+    snapshot_after(alloc, Settings::new(2, 3, 6)?, 64, &commands)
 }
 
 /// An event of each kind, in wide settings, and a step. Memory may be refused once.
@@ -161,32 +53,102 @@ fn each_kind(alloc: Global) -> Result<Snapshot, Fail> {
         delay(2, 1, 5),
         Step,
     ];
-    let desk = desk_after(alloc, Settings::wide(2, 4, 8)?, 64, &commands)?;
-    match snapshot(&desk) {
-        Ok(snapshot) => Ok(snapshot),
-        Err(_) => Ok(snapshot(&desk)?),
+    snapshot_after(alloc, Settings::wide(2, 4, 8)?, 64, &commands)
+}
+
+/// The calls that give a text of a snapshot.
+#[derive(Clone, Copy)]
+enum Call {
+    Schedule,
+    Lags,
+    Misses,
+    Denials,
+    Object,
+    Script,
+}
+
+impl Call {
+    /// Its name.
+    fn name(self) -> &'static str {
+        match self {
+            Call::Schedule => "schedule_csv",
+            Call::Lags => "lags_csv",
+            Call::Misses => "misses_csv",
+            Call::Denials => "denials_csv",
+            Call::Object => "report_json",
+            Call::Script => "script_text",
+        }
+    }
+
+    /// What it gives.
+    fn text(self, alloc: Global, snapshot: &Snapshot) -> Result<Vec<u8>, AllocError> {
+        match self {
+            Call::Schedule => schedule_csv(alloc, snapshot),
+            Call::Lags => lags_csv(alloc, snapshot),
+            Call::Misses => misses_csv(alloc, snapshot),
+            Call::Denials => denials_csv(alloc, snapshot),
+            Call::Object => report_json(alloc, snapshot),
+            Call::Script => script_text(alloc, snapshot, 64),
+        }
     }
 }
 
-/// The script of the desk. A caller that needs no clause of `script_text` calls this.
-fn script(alloc: Global, snapshot: &Snapshot) -> Result<Vec<u8>, AllocError> {
-    script_text(alloc, snapshot, 64)
+/// Fails where the text is another one. Where memory is refused, the call is made again.
+fn gives(
+    rt: &(impl Abort + AllocGlobal + Print),
+    call: Call,
+    snapshot: &Snapshot,
+    wanted: &str,
+) -> Result<(), Fail> {
+    let text = match call.text(rt.alloc(), snapshot) {
+        Ok(text) => text,
+        Err(_) => {
+            println!(rt; "refused: {}", call.name())?;
+            call.text(rt.alloc(), snapshot)?
+        }
+    };
+    assert_eq!(rt; text.as_slice(), wanted.as_bytes());
+    Ok(())
+}
+
+#[test]
+fn the_schedule(rt: HostRuntime) -> Result<(), Fail> {
+    let rows = "slot,p0,p1\n0,1/1,2/1\n1,1/2,2/2\n2,,\n";
+    gives(&rt, Call::Schedule, &struck(rt.alloc())?, rows)
+}
+
+#[test]
+fn the_lags(rt: HostRuntime) -> Result<(), Fail> {
+    let rows = "task,cost,period,received,lag\n1,2,3,2,0\n2,2,3,2,0\n";
+    gives(&rt, Call::Lags, &struck(rt.alloc())?, rows)
+}
+
+#[test]
+fn no_misses(rt: HostRuntime) -> Result<(), Fail> {
+    let heading = "task,sub,deadline,ran\n";
+    gives(&rt, Call::Misses, &struck(rt.alloc())?, heading)
+}
+
+#[test]
+fn no_denials(rt: HostRuntime) -> Result<(), Fail> {
+    let heading = "slot,event,code,reason\n";
+    gives(&rt, Call::Denials, &struck(rt.alloc())?, heading)
+}
+
+#[test]
+fn the_json_text(rt: HostRuntime) -> Result<(), Fail> {
+    let wanted =
+        "{\"denials\":[],\"entries\":7,\"lags\":[{\"cost\":2,\"lag\":0,\"period\":3,\"received\":2,\"task\":1},\
+        {\"cost\":2,\"lag\":0,\"period\":3,\"received\":2,\"task\":2}],\"misses\":[],\"now\":3,\
+        \"schedule\":[[[1,1],[2,1]],[[1,2],[2,2]],[null,null]]}";
+    gives(&rt, Call::Object, &struck(rt.alloc())?, wanted)
 }
 
 #[test]
 fn the_script(rt: HostRuntime) -> Result<(), Fail> {
-    let snapshot = each_kind(rt.alloc())?;
-    let text = match script(rt.alloc(), &snapshot) {
-        Ok(text) => text,
-        Err(_) => {
-            println!(rt; "refused: script_text")?;
-            script(rt.alloc(), &snapshot)?
-        }
-    };
     let records =
         "pfair,2\nsettings,2,4,8,64\njoin,0,1,1,4,3\nlimit,4,1\nleave,9,1\ndelay,2,1,5\nstep,1\n";
-    assert_eq!(rt; text.as_slice(), records.as_bytes());
-    Ok(())
+    gives(&rt, Call::Script, &each_kind(rt.alloc())?, records)
 }
 
 /// What differs between two snapshots. A caller that needs no clause of `diff_text` calls this.
@@ -194,17 +156,32 @@ fn diff(alloc: Global, before: &Snapshot, after: &Snapshot) -> Result<Vec<u8>, A
     diff_text(alloc, before, after)
 }
 
-#[test]
-fn what_differs(rt: HostRuntime) -> Result<(), Fail> {
-    let before = three(rt.alloc())?;
-    let after = struck(rt.alloc())?;
-    let text = match diff(rt.alloc(), &before, &after) {
-        Ok(text) => text,
+/// The same. Where memory is refused, the call is made again.
+fn diff_again(
+    rt: &impl Print,
+    alloc: Global,
+    before: &Snapshot,
+    after: &Snapshot,
+) -> Result<Vec<u8>, Fail> {
+    match diff(alloc, before, after) {
+        Ok(text) => Ok(text),
         Err(_) => {
             println!(rt; "refused: diff_text")?;
-            diff(rt.alloc(), &before, &after)?
+            Ok(diff(alloc, before, after)?)
         }
-    };
+    }
+}
+
+/// What the strike changes.
+fn changed(rt: &impl Print, alloc: Global) -> Result<Vec<u8>, Fail> {
+    let before = three(alloc)?;
+    let after = struck(alloc)?;
+    diff_again(rt, alloc, &before, &after)
+}
+
+#[test]
+fn what_differs(rt: HostRuntime) -> Result<(), Fail> {
+    let text = changed(&rt, rt.alloc())?;
     let wanted = "schedule\nslot,processor,before,after\n1,1,3/1,2/2\n2,0,2/2,\n2,1,3/2,\n\
         lags\ntask,before,after\n3,0,\nmisses\ntask,sub,before,after\ndenials\nevent,slot,before,after\n";
     assert_eq!(rt; text.as_slice(), wanted.as_bytes());

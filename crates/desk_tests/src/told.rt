@@ -29,6 +29,20 @@ pub(crate) fn snapshot(desk: &Desk) -> Result<Snapshot, AllocError> {
     desk.snapshot()
 }
 
+/// A snapshot of a new desk after these commands, though memory may be refused once.
+pub(crate) fn snapshot_after(
+    alloc: Global,
+    settings: Settings,
+    every: u64,
+    commands: &[Command],
+) -> Result<Snapshot, Fail> {
+    let desk = desk_after(alloc, settings, every, commands)?;
+    match snapshot(&desk) {
+        Ok(shown) => Ok(shown),
+        Err(_) => Ok(snapshot(&desk)?),
+    }
+}
+
 /// Whether the desk took all these commands.
 fn takes_all(desk: &mut Desk, commands: &[Command]) -> bool {
     desk.apply_all(&mut Meter::new(), 0, commands).is_ok()
