@@ -5,6 +5,7 @@ use pf_cli::sink::{CountedWriter, Sink};
 use pf_cli::source::{CountedReader, Source};
 use std::alloc::Global;
 use std::io;
+use std::io::{Read, Write};
 use std::process::Abort;
 
 // Three tasks on two processors, for three slots, and then the third is taken out of the plan.
@@ -31,52 +32,62 @@ struct Ending {
     failures: (u64, u64),
 }
 
-/// What the records of a script from this one on changed.
-fn changed(alloc: Global, script: &'static [u8], since: Option<u64>) -> Ending {
-    let mut reader = CountedReader::new(script);
-    let mut writer = CountedWriter::new(Vec::new(alloc));
+// How it ended, the writer, the failures of the reader and of the writer.
+type Ended<W> = (Result<(), RunFault>, W, (u64, u64));
+
+/// What the records from this one on of the script that the reader has changed.
+fn diffed<R: Read + Drop, W: Write + Drop>(
+    alloc: Global,
+    reader: R,
+    writer: W,
+    since: Option<u64>,
+) -> Ended<W> {
+    let mut reader = CountedReader::new(reader);
+    let mut writer = CountedWriter::new(writer);
     let outcome = diff(alloc, &mut reader, &mut writer, since);
     let failures = (reader.failures(), writer.failures());
+    (outcome, writer.into_inner(), failures)
+}
+
+/// What the records of a script from this one on changed.
+fn changed(alloc: Global, script: &'static [u8], since: Option<u64>) -> Ending {
+    let (outcome, text, failures) = diffed(alloc, script, Vec::new(alloc), since);
     Ending {
         outcome,
-        text: writer.into_inner(),
+        text,
         failures,
     }
 }
 
 /// The reader gives one byte a call, and fails at the call numbered `fails_at`.
 fn read_until(alloc: Global, fails_at: u64) -> Ending {
-    let mut reader = CountedReader::new(OneByOne {
+    let reader = OneByOne {
         bytes: SCRIPT,
         calls: 0,
         fails_at,
         kind: io::ErrorKind::Other,
-    });
-    let mut writer = CountedWriter::new(Vec::new(alloc));
-    let outcome = diff(alloc, &mut reader, &mut writer, None);
-    let failures = (reader.failures(), writer.failures());
+    };
+    let (outcome, text, failures) = diffed(alloc, reader, Vec::new(alloc), None);
     Ending {
         outcome,
-        text: writer.into_inner(),
+        text,
         failures,
     }
 }
 
 /// The writer takes one byte a call, and none at the call numbered `stops_at`.
 fn written_until(alloc: Global, stops_at: u64, fails: bool) -> Ending {
-    let mut reader = CountedReader::new(SCRIPT);
-    let mut writer = CountedWriter::new(Reluctant {
+    let writer = Reluctant {
         got: Vec::new(alloc),
         calls: 0,
         stops_at,
         fails,
         flushed: false,
-    });
-    let outcome = diff(alloc, &mut reader, &mut writer, None);
-    let failures = (reader.failures(), writer.failures());
+    };
+    let (outcome, writer, failures) = diffed(alloc, SCRIPT, writer, None);
     Ending {
         outcome,
-        text: writer.into_inner().got,
+        text: writer.got,
         failures,
     }
 }
@@ -89,21 +100,24 @@ fn ends(ending: &Ending, outcome: Result<(), RunFault>, text: &[u8], failures: (
     ending.outcome == outcome && ending.text.as_slice() == text && ending.failures == failures
 }
 
-/// Aborts unless the records of the script from this one on changed this.
-fn changes(rt: &(impl Abort + AllocGlobal), since: Option<u64>, text: &[u8]) {
-    let ending = changed(rt.alloc(), SCRIPT, since);
-    assert!(rt; ends(&ending, Ok(()), text, (0, 0)), "{since:?}");
+/// Whether the records of the script from this one on changed this.
+fn changes(alloc: Global, since: Option<u64>, text: &[u8]) -> bool {
+    ends(&changed(alloc, SCRIPT, since), Ok(()), text, (0, 0))
 }
 
 #[test]
 fn changes_since_each_record(rt: HostRuntime) {
-    changes(&rt, None, STRUCK);
-    changes(&rt, Some(6), STRUCK);
-    changes(&rt, Some(5), STEPPED);
-    changes(&rt, Some(1), STEPPED);
-    changes(&rt, Some(0), STEPPED);
-    changes(&rt, Some(7), SAME);
-    changes(&rt, Some(u64::MAX), SAME);
+    for (since, text) in [
+        (None, STRUCK),
+        (Some(6), STRUCK),
+        (Some(5), STEPPED),
+        (Some(1), STEPPED),
+        (Some(0), STEPPED),
+        (Some(7), SAME),
+        (Some(u64::MAX), SAME),
+    ] {
+        assert!(rt; changes(rt.alloc(), since, text), "{since:?}");
+    }
 }
 
 #[test]
@@ -112,26 +126,31 @@ fn a_bad_record_has_no_text(rt: HostRuntime) {
     assert!(rt; ends(&ending, Err(RunFault::BadLine(3)), b"", (0, 0)));
 }
 
+/// Whether a reader that fails at this call is told, and nothing is written.
+fn fails_to_read(alloc: Global, fails_at: u64) -> bool {
+    let ending = read_until(alloc, fails_at);
+    ends(&ending, Err(RunFault::ReadFault), b"", (1, 0))
+}
+
 #[test]
 fn a_failing_reader_leaves_no_text(rt: HostRuntime) {
     let calls = SCRIPT.len() as u64 + 1;
     for fails_at in 1..=calls {
-        let ending = read_until(rt.alloc(), fails_at);
-        assert!(rt;
-            ends(&ending, Err(RunFault::ReadFault), b"", (1, 0)),
-            "{fails_at}"
-        );
+        assert!(rt; fails_to_read(rt.alloc(), fails_at), "{fails_at}");
     }
+}
+
+/// Whether a writer that stops before the byte at `taken` has the bytes below it.
+fn fails_to_write(alloc: Global, taken: usize, fails: bool) -> bool {
+    let ending = written_until(alloc, (taken as u64).saturating_add(1), fails);
+    let front = STRUCK.get(..taken).unwrap_or(STRUCK);
+    ends(&ending, Err(RunFault::WriteFault), front, (0, 1))
 }
 
 /// Stops a writer at each byte of the text.
 fn stops_everywhere(rt: &(impl Abort + AllocGlobal), fails: bool) {
     for taken in 0..STRUCK.len() {
-        let ending = written_until(rt.alloc(), taken as u64 + 1, fails);
-        assert!(rt;
-            ends(&ending, Err(RunFault::WriteFault), &STRUCK[..taken], (0, 1)),
-            "{taken}"
-        );
+        assert!(rt; fails_to_write(rt.alloc(), taken, fails), "{taken}");
     }
 }
 

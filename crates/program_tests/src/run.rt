@@ -6,6 +6,7 @@ use pf_cli::sink::{CountedWriter, Sink};
 use pf_cli::source::{CountedReader, Source};
 use std::alloc::Global;
 use std::io;
+use std::io::{Read, Write};
 use std::process::Abort;
 
 // Three tasks on two processors, and the whole answer with tables.
@@ -22,46 +23,51 @@ misses\ntask,sub,deadline,ran\ndenials\nslot,event,code,reason\n";
 struct Ending {
     outcome: Result<(), RunFault>,
     text: Vec<u8>,
-    failed_reads: u64,
-    failed_writes: u64,
+    failures: (u64, u64),
+}
+
+// How it ended, the writer, the failures of the reader and of the writer.
+type Ended<W> = (Result<(), RunFault>, W, (u64, u64));
+
+/// A run of the script that the reader has, with tables.
+fn ran<R: Read + Drop, W: Write + Drop>(alloc: Global, reader: R, writer: W) -> Ended<W> {
+    let mut reader = CountedReader::new(reader);
+    let mut writer = CountedWriter::new(writer);
+    let outcome = run(alloc, &mut reader, &mut writer, Format::Tables);
+    let failures = (reader.failures(), writer.failures());
+    (outcome, writer.into_inner(), failures)
 }
 
 /// The reader gives one byte a call, and fails at the call numbered `fails_at`.
 fn read_until(alloc: Global, fails_at: u64) -> Ending {
-    let mut reader = CountedReader::new(OneByOne {
+    let reader = OneByOne {
         bytes: SCRIPT,
         calls: 0,
         fails_at,
         kind: io::ErrorKind::Other,
-    });
-    let mut writer = CountedWriter::new(Vec::new(alloc));
-    let outcome = run(alloc, &mut reader, &mut writer, Format::Tables);
-    let failed_writes = writer.failures();
+    };
+    let (outcome, text, failures) = ran(alloc, reader, Vec::new(alloc));
     Ending {
         outcome,
-        text: writer.into_inner(),
-        failed_reads: reader.failures(),
-        failed_writes,
+        text,
+        failures,
     }
 }
 
 /// The writer takes one byte a call, and none at the call numbered `stops_at`.
 fn written_until(alloc: Global, stops_at: u64, fails: bool) -> Ending {
-    let mut reader = CountedReader::new(SCRIPT);
-    let mut writer = CountedWriter::new(Reluctant {
+    let writer = Reluctant {
         got: Vec::new(alloc),
         calls: 0,
         stops_at,
         fails,
         flushed: false,
-    });
-    let outcome = run(alloc, &mut reader, &mut writer, Format::Tables);
-    let failed_writes = writer.failures();
+    };
+    let (outcome, writer, failures) = ran(alloc, SCRIPT, writer);
     Ending {
         outcome,
-        text: writer.into_inner().got,
-        failed_reads: reader.failures(),
-        failed_writes,
+        text: writer.got,
+        failures,
     }
 }
 
@@ -70,34 +76,35 @@ fn ends(ending: &Ending, outcome: Result<(), RunFault>, text: &[u8], failures: (
     if ending.outcome == Err(RunFault::NoMemory) {
         return ANSWER.starts_with(&ending.text);
     }
-    ending.outcome == outcome
-        && ending.text.as_slice() == text
-        && (ending.failed_reads, ending.failed_writes) == failures
+    ending.outcome == outcome && ending.text.as_slice() == text && ending.failures == failures
+}
+
+/// Whether a reader that fails at this call is told, and nothing is written.
+fn fails_to_read(alloc: Global, fails_at: u64) -> bool {
+    let ending = read_until(alloc, fails_at);
+    ends(&ending, Err(RunFault::ReadFault), b"", (1, 0))
 }
 
 #[test]
 fn a_failing_reader_leaves_the_writer(rt: HostRuntime) {
     let calls = SCRIPT.len() as u64 + 1;
     for fails_at in 1..=calls {
-        let ending = read_until(rt.alloc(), fails_at);
-        assert!(rt;
-            ends(&ending, Err(RunFault::ReadFault), b"", (1, 0)),
-            "{fails_at}"
-        );
+        assert!(rt; fails_to_read(rt.alloc(), fails_at), "{fails_at}");
     }
-    let ending = read_until(rt.alloc(), 0);
-    assert!(rt; ends(&ending, Ok(()), ANSWER, (0, 0)));
+    assert!(rt; ends(&read_until(rt.alloc(), 0), Ok(()), ANSWER, (0, 0)));
+}
+
+/// Whether a writer that stops before the byte at `taken` has the bytes below it.
+fn fails_to_write(alloc: Global, taken: usize, fails: bool) -> bool {
+    let ending = written_until(alloc, (taken as u64).saturating_add(1), fails);
+    let front = ANSWER.get(..taken).unwrap_or(ANSWER);
+    ends(&ending, Err(RunFault::WriteFault), front, (0, 1))
 }
 
 /// The writer stops at each of its calls in turn.
 fn stops_everywhere(rt: &(impl Abort + AllocGlobal), fails: bool) {
-    for written in 0..ANSWER.len() {
-        let ending = written_until(rt.alloc(), written as u64 + 1, fails);
-        let front = &ANSWER[..written];
-        assert!(rt;
-            ends(&ending, Err(RunFault::WriteFault), front, (0, 1)),
-            "{written}"
-        );
+    for taken in 0..ANSWER.len() {
+        assert!(rt; fails_to_write(rt.alloc(), taken, fails), "{taken}");
     }
 }
 

@@ -3,6 +3,7 @@ use pf_program::program::{main_words, tell_unread};
 use pf_program::sink::CountedWriter;
 use pf_program::source::CountedReader;
 use std::alloc::AllocError;
+use std::io::{Read, Write};
 use std::rt::Files;
 use std::sync::Wait;
 use std::thread::Threads;
@@ -28,22 +29,37 @@ impl Ending {
     }
 }
 
+// The status, the writer, and what was told.
+type Done<W> = (u8, W, Vec<u8>);
+
+/// Does what the words say over the script that the reader has.
+fn done<H: AllocGlobal + Files + Threads + Wait + Sync, R: Read + Drop, W: Write + Drop>(
+    rt: &H,
+    words: &[&str],
+    reader: R,
+    writer: W,
+) -> Result<Done<W>, AllocError> {
+    let mut told = Vec::with_capacity(rt.alloc(), 1024)?;
+    let mut reader = CountedReader::new(reader);
+    let mut writer = CountedWriter::new(writer);
+    let status = main_words(rt, words, &mut reader, &mut writer, &mut told);
+    Ok((status, writer.into_inner(), told))
+}
+
 /// Does what the words say over a script. Ends with the want of memory where the program does.
 fn end_of<H: AllocGlobal + Files + Threads + Wait + Sync>(
     rt: &H,
     words: &[&str],
     script: &[u8],
 ) -> Result<Ending, AllocError> {
-    let mut reader = CountedReader::new(script);
-    let mut writer = CountedWriter::new(Vec::with_capacity(rt.alloc(), 8192)?);
-    let mut told = Vec::with_capacity(rt.alloc(), 1024)?;
-    let status = main_words(rt, words, &mut reader, &mut writer, &mut told);
+    let room = Vec::with_capacity(rt.alloc(), 8192)?;
+    let (status, written, told) = done(rt, words, script, room)?;
     if status == 4 {
         return Err(AllocError);
     }
     Ok(Ending {
         status,
-        written: writer.into_inner(),
+        written,
         told,
     })
 }
@@ -288,11 +304,8 @@ fn is_told(told: &Told, status: u8, text: &[u8]) -> bool {
 fn told_too_long<H: AllocGlobal + Files + Threads + Wait + Sync>(
     rt: &H,
 ) -> Result<Told, AllocError> {
-    let mut reader = CountedReader::new(Plenty { left: 16_777_217 });
-    let mut writer = CountedWriter::new(Vec::new(rt.alloc()));
-    let mut told = Vec::with_capacity(rt.alloc(), 1024)?;
-    let words: [&str; 0] = [];
-    let status = main_words(rt, &words, &mut reader, &mut writer, &mut told);
+    let reader = Plenty { left: 16_777_217 };
+    let (status, _, told) = done(rt, &[], reader, Vec::new(rt.alloc()))?;
     Ok((status, told))
 }
 
@@ -307,15 +320,13 @@ fn a_script_too_long_is_told(rt: HostRuntime) -> Result<(), AllocError> {
 fn told_of_reader<H: AllocGlobal + Files + Threads + Wait + Sync>(
     rt: &H,
 ) -> Result<Told, AllocError> {
-    let mut reader = CountedReader::new(OneByOne {
+    let reader = OneByOne {
         bytes: b"settings,1,1,1,1\n",
         calls: 0,
         fails_at: 3,
         kind: io::ErrorKind::Other,
-    });
-    let mut writer = CountedWriter::new(Vec::new(rt.alloc()));
-    let mut told = Vec::with_capacity(rt.alloc(), 1024)?;
-    let status = main_words(rt, &["run"], &mut reader, &mut writer, &mut told);
+    };
+    let (status, _, told) = done(rt, &["run"], reader, Vec::new(rt.alloc()))?;
     Ok((status, told))
 }
 
@@ -324,16 +335,15 @@ fn told_of_writer<H: AllocGlobal + Files + Threads + Wait + Sync>(
     rt: &H,
     word: &str,
 ) -> Result<Told, AllocError> {
-    let mut reader = CountedReader::new(b"settings,1,1,1,1\n".as_slice());
-    let mut writer = CountedWriter::new(Reluctant {
+    let writer = Reluctant {
         got: Vec::with_capacity(rt.alloc(), 2)?,
         calls: 0,
         stops_at: 3,
         fails: true,
         flushed: false,
-    });
-    let mut told = Vec::with_capacity(rt.alloc(), 1024)?;
-    let status = main_words(rt, &[word], &mut reader, &mut writer, &mut told);
+    };
+    let script = b"settings,1,1,1,1\n".as_slice();
+    let (status, _, told) = done(rt, &[word], script, writer)?;
     Ok((status, told))
 }
 
