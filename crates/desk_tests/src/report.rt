@@ -111,28 +111,38 @@ fn gives(
     Ok(())
 }
 
+/// The same of the plan whose third join is struck.
+fn struck_gives(
+    rt: &(impl Abort + AllocGlobal + Print),
+    call: Call,
+    wanted: &str,
+) -> Result<(), Fail> {
+    let snapshot = struck(rt.alloc())?;
+    gives(rt, call, &snapshot, wanted)
+}
+
 #[test]
 fn the_schedule(rt: HostRuntime) -> Result<(), Fail> {
     let rows = "slot,p0,p1\n0,1/1,2/1\n1,1/2,2/2\n2,,\n";
-    gives(&rt, Call::Schedule, &struck(rt.alloc())?, rows)
+    struck_gives(&rt, Call::Schedule, rows)
 }
 
 #[test]
 fn the_lags(rt: HostRuntime) -> Result<(), Fail> {
     let rows = "task,cost,period,received,lag\n1,2,3,2,0\n2,2,3,2,0\n";
-    gives(&rt, Call::Lags, &struck(rt.alloc())?, rows)
+    struck_gives(&rt, Call::Lags, rows)
 }
 
 #[test]
 fn no_misses(rt: HostRuntime) -> Result<(), Fail> {
     let heading = "task,sub,deadline,ran\n";
-    gives(&rt, Call::Misses, &struck(rt.alloc())?, heading)
+    struck_gives(&rt, Call::Misses, heading)
 }
 
 #[test]
 fn no_denials(rt: HostRuntime) -> Result<(), Fail> {
     let heading = "slot,event,code,reason\n";
-    gives(&rt, Call::Denials, &struck(rt.alloc())?, heading)
+    struck_gives(&rt, Call::Denials, heading)
 }
 
 #[test]
@@ -141,7 +151,7 @@ fn the_json_text(rt: HostRuntime) -> Result<(), Fail> {
         "{\"denials\":[],\"entries\":7,\"lags\":[{\"cost\":2,\"lag\":0,\"period\":3,\"received\":2,\"task\":1},\
         {\"cost\":2,\"lag\":0,\"period\":3,\"received\":2,\"task\":2}],\"misses\":[],\"now\":3,\
         \"schedule\":[[[1,1],[2,1]],[[1,2],[2,2]],[null,null]]}";
-    gives(&rt, Call::Object, &struck(rt.alloc())?, wanted)
+    struck_gives(&rt, Call::Object, wanted)
 }
 
 #[test]
