@@ -11,7 +11,7 @@ use std::alloc::{AllocError, Global};
 use std::process::Abort;
 use std::test::Fail;
 
-/// Puts a key of a task that isn't held, and whose place there is.
+/// Puts a key of a task that isn't held. Memory is ample, or the task's place is there.
 fn put(rt: &impl Abort, calendar: &mut Calendar, slot: u64, key: Key)
     requires { 1 ≤ calendar.old.spare }
     ensures { calendar.old.spare ≤ calendar.new.spare + 1 }

@@ -22,7 +22,7 @@ fn heap(arena: &mut Arena) -> Result<HeapId, AllocError>
     arena.new_heap()
 }
 
-/// Inserts a key of a task that isn't held, and whose place there is.
+/// Inserts a key of a task that isn't held. Memory is ample, or the task's place is there.
 fn put(rt: &impl Abort, arena: &mut Arena, h: HeapId, key: Key)
     requires room { 1 ≤ arena.old.spare }
     requires heap { h < length arena.old.lists }
