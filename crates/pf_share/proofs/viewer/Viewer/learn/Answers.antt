@@ -15,6 +15,14 @@ invariant_of-self c =
     let is = rw (← c.in-Some.ensures.value) at c.self.invariant in
     viewed c.self.inside.read c.self.inside.told v x v.reads (view c.in-Ok.reading.place) (view c.leave.result.place) c.self.inside.read c.again.result is sees c.leave.ensures.1 (inl refl) (inr stamp)
 
+pub invariant_of-self-else-is : goal.invariant_of-self-else-is
+invariant_of-self-else-is c =
+    let sees = c.in-Ok.ensures.1 in
+    let x = c.in-Ok.reading.part.value in
+    let v = view c.in-Some.reader.place in
+    let is = rw (← c.in-Some.ensures.value) at c.self.invariant in
+    viewed c.self.inside.read c.self.inside.told v x v.reads (view c.in-Ok.reading.place) (view c.leave.result.place) c.self.inside.read c.self.inside.told is sees c.leave.ensures.1 (inl refl) (inl refl)
+
 pub returns-then-is-clause-grew : goal.returns-then-is-clause-grew
 returns-then-is-clause-grew c told =
     let sees = c.in-Ok.ensures.1 in

@@ -7,6 +7,14 @@ use Rattle.pf_share.proofs.viewer.Viewer.read.Goals as goal
 pub enter_as-requires : goal.enter_as-requires
 enter_as-requires c x = let v = view c.in-Some.reader.place in enters c.in-Some.reader.place.id v x (v.reads ++ length x.history ∷ [])
 
+pub invariant_of-self : goal.invariant_of-self
+invariant_of-self c =
+    let sees = c.in-Ok.ensures.1 in
+    let x = c.in-Ok.reading.part.value in
+    let v = view c.in-Some.reader.place in
+    let is = rw (← c.in-Some.ensures.value) at c.self.invariant in
+    viewed c.self.inside.read c.self.inside.told v x (v.reads ++ length x.history ∷ []) (view c.in-Ok.reading.place) (view c.leave.result.place) c.self.inside.read c.self.inside.told is sees c.leave.ensures.1 (inl refl) (inl refl)
+
 pub invariant_of-self-in-Ok : goal.invariant_of-self-in-Ok
 invariant_of-self-in-Ok c =
     let sees = c.in-Ok.ensures.1 in
