@@ -6,9 +6,14 @@ use pf_place::row_view::RowView;
 use pf_scenario::change::Change;
 use pf_scenario::event::Event;
 use pf_share::done::Done;
+use std::alloc::AllocError;
+use std::process::Abort;
 
 /// The slot that was taken, who runs in it, and the number of entries.
 pub(crate) type Taken = (u64, [(u32, u32); 2], u64);
+
+/// The number of an event, and the number of entries.
+pub(crate) type Edited = (u64, u64);
 
 /// The change that lets a task join in slot 0 with the weight cost/period.
 pub(crate) fn join(task: u64, cost: u64, period: u64) -> Change {
@@ -22,7 +27,7 @@ pub(crate) fn join(task: u64, cost: u64, period: u64) -> Change {
 }
 
 /// The number of the event that was edited, and the number of entries. None where the change was refused.
-pub(crate) fn edited(done: &Done) -> Option<(u64, u64)> {
+pub(crate) fn edited(done: &Done) -> Option<Edited> {
     match &done.reply {
         Reply::Edited { id } => Some((*id, done.front)),
         _ => None,
@@ -40,6 +45,15 @@ pub(crate) fn stepped(done: &Done) -> Option<Taken> {
         Reply::Stepped { slot, row } => Some((*slot, pair(row.view()), done.front)),
         _ => None,
     }
+}
+
+/// Fails the test where a change was answered otherwise than by the number of its event and the number of entries.
+pub(crate) fn expect_edit(
+    rt: &impl Abort,
+    edited: Result<Option<Edited>, AllocError>,
+    wanted: Edited,
+) {
+    assert_eq!(rt; edited, Ok(Some(wanted)));
 }
 
 /// The numbers of a pick.

@@ -2,7 +2,7 @@
 ghost use Rattle.std.specs.Prelude.{◌≡◌};
 
 use crate::answers;
-use crate::answers::Taken;
+use crate::answers::{Edited, Taken};
 use pf_board::take::Take;
 use pf_scenario::change::Change;
 use pf_share::calls::DeskPass;
@@ -18,7 +18,7 @@ pub(crate) fn edit<N: Naming, H: Wait + Drop>(
     shared: &Shared<N, H>,
     pass: &mut DeskPass,
     change: Change,
-) -> Result<Option<(u64, u64)>, AllocError>
+) -> Result<Option<Edited>, AllocError>
     requires { pass.old.board ≡ N.board.id }
     ensures { pass.new.board ≡ N.board.id }
 {

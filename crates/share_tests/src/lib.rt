@@ -13,10 +13,13 @@ mod growths;
 #[cfg(test)]
 mod limits;
 #[cfg(test)]
+mod opening;
+#[cfg(test)]
 mod passes;
 #[cfg(test)]
 mod planners;
 #[cfg(test)]
+mod race;
 #[cfg(test)]
 mod refused;
 #[cfg(test)]
