@@ -1,11 +1,14 @@
 //! Answers in short.
 
+use pf_board::quantum::Quantum;
+use pf_board::take::Take;
 use pf_desk::reply::Reply;
 use pf_order::pick::Pick;
 use pf_place::row_view::RowView;
 use pf_scenario::change::Change;
 use pf_scenario::event::Event;
 use pf_share::done::Done;
+use pf_share::step_refusal::StepRefusal;
 use std::alloc::AllocError;
 use std::process::Abort;
 
@@ -47,6 +50,16 @@ pub(crate) fn stepped(done: &Done) -> Option<Taken> {
     }
 }
 
+/// A quantum of slot 0, of a task's first subtask.
+pub(crate) fn first_quantum(processor: u32, task: u32) -> Quantum {
+    Quantum {
+        slot: 0,
+        processor,
+        task,
+        sub: 1,
+    }
+}
+
 /// Fails the test where a change was answered otherwise than by the number of its event and the number of entries.
 pub(crate) fn expect_edit(
     rt: &impl Abort,
@@ -54,6 +67,20 @@ pub(crate) fn expect_edit(
     wanted: Edited,
 ) {
     assert_eq!(rt; edited, Ok(Some(wanted)));
+}
+
+/// Fails the test where a step was answered otherwise.
+pub(crate) fn expect_step(
+    rt: &impl Abort,
+    stepped: Result<Option<Taken>, StepRefusal>,
+    wanted: Result<Taken, StepRefusal>,
+) {
+    assert_eq!(rt; stepped, wanted.map(Some));
+}
+
+/// Fails the test where something else was got of a processor.
+pub(crate) fn expect_take(rt: &impl Abort, take: Take, wanted: Take) {
+    assert_eq!(rt; take, wanted);
 }
 
 /// The numbers of a pick.

@@ -1,12 +1,14 @@
 //! What is left after memory was refused. Each call that was refused is made again, and answers as its example.
-ghost use Rattle.std.specs.Prelude.{◌≡◌, All, IfOk};
+ghost use Rattle.std.specs.Prelude.{◌≡◌, All, IfOk, IfSome};
 ghost use Rattle.pf_board.specs.Passes.{AreOf};
 ghost use Rattle.pf_share.specs.Locked.{origin_of};
 
-use crate::answers::{Taken, join};
+use crate::answers::{Edited, Taken, expect_edit, expect_step, first_quantum, join};
 use crate::calls::{edit, step};
-use crate::passes::{close, pop, pop_two, pop_viewer, put_two};
+use crate::opening::{begin, open_desk, start};
+use crate::passes::{close, pop, pop_viewer, put_two};
 use crate::refused::say;
+use pf_board::quantum::Quantum;
 use pf_scenario::change::Change;
 use pf_scenario::settings::Settings;
 use pf_share::blank::Blank;
@@ -17,28 +19,44 @@ use pf_share::naming::Naming;
 use pf_share::opened::Opened;
 use pf_share::shared::Shared;
 use pf_share::step_refusal::StepRefusal;
+use pf_share::unread::Unread;
 use pf_share::viewer::Viewer;
-use std::alloc::Global;
+use std::alloc::{AllocError, Global};
 use std::marker::Brand;
 use std::process::Abort;
 use std::sync::Wait;
 use std::test::Fail;
 
-/// A desk of two processors with two passes and a viewer.
-#[tactic(auto, using(crate::proofs::Boarded::boarded, crate::proofs::Boarded::viewed))]
-fn open_again<R: Wait + Print>(rt: &R, alloc: Global) -> Result<Blank<&R>, Fail>
+/// A desk with two passes and a viewer.
+fn open_again<R: Wait + Abort + Print>(
+    rt: &R,
+    alloc: Global,
+    settings: Settings,
+) -> Result<Blank<&R>, OpenFault>
     ensures passes { IfOk result (λ b. AreOf b.board.id b.passes) }
     ensures viewers { IfOk result (λ b. All (λ v. v.origin ≡ origin_of b.board b.book) b.viewers) }
 {
-    let settings = Settings::new(2, 3, 6)?;
-    match Blank::open(rt, alloc, settings, 2, 2, 1) {
-        Ok(blank) => Ok(blank),
+    match open_desk(rt, alloc, settings, 2, 2, 1) {
         Err(OpenFault::NoMemory) => {
-            say(rt, "Blank::open", true)?;
-            Ok(Blank::open(rt, alloc, settings, 2, 2, 1)?)
+            say(rt, "Blank::open", true);
+            open_desk(rt, alloc, settings, 2, 2, 1)
         }
-        Err(fault) => Err(Fail::from(fault)),
+        opened => opened,
     }
+}
+
+/// Fails the test where there are not so many entries.
+fn expect_entries<N: Naming, H: Wait + Drop>(
+    rt: &impl Abort,
+    shared: &Shared<N, H>,
+    pass: &mut DeskPass,
+    wanted: u64,
+)
+    requires { pass.old.board ≡ N.board.id }
+    ensures { pass.new.board ≡ N.board.id }
+{
+    let entries = shared.look(pass);
+    assert_eq!(rt; entries, wanted);
 }
 
 /// Makes a change. Where that is refused, no entry was made.
@@ -47,18 +65,17 @@ fn edit_again<N: Naming, H: Wait + Drop>(
     shared: &Shared<N, H>,
     pass: &mut DeskPass,
     change: Change,
-) -> Result<Option<(u64, u64)>, Fail>
+) -> Result<Option<Edited>, AllocError>
     requires { pass.old.board ≡ N.board.id }
     ensures { pass.new.board ≡ N.board.id }
 {
     let entries = shared.look(pass);
     match edit(rt, shared, pass, change) {
         Ok(edited) => Ok(edited),
-        Err(_) => {
-            assert_eq!(rt; shared.look(pass), entries);
-            let edited = edit(rt, shared, pass, change);
-            say(rt, "Shared::edit", true)?;
-            Ok(edited?)
+        Err(AllocError) => {
+            say(rt, "Shared::edit", true);
+            expect_entries(rt, shared, pass, entries);
+            edit(rt, shared, pass, change)
         }
     }
 }
@@ -68,63 +85,60 @@ fn step_again<N: Naming, H: Wait + Drop>(
     rt: &(impl Wait + Abort + Print),
     shared: &Shared<N, H>,
     pass: &mut DeskPass,
-) -> Result<Option<Taken>, Fail>
+) -> Result<Option<Taken>, StepRefusal>
     requires { pass.old.board ≡ N.board.id }
     ensures { pass.new.board ≡ N.board.id }
 {
     let entries = shared.look(pass);
     match step(rt, shared, pass) {
         Err(StepRefusal::NoMemory) => {
-            assert_eq!(rt; shared.look(pass), entries);
-            let stepped = step(rt, shared, pass);
-            say(rt, "Shared::step", true)?;
-            Ok(stepped?)
+            say(rt, "Shared::step", true);
+            expect_entries(rt, shared, pass, entries);
+            step(rt, shared, pass)
         }
-        stepped => Ok(stepped?),
+        stepped => stepped,
     }
 }
 
 /// Tells the viewer. Where that is refused, pass and viewer are as before.
 fn tell_again<N: Naming, H: Wait + Drop>(
-    rt: &(impl Wait + Print),
+    rt: &(impl Wait + Abort + Print),
     shared: &Shared<N, H>,
     pass: &mut DeskPass,
     viewer: &mut Viewer,
-) -> Result<(), Fail>
+) -> Result<(), AllocError>
     requires { (pass.old.board ≡ N.board.id) × (viewer.old.origin ≡ origin_of N.board N.book) }
     ensures pass { pass.new.board ≡ N.board.id }
     ensures viewer { viewer.new.origin ≡ viewer.old.origin }
 {
     match shared.tell(rt, pass, viewer) {
         Ok(()) => Ok(()),
-        Err(_) => {
-            let told = shared.tell(rt, pass, viewer);
-            say(rt, "Shared::tell", true)?;
-            Ok(told?)
+        Err(AllocError) => {
+            say(rt, "Shared::tell", true);
+            shared.tell(rt, pass, viewer)
         }
     }
 }
 
 /// Ends the desk. Where that is refused, all came back.
 fn close_again<N: Naming, H: Wait + Drop>(
-    rt: &(impl Wait + Print),
+    rt: &(impl Wait + Abort + Print),
     shared: Shared<N, H>,
     passes: Vec<DeskPass>,
     viewers: Vec<Viewer>,
-) -> Result<Closed, Fail>
+) -> Option<Closed>
     requires { AreOf N.board.id passes.items }
 {
     match shared.close(rt, passes, viewers) {
-        Ok(closed) => Ok(closed),
+        Ok(closed) => Some(closed),
         Err(opened) => {
             let Opened {
                 shared,
                 passes,
                 viewers,
             } = opened;
-            let closed = close(rt, shared, passes, viewers);
-            say(rt, "Shared::close", true)?;
-            Ok(closed.ok_or("closed")?)
+            say(rt, "Shared::close", true);
+            close(rt, shared, passes, viewers)
         }
     }
 }
@@ -134,87 +148,148 @@ fn plan<N: Naming, H: Wait + Drop>(
     rt: &(impl Wait + Abort + Print),
     shared: &Shared<N, H>,
     pass: &mut DeskPass,
-) -> Result<(), Fail>
+)
     requires { pass.old.board ≡ N.board.id }
     ensures { pass.new.board ≡ N.board.id }
 {
     for task in 1..4 {
-        let edited = edit_again(rt, shared, pass, join(task, 2, 3))?;
-        assert_eq!(rt; edited, Some((task, task)));
+        let joined = edit_again(rt, shared, pass, join(task, 2, 3));
+        expect_edit(rt, joined, (task, task));
     }
-    let stepped = step_again(rt, shared, pass)?;
-    assert_eq!(rt; stepped, Some((0, [(1, 1), (2, 1)], 4)));
-    Ok(())
+    let stepped = step_again(rt, shared, pass);
+    expect_step(rt, stepped, Ok((0, [(1, 1), (2, 1)], 4)));
 }
 
-/// What lies untaken: the processor, the task and the subtask of each quantum of slot 0.
-fn check_left(rt: &impl Abort, closed: &Closed) {
-    assert_eq!(rt; closed.left.len(), 2);
-    for at in 0..closed.left.len() {
-        let quantum = closed.left[at];
-        assert_eq!(rt; (quantum.slot, quantum.sub), (0, 1));
-        assert_eq!(rt; quantum.processor as usize, at);
-        assert_eq!(rt; quantum.task as usize, at + 1);
+/// What the one plans is seen by the other, also where they meet.
+fn use_both<N: Naming, H: Wait + Drop>(
+    rt: &(impl Wait + Abort + Print),
+    shared: &Shared<N, H>,
+    first: &mut DeskPass,
+    second: &mut DeskPass,
+)
+    requires { (first.old.board ≡ N.board.id) × (second.old.board ≡ N.board.id) }
+    ensures { (first.new.board ≡ N.board.id) × (second.new.board ≡ N.board.id) }
+{
+    plan(rt, shared, first);
+    expect_entries(rt, shared, second, 4);
+    shared.meet(first, second);
+}
+
+/// What is left of the desk, once these two passes are put back.
+fn end_again<N: Naming, H: Wait + Drop>(
+    rt: &(impl Wait + Abort + Print),
+    opened: Opened<N, H>,
+    first: DeskPass,
+    second: DeskPass,
+) -> Option<Closed>
+    requires rest { AreOf N.board.id opened.passes.items }
+    requires board { (first.board ≡ N.board.id) × (second.board ≡ N.board.id) }
+{
+    let Opened {
+        shared,
+        passes,
+        viewers,
+    } = opened;
+    match put_two::<N>(passes, first, second) {
+        Some(passes) => close_again(rt, shared, passes, viewers),
+        None => None,
     }
 }
 
 fn use_desk<N: Naming, H: Wait + Drop>(
     rt: &(impl Wait + Abort + Print),
     blank: Blank<H>,
-) -> Result<(), Fail>
-    requires name { (blank.board ≡ N.board) × (blank.book ≡ N.book) }
-    requires passes { AreOf N.board.id blank.passes }
-{
-    let Opened {
-        shared,
-        mut passes,
-        viewers,
-    } = blank.start::<N>();
-    let (mut first, mut second) = pop_two::<N>(&mut passes).ok_or("two passes")?;
-    plan(rt, &shared, &mut first)?;
-    assert_eq!(rt; shared.look(&mut second), 4);
-    shared.meet(&mut first, &mut second);
-    let passes = put_two::<N>(passes, first, second).ok_or("two passes")?;
-    let closed = close_again(rt, shared, passes, viewers)?;
-    check_left(rt, &closed);
-    assert_eq!(rt; closed.desk.history().len(), 4);
-    Ok(())
-}
-
-#[test]
-fn an_untaken_step_is_closed_again(rt: HostRuntime) -> Result<(), Fail> {
-    let blank = open_again(&rt, rt.alloc())?;
-    use_desk::<Brand, _>(&rt, blank)
-}
-
-/// An event is inserted, and the viewer, who had read nothing yet, is told.
-fn tell_desk<N: Naming, H: Wait + Drop>(
-    rt: &(impl Wait + Abort + Print),
-    blank: Blank<H>,
-) -> Result<(), Fail>
+) -> Option<Closed>
     requires name { (blank.board ≡ N.board) × (blank.book ≡ N.book) }
     requires passes { AreOf N.board.id blank.passes }
     requires viewers { All (λ v. v.origin ≡ origin_of N.board N.book) blank.viewers }
 {
-    let Opened {
-        shared,
-        mut passes,
-        mut viewers,
-    } = blank.start::<N>();
-    let mut pass = pop::<N>(&mut passes).ok_or("a pass")?;
-    let mut viewer = pop_viewer::<N>(&mut viewers).ok_or("a viewer")?;
-    assert_eq!(rt; shared.read(&mut viewer)?.version(), 0);
-    let edited = edit_again(rt, &shared, &mut pass, join(1, 2, 3))?;
-    assert_eq!(rt; edited, Some((1, 1)));
-    tell_again(rt, &shared, &mut pass, &mut viewer)?;
-    let snapshot = shared.read(&mut viewer)?;
-    assert_eq!(rt; snapshot.version(), 1);
-    assert_eq!(rt; snapshot.events().count(), 1);
+    let (opened, (mut first, mut second)) = begin::<N, H>(blank)?;
+    use_both(rt, &opened.shared, &mut first, &mut second);
+    end_again(rt, opened, first, second)
+}
+
+/// Fails the test where other quanta lie untaken than those of slot 0.
+fn expect_left(rt: &impl Abort, left: &[Quantum]) {
+    let wanted = [first_quantum(0, 1), first_quantum(1, 2)];
+    assert_eq!(rt; left, wanted.as_slice());
+}
+
+#[test]
+fn an_untaken_step_is_closed_again(rt: HostRuntime) -> Result<(), Fail> {
+    let blank = open_again(&rt, rt.alloc(), Settings::new(2, 3, 6)?)?;
+    let closed = use_desk::<Brand, _>(&rt, blank).ok_or("closed")?;
+    expect_left(&rt, closed.left.as_slice());
+    assert_eq!(rt; closed.desk.history().len(), 4);
     Ok(())
+}
+
+/// How many entries the history has that the viewer reads, and how many events were inserted.
+fn read<N: Naming, H: Wait + Drop>(
+    shared: &Shared<N, H>,
+    viewer: &mut Viewer,
+) -> Result<(u64, usize), Unread>
+    requires { viewer.old.origin ≡ origin_of N.board N.book }
+    ensures { viewer.new.origin ≡ viewer.old.origin }
+{
+    match shared.read(viewer) {
+        Ok(snapshot) => Ok((snapshot.version(), snapshot.events().count())),
+        Err(unread) => Err(unread),
+    }
+}
+
+/// Fails the test where something else was read.
+fn expect_read(rt: &impl Abort, read: Result<(u64, usize), Unread>, wanted: (u64, usize)) {
+    assert_eq!(rt; read, Ok(wanted));
+}
+
+/// An event is inserted, and the viewer, who had read nothing yet, is told.
+fn insert_and_tell<N: Naming, H: Wait + Drop>(
+    rt: &(impl Wait + Abort + Print),
+    shared: &Shared<N, H>,
+    pass: &mut DeskPass,
+    viewer: &mut Viewer,
+)
+    requires { (pass.old.board ≡ N.board.id) × (viewer.old.origin ≡ origin_of N.board N.book) }
+{
+    expect_read(rt, read(shared, viewer), (0, 0));
+    let joined = edit_again(rt, shared, pass, join(1, 2, 3));
+    expect_edit(rt, joined, (1, 1));
+    let told = tell_again(rt, shared, pass, viewer);
+    assert_eq!(rt; told, Ok(()));
+    expect_read(rt, read(shared, viewer), (1, 1));
+}
+
+/// The last pass and the last viewer.
+fn pop_seat<N: Naming, H: Wait + Drop>(opened: &mut Opened<N, H>) -> Option<(DeskPass, Viewer)>
+    requires passes { AreOf N.board.id opened.old.passes.items }
+    requires viewers { All (λ v. v.origin ≡ origin_of N.board N.book) opened.old.viewers.items }
+    ensures { IfSome result (λ r. (r.0.board ≡ N.board.id) × (r.1.origin ≡ origin_of N.board N.book)) }
+{
+    let pass = pop::<N>(&mut opened.passes)?;
+    let viewer = pop_viewer::<N>(&mut opened.viewers)?;
+    Some((pass, viewer))
+}
+
+/// Whether there were a pass and a viewer.
+fn tell_desk<N: Naming, H: Wait + Drop>(rt: &(impl Wait + Abort + Print), blank: Blank<H>) -> bool
+    requires name { (blank.board ≡ N.board) × (blank.book ≡ N.book) }
+    requires passes { AreOf N.board.id blank.passes }
+    requires viewers { All (λ v. v.origin ≡ origin_of N.board N.book) blank.viewers }
+{
+    let mut opened = start::<N, H>(blank);
+    match pop_seat(&mut opened) {
+        Some((mut pass, mut viewer)) => {
+            insert_and_tell(rt, &opened.shared, &mut pass, &mut viewer);
+            true
+        }
+        None => false,
+    }
 }
 
 #[test]
 fn a_viewer_is_told(rt: HostRuntime) -> Result<(), Fail> {
-    let blank = open_again(&rt, rt.alloc())?;
-    tell_desk::<Brand, _>(&rt, blank)
+    let blank = open_again(&rt, rt.alloc(), Settings::new(2, 3, 6)?)?;
+    assert!(rt; tell_desk::<Brand, _>(&rt, blank));
+    Ok(())
 }

@@ -1,14 +1,19 @@
 //! How many passes and viewers a desk may have, and when a viewer reads nothing.
-ghost use Rattle.std.specs.Prelude.{◌≡◌};
+ghost use Rattle.std.specs.Prelude.{◌≡◌, All};
 ghost use Rattle.pf_board.specs.Passes.{AreOf};
+ghost use Rattle.pf_share.specs.Locked.{origin_of};
 
+use crate::opening::{open_desk, start};
 use crate::passes::close;
 use pf_scenario::settings::Settings;
 use pf_share::blank::Blank;
+use pf_share::calls::DeskPass;
+use pf_share::closed::Closed;
 use pf_share::fault::OpenFault;
 use pf_share::naming::Naming;
 use pf_share::opened::Opened;
 use pf_share::unread::Unread;
+use pf_share::viewer::Viewer;
 use std::alloc::Global;
 use std::marker::Brand;
 use std::process::Abort;
@@ -49,37 +54,79 @@ fn out_of_the_limits(rt: HostRuntime) -> Result<(), Fail> {
     Ok(())
 }
 
-/// Each pass has its number, and each viewer reads the empty history. Once the desk is ended, a viewer reads nothing.
-fn use_desk<N: Naming, H: Wait + Drop>(
-    rt: &(impl Wait + Abort),
-    blank: Blank<H>,
-) -> Result<(), Fail>
-    requires name { (blank.board ≡ N.board) × (blank.book ≡ N.book) }
-    requires passes { AreOf N.board.id blank.passes }
+/// Fails the test where there are not 128 passes, each with its number.
+fn expect_passes(rt: &impl Abort, passes: &[DeskPass]) {
+    assert_eq!(rt; passes.len(), 128);
+    for at in 0..passes.len() {
+        assert_eq!(rt; passes[at].me() as usize, at);
+    }
+}
+
+/// How many entries the history has that the viewer reads.
+fn version(viewer: &mut Viewer) -> Result<u64, Unread> {
+    match viewer.read() {
+        Ok(snapshot) => Ok(snapshot.version()),
+        Err(unread) => Err(unread),
+    }
+}
+
+/// Fails the test where there are not 16 viewers, each of which reads the empty history.
+fn expect_viewers(rt: &impl Abort, viewers: &mut [Viewer]) {
+    assert_eq!(rt; viewers.len(), 16);
+    for at in 0..viewers.len() {
+        let read = version(&mut viewers[at]);
+        assert_eq!(rt; read, Ok(0));
+    }
+}
+
+/// How many entries the history of the desk has that was closed, how many quanta are left, and what a viewer reads.
+type Ended = (usize, usize, Result<u64, Unread>);
+
+fn ended(closed: &Closed, viewer: &mut Viewer) -> Ended {
+    (
+        closed.desk.history().len(),
+        closed.left.len(),
+        version(viewer),
+    )
+}
+
+/// Closes the desk but for its last viewer, where memory is ample.
+fn end_but_for_last<N: Naming, H: Wait + Drop>(
+    rt: &impl Wait,
+    opened: Opened<N, H>,
+) -> Option<Ended>
+    requires { AreOf N.board.id opened.passes.items }
 {
     let Opened {
         shared,
         passes,
         mut viewers,
-    } = blank.start::<N>();
-    assert_eq!(rt; passes.len(), 128);
-    for at in 0..passes.len() {
-        assert_eq!(rt; passes[at].me() as usize, at);
+    } = opened;
+    let Some(mut last) = viewers.pop() else {
+        return None;
+    };
+    match close(rt, shared, passes, viewers) {
+        Some(closed) => Some(ended(&closed, &mut last)),
+        None => None,
     }
-    assert_eq!(rt; viewers.len(), 16);
-    for at in 0..viewers.len() {
-        assert_eq!(rt; viewers[at].read()?.version(), 0);
-    }
-    let mut last = viewers.pop().ok_or("a viewer")?;
-    let closed = close(rt, shared, passes, viewers).ok_or("closed")?;
-    assert!(rt; closed.desk.history().is_empty());
-    assert!(rt; closed.left.is_empty());
-    assert_eq!(rt; last.read().err(), Some(Unread));
-    Ok(())
+}
+
+/// Each pass has its number, and each viewer reads the empty history. Then the desk is closed.
+fn use_desk<N: Naming, H: Wait + Drop>(rt: &(impl Wait + Abort), blank: Blank<H>) -> Option<Ended>
+    requires name { (blank.board ≡ N.board) × (blank.book ≡ N.book) }
+    requires passes { AreOf N.board.id blank.passes }
+    requires viewers { All (λ v. v.origin ≡ origin_of N.board N.book) blank.viewers }
+{
+    let mut opened = start::<N, H>(blank);
+    expect_passes(rt, opened.passes.as_slice());
+    expect_viewers(rt, opened.viewers.as_mut_slice());
+    end_but_for_last(rt, opened)
 }
 
 #[test]
 fn all_are_there(rt: HostRuntime) -> Result<(), Fail> {
-    let blank = Blank::open(&rt, rt.alloc(), Settings::new(1, 1, 1)?, 8, 128, 16)?;
-    use_desk::<Brand, _>(&rt, blank)
+    let blank = open_desk(&rt, rt.alloc(), Settings::new(1, 1, 1)?, 8, 128, 16)?;
+    let ended = use_desk::<Brand, _>(&rt, blank);
+    assert_eq!(rt; ended, Some((0, 0, Err(Unread))));
+    Ok(())
 }

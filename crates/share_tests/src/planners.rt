@@ -1,10 +1,11 @@
 //! Two planners at once.
-ghost use Rattle.std.specs.Prelude.{◌≡◌};
+ghost use Rattle.std.specs.Prelude.{◌≡◌, All};
 ghost use Rattle.pf_board.specs.Passes.{AreOf};
+ghost use Rattle.pf_share.specs.Locked.{origin_of};
 
 use crate::answers::join as join_change;
 use crate::calls::edit;
-use crate::passes::{close, pop_two, put_two};
+use crate::opening::{begin, end, open_desk};
 use pf_desk::command::Command;
 use pf_desk::entry_view::EntryView;
 use pf_desk::history::History;
@@ -13,8 +14,8 @@ use pf_scenario::event::Event;
 use pf_scenario::settings::Settings;
 use pf_share::blank::Blank;
 use pf_share::calls::DeskPass;
+use pf_share::closed::Closed;
 use pf_share::naming::Naming;
-use pf_share::opened::Opened;
 use pf_share::shared::Shared;
 use std::marker::Brand;
 use std::ops::Range;
@@ -73,41 +74,53 @@ fn joined(entry: EntryView<'_>) -> Option<u64> {
     }
 }
 
-/// That the caller's entries are the joins of these tasks, in this order.
-fn check_order(rt: &impl Abort, history: &History, caller: u32, tasks: Range<u64>) {
+/// The task whose join the caller inserted there. None where the entry is another's.
+fn joined_by(history: &History, k: usize, caller: u32) -> Option<u64> {
+    let entry = history.entry(k)?;
+    if entry.caller == caller {
+        joined(entry)
+    } else {
+        None
+    }
+}
+
+/// Fails the test where the caller's joins are not those of these tasks, in this order.
+fn expect_order(rt: &impl Abort, history: &History, caller: u32, tasks: Range<u64>) {
     let mut wanted = tasks;
     for k in 0..history.len() {
-        if let Some(entry) = history.entry(k).filter(|entry| entry.caller == caller) {
-            assert_eq!(rt; joined(entry), wanted.next());
+        let task = joined_by(history, k, caller);
+        if task.is_some() {
+            assert_eq!(rt; task, wanted.next());
         }
     }
     assert_eq!(rt; wanted.next(), None);
 }
 
-fn use_desk<N: Naming + Send + Sync, H: Wait + Drop + Send, R: Threads + Wait + Abort + Sync>(
+/// Fails the test where the entries are not the joins of both callers, each one's in their order.
+fn expect_both(rt: &impl Abort, history: &History) {
+    assert_eq!(rt; history.len(), 200);
+    expect_order(rt, history, 0, 1..101);
+    expect_order(rt, history, 1, 101..201);
+}
+
+/// What is left of the desk, where memory is ample.
+fn use_desk<N: Naming + Send + Sync, H: Wait + Drop + Send, R: Threads + Wait + Sync>(
     rt: &R,
     blank: Blank<H>,
-) -> Result<(), Fail>
+) -> Option<Closed>
     requires name { (blank.board ≡ N.board) × (blank.book ≡ N.book) }
     requires passes { AreOf N.board.id blank.passes }
+    requires viewers { All (λ v. v.origin ≡ origin_of N.board N.book) blank.viewers }
 {
-    let Opened {
-        shared,
-        mut passes,
-        viewers,
-    } = blank.start::<N>();
-    let (first, second) = pop_two::<N>(&mut passes).ok_or("two passes")?;
-    let (first, second) = insert_at_once(rt, &shared, first, second);
-    let passes = put_two::<N>(passes, first, second).ok_or("two passes")?;
-    let closed = close(rt, shared, passes, viewers).ok_or("closed")?;
-    assert_eq!(rt; closed.desk.history().len(), 200);
-    check_order(rt, closed.desk.history(), 0, 1..101);
-    check_order(rt, closed.desk.history(), 1, 101..201);
-    Ok(())
+    let (opened, (first, second)) = begin::<N, H>(blank)?;
+    let (first, second) = insert_at_once(rt, &opened.shared, first, second);
+    end(rt, opened, first, second)
 }
 
 #[test]
 fn two_planners(rt: HostRuntime) -> Result<(), Fail> {
-    let blank = Blank::open(&rt, rt.alloc(), Settings::new(2, 3, 200)?, 2, 2, 1)?;
-    use_desk::<Brand, _, _>(&rt, blank)
+    let blank = open_desk(&rt, rt.alloc(), Settings::new(2, 3, 200)?, 2, 2, 1)?;
+    let closed = use_desk::<Brand, _, _>(&rt, blank).ok_or("closed")?;
+    expect_both(&rt, closed.desk.history());
+    Ok(())
 }
