@@ -11,7 +11,8 @@ use Rattle.pf_desk.specs.Desk.{Shown, AnswersAll, AnswersCaller, Seen, StandsFor
 use Rattle.pf_diff.specs.Diff.{diff_text_of}
 use Rattle.pf_script.specs.declared.line.Line.{Line}
 use Rattle.pf_script.specs.declared.line.Line.TheVariants.{Steps}
-use Rattle.pf_cli.specs.Meaning.{ScriptCourse, commands_of, course_behind, seen_at}
+use Rattle.pf_cli.specs.Meaning.{ScriptCourse, course_behind, seen_at}
+use Rattle.pf_opening.specs.Commands.{commands_of}
 use Rattle.pf_cli.specs.Session.{course_at}
 use Rattle.pf_cli.proofs.Batches.{answered_course}
 use Rattle.pf_cli.proofs.Sessions.{course_behind-append, course_entered, seen_there}

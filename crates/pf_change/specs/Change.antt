@@ -9,7 +9,8 @@ use Rattle.pf_script.specs.declared.line.Line.{Line}
 use Rattle.pf_script.specs.Script.{script_records}
 use Rattle.pf_script.specs.Grammar.{is_heading, opening_of, line_of}
 use Rattle.pf_stream.specs.Reading.{longest_script}
-use Rattle.pf_cli.specs.Meaning.{Meaning, Done, ScriptCourse, TooLong, bad_record, commands_of, course_behind, course_opened_by, seen_at}
+use Rattle.pf_cli.specs.Meaning.{Meaning, Done, ScriptCourse, TooLong, bad_record, course_behind, course_opened_by, seen_at}
+use Rattle.pf_opening.specs.Commands.{commands_of}
 
 -- records behind the settings: lines, or the number of the first that is none
 pub data Told : Type 0 where

@@ -12,7 +12,8 @@ use Rattle.pf_cli.specs.declared.batching.BatchingSession.{BatchingSession}
 use Rattle.pf_cli.specs.declared.session.Session.{Session}
 use Rattle.pf_cli.specs.Batching.{IsUnbatched, course_to_be}
 use Rattle.pf_cli.specs.Ended.{course_among, course_from, course_through, script_course}
-use Rattle.pf_cli.specs.Meaning.{ScriptCourse, commands_of, course_behind, course_opened_by}
+use Rattle.pf_cli.specs.Meaning.{ScriptCourse, course_behind, course_opened_by}
+use Rattle.pf_opening.specs.Commands.{commands_of}
 use Rattle.pf_cli.specs.Session.{course_at}
 use Rattle.pf_cli.proofs.Batches.{none_awaited}
 

@@ -16,7 +16,8 @@ use Rattle.pf_check.specs.Laws as check
 use Rattle.pf_check.specs.Reports.{Report, reports}
 use Rattle.pf_check.proofs.FirstFaults.{first_fault_ends_reading}
 use Rattle.pf_cli.specs.Laws.{RunsEndAtTheFirstFault, EndsAt, EndsWhole}
-use Rattle.pf_cli.specs.Meaning.{End, BadRecord, ScriptCourse, Meaning, text_unless, commands_of, course_behind, report_meaning, report_text, seen_at, line_meaning, lines_meaning, settings_meaning, course_opened_by, opening_course, opening_meaning, records_meaning, script_meaning}
+use Rattle.pf_cli.specs.Meaning.{End, BadRecord, ScriptCourse, Meaning, text_unless, course_behind, report_meaning, report_text, seen_at, line_meaning, lines_meaning, settings_meaning, course_opened_by, opening_course, opening_meaning, records_meaning, script_meaning}
+use Rattle.pf_opening.specs.Commands.{commands_of}
 use Rattle.pf_cli.proofs.Openings.{short_meaning}
 
 -- at a bad record of this number, or at none

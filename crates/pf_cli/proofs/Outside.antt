@@ -20,7 +20,8 @@ use Rattle.pf_cli.specs.declared.fault.RunFault.{RunFault}
 use Rattle.pf_cli.specs.declared.fault.RunFault.TheVariants.{BadLine, ReadFault, WriteFault, ScriptTooLong, BadRange, NoMemory}
 use Rattle.pf_cli.specs.Answers.{Answers, IsOutside}
 use Rattle.pf_cli.specs.Laws.{NothingIsWrittenOutside}
-use Rattle.pf_cli.specs.Meaning.{Meaning, Done, BadRecord, TooLong, Outside, ScriptCourse, commands_of, course_behind, line_meaning, lines_meaning, opening_meaning, records_meaning, report_text, script_meaning, seen_at, settings_meaning, course_opened_by, text_unless}
+use Rattle.pf_cli.specs.Meaning.{Meaning, Done, BadRecord, TooLong, Outside, ScriptCourse, course_behind, line_meaning, lines_meaning, opening_meaning, records_meaning, report_text, script_meaning, seen_at, settings_meaning, course_opened_by, text_unless}
+use Rattle.pf_opening.specs.Commands.{commands_of}
 use Rattle.pf_cli.proofs.Ends.{EndsBy, records_end}
 
 -- all slots are within them

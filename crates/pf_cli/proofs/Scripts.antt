@@ -17,7 +17,8 @@ use Rattle.pf_words.specs.declared.format.Format.{Format}
 use Rattle.pf_cli.specs.declared.batching.BatchingSession.{BatchingSession}
 use Rattle.pf_cli.specs.declared.session.Session.{Session}
 use Rattle.pf_cli.specs.Answers.{Answers, CountsOutput, CountsWrites, IsPastReading, fault_of_output}
-use Rattle.pf_cli.specs.Meaning.{Meaning, BadRecord, ScriptCourse, text_and_then, commands_of, course_behind, line_meaning, lines_meaning, settings_meaning, text_if_replies, report_meaning}
+use Rattle.pf_cli.specs.Meaning.{Meaning, BadRecord, ScriptCourse, text_and_then, course_behind, line_meaning, lines_meaning, settings_meaning, text_if_replies, report_meaning}
+use Rattle.pf_opening.specs.Commands.{commands_of}
 use Rattle.pf_cli.specs.Replies.{line_end}
 use Rattle.pf_cli.specs.Session.{course_at, HasAnswered, HasPut, Opened}
 use Rattle.pf_cli.specs.Batching.{IsUnbatched, HasTaken, course_to_be, replies_to_be, text_to_be}

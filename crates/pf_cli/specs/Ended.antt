@@ -10,7 +10,8 @@ use Rattle.pf_script.specs.Grammar.{is_heading, line_of, opening_of}
 use Rattle.pf_script.specs.Script.{script_records}
 use Rattle.pf_stream.specs.Reading.{longest_script}
 use Rattle.pf_words.specs.declared.fail_on.FailOn.{FailOn}
-use Rattle.pf_cli.specs.Meaning.{ScriptCourse, commands_of, course_behind, course_opened_by}
+use Rattle.pf_cli.specs.Meaning.{ScriptCourse, course_behind, course_opened_by}
+use Rattle.pf_opening.specs.Commands.{commands_of}
 
 -- the course behind these records; none where one of them is no line
 abbrev pub course_through : Version → List (List (List ℕ)) → ScriptCourse → Option ScriptCourse

@@ -1,9 +1,8 @@
 -- What a script means: a text and an end.
-use Rattle.std.specs.Prelude.{ℕ, ◌+◌, Bool, false, ◌||◌, nat_lt, if◌then◌else◌, Option, None, Some, option_map, List, [], ◌∷◌, ◌++◌, codes, length, replicate}
+use Rattle.std.specs.Prelude.{ℕ, ◌+◌, Bool, false, ◌||◌, nat_lt, if◌then◌else◌, Option, None, Some, option_map, List, [], ◌∷◌, ◌++◌, codes, length}
 use Rattle.pf_scenario.specs.System.{System}
 use Rattle.pf_run.specs.RunRows.{rows_in, denials_in}
 use Rattle.pf_desk.specs.declared.command.Command.{Command}
-use Rattle.pf_desk.specs.declared.command.Command.TheVariants as command
 use Rattle.pf_desk.specs.Machine.{State, opening_state, reply_to, state_after}
 use Rattle.pf_desk.specs.Desk.{Seen}
 use Rattle.pf_report.specs.Tables.{schedule_text, lags_text, misses_text, denials_text}
@@ -18,7 +17,6 @@ use Rattle.pf_picture.specs.Picture.{picture_text_of}
 use Rattle.pf_script.specs.declared.version.Version.{Version}
 use Rattle.pf_script.specs.declared.version.Version.TheVariants.{First, Second}
 use Rattle.pf_script.specs.declared.line.Line.{Line}
-use Rattle.pf_script.specs.declared.line.Line.TheVariants as line
 use Rattle.pf_script.specs.declared.line.Opening.{Opening}
 use Rattle.pf_stream.specs.Reading.{longest_script}
 use Rattle.pf_script.specs.Script.{script_records}
@@ -30,6 +28,7 @@ use Rattle.pf_words.specs.declared.range_fault.RangeFault.{RangeFault}
 use Rattle.pf_words.specs.Formats.{has_replies, range_fault}
 use Rattle.pf_words.specs.Ranges.{end_of, first_of}
 use Rattle.pf_cli.specs.Replies.{is_refusal, reply_line, line_end}
+use Rattle.pf_opening.specs.Commands.{commands_of}
 
 -- how a script ends: well, at a bad record of this number, because it is too long, or because the range of its format
 -- can't be shown of the slots stepped
@@ -83,11 +82,6 @@ text_if_replies format text = if has_replies format then text else []
 abbrev pub reply_lines : ScriptCourse → List Command → List ℕ
 reply_lines c [] = []
 reply_lines c (command ∷ commands) = reply_line (reply_to c.state command) ++ reply_lines (course_after c command) commands
-
--- what a line asks of the desk: one edit, or its steps
-abbrev pub commands_of : Line → List Command
-commands_of (line.Edit change strict) = command.Edit change strict ∷ []
-commands_of (line.Steps count) = replicate count command.Step
 
 -- what the desk shows there
 abbrev pub seen_at : ScriptCourse → Seen

@@ -4,7 +4,8 @@ ghost use Rattle.pf_desk.specs.Plain.{IsPlain};
 ghost use Rattle.pf_stream.specs.Written.{TookFront};
 ghost use Rattle.pf_cli.specs.Answers.{Answers, CountsOutput, CountsWrites, IsPastReading};
 ghost use Rattle.pf_cli.specs.Batching.{HasTaken, IsUnbatched, course_to_be, replies_to_be, text_to_be};
-ghost use Rattle.pf_cli.specs.Meaning.{commands_of, report_meaning, text_and_then};
+ghost use Rattle.pf_cli.specs.Meaning.{report_meaning, text_and_then};
+ghost use Rattle.pf_opening.specs.Commands.{commands_of};
 ghost use Rattle.pf_cli.specs.Session.{course_at};
 
 use crate::fault::RunFault;

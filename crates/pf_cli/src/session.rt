@@ -7,7 +7,8 @@ ghost use Rattle.pf_timeline.specs.Checkpoints.{largest_distance};
 ghost use Rattle.pf_stream.specs.Written.{TookAllBut, TookFront};
 ghost use Rattle.pf_words.specs.Formats.{range_fault};
 ghost use Rattle.pf_cli.specs.Answers.{Answers, CountsOutput, CountsWrites, IsPastReading};
-ghost use Rattle.pf_cli.specs.Meaning.{text_and_then, text_if_replies, commands_of, opening_course, seen_at, report_meaning, report_text};
+ghost use Rattle.pf_cli.specs.Meaning.{text_and_then, text_if_replies, opening_course, seen_at, report_meaning, report_text};
+ghost use Rattle.pf_opening.specs.Commands.{commands_of};
 ghost use Rattle.pf_cli.specs.Replies.{line_end};
 ghost use Rattle.pf_cli.specs.Session.{Opened, HasPut, HasAnswered, course_at, is_before, replies_of};
 

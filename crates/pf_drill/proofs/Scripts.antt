@@ -12,7 +12,8 @@ use Rattle.pf_script.specs.Grammar.{is_heading, line_of, opening_of}
 use Rattle.pf_script.specs.Script.{script_records}
 use Rattle.pf_drill.specs.declared.fault.DrillFault.{DrillFault}
 use Rattle.pf_drill.specs.declared.fault.DrillFault.TheVariants.{BadLine, ReadFault, WriteFault, ScriptTooLong, GateShut, NoViewer, Unread, NoMemory}
-use Rattle.pf_drill.specs.Asked.{Asked, BadRecord, Whole, commands_of, lines_asked, records_asked, script_asked, settings_asked, system_opened_by}
+use Rattle.pf_drill.specs.Asked.{Asked, BadRecord, Whole, lines_asked, records_asked, script_asked, settings_asked, system_opened_by}
+use Rattle.pf_opening.specs.Commands.{commands_of}
 use Rattle.pf_drill.specs.Drilled.{Drills, IsDrill, IsHalt, Stops}
 
 asked_is : (bytes : List ℕ) → script_asked bytes ≡ records_asked (script_records bytes)

@@ -1,26 +1,20 @@
 -- What a script asks of a drill: settings and commands, or nothing where a record is bad.
-use Rattle.std.specs.Prelude.{ℕ, ◌+◌, if◌then◌else◌, Option, None, Some, List, [], ◌∷◌, ◌++◌, replicate}
+use Rattle.std.specs.Prelude.{ℕ, ◌+◌, if◌then◌else◌, Option, None, Some, List, [], ◌∷◌, ◌++◌}
 use Rattle.pf_scenario.specs.System.{System}
 use Rattle.pf_desk.specs.declared.command.Command.{Command}
-use Rattle.pf_desk.specs.declared.command.Command.TheVariants as command
 use Rattle.pf_script.specs.declared.version.Version.{Version}
 use Rattle.pf_script.specs.declared.version.Version.TheVariants.{First, Second}
 use Rattle.pf_script.specs.declared.line.Line.{Line}
-use Rattle.pf_script.specs.declared.line.Line.TheVariants as line
 use Rattle.pf_script.specs.declared.line.Opening.{Opening}
 use Rattle.pf_script.specs.Script.{script_records}
 use Rattle.pf_opening.specs.Opened.{system_of}
 use Rattle.pf_script.specs.Grammar.{is_heading, opening_of, line_of}
+use Rattle.pf_opening.specs.Commands.{commands_of}
 
 -- a desk with these settings and these commands in order; or nothing, as the record of this number is bad, the first such
 pub data Asked : Type 0 where
   Whole : System → List Command → Asked
   BadRecord : ℕ → Asked
-
--- what a line asks of the desk: one edit, or its steps
-abbrev pub commands_of : Line → List Command
-commands_of (line.Edit change strict) = command.Edit change strict ∷ []
-commands_of (line.Steps count) = replicate count command.Step
 
 -- the record of this number is this line, or it is bad
 abbrev pub line_asked : ℕ → List Command → (List Command → Asked) → Option Line → Asked

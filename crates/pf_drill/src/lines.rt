@@ -2,7 +2,8 @@ ghost use Rattle.std.specs.Prelude.{◌≡◌, ◌+◌, ◌^◌, ◌<◌, ◌++�
 ghost use Rattle.std.specs.Arc.{arc_value};
 ghost use Rattle.pf_board.specs.Passes.{new_passes};
 ghost use Rattle.pf_desk.specs.declared.command.Command.TheVariants.{Step};
-ghost use Rattle.pf_drill.specs.Asked.{Whole, commands_of, lines_asked};
+ghost use Rattle.pf_drill.specs.Asked.{Whole, lines_asked};
+ghost use Rattle.pf_opening.specs.Commands.{commands_of};
 ghost use Rattle.pf_drill.specs.Drilled.{Drills, IsDrill, IsHalt, Stops, seen_in};
 ghost use Rattle.pf_drill.specs.Rounds.{IsInStep, ShowsPlan, commands_given};
 ghost use Rattle.pf_scenario.specs.Edit.{IsScenario};

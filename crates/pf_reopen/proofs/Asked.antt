@@ -16,7 +16,8 @@ use Rattle.pf_script.specs.declared.version.Version.{Version}
 use Rattle.pf_script.specs.declared.version.Version.TheVariants.{First, Second}
 use Rattle.pf_script.specs.declared.line.Line.{Line}
 use Rattle.pf_report.specs.Script.{settings_record, insert_records, step_records, script_text_of}
-use Rattle.pf_drill.specs.Asked.{Whole, commands_of, lines_asked, line_asked, settings_asked, system_opened_by, records_asked, script_asked}
+use Rattle.pf_drill.specs.Asked.{Whole, lines_asked, line_asked, settings_asked, system_opened_by, records_asked, script_asked}
+use Rattle.pf_opening.specs.Commands.{commands_of}
 use Rattle.pf_reopen.specs.Reopen.{version_of, CanBeWritten, insert_lines, step_lines}
 use Rattle.pf_reopen.specs.Whole.{script_commands}
 use Rattle.pf_reopen.specs.Asked.{IsDistance}

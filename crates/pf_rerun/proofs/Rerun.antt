@@ -25,7 +25,8 @@ use Rattle.pf_report.specs.Tables.{table_text, lag_record, miss_record, lags_tex
 use Rattle.pf_words.specs.declared.format.Format.{Format}
 use Rattle.pf_words.specs.declared.format.Format.TheVariants.{Schedule, Lags, Misses, Script}
 use Rattle.pf_words.specs.Formats.{has_replies, range_fault}
-use Rattle.pf_cli.specs.Meaning.{Meaning, ScriptCourse, opening_course, text_and_then, course_after, course_behind, text_if_replies, text_unless, reply_lines, commands_of, seen_at, report_text, report_meaning, line_meaning, lines_meaning, settings_meaning, course_opened_by, records_meaning, script_meaning}
+use Rattle.pf_cli.specs.Meaning.{Meaning, ScriptCourse, opening_course, text_and_then, course_after, course_behind, text_if_replies, text_unless, reply_lines, seen_at, report_text, report_meaning, line_meaning, lines_meaning, settings_meaning, course_opened_by, records_meaning, script_meaning}
+use Rattle.pf_opening.specs.Commands.{commands_of}
 use Rattle.pf_cli.specs.Replies.{is_refusal, reply_line, line_end}
 use Rattle.pf_reopen.specs.Reopen.{version_of, insert_lines, step_lines}
 use Rattle.pf_reopen.specs.Taken.{renumbered, events_held, numbered_from}

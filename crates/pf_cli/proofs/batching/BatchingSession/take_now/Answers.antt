@@ -2,7 +2,7 @@ use Rattle.std.proofs.Common.{◌++◌, refl, subst}
 use Rattle.pf_stream.specs.Written.{TookFront}
 use Rattle.pf_cli.specs.Session.{HasAnswered, replies_of}
 use Rattle.pf_stream.proofs.Sending.{took-before}
-use Rattle.pf_cli.specs.Meaning.{commands_of}
+use Rattle.pf_opening.specs.Commands.{commands_of}
 use Rattle.pf_cli.proofs.Batches.{answered_then, stopped_then}
 use Rattle.pf_cli.proofs.Sessions.{anyway}
 use Rattle.pf_cli.proofs.batching.BatchingSession.take_now.Goals as goal
