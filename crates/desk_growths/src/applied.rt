@@ -1,7 +1,7 @@
 //! Commands that are carried out at once.
 
-use crate::commands::{join, strike};
-use crate::plans::{a_whole, two_steps_of_three_tasks};
+use crate::commands::{delay, join, limit, strict_delay, strike};
+use crate::plans::{a_half, a_leave, a_whole, three_tasks, two_steps_of_three_tasks};
 use crate::refused::say;
 use crate::told::{is_text, keeps, kept, shows, tell_reply};
 use pf_desk::command::Command;
@@ -65,17 +65,54 @@ fn is_told(
     Ok(())
 }
 
-/// Takes a slot.
-fn step(rt: &(impl Abort + Print), alloc: Global, mut desk: Desk) -> Result<(), AllocError> {
-    is_told(rt, alloc, &mut desk, Step, "slot 2: 2/2 3/2\n")?;
-    let wanted = "6 entries\nrows | 1/1 2/1 | 1/2 3/1 | 2/2 3/2\n";
-    shows(rt, alloc, &desk, wanted)
+/// Carries a command out, which gives this line. What the desk then shows is this.
+fn answers(
+    rt: &(impl Abort + Print),
+    alloc: Global,
+    mut desk: Desk,
+    command: Command,
+    line: &str,
+    shown: &str,
+) -> Result<(), AllocError> {
+    is_told(rt, alloc, &mut desk, command, line)?;
+    shows(rt, alloc, &desk, shown)
 }
 
 #[test]
 fn a_step(rt: HostRuntime) -> Result<(), Fail> {
     let desk = two_steps_of_three_tasks(rt.alloc())?;
-    Ok(step(&rt, rt.alloc(), desk)?)
+    let line = "slot 2: 2/2 3/2\n";
+    let shown = "6 entries\nrows | 1/1 2/1 | 1/2 3/1 | 2/2 3/2\n";
+    Ok(answers(&rt, rt.alloc(), desk, Step, line, shown)?)
+}
+
+#[test]
+fn a_delay_in_the_past(rt: HostRuntime) -> Result<(), Fail> {
+    let desk = a_half(rt.alloc())?;
+    let shown = "8 entries\nrows | 1/1 | - | - | - | - | 1/2\n";
+    Ok(answers(&rt, rt.alloc(), desk, delay(2, 1, 3), "event 2\n", shown)?)
+}
+
+#[test]
+fn a_strike_in_the_past(rt: HostRuntime) -> Result<(), Fail> {
+    let desk = three_tasks(rt.alloc())?;
+    let shown = "7 entries\nrows | 1/1 2/1 | 1/2 2/2 | - -\n";
+    Ok(answers(&rt, rt.alloc(), desk, strike(3), "event 3\n", shown)?)
+}
+
+#[test]
+fn a_limit_in_the_past(rt: HostRuntime) -> Result<(), Fail> {
+    let desk = three_tasks(rt.alloc())?;
+    let shown = "7 entries\nrows | 1/1 2/1 | 3/1 - | 1/2 -\n";
+    Ok(answers(&rt, rt.alloc(), desk, limit(1, 1), "event 4\n", shown)?)
+}
+
+#[test]
+fn a_strict_edit_that_would_deny(rt: HostRuntime) -> Result<(), Fail> {
+    let desk = a_leave(rt.alloc())?;
+    let line = "refused WouldDeny { id: 2, denial: TooEarly }\n";
+    let shown = "7 entries\nrows | 1/1 | - | - | -\n";
+    Ok(answers(&rt, rt.alloc(), desk, strict_delay(0, 1, 1), line, shown)?)
 }
 
 /// The number of the event, where an edit was made.

@@ -16,5 +16,3 @@ mod report;
 mod tally;
 #[cfg(test)]
 mod told;
-#[cfg(test)]
-mod wants;

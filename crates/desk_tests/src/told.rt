@@ -156,7 +156,7 @@ fn tell_lags(text: &mut String, desk: &Desk) -> Result<(), AllocError> {
 }
 
 /// The rows of the slots below now, on one line.
-pub(crate) fn tell_rows(text: &mut String, desk: &Desk) -> Result<(), AllocError> {
+fn tell_rows(text: &mut String, desk: &Desk) -> Result<(), AllocError> {
     write!(text, "rows")?;
     for slot in 0..desk.now() {
         if let Some(row) = desk.schedule().get(slot) {
@@ -180,7 +180,7 @@ fn tell_misses(text: &mut String, desk: &Desk) -> Result<(), AllocError> {
 }
 
 /// The denials, a line each.
-pub(crate) fn tell_denials(text: &mut String, desk: &Desk) -> Result<(), AllocError> {
+fn tell_denials(text: &mut String, desk: &Desk) -> Result<(), AllocError> {
     for denied in desk.denials() {
         writeln!(
             text,
