@@ -1,16 +1,18 @@
-ghost use Rattle.std.specs.Prelude.{◌≡◌, ◌<◌, true, [], ◌∷◌, ◌++◌, length, All, AllPairs, IfSome, IfOk, OnOk, OnErr};
+ghost use Rattle.std.specs.Prelude.{◌≡◌, ◌<◌, true, [], ◌∷◌, ◌++◌, length, All, AllPairs, IfOk, OnOk, OnErr};
 ghost use Rattle.pf_scenario.specs.Scenario.{with_number, is_held, events_without};
 ghost use Rattle.pf_scenario.specs.Index.{event_at, with_event};
-ghost use Rattle.pf_scenario.specs.Cards.{AreRising, IsCardAt, IsPlaceOf, IsSmall, listed};
+ghost use Rattle.pf_scenario.specs.Cards.{AreRising, AreBelow, AreBehind, IsCut, IsPlaceOf, IsSmall, listed};
 
 use crate::card::Card;
 use crate::event::{Event, Numbered};
 use crate::events::Events;
+use crate::guide::{Guide, guessed_place};
 use std::alloc::{AllocError, Global};
 use std::marker::Model;
 
-/// Events by number. It takes the memory of the events held, and of no more that are struck, whatever numbers were given.
-/// A search costs the logarithm of their number, and so does each change in the mean.
+/// Events by number. It takes the memory of the events held, and of no more that are struck, and four bytes for each 16 numbers
+/// that were given. A search looks at five cards where its guess is good, as it is while numbers rise, and at the logarithm of
+/// their number where it is not. A change costs as much in the mean.
 #[derive(Debug, Drop)]
 pub struct ByNumber {
     /// In rising order of their numbers. No more than half of them are struck.
@@ -18,6 +20,7 @@ pub struct ByNumber {
 
     /// How many cards are not struck.
     held: usize,
+    guide: Guide,
 }
 
 impl Model for ByNumber {
@@ -32,27 +35,65 @@ impl Model for ByNumber {
     ghost invariant = { λ b. IsTable b.cards.items b.held };
 }
 
-/// Where the card of this number is, if there is one.
-fn place_of(cards: &[Card], id: u64) -> Option<usize>
+/// Where the card of this number is, if there is one. The search begins at the guess.
+fn place_of(cards: &[Card], guess: usize, id: u64) -> Option<usize>
     requires { AreRising cards.now }
     ensures { IsPlaceOf cards.now id result }
 {
-    if let Some(at) = place_in_row(cards, id) {
-        return Some(at);
+    let at = guessed_place(cards, guess, id);
+    if is_cut(cards, at, id) {
+        return place_at(cards, at, id);
     }
     cards.binary_search_by_key(&id, |card| card.id()).ok()
 }
 
-/// Where the card of this number is, if no number from the first card's to this one is missing.
-fn place_in_row(cards: &[Card], id: u64) -> Option<usize>
-    ensures { IfSome result (λ at. IsCardAt cards.now id at) }
+/// Whether the cards before this place are below the number, and those from it on are not.
+fn is_cut(cards: &[Card], at: usize, id: u64) -> bool
+    requires { AreRising cards.now }
+    ensures { result ≡ true → IsCut cards.now id at }
 {
-    let first = cards.first()?;
-    let at = id.checked_sub(first.id())? as usize;
-    if cards.get(at)?.id() != id {
-        return None;
+    if !are_below(cards, at, id) {
+        return false;
     }
-    Some(at)
+    are_behind(cards, at, id)
+}
+
+/// Whether the cards before this place are below the number.
+fn are_below(cards: &[Card], at: usize, id: u64) -> bool
+    requires { AreRising cards.now }
+    ensures { result ≡ true → AreBelow cards.now id at }
+{
+    if at == 0 {
+        return true;
+    }
+    match cards.get(at - 1) {
+        Some(card) => card.id() < id,
+        None => false,
+    }
+}
+
+/// Whether the cards from this place on are not below the number.
+fn are_behind(cards: &[Card], at: usize, id: u64) -> bool
+    requires { AreRising cards.now }
+    ensures { result ≡ true → AreBehind cards.now id at }
+{
+    match cards.get(at) {
+        Some(card) => id <= card.id(),
+        None => true,
+    }
+}
+
+/// The place, where the card there is of this number.
+fn place_at(cards: &[Card], at: usize, id: u64) -> Option<usize>
+    requires rising { AreRising cards.now }
+    requires cut { IsCut cards.now id at }
+    ensures { IsPlaceOf cards.now id result }
+{
+    if cards.get(at)?.id() == id {
+        Some(at)
+    } else {
+        None
+    }
 }
 
 /// Drops the cards of this number and above. Those are struck, as no event has such a number.
@@ -68,7 +109,7 @@ fn truncate(cards: &mut Vec<Card>, id: u64)
 }
 
 /// Drops the struck cards where they are more than half, and gives their memory back.
-fn sweep(cards: &mut Vec<Card>, held: usize)
+fn sweep(cards: &mut Vec<Card>, guide: &mut Guide, held: usize)
     requires { AreRising cards.old.items }
     ensures same { listed cards.new.items ≡ listed cards.old.items }
     ensures rising { AreRising cards.new.items }
@@ -76,6 +117,7 @@ fn sweep(cards: &mut Vec<Card>, held: usize)
     if cards.len() / 2 > held {
         cards.retain(|card| !card.is_struck());
         cards.shrink_to_fit();
+        guide.renew(cards);
     }
 }
 
@@ -87,6 +129,7 @@ impl ByNumber {
         ByNumber {
             cards: Vec::new(alloc),
             held: 0,
+            guide: Guide::new(alloc),
         }
     }
 
@@ -102,7 +145,7 @@ impl ByNumber {
     pub fn get(&self, id: u64) -> Option<Event>
         ensures { result ≡ event_at self.now id }
     {
-        let at = place_of(&self.cards, id)?;
+        let at = place_of(&self.cards, self.guide.guess(id), id)?;
         self.cards[at].event()
     }
 
@@ -118,6 +161,7 @@ impl ByNumber {
         ensures err { OnErr result (self.new ≡ self.old) }
     {
         truncate(&mut self.cards, x.id);
+        self.guide.note(x.id, self.cards.len())?;
         self.cards.push(Card::of(x))?;
         self.held += 1;
         Ok(())
@@ -129,7 +173,7 @@ impl ByNumber {
         requires small { IsSmall (with_number id event) }
         ensures { self.new ≡ with_event id event self.old }
     {
-        let Some(at) = place_of(&self.cards, id) else {
+        let Some(at) = place_of(&self.cards, self.guide.guess(id), id) else {
             unreachable!()
         };
         self.cards[at] = Card::of(Numbered { id, event });
@@ -139,7 +183,7 @@ impl ByNumber {
     pub fn take_out(&mut self, id: u64)
         ensures { self.new ≡ events_without id self.old }
     {
-        let Some(at) = place_of(&self.cards, id) else {
+        let Some(at) = place_of(&self.cards, self.guide.guess(id), id) else {
             return;
         };
         if self.cards[at].is_struck() {
@@ -147,7 +191,7 @@ impl ByNumber {
         }
         self.cards[at].strike();
         self.held -= 1;
-        sweep(&mut self.cards, self.held);
+        sweep(&mut self.cards, &mut self.guide, self.held);
     }
 
     /// The events.
@@ -166,9 +210,11 @@ impl ByNumber {
         ensures { IfOk result (λ b. b ≡ self.now) }
     {
         let cards = Vec::from_slice(*self.cards.allocator(), &self.cards)?;
+        let guide = self.guide.copy()?;
         Ok(ByNumber {
             cards,
             held: self.held,
+            guide,
         })
     }
 }

@@ -10,6 +10,7 @@ pub mod change;
 pub mod event;
 pub mod events;
 pub mod fault;
+mod guide;
 mod held_event;
 pub mod laws;
 mod limits;
