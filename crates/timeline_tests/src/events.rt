@@ -1,8 +1,8 @@
-//! Events in short, and what inserts them.
+//! Events in short, and the scenarios of some.
 
 use pf_scenario::apply_fault::ApplyFault;
 use pf_scenario::change::Change;
-use pf_scenario::event::{Event, Numbered};
+use pf_scenario::event::Event;
 use pf_scenario::scenario::Scenario;
 use pf_scenario::settings::Settings;
 use std::alloc::Global;
@@ -30,30 +30,21 @@ pub(crate) fn limit(slot: u64, count: u64) -> Event {
     Event::Limit { slot, count }
 }
 
-pub(crate) fn numbered(id: u64, event: Event) -> Numbered {
-    Numbered { id, event }
-}
-
-/// Makes the change. A caller that needs no clause of `Scenario::apply` calls this.
-pub(crate) fn apply(scenario: &mut Scenario, change: Change) -> Result<u64, ApplyFault> {
-    scenario.apply(change)
-}
-
-/// Whether the scenario holds just these events.
-pub(crate) fn holds(scenario: &Scenario, events: &[Numbered]) -> bool {
-    scenario.events().eq(events.iter().copied())
+/// Inserts the event. A caller that needs no clause of `Scenario::apply` calls this.
+fn insert(scenario: &mut Scenario, event: Event) -> Result<u64, ApplyFault> {
+    scenario.apply(Change::Insert(event))
 }
 
 /// Inserts the events, one after another.
 fn insert_all(scenario: &mut Scenario, events: &[Event]) -> Result<(), ApplyFault> {
     for event in events {
-        apply(scenario, Change::Insert(*event))?;
+        insert(scenario, *event)?;
     }
     Ok(())
 }
 
 /// The scenario of these events, where no memory is refused.
-pub(crate) fn scenario_of(
+fn scenario_of(
     alloc: Global,
     settings: Settings,
     events: &[Event],
