@@ -1,5 +1,6 @@
-//! The settings that a script opens with, tried against their limits. The one contract of this crate: an opening has
-//! settings exactly where each of its numbers is within its limits.
+//! The settings that a script opens with, tried against their limits, and what a line of a script asks of a desk. The one
+//! contract of this crate: an opening has settings exactly where each of its numbers is within its limits. What a line asks is
+//! said in specs/Commands.antt, for those who carry scripts out.
 #![tactic(auto)]
 
 ghost use Rattle.std.specs.Prelude.{◌≡◌};
