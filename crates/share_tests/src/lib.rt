@@ -1,15 +1,9 @@
-//! What no clause of the shared desk says: that calls succeed where memory is ample, what is left where it is refused, that
-//! the clauses mean the worked examples, the texts of faults, and what threads leave that run at once.
+//! What no clause of the shared desk says where memory is ample: that it is opened at its limits, that a viewer reads nothing
+//! once it is ended, that threads which use it at once come to an end, and the texts of faults.
 #![tactic(auto)]
 
 #[cfg(test)]
-mod answers;
-#[cfg(test)]
 mod calls;
-#[cfg(test)]
-mod examples;
-#[cfg(test)]
-mod growths;
 #[cfg(test)]
 mod limits;
 #[cfg(test)]
@@ -17,10 +11,6 @@ mod opening;
 #[cfg(test)]
 mod passes;
 #[cfg(test)]
-mod planners;
-#[cfg(test)]
 mod race;
-#[cfg(test)]
-mod refused;
 #[cfg(test)]
 mod texts;

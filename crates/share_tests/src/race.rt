@@ -4,12 +4,13 @@ ghost use Rattle.std.specs.Thread.{IsSend, IsSync};
 ghost use Rattle.pf_board.specs.Passes.{AreOf};
 ghost use Rattle.pf_share.specs.Locked.{origin_of};
 
-use crate::answers::{expect_edit, join as join_change};
 use crate::calls::{edit, step, take};
 use crate::opening::{begin, end, open_desk};
 use crate::passes::{pop, put};
 use pf_board::quantum::Quantum;
 use pf_board::take::Take;
+use pf_scenario::change::Change;
+use pf_scenario::event::Event;
 use pf_scenario::settings::Settings;
 use pf_share::blank::Blank;
 use pf_share::calls::DeskPass;
@@ -48,9 +49,9 @@ fn plan<N: Naming, H: Wait + Drop>(
             break;
         }
         match step(rt, shared, &mut pass) {
-            Ok(Some(_)) => steps += 1,
+            Ok(_) => steps += 1,
             Err(StepRefusal::Pending { .. }) => yield_now(),
-            _ => break,
+            Err(StepRefusal::NoMemory) => break,
         }
     }
     pass
@@ -132,6 +133,17 @@ fn race<N: Naming + Send + Sync, H: Wait + Drop + Send, R: Threads + Wait + Allo
     )
 }
 
+/// The change that lets a task of weight one join in slot 0.
+fn whole_join() -> Change {
+    Change::Insert(Event::Join {
+        slot: 0,
+        task: 1,
+        cost: 1,
+        period: 1,
+        early: 0,
+    })
+}
+
 /// The one task joins, and the three race.
 fn join_and_race<
     N: Naming + Send + Sync,
@@ -149,8 +161,8 @@ fn join_and_race<
     ensures planner { result.0.board ≡ N.board.id }
     ensures takers { (result.1.0.0.board ≡ N.board.id) × (result.1.1.0.board ≡ N.board.id) }
 {
-    let joined = edit(rt, shared, &mut planner, join_change(1, 1, 1));
-    expect_edit(rt, joined, (1, 1));
+    let joined = edit(rt, shared, &mut planner, whole_join());
+    assert_eq!(rt; joined, Ok(1));
     race(rt, shared, planner, first, second)
 }
 

@@ -1,4 +1,4 @@
-use Rattle.share_tests.proofs.limits.all_are_there.Given as goal
+use Rattle.share_tests.proofs.limits.outcome.Given as goal
 
 -- the desk that was just opened
 abbrev pub ghosts-use_desk : goal.ghosts-use_desk

@@ -3,12 +3,13 @@ ghost use Rattle.std.specs.Prelude.{◌≡◌, All, IfOk, IfSome};
 ghost use Rattle.pf_board.specs.Passes.{AreOf};
 ghost use Rattle.pf_share.specs.Locked.{origin_of};
 
-use crate::answers::{Edited, Taken, expect_edit, expect_step, first_quantum, join};
-use crate::calls::{edit, step};
+use crate::answers::{Edited, Taken, expect_edit, expect_step, expect_take, first_quantum, join};
+use crate::calls::{edit, step, take};
 use crate::opening::{begin, open_desk, start};
 use crate::passes::{close, pop, pop_viewer, put_two};
 use crate::refused::say;
 use pf_board::quantum::Quantum;
+use pf_board::take::Take;
 use pf_scenario::change::Change;
 use pf_scenario::settings::Settings;
 use pf_share::blank::Blank;
@@ -100,26 +101,6 @@ fn step_again<N: Naming, H: Wait + Drop>(
     }
 }
 
-/// Tells the viewer. Where that is refused, pass and viewer are as before.
-fn tell_again<N: Naming, H: Wait + Drop>(
-    rt: &(impl Wait + Abort + Print),
-    shared: &Shared<N, H>,
-    pass: &mut DeskPass,
-    viewer: &mut Viewer,
-) -> Result<(), AllocError>
-    requires { (pass.old.board ≡ N.board.id) × (viewer.old.origin ≡ origin_of N.board N.book) }
-    ensures pass { pass.new.board ≡ N.board.id }
-    ensures viewer { viewer.new.origin ≡ viewer.old.origin }
-{
-    match shared.tell(rt, pass, viewer) {
-        Ok(()) => Ok(()),
-        Err(AllocError) => {
-            say(rt, "Shared::tell", true);
-            shared.tell(rt, pass, viewer)
-        }
-    }
-}
-
 /// Ends the desk. Where that is refused, all came back.
 fn close_again<N: Naming, H: Wait + Drop>(
     rt: &(impl Wait + Abort + Print),
@@ -160,7 +141,7 @@ fn plan<N: Naming, H: Wait + Drop>(
     expect_step(rt, stepped, Ok((0, [(1, 1), (2, 1)], 4)));
 }
 
-/// What the one plans is seen by the other, also where they meet.
+/// What the one plans is seen by the other, also where they meet. One of the two quanta is taken.
 fn use_both<N: Naming, H: Wait + Drop>(
     rt: &(impl Wait + Abort + Print),
     shared: &Shared<N, H>,
@@ -173,6 +154,9 @@ fn use_both<N: Naming, H: Wait + Drop>(
     plan(rt, shared, first);
     expect_entries(rt, shared, second, 4);
     shared.meet(first, second);
+    expect_take(rt, take(shared, first, 0), Take::Got(first_quantum(0, 1)));
+    let pending = StepRefusal::Pending { processor: 1 };
+    expect_step(rt, step(rt, shared, second), Err(pending));
 }
 
 /// What is left of the desk, once these two passes are put back.
@@ -209,14 +193,14 @@ fn use_desk<N: Naming, H: Wait + Drop>(
     end_again(rt, opened, first, second)
 }
 
-/// Fails the test where other quanta lie untaken than those of slot 0.
+/// Fails the test where another quantum lies untaken than that of processor 1 in slot 0.
 fn expect_left(rt: &impl Abort, left: &[Quantum]) {
-    let wanted = [first_quantum(0, 1), first_quantum(1, 2)];
+    let wanted = [first_quantum(1, 2)];
     assert_eq!(rt; left, wanted.as_slice());
 }
 
 #[test]
-fn an_untaken_step_is_closed_again(rt: HostRuntime) -> Result<(), Fail> {
+fn an_untaken_quantum_is_left(rt: HostRuntime) -> Result<(), Fail> {
     let blank = open_again(&rt, rt.alloc(), Settings::new(2, 3, 6)?)?;
     let closed = use_desk::<Brand, _>(&rt, blank).ok_or("closed")?;
     expect_left(&rt, closed.left.as_slice());
@@ -224,22 +208,22 @@ fn an_untaken_step_is_closed_again(rt: HostRuntime) -> Result<(), Fail> {
     Ok(())
 }
 
-/// How many entries the history has that the viewer reads, and how many events were inserted.
+/// How many entries the history has that the viewer reads.
 fn read<N: Naming, H: Wait + Drop>(
     shared: &Shared<N, H>,
     viewer: &mut Viewer,
-) -> Result<(u64, usize), Unread>
+) -> Result<u64, Unread>
     requires { viewer.old.origin ≡ origin_of N.board N.book }
     ensures { viewer.new.origin ≡ viewer.old.origin }
 {
     match shared.read(viewer) {
-        Ok(snapshot) => Ok((snapshot.version(), snapshot.events().count())),
+        Ok(snapshot) => Ok(snapshot.version()),
         Err(unread) => Err(unread),
     }
 }
 
 /// Fails the test where something else was read.
-fn expect_read(rt: &impl Abort, read: Result<(u64, usize), Unread>, wanted: (u64, usize)) {
+fn expect_read(rt: &impl Abort, read: Result<u64, Unread>, wanted: u64) {
     assert_eq!(rt; read, Ok(wanted));
 }
 
@@ -252,12 +236,12 @@ fn insert_and_tell<N: Naming, H: Wait + Drop>(
 )
     requires { (pass.old.board ≡ N.board.id) × (viewer.old.origin ≡ origin_of N.board N.book) }
 {
-    expect_read(rt, read(shared, viewer), (0, 0));
+    expect_read(rt, read(shared, viewer), 0);
     let joined = edit_again(rt, shared, pass, join(1, 2, 3));
     expect_edit(rt, joined, (1, 1));
-    let told = tell_again(rt, shared, pass, viewer);
+    let told = shared.tell(rt, pass, viewer);
     assert_eq!(rt; told, Ok(()));
-    expect_read(rt, read(shared, viewer), (1, 1));
+    expect_read(rt, read(shared, viewer), 1);
 }
 
 /// The last pass and the last viewer.

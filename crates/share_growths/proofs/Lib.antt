@@ -1,0 +1,2 @@
+mod Boarded
+pub mod Kept

@@ -1,0 +1,69 @@
+//! A desk from its opening to its end.
+ghost use Rattle.std.specs.Prelude.{◌≡◌, All, IfOk, IfSome};
+ghost use Rattle.pf_board.specs.Passes.{AreOf};
+ghost use Rattle.pf_share.specs.Locked.{origin_of};
+
+use crate::passes::pop_two;
+use pf_scenario::settings::Settings;
+use pf_share::blank::Blank;
+use pf_share::calls::DeskPass;
+use pf_share::fault::OpenFault;
+use pf_share::naming::Naming;
+use pf_share::opened::Opened;
+use std::alloc::Global;
+use std::sync::Wait;
+
+/// A desk with these settings, whose checkpoints lie so far apart, with so many passes and viewers.
+#[tactic(auto, using(crate::proofs::Boarded::boarded, crate::proofs::Boarded::viewed))]
+pub(crate) fn open_desk<R: Wait>(
+    rt: &R,
+    alloc: Global,
+    settings: Settings,
+    every: u64,
+    passes: u64,
+    viewers: u64,
+) -> Result<Blank<&R>, OpenFault>
+    ensures passes { IfOk result (λ b. AreOf b.board.id b.passes) }
+    ensures viewers { IfOk result (λ b. All (λ v. v.origin ≡ origin_of b.board b.book) b.viewers) }
+{
+    Blank::open(rt, alloc, settings, every, passes, viewers)
+}
+
+/// The desk under a name.
+pub(crate) fn start<N: Naming, H: Wait + Drop>(blank: Blank<H>) -> Opened<N, H>
+    requires name { (blank.board ≡ N.board) × (blank.book ≡ N.book) }
+    requires passes { AreOf N.board.id blank.passes }
+    requires viewers { All (λ v. v.origin ≡ origin_of N.board N.book) blank.viewers }
+    ensures passes { AreOf N.board.id result.passes.items }
+    ensures viewers { All (λ v. v.origin ≡ origin_of N.board N.book) result.viewers.items }
+{
+    blank.start::<N>()
+}
+
+/// The desk under a name, and its last two passes.
+pub(crate) fn begin<N: Naming, H: Wait + Drop>(
+    blank: Blank<H>,
+) -> Option<(Opened<N, H>, (DeskPass, DeskPass))>
+    requires name { (blank.board ≡ N.board) × (blank.book ≡ N.book) }
+    requires passes { AreOf N.board.id blank.passes }
+    requires viewers { All (λ v. v.origin ≡ origin_of N.board N.book) blank.viewers }
+    ensures rest { IfSome result (λ r. AreOf N.board.id r.0.passes.items) }
+    ensures board { IfSome result (λ r. (r.1.0.board ≡ N.board.id) × (r.1.1.board ≡ N.board.id)) }
+{
+    let Opened {
+        shared,
+        mut passes,
+        viewers,
+    } = start::<N, H>(blank);
+    match pop_two::<N>(&mut passes) {
+        Some(two) => Some((
+            Opened {
+                shared,
+                passes,
+                viewers,
+            },
+            two,
+        )),
+        None => None,
+    }
+}

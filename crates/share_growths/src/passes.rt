@@ -1,0 +1,81 @@
+//! The passes of a desk, and its end.
+ghost use Rattle.std.specs.Prelude.{◌≡◌, All, IfSome};
+ghost use Rattle.pf_board.specs.Passes.{AreOf};
+ghost use Rattle.pf_share.specs.Locked.{origin_of};
+
+use pf_share::calls::DeskPass;
+use pf_share::closed::Closed;
+use pf_share::naming::Naming;
+use pf_share::shared::Shared;
+use pf_share::viewer::Viewer;
+use std::sync::Wait;
+
+/// The last pass. The others leave its room.
+#[tactic(auto, using(crate::proofs::Boarded::front_of, crate::proofs::Boarded::last_of))]
+pub(crate) fn pop<N: Naming>(passes: &mut Vec<DeskPass>) -> Option<DeskPass>
+    requires { AreOf N.board.id passes.old.items }
+    ensures rest { AreOf N.board.id passes.new.items }
+    ensures board { IfSome result (λ p. p.board ≡ N.board.id) }
+{
+    passes.pop()
+}
+
+/// The last two passes, in their order.
+pub(crate) fn pop_two<N: Naming>(passes: &mut Vec<DeskPass>) -> Option<(DeskPass, DeskPass)>
+    requires { AreOf N.board.id passes.old.items }
+    ensures rest { AreOf N.board.id passes.new.items }
+    ensures board { IfSome result (λ r. (r.0.board ≡ N.board.id) × (r.1.board ≡ N.board.id)) }
+{
+    let second = pop::<N>(passes)?;
+    let first = pop::<N>(passes)?;
+    Some((first, second))
+}
+
+/// A pass, put back.
+#[tactic(auto, using(crate::proofs::Boarded::more))]
+pub(crate) fn put<N: Naming>(mut passes: Vec<DeskPass>, pass: DeskPass) -> Option<Vec<DeskPass>>
+    requires passes { AreOf N.board.id passes.items }
+    requires board { pass.board ≡ N.board.id }
+    ensures { IfSome result (λ v. AreOf N.board.id v.items) }
+{
+    match passes.push(pass) {
+        Ok(()) => Some(passes),
+        Err(_) => None,
+    }
+}
+
+/// Two passes, put back.
+pub(crate) fn put_two<N: Naming>(
+    passes: Vec<DeskPass>,
+    first: DeskPass,
+    second: DeskPass,
+) -> Option<Vec<DeskPass>>
+    requires passes { AreOf N.board.id passes.items }
+    requires board { (first.board ≡ N.board.id) × (second.board ≡ N.board.id) }
+    ensures { IfSome result (λ v. AreOf N.board.id v.items) }
+{
+    put::<N>(put::<N>(passes, first)?, second)
+}
+
+/// The last viewer.
+pub(crate) fn pop_viewer<N: Naming>(viewers: &mut Vec<Viewer>) -> Option<Viewer>
+    requires { All (λ v. v.origin ≡ origin_of N.board N.book) viewers.old.items }
+    ensures { IfSome result (λ v. v.origin ≡ origin_of N.board N.book) }
+{
+    viewers.pop()
+}
+
+/// What is left of the desk, where memory is ample.
+pub(crate) fn close<N: Naming, H: Wait + Drop>(
+    rt: &impl Wait,
+    shared: Shared<N, H>,
+    passes: Vec<DeskPass>,
+    viewers: Vec<Viewer>,
+) -> Option<Closed>
+    requires { AreOf N.board.id passes.items }
+{
+    match shared.close(rt, passes, viewers) {
+        Ok(closed) => Some(closed),
+        Err(_) => None,
+    }
+}
