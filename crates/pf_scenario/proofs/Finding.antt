@@ -1,4 +1,4 @@
--- What a binary search finds in a table of cards.
+-- What a search finds in a table of cards, and what a cut of it leaves on either side.
 use Rattle.std.proofs.Common.{◌≡◌, ◌≢◌, ℕ, ◌+◌, ◌-◌, ◌<◌, ◌≤◌, true, false, ltb, List, length, get_or, take, drop, sym, subst, arith, inl, inr}
 use Rattle.std.specs.List.{All, slice_get}
 use Rattle.std.specs.declared.option.Option.TheVariants.{Some}

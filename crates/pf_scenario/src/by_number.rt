@@ -104,6 +104,10 @@ fn truncate(cards: &mut Vec<Card>, id: u64)
     ensures rising { AreRising cards.new.items }
     ensures below { All (λ card. card.id < id) cards.new.items }
 {
+    // As numbers rise, there is none.
+    if are_below(cards, cards.len(), id) {
+        return;
+    }
     let count = cards.partition_point(|card| card.id() < id);
     cards.truncate(count);
 }

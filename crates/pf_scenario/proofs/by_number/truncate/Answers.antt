@@ -16,8 +16,8 @@ pub returns-clause-same : goal.returns-clause-same
 returns-clause-same c =
     let cards = c.args.cards.now.items in
     let at = c.partition_point-count.result in
-    let lent = c.deref.result.now in
-    let same = c.deref.ensures.value in
+    let lent = c.deref-2.result.now in
+    let same = c.deref-2.ensures.value in
     let bound = subst (λ xs. at ≤ length xs) same c.partition_point-count.ensures.bound in
     let point = cut lent cards c.args.id at same (IsPartitionPoint-from_clause (λ (x : Card). ltb x.id c.args.id) lent at c.partition_point-count.ensures.partitioned
     (IsPartitionedBy-ltb (λ (x : Card). x.id) lent c.args.id (never_fall lent (subst (λ xs. AllPairs (λ x y. x.id < y.id) xs) (sym same) c.requires.rising))) (λ a r g h. search rules)) in
@@ -31,8 +31,8 @@ pub returns-clause-below : goal.returns-clause-below
 returns-clause-below c =
     let cards = c.args.cards.now.items in
     let at = c.partition_point-count.result in
-    let lent = c.deref.result.now in
-    let same = c.deref.ensures.value in
+    let lent = c.deref-2.result.now in
+    let same = c.deref-2.ensures.value in
     let bound = subst (λ xs. at ≤ length xs) same c.partition_point-count.ensures.bound in
     let point = cut lent cards c.args.id at same (IsPartitionPoint-from_clause (λ (x : Card). ltb x.id c.args.id) lent at c.partition_point-count.ensures.partitioned
     (IsPartitionedBy-ltb (λ (x : Card). x.id) lent c.args.id (never_fall lent (subst (λ xs. AllPairs (λ x y. x.id < y.id) xs) (sym same) c.requires.rising))) (λ a r g h. search rules)) in
