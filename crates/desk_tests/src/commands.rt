@@ -5,13 +5,13 @@ use pf_scenario::change::Change;
 use pf_scenario::event::Event;
 
 /// A task joins.
-pub(crate) fn join(slot: u64, task: u64, cost: u64, period: u64, early: u64) -> Command {
+pub(crate) fn join(slot: u64, task: u64, cost: u64, period: u64) -> Command {
     plain(Change::Insert(Event::Join {
         slot,
         task,
         cost,
         period,
-        early,
+        early: 0,
     }))
 }
 
@@ -25,25 +25,17 @@ pub(crate) fn delay(slot: u64, task: u64, by: u64) -> Command {
     plain(Change::Insert(Event::Delay { slot, task, by }))
 }
 
-/// From this slot on, so many processors are in use.
-pub(crate) fn limit(slot: u64, count: u64) -> Command {
-    plain(Change::Insert(Event::Limit { slot, count }))
+/// A task's next subtask is delayed, where no event is then denied.
+pub(crate) fn strict_delay(slot: u64, task: u64, by: u64) -> Command {
+    Command::Edit {
+        change: Change::Insert(Event::Delay { slot, task, by }),
+        strict: true,
+    }
 }
 
 /// The event of this number is struck.
 pub(crate) fn strike(id: u64) -> Command {
     plain(Change::Strike(id))
-}
-
-/// The same command, strict.
-pub(crate) fn strict(command: Command) -> Command {
-    match command {
-        Command::Edit { change, .. } => Command::Edit {
-            change,
-            strict: true,
-        },
-        Command::Step => Command::Step,
-    }
 }
 
 /// A change that is not strict.

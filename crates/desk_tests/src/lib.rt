@@ -1,18 +1,26 @@
-//! What no clause of the desk and of its reports says: that calls succeed where memory is ample, what is left where it is
-//! refused, and that the clauses mean the worked examples.
+//! What no clause of the desk says: that calls succeed where memory is ample, that a call whose memory was refused succeeds when
+//! it is made again, and the texts of faults. That a refused call leaves all as it was, its clauses say.
 #![tactic(auto)]
 
 #[cfg(test)]
-mod calls;
+mod applied;
+#[cfg(test)]
+mod batch;
 #[cfg(test)]
 mod commands;
 #[cfg(test)]
-mod examples;
+mod opening;
 #[cfg(test)]
-mod horizon;
+mod plans;
 #[cfg(test)]
-mod report;
+mod prepared;
+#[cfg(test)]
+mod refused;
+#[cfg(test)]
+mod snapshot;
 #[cfg(test)]
 mod tally;
+#[cfg(test)]
+mod texts;
 #[cfg(test)]
 mod told;

@@ -1,23 +1,106 @@
-//! Lags and misses, as the desk gives them. Where memory is refused, they are asked for again.
+//! Lags and misses of a desk and of its snapshot. Where memory is refused, they are asked for again.
 
-use crate::commands::join;
-use crate::told::desk_after;
-use pf_desk::command::Command::Step;
+use crate::plans::overload;
+use crate::refused::say;
+use crate::snapshot::snapshot;
 use pf_desk::desk::Desk;
-use pf_scenario::settings::Settings;
+use pf_desk::snapshot::Snapshot;
 use pf_tally::lag::Lag;
 use pf_tally::miss::Miss;
-use std::alloc::Global;
+use std::alloc::AllocError;
+use std::process::Abort;
 use std::test::Fail;
 
-/// The lag of a task of weight 1/1, in units of 1/1.
-fn lag(task: u32, received: u64, scaled: i64) -> Lag {
+/// A snapshot, though memory may be refused once.
+fn seen(desk: &Desk) -> Result<Snapshot, AllocError> {
+    match snapshot(desk) {
+        Ok(seen) => Ok(seen),
+        Err(AllocError) => snapshot(desk),
+    }
+}
+
+/// The snapshot's lags. A caller that needs no clause of `Snapshot::lags` calls this.
+fn lags(snapshot: &Snapshot) -> Result<Vec<Lag>, AllocError> {
+    snapshot.lags()
+}
+
+/// The same, asked for again where memory is refused.
+fn lags_again(rt: &(impl Abort + Print), snapshot: &Snapshot) -> Result<Vec<Lag>, AllocError> {
+    match lags(snapshot) {
+        Ok(lags) => Ok(lags),
+        Err(AllocError) => {
+            say(rt, "Snapshot::lags");
+            lags(snapshot)
+        }
+    }
+}
+
+/// The lags of the desk's snapshot.
+fn lags_of(rt: &(impl Abort + Print), desk: &Desk) -> Result<Vec<Lag>, AllocError> {
+    lags_again(rt, &seen(desk)?)
+}
+
+/// The snapshot's missed windows. A caller that needs no clause of `Snapshot::misses` calls this.
+fn misses(snapshot: &Snapshot) -> Result<Vec<Miss>, AllocError> {
+    snapshot.misses()
+}
+
+/// The same, asked for again where memory is refused.
+fn misses_again(rt: &(impl Abort + Print), snapshot: &Snapshot) -> Result<Vec<Miss>, AllocError> {
+    match misses(snapshot) {
+        Ok(misses) => Ok(misses),
+        Err(AllocError) => {
+            say(rt, "Snapshot::misses");
+            misses(snapshot)
+        }
+    }
+}
+
+/// The missed windows of the desk's snapshot.
+fn misses_of(rt: &(impl Abort + Print), desk: &Desk) -> Result<Vec<Miss>, AllocError> {
+    misses_again(rt, &seen(desk)?)
+}
+
+/// The desk's lags. A caller that needs no clause of `Desk::lags` calls this.
+fn desk_lags(desk: &Desk) -> Result<Vec<Lag>, AllocError> {
+    desk.lags()
+}
+
+/// The same, asked for again where memory is refused.
+fn desk_lags_again(rt: &(impl Abort + Print), desk: &Desk) -> Result<Vec<Lag>, AllocError> {
+    match desk_lags(desk) {
+        Ok(lags) => Ok(lags),
+        Err(AllocError) => {
+            say(rt, "Desk::lags");
+            desk_lags(desk)
+        }
+    }
+}
+
+/// The desk's missed windows. A caller that needs no clause of `Desk::misses` calls this.
+fn desk_misses(desk: &Desk) -> Result<Vec<Miss>, AllocError> {
+    desk.misses()
+}
+
+/// The same, asked for again where memory is refused.
+fn desk_misses_again(rt: &(impl Abort + Print), desk: &Desk) -> Result<Vec<Miss>, AllocError> {
+    match desk_misses(desk) {
+        Ok(misses) => Ok(misses),
+        Err(AllocError) => {
+            say(rt, "Desk::misses");
+            desk_misses(desk)
+        }
+    }
+}
+
+/// The lag of a task of weight 1/1, of which two quanta were received.
+fn lag(task: u32) -> Lag {
     Lag {
         task,
         cost: 1,
         period: 1,
-        received,
-        scaled,
+        received: 2,
+        scaled: 2,
     }
 }
 
@@ -31,58 +114,48 @@ fn miss(task: u32, sub: u32, ran: Option<u64>) -> Miss {
     }
 }
 
-/// The desk's lags, though memory may be refused once.
-fn lags_of(rt: &impl Print, desk: &Desk) -> Result<Vec<Lag>, Fail> {
-    match desk.lags() {
-        Ok(lags) => Ok(lags),
-        Err(_) => {
-            println!(rt; "refused: Desk::lags")?;
-            Ok(desk.lags()?)
-        }
-    }
+/// The lags of the two tasks.
+fn two_lags() -> [Lag; 2] {
+    [lag(1), lag(2)]
 }
 
-/// The desk's missed windows, though memory may be refused once.
-fn misses_of(rt: &impl Print, desk: &Desk) -> Result<Vec<Miss>, Fail> {
-    match desk.misses() {
-        Ok(misses) => Ok(misses),
-        Err(_) => {
-            println!(rt; "refused: Desk::misses")?;
-            Ok(desk.misses()?)
-        }
-    }
+/// The windows of the two tasks that are missed.
+fn seven_misses() -> [Miss; 7] {
+    [
+        miss(2, 1, Some(1)),
+        miss(1, 2, Some(2)),
+        miss(2, 2, Some(3)),
+        miss(1, 3, None),
+        miss(2, 3, None),
+        miss(1, 4, None),
+        miss(2, 4, None),
+    ]
 }
 
-/// Two tasks of weight 1/1 join in slot 0, on one processor; two steps. Memory may be refused once.
-fn two_steps(alloc: Global) -> Result<Desk, Fail> {
-    let commands = [join(0, 1, 1, 1, 0), join(0, 2, 1, 1, 0), Step, Step];
-    desk_after(alloc, Settings::new(1, 1, 2)?, 2, &commands)
-}
-
-/// The lags of the two.
-fn two_lags(rt: &(impl AllocGlobal + Print)) -> Result<Vec<Lag>, Fail> {
-    let desk = two_steps(rt.alloc())?;
-    lags_of(rt, &desk)
+#[test]
+fn the_desks_lags(rt: HostRuntime) -> Result<(), Fail> {
+    let lags = desk_lags_again(&rt, &overload(rt.alloc())?)?;
+    assert_eq!(rt; lags.as_slice(), two_lags().as_slice());
+    Ok(())
 }
 
 #[test]
 fn both_lag(rt: HostRuntime) -> Result<(), Fail> {
-    let lags = two_lags(&rt)?;
-    let wanted = [lag(1, 1, 1), lag(2, 1, 1)];
-    assert_eq!(rt; lags.as_slice(), wanted.as_slice());
+    let lags = lags_of(&rt, &overload(rt.alloc())?)?;
+    assert_eq!(rt; lags.as_slice(), two_lags().as_slice());
     Ok(())
 }
 
-/// The missed windows of the two.
-fn two_misses(rt: &(impl AllocGlobal + Print)) -> Result<Vec<Miss>, Fail> {
-    let desk = two_steps(rt.alloc())?;
-    misses_of(rt, &desk)
+#[test]
+fn the_desks_misses(rt: HostRuntime) -> Result<(), Fail> {
+    let misses = desk_misses_again(&rt, &overload(rt.alloc())?)?;
+    assert_eq!(rt; misses.as_slice(), seven_misses().as_slice());
+    Ok(())
 }
 
 #[test]
-fn misses_that_have_not_run_yet(rt: HostRuntime) -> Result<(), Fail> {
-    let misses = two_misses(&rt)?;
-    let wanted = [miss(2, 1, Some(1)), miss(1, 2, None), miss(2, 2, None)];
-    assert_eq!(rt; misses.as_slice(), wanted.as_slice());
+fn windows_are_missed(rt: HostRuntime) -> Result<(), Fail> {
+    let misses = misses_of(&rt, &overload(rt.alloc())?)?;
+    assert_eq!(rt; misses.as_slice(), seven_misses().as_slice());
     Ok(())
 }

@@ -1,6 +1,6 @@
-//! The worked examples of drills.
+//! Drills whose gates are shut, or open only where the workers meet.
 
-use crate::gates::{GateShutTo, MeetingGate, OpenGate};
+use crate::gates::{GateShutTo, MeetingGate};
 use pf_drill::drill::drill;
 use pf_drill::fault::DrillFault;
 use pf_drill::gate::Gate;
@@ -30,13 +30,6 @@ fn drilled<R: Threads + Wait + Sync, G: Gate + Sync>(
 }
 
 #[test]
-fn three_tasks(rt: HostRuntime) {
-    let (outcome, text) = drilled(&rt, rt.alloc(), SCRIPT, &OpenGate);
-    assert_eq!(rt; outcome, Ok(()));
-    assert_eq!(rt; text.as_slice(), ANSWER);
-}
-
-#[test]
 fn workers_run_at_once(rt: HostRuntime) {
     let (outcome, text) = drilled(&rt, rt.alloc(), SCRIPT, &MeetingGate::new());
     assert_eq!(rt; outcome, Ok(()));
@@ -49,43 +42,4 @@ fn a_shut_gate_ends_the_drill(rt: HostRuntime) {
     let (outcome, text) = drilled(&rt, rt.alloc(), SCRIPT, &gate);
     assert_eq!(rt; outcome, Err(DrillFault::GateShut));
     assert!(rt; text.is_empty());
-}
-
-#[test]
-fn a_bad_record_writes_nothing(rt: HostRuntime) {
-    let (outcome, text) = drilled(
-        &rt,
-        rt.alloc(),
-        b"settings,1,1,1,1\nstep\nstep,0\n",
-        &OpenGate,
-    );
-    assert_eq!(rt; outcome, Err(DrillFault::BadLine(3)));
-    assert!(rt; text.is_empty());
-}
-
-#[test]
-fn a_shut_gate_comes_before_a_later_bad_record(rt: HostRuntime) {
-    let gate = GateShutTo { task: 1, sub: 1 };
-    let (outcome, _) = drilled(
-        &rt,
-        rt.alloc(),
-        b"settings,1,1,1,1\njoin,0,1,1,1,0\nstep\nstep,0\n",
-        &gate,
-    );
-    assert_eq!(rt; outcome, Err(DrillFault::GateShut));
-}
-
-#[test]
-fn what_was_taken_stays_where_the_schedule_changes(rt: HostRuntime) {
-    let (outcome, text) = drilled(
-        &rt,
-        rt.alloc(),
-        b"pfair,2\nsettings,1,2,2,4\njoin,0,1,1,2,0\nstep,3\ndelay,2,1,3\nstrike,9\n",
-        &OpenGate,
-    );
-    assert_eq!(rt; outcome, Ok(()));
-    assert_eq!(rt;
-        text.as_slice(),
-        b"schedule\nslot,p0\n0,1/1\n1,\n2,\ntaken\nslot,processor,task,sub\n0,0,1,1\n2,0,1,2\n".as_slice()
-    );
 }

@@ -8,16 +8,6 @@ use std::thread::yield_now;
 /// How often a worker looks for the other.
 const MOST_TURNS: u32 = 1_000_000;
 
-/// A gate that is always open.
-#[derive(Drop)]
-pub(crate) struct OpenGate;
-
-impl Gate for OpenGate {
-    fn arrive(&self, _quantum: &Quantum) -> bool {
-        true
-    }
-}
-
 /// A gate that is shut to one subtask of a task.
 #[derive(Drop)]
 pub(crate) struct GateShutTo {

@@ -1,8 +1,8 @@
-//! The worked example, and what is left after memory was refused.
+//! What a calendar holds where memory is ample, and after it was refused.
 ghost use Rattle.std.specs.Prelude.{◌+◌, ◌≡◌, ◌≤◌, OnOk};
 ghost use Rattle.pf_weight.specs.declared.task.TheConstants.{LARGEST_TASK};
 
-use crate::keys::{key, unshifted};
+use crate::keys::key;
 use crate::refused::say;
 use pf_calendar::calendar::Calendar;
 use pf_order::key::Key;
@@ -46,12 +46,6 @@ fn pop(calendar: &mut Calendar) -> Option<u32> {
     Some(key.task())
 }
 
-/// The task of the key that is taken out.
-fn take(calendar: &mut Calendar, task: u32) -> Option<u32> {
-    let key = calendar.take_out(&mut Meter::new(), task)?;
-    Some(key.task())
-}
-
 /// A calendar of the same keys.
 fn copy(calendar: &Calendar) -> Result<Calendar, AllocError> {
     calendar.copy()
@@ -60,59 +54,15 @@ fn copy(calendar: &Calendar) -> Result<Calendar, AllocError> {
 /// The tasks of at most three keys, and then none.
 type Tasks = [Option<u32>; 4];
 
-const NO_TASKS: Tasks = [None; 4];
-
 /// Pops the calendar empty: the ready keys.
 fn popped(calendar: &mut Calendar) -> Tasks {
     [pop(calendar), pop(calendar), pop(calendar), pop(calendar)]
-}
-
-/// The keys of the example, which are put for the slots 2, 0 and 5.
-fn put_three(rt: &impl Abort, calendar: &mut Calendar)
-    requires { 3 ≤ calendar.old.spare }
-{
-    put(rt, calendar, 2, unshifted(rt, 2, 8, 11, 2));
-    put(rt, calendar, 0, unshifted(rt, 3, 2, 3, 1));
-    put(rt, calendar, 5, unshifted(rt, 1, 3, 7, 1));
-}
-
-/// The calendar of the example.
-fn three(rt: &impl Abort, alloc: Global) -> Result<Calendar, AllocError> {
-    let mut calendar = Calendar::new(alloc)?;
-    reserve(rt, &mut calendar, 3)?;
-    put_three(rt, &mut calendar);
-    Ok(calendar)
-}
-
-/// The example in slot 2, and a copy.
-fn in_slot_two(rt: &impl Abort, alloc: Global) -> Result<(Calendar, Calendar), AllocError> {
-    let mut calendar = three(rt, alloc)?;
-    advance(&mut calendar, 2);
-    let copy = copy(&calendar)?;
-    Ok((calendar, copy))
-}
-
-/// The first key, and task 1's, which is taken out once. Then what is left.
-fn taken(mut calendar: Calendar) -> ([Option<u32>; 3], Tasks) {
-    let first = pop(&mut calendar);
-    let taken = take(&mut calendar, 1);
-    let again = take(&mut calendar, 1);
-    ([first, taken, again], popped(&mut calendar))
 }
 
 /// The keys that are ready in slot t.
 fn popped_in(mut calendar: Calendar, t: u64) -> Tasks {
     advance(&mut calendar, t);
     popped(&mut calendar)
-}
-
-#[test]
-fn three_keys(rt: HostRuntime) -> Result<(), Fail> {
-    let (calendar, copy) = in_slot_two(&rt, rt.alloc())?;
-    let wanted = ([Some(3), Some(1), None], [Some(2), None, None, None]);
-    assert_eq!(rt; taken(calendar), wanted);
-    assert_eq!(rt; popped_in(copy, 5), [Some(3), Some(2), Some(1), None]);
-    Ok(())
 }
 
 /// A calendar that holds nothing, though memory may be refused once.
@@ -137,19 +87,10 @@ fn copy_again(rt: &(impl Abort + Print), calendar: &Calendar) -> Result<Calendar
     }
 }
 
-/// Fails where the calendar holds keys of other tasks: a copy pops them once all are ready.
-fn holds(rt: &impl Abort, calendar: &Calendar, tasks: Tasks) -> Result<(), AllocError> {
-    let copy = copy(calendar)?;
-    assert_eq!(rt; popped_in(copy, 9), tasks);
-    Ok(())
-}
-
-/// Makes room, though memory may be refused once: then the calendar holds these tasks as before, and the call is made
-/// again.
+/// Makes room, again where memory is refused.
 fn reserve_again(
     rt: &(impl Abort + Print),
     calendar: &mut Calendar,
-    tasks: Tasks,
     n: usize,
 ) -> Result<(), AllocError>
     requires { n ≤ 20 }
@@ -159,18 +100,15 @@ fn reserve_again(
         Ok(()) => Ok(()),
         Err(AllocError) => {
             say(rt, "Calendar::reserve");
-            holds(rt, calendar, tasks)?;
             reserve(rt, calendar, n)
         }
     }
 }
 
-/// Makes room for the task's place, though memory may be refused once: then the calendar holds these tasks as before, and
-/// the call is made again.
+/// Makes room for the task's place, again where memory is refused.
 fn task_again(
     rt: &(impl Abort + Print),
     calendar: &mut Calendar,
-    tasks: Tasks,
     task: u32,
 ) -> Result<(), AllocError>
     requires { task ≤ LARGEST_TASK }
@@ -180,7 +118,6 @@ fn task_again(
         Ok(()) => Ok(()),
         Err(AllocError) => {
             say(rt, "Calendar::reserve_task");
-            holds(rt, calendar, tasks)?;
             calendar.reserve_task(task)
         }
     }
@@ -188,8 +125,8 @@ fn task_again(
 
 /// Two keys, of which task 2's is ready.
 fn put_two(rt: &(impl Abort + Print), calendar: &mut Calendar) -> Result<(), AllocError> {
-    reserve_again(rt, calendar, NO_TASKS, 2)?;
-    task_again(rt, calendar, NO_TASKS, 2)?;
+    reserve_again(rt, calendar, 2)?;
+    task_again(rt, calendar, 2)?;
     put(rt, calendar, 1, key(rt, 1));
     put(rt, calendar, 0, key(rt, 2));
     advance(calendar, 0);
@@ -198,9 +135,8 @@ fn put_two(rt: &(impl Abort + Print), calendar: &mut Calendar) -> Result<(), All
 
 /// A third key, in room for twenty more.
 fn put_third(rt: &(impl Abort + Print), calendar: &mut Calendar) -> Result<(), AllocError> {
-    let two = [Some(1), Some(2), None, None];
-    reserve_again(rt, calendar, two, 20)?;
-    task_again(rt, calendar, two, 3)?;
+    reserve_again(rt, calendar, 20)?;
+    task_again(rt, calendar, 3)?;
     put(rt, calendar, 3, key(rt, 3));
     Ok(())
 }

@@ -1,5 +1,5 @@
-//! What no clause of the heaps and of the calendar says: that calls succeed where memory is ample, what is left where it
-//! is refused, and that the clauses mean the worked examples.
+//! What no clause of the heaps and of the calendar says: that calls succeed where memory is ample, and that a call whose memory
+//! was refused succeeds when it is made again. That a refused call leaves all as it was, its clauses say.
 #![tactic(auto)]
 
 #[cfg(test)]

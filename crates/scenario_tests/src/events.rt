@@ -23,10 +23,6 @@ pub(crate) fn delay(slot: u64, task: u64, by: u64) -> Event {
     Event::Delay { slot, task, by }
 }
 
-pub(crate) fn limit(slot: u64, count: u64) -> Event {
-    Event::Limit { slot, count }
-}
-
 pub(crate) fn numbered(id: u64, event: Event) -> Numbered {
     Numbered { id, event }
 }

@@ -1,6 +1,6 @@
-//! What no clause of the weights, windows and keys, of denials, scenarios and rows says: that calls succeed where memory is
-//! ample, what is left where it is refused, that the clauses mean the worked examples, the texts of faults, and how long the
-//! limits take.
+//! What no clause of windows and keys, of denials, scenarios and rows says: that calls succeed where memory is ample, that a call
+//! whose memory was refused succeeds when it is made again, that the clauses mean the worked examples, and the texts of faults.
+//! That a refused call leaves all as it was, its clauses say.
 #![tactic(auto)]
 
 #[cfg(test)]
@@ -15,7 +15,5 @@ mod refused;
 mod scenario;
 #[cfg(test)]
 mod texts;
-#[cfg(test)]
-mod weight;
 #[cfg(test)]
 mod window;

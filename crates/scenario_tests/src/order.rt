@@ -1,9 +1,7 @@
 ghost use Rattle.std.specs.Prelude.{◌≤◌, ◌^◌};
 
 use pf_order::key::Key;
-use pf_order::laws::keys_are_ordered;
 use pf_order::meter::Meter;
-use pf_order::pick::Pick;
 use pf_weight::base::Base;
 use pf_weight::weight::Weight;
 use std::process::Abort;
@@ -41,35 +39,4 @@ fn six_keys_in_order(rt: HostRuntime) {
         precedes_those_behind(&rt, &mut meter, order, place, x);
     }
     assert_eq!(rt; meter.compared(), 36);
-}
-
-#[test]
-fn a_meter_counts(rt: HostRuntime) {
-    let a = key(&rt, 1, 3, 7, 1);
-    let c = key(&rt, 3, 2, 3, 1);
-    let f = key(&rt, 5, 2, 3, 1);
-    let g = key(&rt, 6, 2, 3, 2);
-    let mut meter = Meter::new();
-    let order = [
-        meter.before(&c, &f),
-        meter.before(&f, &c),
-        meter.before(&c, &c),
-        meter.before(&a, &g),
-    ];
-    assert_eq!(rt; order, [true, false, false, true]);
-    let before = (meter.compared(), meter.slots());
-    meter.slot();
-    let counts = [before, (meter.compared(), meter.slots())];
-    assert_eq!(rt; counts, [(4, 0), (4, 1)]);
-}
-
-#[test]
-fn a_key_tells_its_subtask(rt: HostRuntime) {
-    keys_are_ordered();
-    let key = key(&rt, 2, 8, 11, 3);
-    let pick = Pick {
-        task: key.task(),
-        sub: key.sub(),
-    };
-    assert_eq!(rt; pick, Pick { task: 2, sub: 3 });
 }

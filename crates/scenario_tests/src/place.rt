@@ -1,105 +1,136 @@
-//! Worked examples of places, and rows.
+//! Rows, placed, copied and kept, though memory may be refused. A call that was refused is made again, and says so.
 
-ghost use Rattle.std.specs.Prelude.{◌≡◌, ◌≤◌, length, IfOk};
-ghost use Rattle.std.specs.List.{All};
-ghost use Rattle.pf_place.specs.Occupancy.{NoTaskTwice};
+ghost use Rattle.std.specs.Prelude.{◌≡◌, IfOk};
+ghost use Rattle.pf_place.specs.Occupancy.{idle_row};
 
-mod growths;
-
+use crate::refused::say;
 use pf_order::pick::Pick;
 use pf_place::row::Row;
-use pf_place::row_view::RowView;
 use pf_place::rows::Rows;
 use std::alloc::{AllocError, Global};
+use std::process::Abort;
 use std::test::Fail;
 
 const FIVE: Pick = Pick { task: 5, sub: 1 };
 
-const SEVEN: Pick = Pick { task: 7, sub: 1 };
-
-const SEVEN_NEXT: Pick = Pick { task: 7, sub: 2 };
-
-const NINE: Pick = Pick { task: 9, sub: 4 };
-
-const TWO: Pick = Pick { task: 2, sub: 3 };
-
-/// The row of three processors that places the picks behind a row of these earlier ones.
-fn placed(alloc: Global, earlier: &[Pick], picks: &[Pick]) -> Result<Row, AllocError>
-    requires few_earlier { length earlier.now ≤ 3 }
-    requires earlier { NoTaskTwice earlier.now }
-    requires numbered_earlier { All (λ pick. 1 ≤ pick.task) earlier.now }
-    requires few { length picks.now ≤ 3 }
-    requires picks { NoTaskTwice picks.now }
-    requires numbered { All (λ pick. 1 ≤ pick.task) picks.now }
-    ensures { IfOk result (λ row. length row ≡ 3) }
+/// The row of m idle processors, again where memory is refused.
+fn idle_again(rt: &(impl Abort + Print), alloc: Global, m: u32) -> Result<Row, AllocError>
+    ensures { IfOk result (λ row. row ≡ idle_row m) }
 {
-    let idle = Row::idle(alloc, 3)?;
-    let before = Row::place(alloc, 3, 3, &idle, earlier)?;
-    Row::place(alloc, 3, 3, &before, picks)
+    match Row::idle(alloc, m) {
+        Ok(row) => Ok(row),
+        Err(AllocError) => {
+            say(rt, "Row::idle");
+            Row::idle(alloc, m)
+        }
+    }
 }
 
-/// How many processors a row has, and who sits on the processors 0 to 3.
-type Seats = (usize, [Option<Pick>; 4]);
-
-fn seats(row: RowView<'_>) -> Seats {
-    let places = [row.get(0), row.get(1), row.get(2), row.get(3)];
-    (row.processors(), places)
+/// A pick on the one processor of 64 that is in use, again where memory is refused.
+fn place_again(rt: &(impl Abort + Print), alloc: Global, before: &Row) -> Result<Row, AllocError>
+    requires { before.now ≡ idle_row 64 }
+{
+    match Row::place(alloc, 64, 1, before, &[FIVE]) {
+        Ok(row) => Ok(row),
+        Err(AllocError) => {
+            say(rt, "Row::place");
+            Row::place(alloc, 64, 1, before, &[FIVE])
+        }
+    }
 }
 
-/// Task 7 keeps its place, and the two others fill those around it.
-fn passed_over(alloc: Global) -> Result<Seats, AllocError> {
-    let row = placed(alloc, &[FIVE, SEVEN], &[NINE, SEVEN_NEXT, TWO])?;
-    Ok(seats(row.view()))
+/// A copy of the row, again where memory is refused.
+fn copy_again(rt: &(impl Abort + Print), row: &Row) -> Result<Row, AllocError> {
+    match row.copy() {
+        Ok(copy) => Ok(copy),
+        Err(AllocError) => {
+            say(rt, "Row::copy");
+            row.copy()
+        }
+    }
+}
+
+/// How many processors the copy of the placed row has, and who sits on the one in use, there and before.
+fn placed(
+    rt: &(impl Abort + Print),
+    alloc: Global,
+) -> Result<(usize, Option<Pick>, Option<Pick>), AllocError> {
+    let before = idle_again(rt, alloc, 64)?;
+    let row = place_again(rt, alloc, &before)?;
+    let copy = copy_again(rt, &row)?;
+    Ok((copy.processors(), copy.get(0), before.get(0)))
 }
 
 #[test]
-fn a_kept_place_is_passed_over(rt: HostRuntime) -> Result<(), Fail> {
-    let wanted = [Some(NINE), Some(SEVEN_NEXT), Some(TWO), None];
-    assert_eq!(rt; passed_over(rt.alloc())?, (3, wanted));
+fn a_row_is_placed_and_copied_again(rt: HostRuntime) -> Result<(), Fail> {
+    assert_eq!(rt; placed(&rt, rt.alloc())?, (64, Some(FIVE), None));
     Ok(())
 }
 
-/// Who sits on the lowest place of the row, where there is one.
-fn sitter(row: Option<RowView<'_>>) -> Option<Pick> {
-    row?.get(0)
+/// Appends the row, again where memory is refused.
+fn push_again(rt: &(impl Abort + Print), rows: &mut Rows, row: &Row) -> Result<(), AllocError> {
+    match rows.push(row) {
+        Ok(()) => Ok(()),
+        Err(AllocError) => {
+            say(rt, "Rows::push");
+            rows.push(row)
+        }
+    }
 }
 
-/// The row of one processor, on which the task runs.
-fn row_of_task(alloc: Global, task: u32) -> Result<Row, AllocError>
-    requires { 1 ≤ task }
-{
-    let idle = Row::idle(alloc, 1)?;
-    Row::place(alloc, 1, 1, &idle, &[Pick { task, sub: 1 }])
+/// Equal rows, again where memory is refused.
+fn copy_all_again(rt: &(impl Abort + Print), rows: &Rows) -> Result<Rows, AllocError> {
+    match rows.copy() {
+        Ok(copy) => Ok(copy),
+        Err(AllocError) => {
+            say(rt, "Rows::copy");
+            rows.copy()
+        }
+    }
 }
 
-/// As many rows. In that of slot t task t + 1 runs.
-fn rows_of_tasks(alloc: Global, count: u32) -> Result<Rows, AllocError> {
+/// How many rows there are in one of them and in its copy.
+fn one_twice(rt: &(impl Abort + Print), alloc: Global) -> Result<(usize, usize), AllocError> {
+    let row = idle_again(rt, alloc, 2)?;
     let mut rows = Rows::new(alloc);
-    for t in 0..count {
-        rows.push(&row_of_task(alloc, t + 1)?)?;
+    push_again(rt, &mut rows, &row)?;
+    let copy = copy_all_again(rt, &rows)?;
+    Ok((rows.len(), copy.len()))
+}
+
+#[test]
+fn rows_are_pushed_and_copied_again(rt: HostRuntime) -> Result<(), Fail> {
+    assert_eq!(rt; one_twice(&rt, rt.alloc())?, (1, 1));
+    Ok(())
+}
+
+/// 512 idle rows.
+fn many_rows(alloc: Global) -> Result<Rows, AllocError> {
+    let mut rows = Rows::new(alloc);
+    for _ in 0..512 {
+        rows.push_idle(2)?;
     }
     Ok(rows)
 }
 
-/// Two rows of three processors, in which these picks are seated.
-fn seated(alloc: Global) -> Result<Rows, AllocError> {
-    let mut rows = Rows::new(alloc);
-    rows.push_idle(3)?;
-    rows.seat_last(3, &[FIVE, SEVEN]);
-    rows.push_idle(3)?;
-    rows.seat_last(3, &[NINE, SEVEN_NEXT, TWO]);
-    Ok(rows)
+/// The same, though memory may be refused once.
+fn many_again(alloc: Global) -> Result<Rows, AllocError> {
+    match many_rows(alloc) {
+        Ok(rows) => Ok(rows),
+        Err(AllocError) => many_rows(alloc),
+    }
 }
 
-/// The last row of the two.
-fn last_seated(alloc: Global) -> Result<Option<Seats>, AllocError> {
-    let rows = seated(alloc)?;
-    Ok(rows.last().map(seats))
+/// How many rows there are in many and in their copy.
+fn many_twice(rt: &(impl Abort + Print), alloc: Global) -> Result<(usize, usize), AllocError> {
+    let rows = many_again(alloc)?;
+    let copy = copy_all_again(rt, &rows)?;
+    Ok((rows.len(), copy.len()))
 }
 
+/// Full blocks are shared: a copy asks for the two pieces of the last one alone.
 #[test]
-fn picks_are_seated_in_the_last_row(rt: HostRuntime) -> Result<(), Fail> {
-    let wanted = [Some(NINE), Some(SEVEN_NEXT), Some(TWO), None];
-    assert_eq!(rt; last_seated(rt.alloc())?, Some((3, wanted)));
+fn many_rows_are_copied_again(rt: HostRuntime) -> Result<(), Fail> {
+    assert_eq!(rt; many_twice(&rt, rt.alloc())?, (512, 512));
     Ok(())
 }

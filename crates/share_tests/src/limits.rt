@@ -87,20 +87,3 @@ fn the_least_and_the_most(rt: HostRuntime) -> Result<(), Fail> {
     }
     Ok(())
 }
-
-#[test]
-fn out_of_the_limits(rt: HostRuntime) -> Result<(), Fail> {
-    let settings = Settings::new(1, 1, 1)?;
-    for (every, passes, viewers) in &[
-        (0, 1, 1),
-        (4_097, 1, 1),
-        (8, 0, 1),
-        (8, 129, 1),
-        (8, 1, 0),
-        (8, 1, 17),
-    ] {
-        let used = outcome(&rt, rt.alloc(), settings, *every, *passes, *viewers);
-        assert_eq!(rt; used, Err(OpenFault::BadSettings));
-    }
-    Ok(())
-}

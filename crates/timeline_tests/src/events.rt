@@ -26,10 +26,6 @@ pub(crate) fn delay(slot: u64, task: u64, by: u64) -> Event {
     Event::Delay { slot, task, by }
 }
 
-pub(crate) fn limit(slot: u64, count: u64) -> Event {
-    Event::Limit { slot, count }
-}
-
 /// Inserts the event. A caller that needs no clause of `Scenario::apply` calls this.
 fn insert(scenario: &mut Scenario, event: Event) -> Result<u64, ApplyFault> {
     scenario.apply(Change::Insert(event))

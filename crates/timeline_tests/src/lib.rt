@@ -1,5 +1,5 @@
-//! What no clause of the engine and of timelines says: that calls succeed where memory is ample, what is left where it is
-//! refused, that the clauses mean the worked examples, the texts of faults, and how long the horizon takes.
+//! What no clause of the engine and of timelines says: that calls succeed where memory is ample, that a call whose memory was
+//! refused succeeds when it is made again, and the texts of faults. That a refused call leaves all as it was, its clauses say.
 #![tactic(auto)]
 
 #[cfg(test)]

@@ -1,16 +1,20 @@
-//! Edits in the past, the distance of checkpoints, and the horizon.
+//! Timelines, longer by slots or written anew, though memory may be refused. A call that was refused is made again, and says
+//! so.
 
 ghost use Rattle.std.specs.Prelude.{◌≡◌, ◌<◌, IfOk, OnOk, OnErr};
+ghost use Rattle.pf_scenario.specs.Event.{slot_of};
 ghost use Rattle.pf_timeline.specs.Timeline.{StandsFor, past_below};
 
-mod growths;
-
-use crate::events::three_tasks;
-use crate::picks::pick;
+use crate::events::{delay, join, leave, scenario_again, three_tasks};
+use crate::picks::{IDLE, alone, both, pick};
+use crate::refused::say;
+use pf_admit::denial::Denial;
 use pf_order::meter::Meter;
 use pf_order::pick::Pick;
+use pf_run::denied::Denied;
 use pf_scenario::apply_fault::ApplyFault;
 use pf_scenario::change::Change;
+use pf_scenario::event::Event;
 use pf_scenario::scenario::Scenario;
 use pf_scenario::settings::Settings;
 use pf_timeline::fault::{NewFault, StepFault};
@@ -19,11 +23,11 @@ use std::alloc::{AllocError, Global};
 use std::process::Abort;
 use std::test::Fail;
 
-/// A timeline of no slots of the scenario, whose checkpoints lie so far apart.
-fn start(alloc: Global, scenario: &Scenario, every: u64) -> Result<Timeline, NewFault>
+/// A timeline of no slots of the scenario with checkpoints two slots apart.
+fn start(alloc: Global, scenario: &Scenario) -> Result<Timeline, NewFault>
     ensures { IfOk result (λ t. StandsFor scenario.now t.now t) }
 {
-    Timeline::new(alloc, scenario.settings(), every)
+    Timeline::new(alloc, scenario.settings(), 2)
 }
 
 /// Takes the next slot.
@@ -33,32 +37,6 @@ fn step(timeline: &mut Timeline, meter: &mut Meter, scenario: &Scenario) -> Resu
     ensures err { OnErr result (timeline.new ≡ timeline.old) }
 {
     timeline.step(meter, scenario)
-}
-
-/// A timeline of that many slots of the scenario.
-fn slots(
-    alloc: Global,
-    meter: &mut Meter,
-    scenario: &Scenario,
-    count: u64,
-) -> Result<Timeline, Fail>
-    ensures { IfOk result (λ t. StandsFor scenario.now t.now t) }
-{
-    let mut timeline = start(alloc, scenario, 64)?;
-    for _ in 0..count {
-        step(&mut timeline, meter, scenario)?;
-    }
-    Ok(timeline)
-}
-
-/// The scenario without this event.
-#[tactic(auto, using(pf_timeline::proofs::Past::no_past))]
-fn struck(scenario: &Scenario, id: u64) -> Result<Scenario, ApplyFault>
-    ensures { IfOk result (λ s. past_below 0 s ≡ past_below 0 scenario.now) }
-{
-    let mut struck = scenario.copy()?;
-    struck.apply(Change::Strike(id))?;
-    Ok(struck)
 }
 
 /// What a timeline that stands for one scenario becomes for another that differs from it on the slots from `from` on.
@@ -77,97 +55,234 @@ fn rewritten(
     kept.rewritten(meter, from, scenario)
 }
 
-/// Who sits on the first processor and on the second, slot by slot.
-fn sitters(alloc: Global, timeline: &Timeline) -> Result<Vec<Pick>, AllocError> {
-    let mut sitters = Vec::new(alloc);
-    for t in 0..timeline.now() {
-        if let Some(row) = timeline.rows().get(t) {
-            sitters.extend(row.get(0))?;
-            sitters.extend(row.get(1))?;
+/// Who sits on two processors at most in each slot of a timeline, and what is denied.
+#[derive(Drop)]
+struct Reading {
+    places: Vec<[Option<Pick>; 2]>,
+    denials: Vec<Denied>,
+}
+
+fn read_once(alloc: Global, timeline: &Timeline) -> Result<Reading, AllocError> {
+    let mut places = Vec::new(alloc);
+    for slot in 0..timeline.now() {
+        if let Some(row) = timeline.rows().get(slot) {
+            places.push([row.get(0), row.get(1)])?;
         }
     }
-    Ok(sitters)
+    Ok(Reading {
+        places,
+        denials: Vec::from_slice(alloc, timeline.denials())?,
+    })
 }
 
-/// What it becomes without event 3, and then a slot longer.
-fn without_third(meter: &mut Meter, kept: &Timeline, scenario: &Scenario) -> Result<Timeline, Fail>
-    requires some { 0 < kept.now.now }
-    requires stands { StandsFor scenario.now kept.now.now kept.now }
+/// The same, though memory may be refused once.
+fn read(alloc: Global, timeline: &Timeline) -> Result<Reading, AllocError> {
+    match read_once(alloc, timeline) {
+        Ok(reading) => Ok(reading),
+        Err(AllocError) => read_once(alloc, timeline),
+    }
+}
+
+/// A timeline of no slots of the scenario, again where memory is refused.
+fn start_again(
+    rt: &(impl Abort + Print),
+    alloc: Global,
+    scenario: &Scenario,
+) -> Result<Timeline, NewFault>
+    ensures { IfOk result (λ t. StandsFor scenario.now t.now t) }
 {
-    let struck = struck(scenario, 3)?;
-    let rewritten = rewritten(meter, kept, 0, scenario, &struck)?;
-    Ok(rewritten.stepped(meter, &struck)?)
+    match start(alloc, scenario) {
+        Err(NewFault::NoMemory) => {
+            say(rt, "Timeline::new");
+            start(alloc, scenario)
+        }
+        started => started,
+    }
 }
 
-/// The timeline of three slots without event 3, and then a slot longer.
-fn with_a_strike(rt: &impl Abort, alloc: Global, scenario: &Scenario) -> Result<Timeline, Fail> {
+/// Takes the next slot, again where memory is refused.
+fn step_again(
+    rt: &(impl Abort + Print),
+    timeline: &mut Timeline,
+    scenario: &Scenario,
+) -> Result<(), StepFault>
+    requires { StandsFor scenario.now timeline.old.now timeline.old }
+    ensures { OnOk result (StandsFor scenario.now timeline.new.now timeline.new) }
+{
     let mut meter = Meter::new();
-    let kept = slots(alloc, &mut meter, scenario, 3)?;
-    assert!(rt; kept.now() > 0);
-    without_third(&mut meter, &kept, scenario)
+    match step(timeline, &mut meter, scenario) {
+        Err(StepFault::NoMemory) => {
+            say(rt, "Timeline::step");
+            step(timeline, &mut meter, scenario)
+        }
+        stepped => stepped,
+    }
+}
+
+/// The timeline of so many slots of the scenario, each taken again where memory is refused.
+fn steps_again(
+    rt: &(impl Abort + Print),
+    alloc: Global,
+    scenario: &Scenario,
+    count: u64,
+) -> Result<Timeline, Fail>
+    ensures { IfOk result (λ t. StandsFor scenario.now t.now t) }
+{
+    let mut timeline = start_again(rt, alloc, scenario)?;
+    for _ in 0..count {
+        step_again(rt, &mut timeline, scenario)?;
+    }
+    Ok(timeline)
+}
+
+/// The timeline with the next slot too, again where memory is refused.
+fn stepped_again(
+    rt: &(impl Abort + Print),
+    timeline: &Timeline,
+    scenario: &Scenario,
+) -> Result<Timeline, StepFault>
+    requires { StandsFor scenario.now timeline.now.now timeline.now }
+{
+    let mut meter = Meter::new();
+    match timeline.stepped(&mut meter, scenario) {
+        Err(StepFault::NoMemory) => {
+            say(rt, "Timeline::stepped");
+            timeline.stepped(&mut meter, scenario)
+        }
+        longer => longer,
+    }
+}
+
+/// That these picks ran, slot by slot.
+fn has_places(rt: &impl Abort, reading: &Reading, wanted: &[[Option<Pick>; 2]]) {
+    assert_eq!(rt; reading.places.as_slice(), wanted);
+}
+
+fn denied(slot: u64, id: u64, denial: Denial) -> Denied {
+    Denied { slot, id, denial }
+}
+
+/// What is shown of three slots of the three tasks, and how many rows there are with a slot more.
+fn three_slots(rt: &(impl Abort + Print), alloc: Global) -> Result<(Reading, usize), Fail> {
+    let scenario = three_tasks(alloc)?;
+    let timeline = steps_again(rt, alloc, &scenario, 3)?;
+    let longer = stepped_again(rt, &timeline, &scenario)?;
+    Ok((read(alloc, &timeline)?, longer.rows().len()))
 }
 
 #[test]
-fn a_strike_in_the_past(rt: HostRuntime) -> Result<(), Fail> {
-    let longer = with_a_strike(&rt, rt.alloc(), &three_tasks(rt.alloc())?)?;
+fn slots_are_stepped_again(rt: HostRuntime) -> Result<(), Fail> {
+    let (reading, longer) = three_slots(&rt, rt.alloc())?;
     let wanted = [
-        pick(1, 1),
-        pick(2, 1),
-        pick(1, 2),
-        pick(2, 2),
-        pick(1, 3),
-        pick(2, 3),
+        both(pick(1, 1), pick(2, 1)),
+        both(pick(1, 2), pick(3, 1)),
+        both(pick(2, 2), pick(3, 2)),
     ];
-    let are_there = sitters(rt.alloc(), &longer)?.as_slice() == wanted.as_slice();
-    assert_eq!(rt; (longer.now(), are_there), (4, true));
+    has_places(&rt, &reading, &wanted);
+    assert_eq!(rt; longer, 4);
     Ok(())
+}
+
+/// A task that leaves in slot 3, and is to be delayed in slot 0.
+fn leaver(alloc: Global) -> Result<Scenario, Fail> {
+    let events = [join(0, 1, 1, 3, 0), leave(3, 1)];
+    Ok(scenario_again(alloc, Settings::new(1, 3, 3)?, &events)?)
+}
+
+/// What is shown of its four slots, once it is delayed.
+fn is_delayed(rt: &impl Abort, reading: &Reading) {
+    has_places(rt, reading, &[IDLE, alone(1, 1), IDLE, IDLE]);
+    let denials = [denied(3, 2, Denial::TooEarly)];
+    assert_eq!(rt; reading.denials.as_slice(), denials.as_slice());
+}
+
+/// What is shown of its four slots.
+fn delayed_slots(rt: &(impl Abort + Print), alloc: Global) -> Result<Reading, Fail> {
+    let scenario = with_event_again(&leaver(alloc)?, delay(0, 1, 1))?;
+    let timeline = steps_again(rt, alloc, &scenario, 4)?;
+    Ok(read(alloc, &timeline)?)
 }
 
 #[test]
-fn the_distance_of_checkpoints_has_limits(rt: HostRuntime) -> Result<(), Fail> {
-    let settings = Settings::new(1, 1, 1)?;
-    for every in [0, 4097] {
-        let refused = Timeline::new(rt.alloc(), settings, every);
-        assert_eq!(rt; refused.err(), Some(NewFault::BadSettings));
-    }
+fn a_denied_event_is_stepped_over_again(rt: HostRuntime) -> Result<(), Fail> {
+    is_delayed(&rt, &delayed_slots(&rt, rt.alloc())?);
     Ok(())
 }
 
-/// How many slots, rows and denials a timeline has.
-fn counts(timeline: &Timeline) -> (u64, usize, usize) {
-    (
-        timeline.now(),
-        timeline.rows().len(),
-        timeline.denials().len(),
-    )
-}
-
-#[test]
-fn checkpoints_may_be_at_each_limit(rt: HostRuntime) -> Result<(), Fail> {
-    let settings = Settings::new(1, 1, 1)?;
-    for every in [1, 4096] {
-        let timeline = Timeline::new(rt.alloc(), settings, every)?;
-        assert_eq!(rt; counts(&timeline), (0, 0, 0));
-    }
-    Ok(())
-}
-
-/// How many rows a timeline has, and what is answered where one slot more is asked for, in both ways.
-type Ended = (usize, [Option<StepFault>; 2]);
-
-/// The timeline of all slots of wide settings.
-fn all_slots(alloc: Global, scenario: &Scenario) -> Result<Ended, Fail> {
+/// What the timeline becomes for another scenario, again where memory is refused.
+fn rewritten_again(
+    rt: &(impl Abort + Print),
+    kept: &Timeline,
+    from: u64,
+    former: &Scenario,
+    scenario: &Scenario,
+) -> Result<Timeline, AllocError>
+    requires below { from < kept.now.now }
+    requires stands { StandsFor former.now kept.now.now kept.now }
+    requires past { past_below from scenario.now ≡ past_below from former.now }
+{
     let mut meter = Meter::new();
-    let mut timeline = slots(alloc, &mut meter, scenario, 4_194_304)?;
-    let stepped = timeline.stepped(&mut meter, scenario).err();
-    let step = step(&mut timeline, &mut meter, scenario).err();
-    Ok((timeline.rows().len(), [stepped, step]))
+    match rewritten(&mut meter, kept, from, former, scenario) {
+        Ok(fresh) => Ok(fresh),
+        Err(AllocError) => {
+            say(rt, "Timeline::rewritten");
+            rewritten(&mut meter, kept, from, former, scenario)
+        }
+    }
+}
+
+/// What is shown once that many slots of the former scenario are written anew for one that differs from `from` on.
+fn replayed(
+    rt: &(impl Abort + Print),
+    alloc: Global,
+    count: u64,
+    from: u64,
+    former: &Scenario,
+    scenario: &Scenario,
+) -> Result<Reading, Fail>
+    requires { past_below from scenario.now ≡ past_below from former.now }
+{
+    let kept = steps_again(rt, alloc, former, count)?;
+    assert!(rt; from < kept.now());
+    let fresh = rewritten_again(rt, &kept, from, former, scenario)?;
+    Ok(read(alloc, &fresh)?)
+}
+
+/// The scenario with this event too.
+fn with_event(scenario: &Scenario, event: Event) -> Result<Scenario, ApplyFault>
+    ensures { IfOk result (λ s. past_below (slot_of event) s ≡ past_below (slot_of event) scenario.now) }
+{
+    let mut more = scenario.copy()?;
+    more.apply(Change::Insert(event))?;
+    Ok(more)
+}
+
+/// The scenario with this event too, though memory may be refused once.
+fn with_event_again(scenario: &Scenario, event: Event) -> Result<Scenario, ApplyFault>
+    ensures { IfOk result (λ s. past_below (slot_of event) s ≡ past_below (slot_of event) scenario.now) }
+{
+    match with_event(scenario, event) {
+        Ok(more) => Ok(more),
+        Err(_) => with_event(scenario, event),
+    }
+}
+
+/// What is shown once the event is inserted behind that many slots.
+fn inserted(
+    rt: &(impl Abort + Print),
+    alloc: Global,
+    count: u64,
+    scenario: &Scenario,
+    event: Event,
+) -> Result<Reading, Fail> {
+    let more = with_event_again(scenario, event)?;
+    replayed(rt, alloc, count, event.slot(), scenario, &more)
 }
 
 #[test]
-fn a_wide_timeline_ends_at_its_horizon(rt: HostRuntime) -> Result<(), Fail> {
-    let scenario = Scenario::new(rt.alloc(), Settings::wide(1, 1, 1)?);
-    let ended = all_slots(rt.alloc(), &scenario)?;
-    assert_eq!(rt; ended, (4_194_304, [Some(StepFault::AtHorizon); 2]));
+fn for_a_delay_with_a_denial(rt: HostRuntime) -> Result<(), Fail> {
+    let scenario = leaver(rt.alloc())?;
+    let reading = inserted(&rt, rt.alloc(), 4, &scenario, delay(0, 1, 1))?;
+    is_delayed(&rt, &reading);
     Ok(())
 }

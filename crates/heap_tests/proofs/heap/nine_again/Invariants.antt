@@ -2,7 +2,4 @@ use Rattle.std.proofs.Common.{◌≡◌, ◌+◌, length}
 use Rattle.heap_tests.proofs.heap.nine_again.Given as goal
 
 abbrev pub invariant-loop-i : goal.invariant-loop-i
-invariant-loop-i g l = record {
-  lists : length l.arena.lists ≡ l._i + 1;
-  first : l.h ≡ 0;
-}
+invariant-loop-i g l = length l.arena.lists ≡ l._i + 1
