@@ -37,6 +37,11 @@ enum Scarcity {
 }
 
 impl From<AllocError> for Scarcity {
+    ghost use Rattle.std.specs.Prelude.{◌≡◌};
+    ghost use Rattle.pf_share.specs.declared.blank.Scarcity.TheVariants.{NoMemory};
+
+    ghost from_gives = { λ _ want. want ≡ NoMemory };
+
     fn from(_error: AllocError) -> Self {
         Scarcity::NoMemory
     }
