@@ -97,18 +97,6 @@ impl Row {
         Ok(Row { places })
     }
 
-    /// A row equal to the one that is lent.
-    ///
-    /// # Errors
-    ///
-    /// Where memory is refused.
-    pub fn of(alloc: Global, lent: RowView<'_>) -> Result<Self, AllocError>
-        ensures { IfOk result (λ row. row ≡ lent_row lent.entry) }
-    {
-        let places = Vec::from_slice(alloc, lent.places())?;
-        Ok(Row { places })
-    }
-
     /// The row as `Rows` lends one.
     pub fn view(&self) -> RowView<'_>
         ensures { lent_row result ≡ self.now }
