@@ -104,7 +104,7 @@ fn truncate(cards: &mut Vec<Card>, id: u64)
     ensures rising { AreRising cards.new.items }
     ensures below { All (λ card. card.id < id) cards.new.items }
 {
-    // As numbers rise, there is none.
+    // Numbers rise, so where the last card is below there is none.
     if are_below(cards, cards.len(), id) {
         return;
     }
