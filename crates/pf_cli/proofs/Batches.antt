@@ -1,5 +1,5 @@
 -- Edits that wait, and what they come to when they are answered together.
-use Rattle.std.proofs.Common.{◌≡◌, ◌≤◌, ℕ, ◌+◌, Bool, true, false, List, [], ◌∷◌, ◌++◌, All, length, map, drop, Option, Some, Result, Ok, Err, refl, sym, ap, ap₂, subst, ◌∙◌, arith, append_assoc}
+use Rattle.std.proofs.Common.{◌≡◌, ℕ, ◌+◌, Bool, true, false, List, [], ◌∷◌, ◌++◌, All, length, map, drop, Option, Some, Result, Ok, Err, refl, sym, ap, ap₂, subst, ◌∙◌, arith, append_assoc}
 use Rattle.std.specs.Io.KnownBytes.{Appends}
 use Rattle.std.proofs.KnownBytes.{Appends-nil}
 use Rattle.std.specs.Prelude.{◌||◌, OnOk, OnErr}
@@ -9,7 +9,6 @@ use Rattle.std.proofs.lemmas.List.{append-nil, drop_at, drop_more, length-append
 use Rattle.std.proofs.lemmas.List.Folds.{list_any-append}
 use Rattle.std.proofs.lemmas.Option.{get_or_from_slice_get, slice_get_within}
 use Rattle.std.proofs.lemmas.List.Elements.{All-nil, All-cons, All-append, All-from_recursion, recursion_from_All}
-use Rattle.pf_order.specs.declared.pick.Pick.{Pick}
 use Rattle.pf_scenario.specs.Edit.{edit_fault}
 use Rattle.pf_desk.specs.declared.command.Command.{Command}
 use Rattle.pf_desk.specs.declared.command.Command.TheVariants.{Edit, Step}
@@ -21,13 +20,12 @@ use Rattle.pf_desk.specs.History.{IsLegalFrom, state_behind}
 use Rattle.pf_desk.specs.Desk.{Shown, AnswersAll}
 use Rattle.pf_desk.specs.Plain.{IsPlain}
 use Rattle.pf_stream.specs.Written.{TookAllBut, TookFront}
-use Rattle.pf_stream.proofs.Sending.{all_to_come, none_written, so-far-finished, so-far-put, so-far-stopped, so-far-unfinished}
-use Rattle.pf_words.specs.declared.format.Format.{Format}
+use Rattle.pf_stream.proofs.Sending.{all_to_come, so-far-finished, so-far-put, so-far-stopped, so-far-unfinished}
 use Rattle.pf_words.specs.Formats.{has_replies}
 use Rattle.pf_cli.specs.declared.batching.BatchingSession.{BatchingSession}
 use Rattle.pf_cli.specs.declared.session.Session.{Session}
 use Rattle.pf_cli.specs.Batching.{HasTaken, course_to_be, replies_to_be, text_to_be}
-use Rattle.pf_cli.specs.Meaning.{ScriptCourse, course_after, course_behind, reply_lines, text_if_replies}
+use Rattle.pf_cli.specs.Meaning.{ScriptCourse, course_behind, reply_lines, text_if_replies}
 use Rattle.pf_cli.specs.Replies.{HasFewPlaces, is_refusal, reply_line}
 use Rattle.pf_cli.specs.Session.{HasAnswered, course_at, replies_of}
 use Rattle.pf_cli.proofs.Replying.{edit_takes_none}

@@ -1,5 +1,5 @@
 -- How far a script is at its end.
-use Rattle.std.proofs.Common.{◌≡◌, ◌≤◌, ℕ, true, false, List, [], ◌∷◌, length, Option, Some, None, Result, Ok, Err, refl, sym, ap, ◌∙◌, rules, tests}
+use Rattle.std.proofs.Common.{◌≡◌, ◌≤◌, ℕ, true, false, List, [], ◌∷◌, length, Option, Some, Result, Ok, Err, refl, sym, ap, ◌∙◌, rules, tests}
 use Rattle.std.specs.Prelude.{IfOk, nat_lt}
 use Rattle.std.specs.Option.{option_and_then}
 use Rattle.pf_desk.specs.Desk.{Shown}
@@ -11,7 +11,7 @@ use Rattle.pf_script.specs.Script.{script_records}
 use Rattle.pf_cli.specs.declared.batching.BatchingSession.{BatchingSession}
 use Rattle.pf_cli.specs.declared.session.Session.{Session}
 use Rattle.pf_cli.specs.Batching.{IsUnbatched, course_to_be}
-use Rattle.pf_cli.specs.Ended.{course_among, course_from, course_through, script_course}
+use Rattle.pf_cli.specs.Ended.{course_among, course_through, script_course}
 use Rattle.pf_cli.specs.Meaning.{ScriptCourse, course_behind, course_opened_by}
 use Rattle.pf_opening.specs.Commands.{commands_of}
 use Rattle.pf_cli.specs.Session.{course_at}

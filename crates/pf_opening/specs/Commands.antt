@@ -1,5 +1,5 @@
 -- What a line asks of a desk.
-use Rattle.std.specs.Prelude.{ℕ, List, [], ◌∷◌, replicate}
+use Rattle.std.specs.Prelude.{List, [], ◌∷◌, replicate}
 use Rattle.pf_desk.specs.declared.command.Command.{Command}
 use Rattle.pf_desk.specs.declared.command.Command.TheVariants as command
 use Rattle.pf_script.specs.declared.line.Line.{Line}

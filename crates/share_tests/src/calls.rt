@@ -1,6 +1,8 @@
-//! Calls of a shared desk, whose passes stay its own whatever is answered.
+//! Calls of a shared desk, whose passes and viewers stay its own whatever is answered.
 ghost use Rattle.std.specs.Prelude.{◌≡◌};
 
+use crate::answers;
+use crate::answers::{Edited, Taken};
 use pf_board::take::Take;
 use pf_scenario::change::Change;
 use pf_share::calls::DeskPass;
@@ -10,33 +12,33 @@ use pf_share::step_refusal::StepRefusal;
 use std::alloc::AllocError;
 use std::sync::Wait;
 
-/// Makes a change that is not strict. The answer is the number of entries.
+/// Makes a change that is not strict. The answer is the number of the event and the number of entries.
 pub(crate) fn edit<N: Naming, H: Wait + Drop>(
     rt: &impl Wait,
     shared: &Shared<N, H>,
     pass: &mut DeskPass,
     change: Change,
-) -> Result<u64, AllocError>
+) -> Result<Option<Edited>, AllocError>
     requires { pass.old.board ≡ N.board.id }
     ensures { pass.new.board ≡ N.board.id }
 {
     match shared.edit(rt, pass, change, false) {
-        Ok(done) => Ok(done.front),
+        Ok(done) => Ok(answers::edited(&done)),
         Err(error) => Err(error),
     }
 }
 
-/// Takes the next slot. The answer is the number of entries.
+/// Takes the next slot.
 pub(crate) fn step<N: Naming, H: Wait + Drop>(
     rt: &impl Wait,
     shared: &Shared<N, H>,
     pass: &mut DeskPass,
-) -> Result<u64, StepRefusal>
+) -> Result<Option<Taken>, StepRefusal>
     requires { pass.old.board ≡ N.board.id }
     ensures { pass.new.board ≡ N.board.id }
 {
     match shared.step(rt, pass) {
-        Ok(done) => Ok(done.front),
+        Ok(done) => Ok(answers::stepped(&done)),
         Err(refusal) => Err(refusal),
     }
 }

@@ -1,6 +1,7 @@
 //! The passes of a desk, and its end.
-ghost use Rattle.std.specs.Prelude.{◌≡◌, IfSome};
+ghost use Rattle.std.specs.Prelude.{◌≡◌, All, IfSome};
 ghost use Rattle.pf_board.specs.Passes.{AreOf};
+ghost use Rattle.pf_share.specs.Locked.{origin_of};
 
 use pf_share::calls::DeskPass;
 use pf_share::closed::Closed;
@@ -54,6 +55,14 @@ pub(crate) fn put_two<N: Naming>(
     ensures { IfSome result (λ v. AreOf N.board.id v.items) }
 {
     put::<N>(put::<N>(passes, first)?, second)
+}
+
+/// The last viewer.
+pub(crate) fn pop_viewer<N: Naming>(viewers: &mut Vec<Viewer>) -> Option<Viewer>
+    requires { All (λ v. v.origin ≡ origin_of N.board N.book) viewers.old.items }
+    ensures { IfSome result (λ v. v.origin ≡ origin_of N.board N.book) }
+{
+    viewers.pop()
 }
 
 /// What is left of the desk, where memory is ample.

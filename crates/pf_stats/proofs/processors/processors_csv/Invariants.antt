@@ -1,4 +1,4 @@
-use Rattle.std.proofs.Common.{◌≡◌, ◌++◌, ◌+◌, ◌-◌, [], map}
+use Rattle.std.proofs.Common.{◌≡◌, ◌++◌, ◌-◌, [], map}
 use Rattle.std.specs.List.{range_with_len}
 use Rattle.pf_report.specs.Tables.{table_text}
 use Rattle.pf_stats.specs.Processors.{processor_record, processors_text}

@@ -1,11 +1,11 @@
 -- An engine that fits a run of the scenario can take the slot that comes next.
-use Rattle.std.proofs.Common.{◌≡◌, ◌⊎◌, ℕ, ◌+◌, ◌^◌, ◌<◌, ◌++◌, ◌∷◌, [], List, length, inl, inr, sym, ap, ◌∙◌, subst, arith}
+use Rattle.std.proofs.Common.{◌≡◌, ◌⊎◌, ℕ, ◌+◌, ◌^◌, ◌<◌, ◌++◌, ◌∷◌, [], List, length, inl, inr, ap, ◌∙◌, arith}
 use Rattle.std.proofs.lemmas.List.{length_push}
 use Rattle.std.proofs.lemmas.Result.{IfOk-weaker}
 use Rattle.pf_scenario.specs.System.{near_horizon, wide_horizon}
 use Rattle.pf_scenario.specs.Scenario.{Plan, events_of}
 use Rattle.pf_run.specs.Record.{Slot}
-use Rattle.pf_engine.specs.Fits.{Kept, kept_after, Fits, TakesSlot}
+use Rattle.pf_engine.specs.Fits.{Kept, kept_after, Fits}
 use Rattle.timeline_tests.specs.Fitting.{FitsSome}
 use Rattle.timeline_tests.proofs.engine.take_slot.Goals as goal
 

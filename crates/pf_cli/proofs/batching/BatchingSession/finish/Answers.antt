@@ -1,4 +1,4 @@
-use Rattle.std.proofs.Common.{◌++◌, refl, subst}
+use Rattle.std.proofs.Common.{◌++◌, subst}
 use Rattle.pf_stream.specs.Written.{TookFront}
 use Rattle.pf_cli.specs.Session.{HasAnswered, replies_of}
 use Rattle.pf_cli.proofs.Batches.{finished_then, unfinished_then}

@@ -1,5 +1,5 @@
-use Rattle.std.proofs.Common.{◌≡◌, ◌-◌, ◌∙◌, sym, ap}
-use Rattle.pf_report.specs.Part.{Part, part_records}
+use Rattle.std.proofs.Common.{◌-◌, ◌∙◌, sym, ap}
+use Rattle.pf_report.specs.Part.{part_records}
 use Rattle.pf_report.proofs.Parted.{none_behind}
 use Rattle.pf_report.proofs.schedule_part.PartRowsRecords.count.Goals as goal
 
