@@ -1,15 +1,11 @@
 -- Whatever a shared desk answers, a pass stays of its board.
 use Rattle.std.proofs.Common.{◌≡◌, ℕ, ap}
-use Rattle.std.specs.Prelude.{Result, Ok, Err, IfOk, OnErr}
 use Rattle.pf_scenario.specs.System.{System}
-use Rattle.pf_desk.specs.declared.command.Command.{Command}
 use Rattle.pf_desk.specs.declared.entry.Entry.{Entry}
 use Rattle.pf_board.specs.declared.take.Take.{Take}
 use Rattle.pf_board.specs.declared.take.Take.TheVariants.{Got, Empty, Gone, NoProcessor}
 use Rattle.pf_board.specs.Passes.{Passing}
 use Rattle.pf_board.specs.Takes.{Takes}
-use Rattle.pf_share.specs.declared.done.Done.{Done}
-use Rattle.pf_share.specs.Entered.{Enters}
 use Rattle.pf_share.specs.Histories.{IsHistory, quanta_of}
 
 pub takes_on : (m p : ℕ) (v w : Passing Entry System) (t : Take) → Takes IsHistory quanta_of m p v t w → w.board ≡ v.board

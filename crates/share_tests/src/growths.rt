@@ -5,8 +5,8 @@ ghost use Rattle.pf_share.specs.Locked.{origin_of};
 
 use crate::answers::{Edited, Taken, expect_edit, expect_step, expect_take, first_quantum, join};
 use crate::calls::{edit, step, take};
-use crate::opening::{begin, open_desk, start};
-use crate::passes::{close, pop, pop_viewer, put_two};
+use crate::opening::{begin, end, open_desk, start};
+use crate::passes::{pop, pop_viewer};
 use crate::refused::say;
 use pf_board::quantum::Quantum;
 use pf_board::take::Take;
@@ -39,7 +39,7 @@ fn open_again<R: Wait + Abort + Print>(
 {
     match open_desk(rt, alloc, settings, 2, 2, 1) {
         Err(OpenFault::NoMemory) => {
-            say(rt, "Blank::open", true);
+            say(rt, "Blank::open");
             open_desk(rt, alloc, settings, 2, 2, 1)
         }
         opened => opened,
@@ -74,7 +74,7 @@ fn edit_again<N: Naming, H: Wait + Drop>(
     match edit(rt, shared, pass, change) {
         Ok(edited) => Ok(edited),
         Err(AllocError) => {
-            say(rt, "Shared::edit", true);
+            say(rt, "Shared::edit");
             expect_entries(rt, shared, pass, entries);
             edit(rt, shared, pass, change)
         }
@@ -93,34 +93,11 @@ fn step_again<N: Naming, H: Wait + Drop>(
     let entries = shared.look(pass);
     match step(rt, shared, pass) {
         Err(StepRefusal::NoMemory) => {
-            say(rt, "Shared::step", true);
+            say(rt, "Shared::step");
             expect_entries(rt, shared, pass, entries);
             step(rt, shared, pass)
         }
         stepped => stepped,
-    }
-}
-
-/// Ends the desk. Where that is refused, all came back.
-fn close_again<N: Naming, H: Wait + Drop>(
-    rt: &(impl Wait + Abort + Print),
-    shared: Shared<N, H>,
-    passes: Vec<DeskPass>,
-    viewers: Vec<Viewer>,
-) -> Option<Closed>
-    requires { AreOf N.board.id passes.items }
-{
-    match shared.close(rt, passes, viewers) {
-        Ok(closed) => Some(closed),
-        Err(opened) => {
-            let Opened {
-                shared,
-                passes,
-                viewers,
-            } = opened;
-            say(rt, "Shared::close", true);
-            close(rt, shared, passes, viewers)
-        }
     }
 }
 
@@ -159,27 +136,6 @@ fn use_both<N: Naming, H: Wait + Drop>(
     expect_step(rt, step(rt, shared, second), Err(pending));
 }
 
-/// What is left of the desk, once these two passes are put back.
-fn end_again<N: Naming, H: Wait + Drop>(
-    rt: &(impl Wait + Abort + Print),
-    opened: Opened<N, H>,
-    first: DeskPass,
-    second: DeskPass,
-) -> Option<Closed>
-    requires rest { AreOf N.board.id opened.passes.items }
-    requires board { (first.board ≡ N.board.id) × (second.board ≡ N.board.id) }
-{
-    let Opened {
-        shared,
-        passes,
-        viewers,
-    } = opened;
-    match put_two::<N>(passes, first, second) {
-        Some(passes) => close_again(rt, shared, passes, viewers),
-        None => None,
-    }
-}
-
 fn use_desk<N: Naming, H: Wait + Drop>(
     rt: &(impl Wait + Abort + Print),
     blank: Blank<H>,
@@ -190,7 +146,7 @@ fn use_desk<N: Naming, H: Wait + Drop>(
 {
     let (opened, (mut first, mut second)) = begin::<N, H>(blank)?;
     use_both(rt, &opened.shared, &mut first, &mut second);
-    end_again(rt, opened, first, second)
+    end(rt, opened, first, second)
 }
 
 /// Fails the test where another quantum lies untaken than that of processor 1 in slot 0.

@@ -1,9 +1,14 @@
-//! What no clause of the shared desk says where memory is ample: that it is opened at its limits, that a viewer reads nothing
-//! once it is ended, that threads which use it at once come to an end, and the texts of faults.
+//! What no clause of the shared desk says: that it is opened at its limits where memory is ample, that a viewer reads nothing once
+//! it is ended, that threads which use it at once come to an end, that no entry is made where memory was refused, and the same
+//! call then succeeds when it is made again, and the texts of faults.
 #![tactic(auto)]
 
 #[cfg(test)]
+mod answers;
+#[cfg(test)]
 mod calls;
+#[cfg(test)]
+mod growths;
 #[cfg(test)]
 mod limits;
 #[cfg(test)]
@@ -12,5 +17,7 @@ mod opening;
 mod passes;
 #[cfg(test)]
 mod race;
+#[cfg(test)]
+mod refused;
 #[cfg(test)]
 mod texts;

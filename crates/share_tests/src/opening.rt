@@ -4,6 +4,7 @@ ghost use Rattle.pf_board.specs.Passes.{AreOf};
 ghost use Rattle.pf_share.specs.Locked.{origin_of};
 
 use crate::passes::{close, pop_two, put_two};
+use crate::refused::say;
 use pf_scenario::settings::Settings;
 use pf_share::blank::Blank;
 use pf_share::calls::DeskPass;
@@ -11,7 +12,10 @@ use pf_share::closed::Closed;
 use pf_share::fault::OpenFault;
 use pf_share::naming::Naming;
 use pf_share::opened::Opened;
+use pf_share::shared::Shared;
+use pf_share::viewer::Viewer;
 use std::alloc::Global;
+use std::process::Abort;
 use std::sync::Wait;
 
 /// A desk with these settings, whose checkpoints lie so far apart, with so many passes and viewers.
@@ -69,9 +73,32 @@ pub(crate) fn begin<N: Naming, H: Wait + Drop>(
     }
 }
 
-/// What is left of the desk, once these two passes are put back, where memory is ample.
+/// Ends the desk. Where that is refused, all came back.
+fn close_again<N: Naming, H: Wait + Drop>(
+    rt: &(impl Wait + Abort + Print),
+    shared: Shared<N, H>,
+    passes: Vec<DeskPass>,
+    viewers: Vec<Viewer>,
+) -> Option<Closed>
+    requires { AreOf N.board.id passes.items }
+{
+    match shared.close(rt, passes, viewers) {
+        Ok(closed) => Some(closed),
+        Err(opened) => {
+            let Opened {
+                shared,
+                passes,
+                viewers,
+            } = opened;
+            say(rt, "Shared::close");
+            close(rt, shared, passes, viewers)
+        }
+    }
+}
+
+/// What is left of the desk, once these two passes are put back.
 pub(crate) fn end<N: Naming, H: Wait + Drop>(
-    rt: &impl Wait,
+    rt: &(impl Wait + Abort + Print),
     opened: Opened<N, H>,
     first: DeskPass,
     second: DeskPass,
@@ -85,7 +112,7 @@ pub(crate) fn end<N: Naming, H: Wait + Drop>(
         viewers,
     } = opened;
     match put_two::<N>(passes, first, second) {
-        Some(passes) => close(rt, shared, passes, viewers),
+        Some(passes) => close_again(rt, shared, passes, viewers),
         None => None,
     }
 }

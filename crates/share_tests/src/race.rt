@@ -4,13 +4,12 @@ ghost use Rattle.std.specs.Thread.{IsSend, IsSync};
 ghost use Rattle.pf_board.specs.Passes.{AreOf};
 ghost use Rattle.pf_share.specs.Locked.{origin_of};
 
+use crate::answers::{expect_edit, join as join_of};
 use crate::calls::{edit, step, take};
 use crate::opening::{begin, end, open_desk};
 use crate::passes::{pop, put};
 use pf_board::quantum::Quantum;
 use pf_board::take::Take;
-use pf_scenario::change::Change;
-use pf_scenario::event::Event;
 use pf_scenario::settings::Settings;
 use pf_share::blank::Blank;
 use pf_share::calls::DeskPass;
@@ -133,17 +132,6 @@ fn race<N: Naming + Send + Sync, H: Wait + Drop + Send, R: Threads + Wait + Allo
     )
 }
 
-/// The change that lets a task of weight one join in slot 0.
-fn whole_join() -> Change {
-    Change::Insert(Event::Join {
-        slot: 0,
-        task: 1,
-        cost: 1,
-        period: 1,
-        early: 0,
-    })
-}
-
 /// The one task joins, and the three race.
 fn join_and_race<
     N: Naming + Send + Sync,
@@ -161,8 +149,8 @@ fn join_and_race<
     ensures planner { result.0.board ≡ N.board.id }
     ensures takers { (result.1.0.0.board ≡ N.board.id) × (result.1.1.0.board ≡ N.board.id) }
 {
-    let joined = edit(rt, shared, &mut planner, whole_join());
-    assert_eq!(rt; joined, Ok(1));
+    let joined = edit(rt, shared, &mut planner, join_of(1, 1, 1));
+    expect_edit(rt, joined, (1, 1));
     race(rt, shared, planner, first, second)
 }
 
@@ -182,7 +170,7 @@ fn all_subtasks(
 
 /// Ends the desk. The subtasks of all quanta, in order, where memory is ample.
 fn finish<N: Naming, H: Wait + Drop>(
-    rt: &impl Wait,
+    rt: &(impl Wait + Abort + Print),
     opened: Opened<N, H>,
     first: Taker,
     second: Taker,
@@ -202,7 +190,7 @@ fn finish<N: Naming, H: Wait + Drop>(
 fn use_opened<
     N: Naming + Send + Sync,
     H: Wait + Drop + Send,
-    R: Threads + Wait + AllocGlobal + Abort + Sync,
+    R: Threads + Wait + AllocGlobal + Abort + Print + Sync,
 >(rt: &R, opened: Opened<N, H>, first: DeskPass, second: DeskPass) -> Option<Vec<u32>>
     requires rest { AreOf N.board.id opened.passes.items }
     requires board { (first.board ≡ N.board.id) × (second.board ≡ N.board.id) }
@@ -231,7 +219,7 @@ fn use_opened<
 fn use_desk<
     N: Naming + Send + Sync,
     H: Wait + Drop + Send,
-    R: Threads + Wait + AllocGlobal + Abort + Sync,
+    R: Threads + Wait + AllocGlobal + Abort + Print + Sync,
 >(rt: &R, blank: Blank<H>) -> Option<Vec<u32>>
     requires name { (blank.board ≡ N.board) × (blank.book ≡ N.book) }
     requires passes { AreOf N.board.id blank.passes }

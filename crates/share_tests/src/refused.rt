@@ -1,8 +1,6 @@
 use std::process::Abort;
 
-/// Says that the call was refused, where it was.
-pub(crate) fn say(rt: &(impl Abort + Print), call: &str, refused: bool) {
-    if refused {
-        println!(rt; "refused: {call}").expect(rt, "a line is written");
-    }
+/// Says that the call was refused.
+pub(crate) fn say(rt: &(impl Abort + Print), call: &str) {
+    println!(rt; "refused: {call}").expect(rt, "a line is written");
 }

@@ -1,4 +1,4 @@
-use Rattle.share_growths.proofs.growths.a_viewer_is_told.Given as goal
+use Rattle.share_tests.proofs.growths.a_viewer_is_told.Given as goal
 
 -- the desk that was just opened
 abbrev pub ghosts-tell_desk : goal.ghosts-tell_desk

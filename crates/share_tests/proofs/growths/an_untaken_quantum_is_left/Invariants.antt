@@ -1,4 +1,4 @@
-use Rattle.share_growths.proofs.growths.an_untaken_quantum_is_left.Given as goal
+use Rattle.share_tests.proofs.growths.an_untaken_quantum_is_left.Given as goal
 
 -- the desk that was just opened
 abbrev pub ghosts-use_desk : goal.ghosts-use_desk

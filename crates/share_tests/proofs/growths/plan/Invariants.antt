@@ -1,5 +1,5 @@
 use Rattle.std.specs.Prelude.{◌≡◌}
-use Rattle.share_growths.proofs.growths.plan.Given as goal
+use Rattle.share_tests.proofs.growths.plan.Given as goal
 
 abbrev pub invariant-loop-task : goal.invariant-loop-task
 invariant-loop-task g l = l.pass.board ≡ g.N.Naming.board.id

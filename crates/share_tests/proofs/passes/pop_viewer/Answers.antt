@@ -2,7 +2,7 @@ use Rattle.std.proofs.Common.{◌≡◌}
 use Rattle.std.proofs.lemmas.List.Elements.{All-pop}
 use Rattle.pf_share.specs.Locked.{origin_of}
 use Rattle.pf_share.specs.Reads.{Viewing}
-use Rattle.share_growths.proofs.passes.pop_viewer.Goals as goal
+use Rattle.share_tests.proofs.passes.pop_viewer.Goals as goal
 
 pub returns : goal.returns
 returns g c =

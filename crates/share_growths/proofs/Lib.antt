@@ -1,2 +1,0 @@
-mod Boarded
-pub mod Kept
