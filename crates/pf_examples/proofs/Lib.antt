@@ -1,0 +1,9 @@
+pub mod Weights
+pub mod Windows
+pub mod Order
+pub mod Admissions
+pub mod Scenarios
+pub mod Rows
+pub mod Sets
+pub mod Heaps
+pub mod Calendars
