@@ -85,6 +85,26 @@ def changed(texts, changes):
     return texts
 
 
+def made_together(texts, edits):
+    """The texts with all of these edits made, each where its old texts stand without the others, or None where they meet."""
+    if len(edits) == 1:
+        return changed(texts, edits[0].changes)
+    spans = {}
+    for path, old, new in (it for edit in edits for it in edit.changes):
+        if texts.get(path, "").count(old) != 1:
+            return None
+        begins = texts[path].index(old)
+        spans.setdefault(path, []).append((begins, begins + len(old), new))
+    texts = dict(texts)
+    for path, found in spans.items():
+        found.sort(reverse=True)
+        if any(end > begins for (begins, _, _), (_, end, _) in zip(found, found[1:])):
+            return None
+        for begins, end, new in found:
+            texts[path] = texts[path][:begins] + new + texts[path][end:]
+    return texts
+
+
 def touched_by(crate, before, after):
     """The functions whose lines differ, or the modules where others do; and whether all are functions."""
     touched, is_of_bodies = set(), True

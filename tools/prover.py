@@ -75,6 +75,10 @@ class Prover:
         return Said(subprocess.run(words, cwd=self.room, **how).stdout)
 
 
+# How a function stands whose own goals are proved, but which calls one that is not. With a fault of its own it stands otherwise.
+WAITS = "no proof: it calls "
+
+
 class Said:
     """What the prover said."""
 
@@ -83,13 +87,18 @@ class Said:
         # Of each function for which it was asked, how it stands.
         self.functions = dict(re.findall(r"^fn ([\w:+]+): (.*)$", text, re.M))
 
-    def first_refused(self, names):
-        """Of the functions with these names, or in these modules, one that is not proved, or None."""
-        for function, standing in self.functions.items():
-            is_asked = any(function == it or function.startswith(f"{it}::") for it in names)
-            if is_asked and standing.startswith(("not proved", "no proof")):
-                return function
-        return None
+    def standings(self, names):
+        """How the functions with these names, or in these modules, stand."""
+        return [it for function, it in self.functions.items()
+                if any(function == name or function.startswith(f"{name}::") for name in names)]
+
+    def is_refused(self, names):
+        """Whether one of these functions is not proved, and not only for want of a proof of what it calls."""
+        return any(it.startswith(("not proved", "no proof")) and not it.startswith(WAITS) for it in self.standings(names))
+
+    def waits(self, names):
+        """Whether one of these functions lacks nothing but a proof of what it calls."""
+        return any(it.startswith(WAITS) for it in self.standings(names))
 
     def first_error(self):
         """The first line that tells of an error."""
