@@ -225,7 +225,7 @@ steps_end count turn s start new whole none way =
     subst (λ t. TookAllBut t start new whole) same way
 
 -- the report at the session's course
-pub report_is : (s : Session) (every : ℕ) (seen : Seen) (text : List ℕ) → every ≡ s.desk.every → StandsForHistory s.desk.history seen
-    → seen ≡ record { version = length s.desk.history; state = s.desk.state; rows = s.desk.rows; denials = s.desk.denials }
-    → text ≡ report_text s.format every seen → text ≡ report_text s.format s.desk.every (seen_at (course_at s.desk))
-report_is s every seen text same stands shows is = is ∙ ap₂ (report_text s.format) same (seen_there s.desk seen stands shows)
+pub report_is : (desk : Shown) (format : Format) (every : ℕ) (seen : Seen) (text : List ℕ) → every ≡ desk.every → StandsForHistory desk.history seen
+    → seen ≡ record { version = length desk.history; state = desk.state; rows = desk.rows; denials = desk.denials }
+    → text ≡ report_text format every seen → text ≡ report_text format desk.every (seen_at (course_at desk))
+report_is desk format every seen text same stands shows is = is ∙ ap₂ (report_text format) same (seen_there desk seen stands shows)

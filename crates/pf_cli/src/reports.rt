@@ -1,9 +1,10 @@
-ghost use Rattle.std.specs.Prelude.{◌≡◌, ◌-◌, ◌^◌, ◌<◌, ◌≤◌, ◌++◌, true, None, IfOk, OnOk, OnErr};
+ghost use Rattle.std.specs.Prelude.{◌≡◌, ◌-◌, ◌^◌, ◌<◌, ◌≤◌, ◌++◌, codes, true, None, IfOk, OnOk, OnErr};
 ghost use Rattle.pf_chart.specs.Chart.{chart_text_of};
 ghost use Rattle.pf_picture.specs.Picture.{picture_text_of};
 ghost use Rattle.pf_report.specs.Json.{json_text};
 ghost use Rattle.pf_report.specs.Part.{schedule_part_text};
 ghost use Rattle.pf_report.specs.Script.{script_text_of};
+ghost use Rattle.pf_report.specs.Tables.{denials_text, lags_text, misses_text};
 ghost use Rattle.pf_stream.specs.Written.{TookAllBut, TookFront};
 ghost use Rattle.pf_words.specs.declared.format.TheConstants.{MOST_SLOTS};
 ghost use Rattle.pf_words.specs.Formats.{range_fault};
@@ -186,20 +187,50 @@ fn titled<T: Pieces + Drop, B: Pieces + Drop>(
     Ok(Chain::new(title, Chain::new(table, behind)))
 }
 
+/// The denials behind a line with their name.
+fn titled_denials(
+    alloc: Global,
+    snapshot: &Snapshot,
+) -> Result<Chain<Whole, DenialPieces<'_>>, AllocError>
+    ensures { IfOk result (λ pieces. pieces ≡ codes "denials\n" ++ denials_text snapshot.now) }
+{
+    let title = Whole::new(Vec::from_slice(alloc, b"denials\n")?);
+    Ok(Chain::new(title, denial_pieces(alloc, snapshot)?))
+}
+
+/// The missed windows behind a line with their name, and the denials.
+fn titled_misses(
+    alloc: Global,
+    snapshot: &Snapshot,
+) -> Result<Titled<MissPieces, Chain<Whole, DenialPieces<'_>>>, AllocError>
+    ensures { IfOk result (λ pieces. pieces ≡ codes "misses\n" ++ (misses_text snapshot.now ++ (codes "denials\n" ++ denials_text snapshot.now))) }
+{
+    let behind = titled_denials(alloc, snapshot)?;
+    titled(alloc, b"misses\n", miss_pieces(alloc, snapshot)?, behind)
+}
+
+/// The lags behind a line with their name, the missed windows and the denials.
+fn titled_lags(
+    alloc: Global,
+    snapshot: &Snapshot,
+) -> Result<Titled<LagPieces, Titled<MissPieces, Chain<Whole, DenialPieces<'_>>>>, AllocError>
+    ensures { IfOk result (λ pieces. pieces ≡ codes "lags\n" ++ (lags_text snapshot.now
+        ++ (codes "misses\n" ++ (misses_text snapshot.now ++ (codes "denials\n" ++ denials_text snapshot.now))))) }
+{
+    let behind = titled_misses(alloc, snapshot)?;
+    titled(alloc, b"lags\n", lag_pieces(alloc, snapshot)?, behind)
+}
+
 /// The four tables, each behind a line with its name, in pieces. The lags and the missed windows are in memory until they
 /// are written.
 fn tables_pieces(alloc: Global, snapshot: &Snapshot) -> Result<TablesPieces<'_>, AllocError>
     ensures { IfOk result (λ pieces. pieces ≡ tables_text snapshot.now) }
 {
-    let denials = denial_pieces(alloc, snapshot)?;
-    let title = Whole::new(Vec::from_slice(alloc, b"denials\n")?);
-    let denials = Chain::new(title, denials);
-    let misses = titled(alloc, b"misses\n", miss_pieces(alloc, snapshot)?, denials)?;
-    let lags = titled(alloc, b"lags\n", lag_pieces(alloc, snapshot)?, misses)?;
+    let behind = titled_lags(alloc, snapshot)?;
     titled(
         alloc,
         b"schedule\n",
         schedule_pieces(alloc, snapshot)?,
-        lags,
+        behind,
     )
 }

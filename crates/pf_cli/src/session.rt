@@ -19,6 +19,7 @@ use crate::reports::put_report;
 use pf_desk::command::Command;
 use pf_desk::desk::Desk;
 use pf_desk::fault::OpenFault;
+use pf_desk::snapshot::Snapshot;
 use pf_order::meter::Meter;
 use pf_scenario::change::Change;
 use pf_scenario::settings::Settings;
@@ -209,12 +210,16 @@ impl Session {
         ensures desk { IfOk result (λ desk. desk ≡ self.desk) }
         ensures count { CountsOutput result (W.failed writer.old) (W.failed writer.new) }
     {
-        let snapshot = self.desk.snapshot()?;
-        let every = self.desk.distance();
-        let mut lines = self.lines;
-        put_report(alloc, &snapshot, every, self.format, &mut lines, writer)?;
-        lines.finish(writer)?;
-        Ok(self.desk)
+        let Session {
+            desk,
+            meter: _meter,
+            lines,
+            format,
+        } = self;
+        match put_end(alloc, &desk, format, lines, writer) {
+            Ok(()) => Ok(desk),
+            Err(fault) => Err(fault),
+        }
     }
 
     /// Writes what waits, with no report.
@@ -227,4 +232,45 @@ impl Session {
         self.lines.finish(writer)?;
         Ok(())
     }
+}
+
+/// Puts the report of a desk behind the lines that wait, and writes all.
+fn put_end<W: Sink>(
+    alloc: Global,
+    desk: &Desk,
+    format: Format,
+    lines: TextBuffer,
+    writer: &mut W,
+) -> Result<(), OutputFault>
+    requires showable { range_fault format desk.now.state.now ≡ None }
+    requires writes { W.failed writer.old < 2 ^ 64 - 1 }
+    ensures ok { OnOk result
+        (Appends (W.contents writer.old) (W.contents writer.new) (lines ++ report_text format desk.now.every (seen_at (course_at desk.now)))) }
+    ensures err { OnErr result
+        (TookFront (W.contents writer.old) (W.contents writer.new) (lines ++ report_text format desk.now.every (seen_at (course_at desk.now)))) }
+    ensures count { CountsOutput result (W.failed writer.old) (W.failed writer.new) }
+{
+    let snapshot = desk.snapshot()?;
+    put_shown(alloc, &snapshot, desk.distance(), format, lines, writer)
+}
+
+/// Puts the report of what a snapshot shows behind the lines that wait, and writes all. `every` is the distance of checkpoints
+/// in slots.
+fn put_shown<W: Sink>(
+    alloc: Global,
+    snapshot: &Snapshot,
+    every: u64,
+    format: Format,
+    mut lines: TextBuffer,
+    writer: &mut W,
+) -> Result<(), OutputFault>
+    requires showable { range_fault format snapshot.now.state.now ≡ None }
+    requires writes { W.failed writer.old < 2 ^ 64 - 1 }
+    ensures ok { OnOk result (Appends (W.contents writer.old) (W.contents writer.new) (lines ++ report_text format every snapshot.now)) }
+    ensures err { OnErr result (TookFront (W.contents writer.old) (W.contents writer.new) (lines ++ report_text format every snapshot.now)) }
+    ensures count { CountsOutput result (W.failed writer.old) (W.failed writer.new) }
+{
+    put_report(alloc, snapshot, every, format, &mut lines, writer)?;
+    lines.finish(writer)?;
+    Ok(())
 }
