@@ -63,6 +63,19 @@ fn is_told(
 }
 
 /// Carries a command out, which gives this line. What the desk then shows is this.
+fn shows_answered(
+    rt: &(impl Abort + Print),
+    alloc: Global,
+    desk: &mut Desk,
+    command: Command,
+    line: &str,
+    shown: &str,
+) -> Result<(), AllocError> {
+    is_told(rt, alloc, desk, command, line)?;
+    shows(rt, alloc, desk, shown)
+}
+
+/// The same with a desk that is then let go.
 fn answers(
     rt: &(impl Abort + Print),
     alloc: Global,
@@ -71,8 +84,7 @@ fn answers(
     line: &str,
     shown: &str,
 ) -> Result<(), AllocError> {
-    is_told(rt, alloc, &mut desk, command, line)?;
-    shows(rt, alloc, &desk, shown)
+    shows_answered(rt, alloc, &mut desk, command, line, shown)
 }
 
 #[test]
@@ -124,12 +136,26 @@ fn join_all(rt: &(impl Abort + Print), desk: &mut Desk) -> Result<(), AllocError
 /// What a desk of a task of weight 1/1 shows after a step, and twenty commands that change no row.
 const TWENTY_MORE: &str = "22 entries\nrows | 1/1\n";
 
+/// The rows are as before.
+fn shows_joined(
+    rt: &(impl Abort + Print),
+    alloc: Global,
+    desk: &mut Desk,
+) -> Result<(), AllocError> {
+    join_all(rt, desk)?;
+    shows(rt, alloc, desk, TWENTY_MORE)
+}
+
+/// The same with a desk that is then let go.
+fn are_joined(rt: &(impl Abort + Print), alloc: Global, mut desk: Desk) -> Result<(), AllocError> {
+    shows_joined(rt, alloc, &mut desk)
+}
+
 /// So many that each part of the desk grows.
 #[test]
 fn joins_ahead(rt: HostRuntime) -> Result<(), Fail> {
-    let mut desk = a_whole(rt.alloc())?;
-    join_all(&rt, &mut desk)?;
-    Ok(shows(&rt, rt.alloc(), &desk, TWENTY_MORE)?)
+    let desk = a_whole(rt.alloc())?;
+    Ok(are_joined(&rt, rt.alloc(), desk)?)
 }
 
 /// Twenty strikes of no event.
@@ -146,10 +172,24 @@ fn strike_all(rt: &(impl Abort + Print), alloc: Global, desk: &mut Desk) -> Resu
     Ok(())
 }
 
+/// The rows are as before.
+fn shows_struck(
+    rt: &(impl Abort + Print),
+    alloc: Global,
+    desk: &mut Desk,
+) -> Result<(), AllocError> {
+    strike_all(rt, alloc, desk)?;
+    shows(rt, alloc, desk, TWENTY_MORE)
+}
+
+/// The same with a desk that is then let go.
+fn are_struck(rt: &(impl Abort + Print), alloc: Global, mut desk: Desk) -> Result<(), AllocError> {
+    shows_struck(rt, alloc, &mut desk)
+}
+
 /// So many that the history grows.
 #[test]
 fn strikes_of_nothing(rt: HostRuntime) -> Result<(), Fail> {
-    let mut desk = a_whole(rt.alloc())?;
-    strike_all(&rt, rt.alloc(), &mut desk)?;
-    Ok(shows(&rt, rt.alloc(), &desk, TWENTY_MORE)?)
+    let desk = a_whole(rt.alloc())?;
+    Ok(are_struck(&rt, rt.alloc(), desk)?)
 }

@@ -26,15 +26,26 @@ fn edit_again(
 }
 
 /// Carries out plain edits, and fails where the desk then shows anything else.
-fn show_edited(
+fn shows_edited(
+    rt: &(impl Abort + Print),
+    alloc: Global,
+    desk: &mut Desk,
+    edits: &[Command],
+    wanted: &str,
+) -> Result<(), AllocError> {
+    edit_again(rt, desk, edits)?;
+    shows(rt, alloc, desk, wanted)
+}
+
+/// The same with a desk that is then let go.
+fn are_edited(
     rt: &(impl Abort + Print),
     alloc: Global,
     mut desk: Desk,
     edits: &[Command],
     wanted: &str,
 ) -> Result<(), AllocError> {
-    edit_again(rt, &mut desk, edits)?;
-    shows(rt, alloc, &desk, wanted)
+    shows_edited(rt, alloc, &mut desk, edits, wanted)
 }
 
 /// The second strike finds no event, and is refused.
@@ -43,7 +54,7 @@ fn of_two_strikes(rt: HostRuntime) -> Result<(), Fail> {
     let desk = three_tasks(rt.alloc())?;
     let edits = [strike(3), strike(3)];
     let wanted = "8 entries\nrows | 1/1 2/1 | 1/2 2/2 | - -\n";
-    Ok(show_edited(&rt, rt.alloc(), desk, &edits, wanted)?)
+    Ok(are_edited(&rt, rt.alloc(), desk, &edits, wanted)?)
 }
 
 /// The delay denies the leave, and once it is struck, it does no more; a third edit delays again.
@@ -52,5 +63,5 @@ fn of_delays(rt: HostRuntime) -> Result<(), Fail> {
     let desk = a_leave(rt.alloc())?;
     let edits = [delay(0, 1, 1), strike(3), delay(0, 1, 1)];
     let wanted = "9 entries\nrows | - | 1/1 | - | -\ndenied 3,2,TooEarly\n";
-    Ok(show_edited(&rt, rt.alloc(), desk, &edits, wanted)?)
+    Ok(are_edited(&rt, rt.alloc(), desk, &edits, wanted)?)
 }

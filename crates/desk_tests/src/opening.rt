@@ -2,7 +2,7 @@
 
 use crate::plans::open;
 use crate::refused::say;
-use crate::told::shows;
+use crate::told::shows_last;
 use pf_desk::desk::Desk;
 use pf_desk::fault::OpenFault;
 use pf_scenario::settings::Settings;
@@ -29,5 +29,5 @@ fn open_again(
 fn a_desk_is_opened_again(rt: HostRuntime) -> Result<(), Fail> {
     let settings = Settings::new(1, 1, 1)?;
     let desk = open_again(&rt, rt.alloc(), settings)?;
-    Ok(shows(&rt, rt.alloc(), &desk, "0 entries\nrows\n")?)
+    Ok(shows_last(&rt, rt.alloc(), desk, "0 entries\nrows\n")?)
 }

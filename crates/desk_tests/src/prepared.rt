@@ -92,6 +92,19 @@ fn answer(
 }
 
 /// The same. What the desk then shows is this.
+fn shows_answered(
+    rt: &(impl Abort + Print),
+    alloc: Global,
+    desk: &mut Desk,
+    command: Command,
+    ready: &str,
+    shown: &str,
+) -> Result<(), AllocError> {
+    let _ = answer(rt, alloc, desk, command, ready)?;
+    shows(rt, alloc, desk, shown)
+}
+
+/// The same with a desk that is then let go.
 fn answers(
     rt: &(impl Abort + Print),
     alloc: Global,
@@ -100,8 +113,7 @@ fn answers(
     ready: &str,
     shown: &str,
 ) -> Result<(), AllocError> {
-    let _ = answer(rt, alloc, &mut desk, command, ready)?;
-    shows(rt, alloc, &desk, shown)
+    shows_answered(rt, alloc, &mut desk, command, ready, shown)
 }
 
 #[test]

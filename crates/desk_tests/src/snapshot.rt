@@ -40,15 +40,29 @@ fn seen(alloc: Global, snapshot: &Snapshot) -> Result<String, AllocError> {
     }
 }
 
+/// The same of a snapshot that is then let go.
+fn seen_last(alloc: Global, snapshot: Snapshot) -> Result<String, AllocError> {
+    seen(alloc, &snapshot)
+}
+
 /// What a snapshot of the desk shows.
 fn seen_of(rt: &(impl Abort + Print), alloc: Global, desk: &Desk) -> Result<String, AllocError> {
-    let shown = snapshot_again(rt, desk)?;
-    seen(alloc, &shown)
+    seen_last(alloc, snapshot_again(rt, desk)?)
+}
+
+/// The same of a desk that is then let go.
+fn seen_of_last(
+    rt: &(impl Abort + Print),
+    alloc: Global,
+    desk: Desk,
+) -> Result<String, AllocError> {
+    seen_of(rt, alloc, &desk)
 }
 
 #[test]
 fn of_a_denied_leave(rt: HostRuntime) -> Result<(), Fail> {
-    let text = seen_of(&rt, rt.alloc(), &a_denied_leave(rt.alloc())?)?;
+    let desk = a_denied_leave(rt.alloc())?;
+    let text = seen_of_last(&rt, rt.alloc(), desk)?;
     let wanted = "version 7\nrows | - | 1/1 | - | -\ndenied 3,2,TooEarly\n";
     is_text(&rt, text.as_str(), wanted);
     Ok(())

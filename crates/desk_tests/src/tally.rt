@@ -35,9 +35,19 @@ fn lags_again(rt: &(impl Abort + Print), snapshot: &Snapshot) -> Result<Vec<Lag>
     }
 }
 
+/// The lags of a snapshot that is then let go.
+fn lags_last(rt: &(impl Abort + Print), snapshot: Snapshot) -> Result<Vec<Lag>, AllocError> {
+    lags_again(rt, &snapshot)
+}
+
 /// The lags of the desk's snapshot.
-fn lags_of(rt: &(impl Abort + Print), desk: &Desk) -> Result<Vec<Lag>, AllocError> {
-    lags_again(rt, &seen(desk)?)
+fn lags_seen(rt: &(impl Abort + Print), desk: &Desk) -> Result<Vec<Lag>, AllocError> {
+    lags_last(rt, seen(desk)?)
+}
+
+/// The same of a desk that is then let go.
+fn lags_of(rt: &(impl Abort + Print), desk: Desk) -> Result<Vec<Lag>, AllocError> {
+    lags_seen(rt, &desk)
 }
 
 /// The snapshot's missed windows. A caller that needs no clause of `Snapshot::misses` calls this.
@@ -56,9 +66,19 @@ fn misses_again(rt: &(impl Abort + Print), snapshot: &Snapshot) -> Result<Vec<Mi
     }
 }
 
+/// The missed windows of a snapshot that is then let go.
+fn misses_last(rt: &(impl Abort + Print), snapshot: Snapshot) -> Result<Vec<Miss>, AllocError> {
+    misses_again(rt, &snapshot)
+}
+
 /// The missed windows of the desk's snapshot.
-fn misses_of(rt: &(impl Abort + Print), desk: &Desk) -> Result<Vec<Miss>, AllocError> {
-    misses_again(rt, &seen(desk)?)
+fn misses_seen(rt: &(impl Abort + Print), desk: &Desk) -> Result<Vec<Miss>, AllocError> {
+    misses_last(rt, seen(desk)?)
+}
+
+/// The same of a desk that is then let go.
+fn misses_of(rt: &(impl Abort + Print), desk: Desk) -> Result<Vec<Miss>, AllocError> {
+    misses_seen(rt, &desk)
 }
 
 /// The desk's lags. A caller that needs no clause of `Desk::lags` calls this.
@@ -77,6 +97,11 @@ fn desk_lags_again(rt: &(impl Abort + Print), desk: &Desk) -> Result<Vec<Lag>, A
     }
 }
 
+/// The same of a desk that is then let go.
+fn desk_lags_of(rt: &(impl Abort + Print), desk: Desk) -> Result<Vec<Lag>, AllocError> {
+    desk_lags_again(rt, &desk)
+}
+
 /// The desk's missed windows. A caller that needs no clause of `Desk::misses` calls this.
 fn desk_misses(desk: &Desk) -> Result<Vec<Miss>, AllocError> {
     desk.misses()
@@ -91,6 +116,11 @@ fn desk_misses_again(rt: &(impl Abort + Print), desk: &Desk) -> Result<Vec<Miss>
             desk_misses(desk)
         }
     }
+}
+
+/// The same of a desk that is then let go.
+fn desk_misses_of(rt: &(impl Abort + Print), desk: Desk) -> Result<Vec<Miss>, AllocError> {
+    desk_misses_again(rt, &desk)
 }
 
 /// The lag of a task of weight 1/1, of which two quanta were received.
@@ -134,28 +164,32 @@ fn seven_misses() -> [Miss; 7] {
 
 #[test]
 fn the_desks_lags(rt: HostRuntime) -> Result<(), Fail> {
-    let lags = desk_lags_again(&rt, &overload(rt.alloc())?)?;
+    let desk = overload(rt.alloc())?;
+    let lags = desk_lags_of(&rt, desk)?;
     assert_eq!(rt; lags.as_slice(), two_lags().as_slice());
     Ok(())
 }
 
 #[test]
 fn both_lag(rt: HostRuntime) -> Result<(), Fail> {
-    let lags = lags_of(&rt, &overload(rt.alloc())?)?;
+    let desk = overload(rt.alloc())?;
+    let lags = lags_of(&rt, desk)?;
     assert_eq!(rt; lags.as_slice(), two_lags().as_slice());
     Ok(())
 }
 
 #[test]
 fn the_desks_misses(rt: HostRuntime) -> Result<(), Fail> {
-    let misses = desk_misses_again(&rt, &overload(rt.alloc())?)?;
+    let desk = overload(rt.alloc())?;
+    let misses = desk_misses_of(&rt, desk)?;
     assert_eq!(rt; misses.as_slice(), seven_misses().as_slice());
     Ok(())
 }
 
 #[test]
 fn windows_are_missed(rt: HostRuntime) -> Result<(), Fail> {
-    let misses = misses_of(&rt, &overload(rt.alloc())?)?;
+    let desk = overload(rt.alloc())?;
+    let misses = misses_of(&rt, desk)?;
     assert_eq!(rt; misses.as_slice(), seven_misses().as_slice());
     Ok(())
 }

@@ -92,6 +92,16 @@ pub(crate) fn is_text(rt: &impl Abort, text: &str, wanted: &str) {
     assert_eq!(rt; text, wanted);
 }
 
+/// Fails where the desk, which is then let go, shows anything else. Memory may be refused once.
+pub(crate) fn shows_last(
+    rt: &impl Abort,
+    alloc: Global,
+    desk: Desk,
+    wanted: &str,
+) -> Result<(), AllocError> {
+    shows(rt, alloc, &desk, wanted)
+}
+
 /// Fails where the desk shows anything else. Memory may be refused once.
 pub(crate) fn shows(
     rt: &impl Abort,
