@@ -22,6 +22,8 @@ class Edit:
     touched: frozenset
     # Whether the lines of functions alone change, so that no other function's proof can.
     is_of_bodies: bool
+    # Whether it stands in more/, so that the gate does not try it.
+    is_more: bool
 
 
 def bracketed(text):
@@ -139,15 +141,15 @@ def read_changes(file):
 
 
 def read_edits(folder):
-    """The texts of the crate in this folder, its edits, and a text for each that can't be applied."""
+    """The texts of the crate in this folder, its edits, those in more/ too, and a text for each that can't be applied."""
     edits, bad = [], []
     texts = {str(it.relative_to(folder)): it.read_text() for part in ("src", "specs", "proofs")
              for it in sorted((folder / part).rglob("*.*")) if it.suffix in (".rt", ".antt")}
-    for file in sorted(pathlib.Path(folder, "wrong-bodies").glob("*.edit")):
+    for file in sorted(pathlib.Path(folder, "wrong-bodies").rglob("*.edit")):
         changes = read_changes(file)
         after = changed(texts, changes)
         if not changes or after is None:
             bad.append(f"{folder.name}/{file.stem}: an old text does not stand in its file exactly once")
             continue
-        edits.append(Edit(file.stem, changes, *touched_by(folder.name, texts, after)))
+        edits.append(Edit(file.stem, changes, *touched_by(folder.name, texts, after), file.parent.name == "more"))
     return texts, edits, bad
