@@ -155,35 +155,51 @@ fn carry_out<W: Sink>(
         return Err(RunFault::BadLine(1));
     }
     if !read_heading(&Fields::new(&row)) {
-        return carry_out_from(alloc, script, row, writer, format, Version::First, 1);
+        return carry_out_from(
+            alloc,
+            &mut script,
+            &mut row,
+            writer,
+            format,
+            Version::First,
+            1,
+        );
     }
     if !script.next(&mut row)? {
         return Err(RunFault::BadLine(2));
     }
-    carry_out_from(alloc, script, row, writer, format, Version::Second, 2)
+    carry_out_from(
+        alloc,
+        &mut script,
+        &mut row,
+        writer,
+        format,
+        Version::Second,
+        2,
+    )
 }
 
 /// Carries out a script from the record in `row` on, which has this number and is to be the settings. Answers the desk at
 /// its end.
 fn carry_out_from<W: Sink>(
     alloc: Global,
-    script: Script,
-    row: ByteRecord,
+    script: &mut Script,
+    row: &mut ByteRecord,
     writer: &mut W,
     format: Format,
     version: Version,
     number: u64,
 ) -> Result<Desk, RunFault>
-    requires counted { number + length script < 2 ^ 64 - 1 }
+    requires counted { number + length script.old < 2 ^ 64 - 1 }
     requires writes { W.failed writer.old < 2 ^ 64 - 1 }
-    ensures meaning { Answers (settings_meaning format version number script.entry (course_opened_by version (opening_of (fields_of row)))) result
+    ensures meaning { Answers (settings_meaning format version number script.old (course_opened_by version (opening_of (fields_of row.old)))) result
         (W.contents writer.old) (W.contents writer.new) }
     ensures course { IfOk result
-        (λ desk. option_and_then (course_through version script.entry) (course_opened_by version (opening_of (fields_of row))) ≡ Some (course_at desk)) }
+        (λ desk. option_and_then (course_through version script.old) (course_opened_by version (opening_of (fields_of row.old))) ≡ Some (course_at desk)) }
     ensures read { IsPastReading result }
     ensures writes { CountsWrites result (W.failed writer.old) (W.failed writer.new) }
 {
-    let Some(opening) = read_opening(&Fields::new(&row)) else {
+    let Some(opening) = read_opening(&Fields::new(row)) else {
         return Err(RunFault::BadLine(number));
     };
     let Some(settings) = settings(version, opening) else {
@@ -199,24 +215,24 @@ fn carry_out_from<W: Sink>(
 fn carry_out_lines<W: Sink>(
     alloc: Global,
     session: Session,
-    mut script: Script,
-    mut row: ByteRecord,
+    script: &mut Script,
+    row: &mut ByteRecord,
     writer: &mut W,
     version: Version,
     first: u64,
 ) -> Result<Desk, RunFault>
-    requires counted { first + length script < 2 ^ 64 }
+    requires counted { first + length script.old < 2 ^ 64 }
     requires writes { W.failed writer.old < 2 ^ 64 - 1 }
-    ensures meaning { Answers (text_and_then session.lines (lines_meaning session.format version first (course_at session.desk) script.entry)) result
+    ensures meaning { Answers (text_and_then session.lines (lines_meaning session.format version first (course_at session.desk) script.old)) result
         (W.contents writer.old) (W.contents writer.new) }
-    ensures course { IfOk result (λ desk. course_through version script.entry (course_at session.desk) ≡ Some (course_at desk)) }
+    ensures course { IfOk result (λ desk. course_through version script.old (course_at session.desk) ≡ Some (course_at desk)) }
     ensures read { IsPastReading result }
     ensures writes { CountsWrites result (W.failed writer.old) (W.failed writer.new) }
 {
     let mut batching = BatchingSession::new(alloc, session);
     let mut number = first;
-    'records: while script.next(&mut row)? {
-        let Some(line) = read_line(&Fields::new(&row), version) else {
+    'records: while script.next(row)? {
+        let Some(line) = read_line(&Fields::new(row), version) else {
             batching.finish(writer)?;
             return Err(RunFault::BadLine(number));
         };

@@ -184,15 +184,17 @@ pub fn json_pieces(alloc: Global, snapshot: &Snapshot) -> Result<JsonPieces<'_>,
 {
     let entries = snapshot.version();
     let now = snapshot.now();
-    let end = Whole::new(Vec::from_slice(alloc, b"}")?);
-    let key = format!(in alloc; ",\"now\":{now},\"schedule\":")?.into_bytes();
-    let schedule = keyed(key, ScheduleRows::of(snapshot), end);
-    let key = Vec::from_slice(alloc, b",\"misses\":")?;
-    let misses = keyed(key, MissRows::of(snapshot)?, schedule);
-    let key = format!(in alloc; ",\"entries\":{entries},\"lags\":")?.into_bytes();
-    let lags = keyed(key, LagRows::of(snapshot)?, misses);
-    let key = Vec::from_slice(alloc, b"{\"denials\":")?;
-    Ok(keyed(key, DenialRows::of(snapshot), lags))
+    let denials_key = Vec::from_slice(alloc, b"{\"denials\":")?;
+    let lags_key = format!(in alloc; ",\"entries\":{entries},\"lags\":")?.into_bytes();
+    let misses_key = Vec::from_slice(alloc, b",\"misses\":")?;
+    let schedule_key = format!(in alloc; ",\"now\":{now},\"schedule\":")?.into_bytes();
+    let end = Vec::from_slice(alloc, b"}")?;
+    let lags = LagRows::of(snapshot)?;
+    let misses = MissRows::of(snapshot)?;
+    let schedule = keyed(schedule_key, ScheduleRows::of(snapshot), Whole::new(end));
+    let misses = keyed(misses_key, misses, schedule);
+    let lags = keyed(lags_key, lags, misses);
+    Ok(keyed(denials_key, DenialRows::of(snapshot), lags))
 }
 
 /// The whole report as one JSON object: compact, its keys in byte order.

@@ -1,4 +1,4 @@
-ghost use Rattle.std.specs.Prelude.{◌≡◌, ◌≢◌, ◌↔◌, ◌≤◌, ◌<◌, ◌^◌, [], IfOk, IfErr, IsTrue, IsFalse, Err, vec_capacity};
+ghost use Rattle.std.specs.Prelude.{◌≡◌, ◌≢◌, ◌↔◌, ◌<◌, ◌^◌, [], IfOk, IfErr, IsTrue, IsFalse, Err};
 ghost use Rattle.pf_board.specs.Passes.{new_passes};
 ghost use Rattle.pf_desk.specs.Desk.{IsDesk};
 ghost use Rattle.pf_desk.specs.Machine.{opening_state};
@@ -12,47 +12,22 @@ use crate::locked::Locked;
 use crate::naming::Naming;
 use crate::opened::Opened;
 use crate::press::Press;
+use crate::publication::{Publication, Scarcity};
 use crate::publisher::Publisher;
 use crate::shared::Shared;
-use crate::shown::Shown;
 use crate::stamp::Stamp;
-use crate::tells::Tells;
 use crate::viewer::Viewer;
 use pf_desk::desk::Desk;
 use pf_scenario::settings::Settings;
-use std::alloc::{AllocError, Global};
+use std::alloc::Global;
 use std::marker::Model;
-use std::sync::{Arc, Wait};
+use std::sync::Wait;
 
 /// The most passes of a desk.
 pub const MOST_PASSES: u64 = 128;
 
 /// The most viewers of a desk.
 pub const MOST_READERS: u64 = 16;
-
-/// What was wanting for a desk to be opened.
-enum Scarcity {
-    NoViewer,
-    NoMemory,
-}
-
-impl From<AllocError> for Scarcity {
-    ghost use Rattle.std.specs.Prelude.{◌≡◌};
-    ghost use Rattle.pf_share.specs.declared.blank.Scarcity.TheVariants.{NoMemory};
-
-    ghost from_gives = { λ _ want. want ≡ NoMemory };
-
-    fn from(_error: AllocError) -> Self {
-        Scarcity::NoMemory
-    }
-}
-
-/// A desk tells its history.
-struct OfDesk;
-
-impl Tells<Desk> for OfDesk {
-    ghost story = { λ d. record { settings = d.state.plan.settings; entries = d.history } };
-}
 
 /// A desk with an empty history that has no name yet: `start` gives it one.
 #[derive(Drop)]
@@ -154,16 +129,15 @@ impl<H: Wait + Drop> Blank<H> {
         ensures passes { IfOk result (λ b. b.passes ≡ new_passes b.board.id settings passes) }
         ensures viewers { IfOk result (λ b. b.viewers ≡ new_viewers (origin_of b.board b.book) readers) }
     {
+        let publication = Publication::of(rt, alloc, &desk, readers)?;
         let processors = settings.processors();
         let (board, keeper, passes) = DeskBoard::new(alloc, &settings, processors, passes)?;
-        let mut press = Press::new();
-        let shown = opening(alloc, &mut press, &desk)?;
-        let stamp = shown.stamp().again();
-        let mut publisher = Publisher::new(rt, alloc, shown, readers)?;
-        let room = Vec::with_capacity(alloc, readers)?;
-        let Ok(viewers) = make_viewers(&mut publisher, &stamp, room, readers) else {
-            return Err(Scarcity::NoViewer);
-        };
+        let Publication {
+            press,
+            stamp,
+            publisher,
+            viewers,
+        } = publication;
         Ok(Blank {
             board,
             keeper,
@@ -206,38 +180,4 @@ fn is_within(most: u64, number: u64) -> bool
     ensures within { IsTrue result → ¬ IsBeyond most number }
 {
     0 < number && number <= most
-}
-
-/// The snapshot of a desk, with a number for its history.
-fn opening(alloc: Global, press: &mut Press, desk: &Desk) -> Result<Shown, AllocError>
-    ensures press { press.new ≡ press.old }
-    ensures shown { IfOk result (λ s. s ≡ record { origin = record { book = press.old; settings = desk.now.state.plan.settings }; history = desk.now.history }) }
-{
-    let stamp = press.stamp::<Desk, OfDesk>(desk).ok_or(AllocError)?;
-    let snapshot = Arc::new(alloc, desk.snapshot()?)?;
-    Ok(Shown::new(snapshot, stamp))
-}
-
-/// So many viewers, who read nothing yet, for whom there is room. `stamp` is the number of the empty history, which is
-/// shown.
-///
-/// # Errors
-///
-/// Where the readers' table gives no place.
-fn make_viewers<H: Wait + Drop>(
-    publisher: &mut Publisher<H>,
-    stamp: &Stamp,
-    mut viewers: Vec<Viewer>,
-    count: usize,
-) -> Result<Vec<Viewer>, AllocError>
-    requires stamp { (publisher.old ≡ stamp.now) × (stamp.now.history ≡ []) }
-    requires room { (viewers.items ≡ []) × (count ≤ vec_capacity viewers) }
-    ensures same { publisher.new ≡ publisher.old }
-    ensures viewers { IfOk result (λ v. v.items ≡ new_viewers stamp.now.origin count) }
-{
-    for _ in 0..count {
-        let reader = publisher.reader()?;
-        viewers.push_reserved(Viewer::new(reader, stamp));
-    }
-    Ok(viewers)
 }

@@ -11,6 +11,7 @@ pub mod locked;
 pub mod naming;
 pub mod opened;
 pub mod press;
+mod publication;
 mod publisher;
 mod readers_rule;
 pub mod reads;

@@ -13,12 +13,12 @@ use Rattle.pf_cli.proofs.run.carry_out_from.Goals as goal
 
 pub returns-in_default-clause-meaning : goal.returns-in_default-clause-meaning
 returns-in_default-clause-meaning g c =
-    bad_opening Shown c.args.format c.args.version c.args.number c.args.script _ _
+    bad_opening Shown c.args.format c.args.version c.args.number c.args.script.now _ _
     (ap (course_opened_by c.args.version) (sym (ap opening_of c.new.ensures) ∙ sym c.in_default.ensures))
 
 pub returns-in_default-settings-clause-meaning : goal.returns-in_default-settings-clause-meaning
 returns-in_default-settings-clause-meaning g c =
-    bad_opening Shown c.args.format c.args.version c.args.number c.args.script _ _
+    bad_opening Shown c.args.format c.args.version c.args.number c.args.script.now _ _
     (ap (course_opened_by c.args.version) (sym (ap opening_of c.new.ensures) ∙ sym c.in-Some.ensures)
     ∙ ap (option_map (opening_course c.in-Some.opening.every)) (sym c.in_default-settings.ensures))
 
@@ -46,7 +46,7 @@ returns-in_err-ready-clause-meaning g c =
     let is = ap (course_opened_by c.args.version) (sym (ap opening_of c.new.ensures) ∙ sym c.in-Some.ensures)
     ∙ ap (option_map (opening_course c.in-Some.opening.every)) (sym c.in-Some-settings.ensures) in
     rw (p.1, p.2) (answers_stopped Shown _ _ _ _
-    (opened_stopped c.args.format c.args.version c.args.number c.args.script _ (opening_course c.in-Some.opening.every c.in-Some-settings.settings) c.in_ok-session.session _ _ is c.in_ok-session.ensures c.in_err-ready.ensures.err))
+    (opened_stopped c.args.format c.args.version c.args.number c.args.script.now _ (opening_course c.in-Some.opening.every c.in-Some-settings.settings) c.in_ok-session.session _ _ is c.in_ok-session.ensures c.in_err-ready.ensures.err))
 
 pub returns-in_err-ready-clause-read : goal.returns-in_err-ready-clause-read
 returns-in_err-ready-clause-read g c =
@@ -62,7 +62,7 @@ returns-clause-meaning g c =
     let is = ap (course_opened_by c.args.version) (sym (ap opening_of c.new.ensures) ∙ sym c.in-Some.ensures)
     ∙ ap (option_map (opening_course c.in-Some.opening.every)) (sym c.in-Some-settings.ensures) in
     let e = c.carry_out_lines.ensures in
-    opened_answers Shown c.args.format c.args.version c.args.number c.args.script _ (opening_course c.in-Some.opening.every c.in-Some-settings.settings) c.in_ok-session.session c.ready.new.self
+    opened_answers Shown c.args.format c.args.version c.args.number c.args.script.now _ (opening_course c.in-Some.opening.every c.in-Some-settings.settings) c.in_ok-session.session c.ready.new.self
     c.carry_out_lines.result (g.W.Write.contents c.args.writer.now) (g.W.Write.contents c.ready.new.writer) (g.W.Write.contents c.carry_out_lines.new.writer)
     is c.in_ok-session.ensures c.in_ok-ready.ensures.ok e.read e.meaning
 
@@ -70,7 +70,7 @@ pub returns-clause-course : goal.returns-clause-course
 returns-clause-course g c =
     let is = ap (course_opened_by c.args.version) (sym (ap opening_of c.new.ensures) ∙ sym c.in-Some.ensures)
     ∙ ap (option_map (opening_course c.in-Some.opening.every)) (sym c.in-Some-settings.ensures) in
-    course_opened c.carry_out_lines.result c.args.version c.args.script _ (opening_course c.in-Some.opening.every c.in-Some-settings.settings) c.ready.new.self.desk
+    course_opened c.carry_out_lines.result c.args.version c.args.script.now _ (opening_course c.in-Some.opening.every c.in-Some-settings.settings) c.ready.new.self.desk
     is (ap course_at c.in_ok-ready.ensures.ok.desk ∙ c.in_ok-session.ensures.course) c.carry_out_lines.ensures.course
 
 pub returns-clause-writes : goal.returns-clause-writes

@@ -12,8 +12,8 @@ use Rattle.pf_cli.proofs.run.carry_out_lines.Goals as goal
 
 pub records-init : goal.records-init
 records-init g c = record {
-  way = begun c.args.version c.args.first c.args.session c.new-batching.result c.args.script _ c.new-batching.ensures;
-  course = course_begun c.args.version c.args.session c.new-batching.result c.args.script c.new-batching.ensures;
+  way = begun c.args.version c.args.first c.args.session c.new-batching.result c.args.script.now _ c.new-batching.ensures;
+  course = course_begun c.args.version c.args.session c.new-batching.result c.args.script.now c.new-batching.ensures;
   plain = plain_none c.new-batching.result.waiting.items c.new-batching.ensures.none;
   count = refl;
   counted = c.requires.counted;

@@ -10,15 +10,15 @@ use Rattle.pf_report.proofs.json.json_pieces.Goals as goal
 pub returns : goal.returns
 unfolding report_data
 returns c =
-    let key-denials : c.in_ok-key-2.key.items ≡ codes "{\"denials\":" = search rules in
-    let key-lags : c.into_bytes-key-2.result.items ≡ codes ",\"entries\":" ++ (decimal c.version-entries.result ++ codes ",\"lags\":") = search rules in
-    let key-misses : c.in_ok-key.key.items ≡ codes ",\"misses\":" = search rules in
-    let key-schedule : c.into_bytes-key.result.items ≡ codes ",\"now\":" ++ (decimal c.now-now.result ++ codes ",\"schedule\":") = ap (λ v. v.items) c.into_bytes-key.ensures.value ∙ c.in_ok-format.ensures.ok in
-    let end : c.new-end.result ≡ codes "}" = search rules in
+    let key-denials : c.in_ok-denials_key.denials_key.items ≡ codes "{\"denials\":" = search rules in
+    let key-lags : c.into_bytes-lags_key.result.items ≡ codes ",\"entries\":" ++ (decimal c.version-entries.result ++ codes ",\"lags\":") = search rules in
+    let key-misses : c.in_ok-misses_key.misses_key.items ≡ codes ",\"misses\":" = search rules in
+    let key-schedule : c.into_bytes-schedule_key.result.items ≡ codes ",\"now\":" ++ (decimal c.now-now.result ++ codes ",\"schedule\":") = ap (λ v. v.items) c.into_bytes-schedule_key.ensures.value ∙ c.in_ok-format-2.ensures.ok in
+    let end : c.new.result ≡ codes "}" = search rules in
     keyed_parts _ c.version-entries.result _ _ c.now-now.result _ _ _ _ _ _ _ _ _ _
     key-denials c.keyed.ensures key-lags c.keyed-lags.ensures key-misses c.keyed-misses.ensures key-schedule c.keyed-schedule.ensures end
     ∙ (λ i. compact_text (report_object
     (array (items_of (map denial_data (c.of-4.ensures i)))) (c.version-entries.ensures i)
-    (array (items_of (map lag_data (c.in_ok-of-2.ensures i))))
-    (array (items_of (map miss_data (c.in_ok-of.ensures i)))) (c.now-now.ensures.value i)
-    (array (items_of (map (array_data sitter_data) (c.of.ensures i).rows)))))
+    (array (items_of (map lag_data (c.in_ok-lags.ensures i))))
+    (array (items_of (map miss_data (c.in_ok-misses.ensures i)))) (c.now-now.ensures.value i)
+    (array (items_of (map (array_data sitter_data) (c.of-3.ensures i).rows)))))

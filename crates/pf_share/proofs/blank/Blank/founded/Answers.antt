@@ -5,8 +5,7 @@ pub invariant_of-result : goal.invariant_of-result
 invariant_of-result g c =
     let desk = c.requires.desk in
     let keeper = c.in_ok-board.ensures.keeper in
-    let press = c.opening.ensures.press in
-    let stamp = c.again-stamp.ensures ∙ c.stamp.ensures in
+    let shown = c.in_ok-publication.ensures in
     let settings : c.args.desk.state.plan.settings ≡ c.in_ok-board.board.terms = ap (λ s. s.plan.settings) desk.1 ∙ sym c.in_ok-board.ensures.board.0 in (
       record {
         is_shown_desk = record {
@@ -18,8 +17,8 @@ invariant_of-result g c =
           no_loads = ap (λ k. k.loads) keeper;
           seen = rw (keeper, desk.2) refl;
           press_book = refl;
-          stamp_is = rw (press, sym settings) (stamp ∙ c.in_ok-shown.ensures.shown);
-          is_shown = c.in-Ok.ensures.same ∙ (c.in_ok-publisher.ensures ∙ sym stamp);
+          stamp_is = rw (sym settings) shown.stamp;
+          is_shown = shown.shown;
         };
         none_left = ap (λ k. k.left) keeper;
       },

@@ -1,6 +1,6 @@
 use Rattle.std.specs.Prelude.{◌≡◌, ◌≤◌, vec_len, vec_capacity}
 use Rattle.pf_share.specs.Opening.{new_viewers}
-use Rattle.pf_share.proofs.blank.make_viewers.Given as goal
+use Rattle.pf_share.proofs.publication.make_viewers.Given as goal
 
 abbrev pub invariant-loop : goal.invariant-loop
 invariant-loop g l = record {

@@ -1,5 +1,5 @@
 use Rattle.std.proofs.Common.{◌≡◌, suc, ap, ◌∙◌, refl, ◌+◌, arith}
-use Rattle.pf_share.proofs.blank.make_viewers.Goals as goal
+use Rattle.pf_share.proofs.publication.make_viewers.Goals as goal
 
 pub loop-preserved : goal.loop-preserved
 loop-preserved g c =
