@@ -10,3 +10,4 @@ pub mod Horizons
 pub mod Gathering
 pub mod Settling
 pub mod Laying
+mod Uncounted

@@ -1,5 +1,6 @@
 ghost use Rattle.std.specs.Prelude.{ℕ, if◌then◌else◌, ◌≡◌, ◌⊎◌, ◌<◌, ◌≤◌, ◌+◌, ◌*◌, ◌↔◌, max, [], length, map, take, All, None, IfOk, IfSome, OnOk, OnErr, Some, Err};
 ghost use Rattle.std.specs.List.{slice_get, slice_index_or};
+ghost use Rattle.std.specs.Arc.{arc_value};
 ghost use Rattle.pf_order.specs.Counts.{one_more};
 ghost use Rattle.pf_order.specs.Counted.{CountsAtMost};
 ghost use Rattle.pf_scenario.specs.Scenario.{slot_touched};
@@ -7,6 +8,7 @@ ghost use Rattle.pf_scenario.specs.Edit.{edit_fault};
 ghost use Rattle.pf_run.specs.Computed.{run_of};
 ghost use Rattle.pf_tally.specs.Lags.{lags_of};
 ghost use Rattle.pf_tally.specs.Misses.{misses_of};
+ghost use Rattle.pf_timeline.specs.Timeline.{StandsFor};
 ghost use Rattle.pf_timeline.specs.Checkpoints.{largest_distance};
 ghost use Rattle.pf_timeline.specs.Comparisons.{most_comparisons_at};
 ghost use Rattle.pf_desk.specs.declared.fault.OpenFault.TheVariants.{BadSettings};
@@ -43,8 +45,8 @@ use pf_timeline::fault::NewFault;
 use pf_timeline::timeline::Timeline;
 use std::alloc::{AllocError, Global};
 use std::marker::Model;
-use std::snapshot;
 use std::sync::Arc;
+use std::{mem, snapshot};
 
 /// The planner's desk: a scenario, its run so far, and the history of all commands.
 #[derive(Drop)]
@@ -197,24 +199,15 @@ impl Desk {
         ensures ready { IfOk result (λ p. MakesReady caller command self.now p) }
         ensures reply { IfOk result (λ p. p.entry.reply ≡ outcome.reply) }
     {
+        let snapshot = match self.shown_with(&outcome) {
+            Ok(snapshot) => snapshot,
+            Err(error) => return Err(error),
+        };
         let Outcome {
             scenario,
             timeline,
             reply,
         } = outcome;
-        let alloc = self.history.alloc();
-        let version = self.history.len() as u64 + 1;
-        let shown = Snapshot::of(
-            alloc,
-            version,
-            &scenario,
-            timeline.rows(),
-            timeline.shared_denials(),
-        )?;
-        let snapshot = match Arc::new(alloc, shown) {
-            Ok(snapshot) => snapshot,
-            Err(_) => return Err(AllocError),
-        };
         Ok(Prepared {
             scenario,
             timeline,
@@ -226,6 +219,25 @@ impl Desk {
             snapshot,
             history: snapshot::Snapshot::of(&self.history),
         })
+    }
+
+    /// What the desk would show with this outcome and one entry more.
+    fn shown_with(&self, outcome: &Outcome) -> Result<Arc<Snapshot>, AllocError>
+        requires { StandsFor outcome.now.scenario outcome.now.timeline.now outcome.now.timeline }
+        ensures { IfOk result
+            (λ s. arc_value s ≡ record { version = length self.now.history + 1; state = record { plan = outcome.now.scenario; now = length outcome.now.timeline.rows }; rows = outcome.now.timeline.rows; denials = outcome.now.timeline.denials }) }
+    {
+        let alloc = self.history.alloc();
+        let version = self.history.len() as u64 + 1;
+        let shown = Snapshot::of(
+            alloc,
+            version,
+            &outcome.scenario,
+            outcome.timeline.rows(),
+            outcome.timeline.shared_denials(),
+        )?;
+        let snapshot = Arc::new(alloc, shown)?;
+        Ok(snapshot)
     }
 
     /// What a command would make of the desk.
@@ -256,11 +268,11 @@ impl Desk {
         if slot == self.scenario.settings().horizon() {
             return self.refused(Command::Step, Fault::AtHorizon);
         }
-        let scenario = self.scenario.copy()?;
-        let mut timeline = self.timeline.copy(&self.scenario)?;
         let mut row = Row::idle(self.history.alloc(), self.scenario.settings().processors())?;
+        let mut timeline = self.timeline.copy(&self.scenario)?;
         timeline.advance(meter, &self.scenario)?;
         fill(&mut row, timeline.rows(), slot);
+        let scenario = self.scenario.copy()?;
         Ok(Outcome {
             scenario,
             timeline,
@@ -428,51 +440,42 @@ impl Desk {
         ensures at_most { CountsAtMost (most_replayed self.old.state.now self.old.every (Some batch.from)) meter.old meter.new }
         ensures compared { meter.old.compared ≤ meter.new.compared }
     {
+        let mut batch = batch;
         if batch.from < self.timeline.now() {
-            self.enter_past(meter, batch)
+            self.enter_past(meter, &mut batch)
         } else {
-            self.enter_ahead(batch)
+            self.enter_ahead(&mut batch)
         }
     }
 
-    /// Makes a batch of edits that touch no slot below now: the run so far stays.
-    fn enter_ahead(&mut self, batch: Batch) -> Result<(), AllocError>
-        requires batch { IsBatch self.old batch }
-        requires ahead { self.old.state.now ≤ batch.from }
-        ensures ok { OnOk result (AnswersAll batch.caller (map (λ e. e.command) batch.entries.items) self.old self.new) }
+    /// Makes a batch of edits that touch no slot below now: the run so far stays, and the batch is left with the scenario
+    /// before.
+    fn enter_ahead(&mut self, batch: &mut Batch) -> Result<(), AllocError>
+        requires batch { IsBatch self.old batch.old }
+        requires ahead { self.old.state.now ≤ batch.old.from }
+        ensures ok { OnOk result (AnswersAll batch.old.caller (map (λ e. e.command) batch.old.entries.items) self.old self.new) }
         ensures err { OnErr result (IsAsBefore self.old self.new) }
         ensures desk { IsDesk self.new }
     {
-        let Batch {
-            caller: _,
-            scenario,
-            from: _,
-            entries,
-        } = batch;
-        self.history.enter_all(&entries)?;
-        self.scenario = scenario;
+        self.history.enter_all(&batch.entries)?;
+        mem::swap(&mut self.scenario, &mut batch.scenario);
         Ok(())
     }
 
-    /// Makes a batch of edits that touch slots below now: the run so far is replayed apart, once for all of them.
-    fn enter_past(&mut self, meter: &mut Meter, batch: Batch) -> Result<(), AllocError>
-        requires batch { IsBatch self.old batch }
-        requires below { batch.from < self.old.state.now }
-        ensures ok { OnOk result (AnswersAll batch.caller (map (λ e. e.command) batch.entries.items) self.old self.new) }
+    /// Makes a batch of edits that touch slots below now: the run so far is replayed apart, once for all of them, and
+    /// the batch is left with the scenario before.
+    fn enter_past(&mut self, meter: &mut Meter, batch: &mut Batch) -> Result<(), AllocError>
+        requires batch { IsBatch self.old batch.old }
+        requires below { batch.old.from < self.old.state.now }
+        ensures ok { OnOk result (AnswersAll batch.old.caller (map (λ e. e.command) batch.old.entries.items) self.old self.new) }
         ensures err { OnErr result (IsAsBefore self.old self.new) }
         ensures desk { IsDesk self.new }
-        ensures at_most { CountsAtMost (most_replayed self.old.state.now self.old.every (Some batch.from)) meter.old meter.new }
+        ensures at_most { CountsAtMost (most_replayed self.old.state.now self.old.every (Some batch.old.from)) meter.old meter.new }
         ensures compared { meter.old.compared ≤ meter.new.compared }
     {
-        let Batch {
-            caller: _,
-            scenario,
-            from,
-            entries,
-        } = batch;
-        let timeline = self.timeline.rewritten(meter, from, &scenario)?;
-        self.history.enter_all(&entries)?;
-        self.scenario = scenario;
+        let timeline = self.timeline.rewritten(meter, batch.from, &batch.scenario)?;
+        self.history.enter_all(&batch.entries)?;
+        mem::swap(&mut self.scenario, &mut batch.scenario);
         self.timeline = timeline;
         Ok(())
     }

@@ -61,9 +61,9 @@ impl Snapshot {
         ensures { IfOk result
             (λ s. s ≡ record { version = version; state = record { plan = scenario.now; now = length rows.now }; rows = rows.now; denials = denials.now.items }) }
     {
-        let scenario = scenario.copy()?;
-        let rows = rows.copy()?;
         let denials = denials.copy()?;
+        let rows = rows.copy()?;
+        let scenario = scenario.copy()?;
         Ok(Snapshot {
             alloc,
             version,

@@ -1,12 +1,22 @@
 use Rattle.std.proofs.Common.{◌≡◌, length, drop, All, sym, ap, ◌∙◌, subst, arith}
 use Rattle.std.proofs.lemmas.List.{length-drop, take_rest}
 use Rattle.std.proofs.lemmas.List.Elements.{All-drop}
+use Rattle.std.proofs.lemmas.Result.{IfOk-from_err}
 use Rattle.pf_desk.specs.declared.command.Command.TheVariants.{Step}
 use Rattle.pf_desk.specs.Plain.{IsPlain, ArePlainFrom}
 use Rattle.pf_desk.specs.Gathered.{AnswersFirst}
 use Rattle.pf_desk.proofs.Gathering.{answers_then, plain_turn}
 use Rattle.pf_desk.proofs.Metered.{all_later, counts_front}
 use Rattle.pf_desk.proofs.desk.Desk.apply_all.Goals as goal
+
+pub returns-in_err-done-clause-ok : goal.returns-in_err-done-clause-ok
+returns-in_err-done-clause-ok c = IfOk-from_err _ _ c.from_residual.ensures.0
+
+pub returns-in_err-done-clause-desk : goal.returns-in_err-done-clause-desk
+returns-in_err-done-clause-desk c = c.apply_front.ensures.desk
+
+pub returns-in_err-done-clause-compared : goal.returns-in_err-done-clause-compared
+returns-in_err-done-clause-compared c = omega (arith, c.loop-done.invariant.compared, c.apply_front.ensures.compared)
 
 pub loop-done-preserved : goal.loop-done-preserved
 loop-done-preserved c =
@@ -37,3 +47,12 @@ loop-done-preserved c =
           (λ t from. c.apply_front.ensures.plain t (subst (ArePlainFrom t c.loop-done.self.state) (sym rest) from))
           (λ all. c.in_ok-done.ensures.whole (subst (All IsPlain) (sym rest) all) ∙ ap length rest);
     }
+
+pub returns-clause-err : goal.returns-clause-err
+returns-clause-err c = tt
+
+pub returns-clause-desk : goal.returns-clause-desk
+returns-clause-desk c = c.loop-done.invariant.desk
+
+pub returns-clause-compared : goal.returns-clause-compared
+returns-clause-compared c = c.loop-done.invariant.compared
