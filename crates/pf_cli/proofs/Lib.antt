@@ -9,3 +9,4 @@ pub mod Reporting
 pub mod Scripts
 pub mod ScriptsWorked
 pub mod Sessions
+mod Retelling

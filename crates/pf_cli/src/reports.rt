@@ -1,4 +1,4 @@
-ghost use Rattle.std.specs.Prelude.{◌≡◌, ◌-◌, ◌^◌, ◌<◌, ◌≤◌, ◌++◌, codes, true, None, IfOk, OnOk, OnErr};
+ghost use Rattle.std.specs.Prelude.{◌≡◌, ◌-◌, ◌^◌, ◌<◌, ◌≤◌, ◌++◌, ℕ, List, codes, true, None, IfOk, OnOk, OnErr};
 ghost use Rattle.pf_chart.specs.Chart.{chart_text_of};
 ghost use Rattle.pf_picture.specs.Picture.{picture_text_of};
 ghost use Rattle.pf_report.specs.Json.{json_text};
@@ -60,38 +60,28 @@ pub fn put_report<W: Sink>(
 {
     match format {
         Format::Schedule(range) => {
-            put_pieces(alloc, schedule_of(alloc, snapshot, range)?, text, writer)
+            put_made(alloc, schedule_of(alloc, snapshot, range), text, writer)
         }
-        Format::Tables => put_pieces(alloc, tables_pieces(alloc, snapshot)?, text, writer),
-        Format::Json => put_pieces(alloc, json_line(alloc, snapshot)?, text, writer),
-        Format::Report => put_pieces(alloc, json_line(alloc, snapshot)?, text, writer),
+        Format::Tables => put_made(alloc, tables_pieces(alloc, snapshot), text, writer),
+        Format::Json => put_made(alloc, json_line(alloc, snapshot), text, writer),
+        Format::Report => put_made(alloc, json_line(alloc, snapshot), text, writer),
         Format::Replies => Ok(()),
-        Format::Lags => put_pieces(alloc, lag_pieces(alloc, snapshot)?, text, writer),
-        Format::Misses => put_pieces(alloc, miss_pieces(alloc, snapshot)?, text, writer),
-        Format::Denials => put_pieces(alloc, denial_pieces(alloc, snapshot)?, text, writer),
-        Format::Events => put_pieces(
-            alloc,
-            Whole::new(events_csv(alloc, snapshot)?),
-            text,
-            writer,
-        ),
-        Format::Script => put_pieces(alloc, script_pieces(alloc, snapshot, every)?, text, writer),
-        Format::Processors => put_pieces(
-            alloc,
-            Whole::new(processors_csv(alloc, snapshot)?),
-            text,
-            writer,
-        ),
-        Format::Stats => put_pieces(alloc, Whole::new(stats_csv(alloc, snapshot)?), text, writer),
-        Format::Chart(range) => {
-            put_pieces(alloc, chart_of(alloc, snapshot, range)?, text, writer)
+        Format::Lags => put_made(alloc, lag_pieces(alloc, snapshot), text, writer),
+        Format::Misses => put_made(alloc, miss_pieces(alloc, snapshot), text, writer),
+        Format::Denials => put_made(alloc, denial_pieces(alloc, snapshot), text, writer),
+        Format::Events => put_made(alloc, whole(events_csv(alloc, snapshot)), text, writer),
+        Format::Script => put_made(alloc, script_pieces(alloc, snapshot, every), text, writer),
+        Format::Processors => put_made(alloc, whole(processors_csv(alloc, snapshot)), text, writer),
+        Format::Stats => put_made(alloc, whole(stats_csv(alloc, snapshot)), text, writer),
+        Format::Chart(range) => put_made(alloc, chart_of(alloc, snapshot, range), text, writer),
+        Format::Svg(range, cell) => {
+            put_made(
+                alloc,
+                picture_of(alloc, snapshot, range, cell),
+                text,
+                writer,
+            )
         }
-        Format::Svg(range, cell) => put_pieces(
-            alloc,
-            picture_of(alloc, snapshot, range, cell)?,
-            text,
-            writer,
-        ),
     }
 }
 
@@ -135,6 +125,31 @@ fn picture_of(
 {
     let to = range.end(snapshot.now());
     picture_pieces(alloc, snapshot, range.first(), to, cell.get())
+}
+
+/// Puts pieces, one after another, where they could be made: so a format has one way out, and not one more for want of memory.
+#[tactic(auto, using(crate::proofs::Sessions::anyway, crate::proofs::Sessions::none_written))]
+fn put_made<P: Pieces + Drop, W: Sink>(
+    alloc: Global,
+    made: Result<P, AllocError>,
+    text: &mut TextBuffer,
+    writer: &mut W,
+) -> Result<(), OutputFault>
+    requires { W.failed writer.old < 2 ^ 64 - 1 }
+    ensures ok { (all : List ℕ) → IfOk made (λ pieces. P.left pieces ≡ all) → OnOk result
+        (TookAllBut text.new (W.contents writer.old) (W.contents writer.new) (text.old ++ all)) }
+    ensures err { (all : List ℕ) → IfOk made (λ pieces. P.left pieces ≡ all) → OnErr result
+        (TookFront (W.contents writer.old) (W.contents writer.new) (text.old ++ all)) }
+    ensures count { CountsOutput result (W.failed writer.old) (W.failed writer.new) }
+{
+    put_pieces(alloc, made?, text, writer)
+}
+
+/// A text in one piece, where it could be made.
+fn whole(made: Result<Vec<u8>, AllocError>) -> Result<Whole, AllocError>
+    ensures { (all : List ℕ) → IfOk made (λ text. text.items ≡ all) → IfOk result (λ pieces. pieces ≡ all) }
+{
+    Ok(Whole::new(made?))
 }
 
 /// Puts pieces, one after another.
@@ -205,8 +220,8 @@ fn titled_misses(
 ) -> Result<Titled<MissPieces, Chain<Whole, DenialPieces<'_>>>, AllocError>
     ensures { IfOk result (λ pieces. pieces ≡ codes "misses\n" ++ (misses_text snapshot.now ++ (codes "denials\n" ++ denials_text snapshot.now))) }
 {
-    let behind = titled_denials(alloc, snapshot)?;
-    titled(alloc, b"misses\n", miss_pieces(alloc, snapshot)?, behind)
+    let misses = miss_pieces(alloc, snapshot)?;
+    titled(alloc, b"misses\n", misses, titled_denials(alloc, snapshot)?)
 }
 
 /// The lags behind a line with their name, the missed windows and the denials.
@@ -217,8 +232,8 @@ fn titled_lags(
     ensures { IfOk result (λ pieces. pieces ≡ codes "lags\n" ++ (lags_text snapshot.now
         ++ (codes "misses\n" ++ (misses_text snapshot.now ++ (codes "denials\n" ++ denials_text snapshot.now))))) }
 {
-    let behind = titled_misses(alloc, snapshot)?;
-    titled(alloc, b"lags\n", lag_pieces(alloc, snapshot)?, behind)
+    let lags = lag_pieces(alloc, snapshot)?;
+    titled(alloc, b"lags\n", lags, titled_misses(alloc, snapshot)?)
 }
 
 /// The four tables, each behind a line with its name, in pieces. The lags and the missed windows are in memory until they
@@ -226,11 +241,11 @@ fn titled_lags(
 fn tables_pieces(alloc: Global, snapshot: &Snapshot) -> Result<TablesPieces<'_>, AllocError>
     ensures { IfOk result (λ pieces. pieces ≡ tables_text snapshot.now) }
 {
-    let behind = titled_lags(alloc, snapshot)?;
+    let schedule = schedule_pieces(alloc, snapshot)?;
     titled(
         alloc,
         b"schedule\n",
-        schedule_pieces(alloc, snapshot)?,
-        behind,
+        schedule,
+        titled_lags(alloc, snapshot)?,
     )
 }

@@ -14,7 +14,7 @@ ghost use Rattle.pf_cli.specs.Session.{course_at};
 use crate::batching::BatchingSession;
 use crate::failing::is_failing;
 use crate::fault::RunFault;
-use crate::session::Session;
+use crate::session::{Session, let_go};
 use csv::ByteRecord;
 use pf_desk::desk::Desk;
 use pf_opening::settings;
@@ -98,9 +98,6 @@ pub fn run_judged<R: Source, W: Sink>(
         Err(fault) => Err(fault),
     }
 }
-
-/// Lets a desk go, by a call of its own: so nobody else looks at its parts.
-fn let_go(_desk: Desk) {}
 
 /// Whether a run fails on this that ended with this desk, which is let go.
 ///
