@@ -1,6 +1,6 @@
 -- Passes of one board: those without the last, the last, one more, and new ones; and new viewers of one desk.
-use Rattle.std.proofs.Common.{◌≡◌, ℕ, zero, suc, List, [], ◌∷◌, ◌++◌, length, refl, sym, subst}
-use Rattle.std.specs.Prelude.{All, Option, None, Some, IfSome, option_to_list}
+use Rattle.std.proofs.Common.{◌≡◌, ℕ, zero, suc, Bool, true, false, List, [], ◌∷◌, ◌++◌, length, refl, sym, subst}
+use Rattle.std.specs.Prelude.{if◌then◌else◌, All, Option, None, Some, IfSome, option_to_list}
 use Rattle.std.proofs.lemmas.List.Elements.{All-nil, All-push}
 use Rattle.atomic_table.proofs.Lists.{at_longer, at_last}
 use Rattle.atomic_table.specs.Seated.{TableId}
@@ -24,6 +24,10 @@ module _ {E T : Type 0} where
 
   pub more : (board : TableId) (all ps : List (Passing E T)) (p : Passing E T) → all ≡ ps ++ p ∷ [] → AreOf board ps → p.board ≡ board → AreOf board all
   more board all ps p e of is = subst (λ (l : List (Passing E T)). AreOf board l) (sym e) (more_of board ps p of is)
+
+  pub pushed : (board : TableId) (all ps : List (Passing E T)) (p : Passing E T) (is : Bool) → all ≡ (if is then ps ++ p ∷ [] else ps) → AreOf board ps → p.board ≡ board → AreOf board all
+  pushed board all ps p true e of is = more board all ps p e of is
+  pushed board all ps p false e of is = subst (λ (l : List (Passing E T)). AreOf board l) (sym e) of
 
   pub boarded : (board : TableId) (terms : T) (n : ℕ) (ps : List (Passing E T)) → ps ≡ new_passes {E = E} board terms n → AreOf board ps
   boarded board terms n ps e = subst (λ (l : List (Passing E T)). AreOf board l) (sym e) (new_are_of {E = E} board terms n)

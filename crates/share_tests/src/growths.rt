@@ -6,7 +6,7 @@ ghost use Rattle.pf_share.specs.Locked.{origin_of};
 use crate::answers::{Edited, Taken, expect_edit, expect_step, expect_take, first_quantum, join};
 use crate::calls::{edit, step, take};
 use crate::opening::{begin, end, open_desk, start};
-use crate::passes::{pop, pop_viewer};
+use crate::passes::{let_go, pop, pop_viewer};
 use crate::refused::say;
 use pf_board::quantum::Quantum;
 use pf_board::take::Take;
@@ -155,12 +155,28 @@ fn expect_left(rt: &impl Abort, left: &[Quantum]) {
     assert_eq!(rt; left, wanted.as_slice());
 }
 
+/// Fails the test where something else is left of the desk.
+fn expect_closed(rt: &impl Abort, closed: &Closed) {
+    expect_left(rt, closed.left.as_slice());
+    assert_eq!(rt; closed.desk.history().len(), 4);
+}
+
+/// Fails the test where something else is left, or the desk was not closed.
+fn expect_end(rt: &impl Abort, closed: Option<Closed>) -> Result<(), &'static str> {
+    match closed {
+        Some(closed) => {
+            expect_closed(rt, &closed);
+            drop(closed);
+            Ok(())
+        }
+        None => Err("closed"),
+    }
+}
+
 #[test]
 fn an_untaken_quantum_is_left(rt: HostRuntime) -> Result<(), Fail> {
     let blank = open_again(&rt, rt.alloc(), Settings::new(2, 3, 6)?)?;
-    let closed = use_desk::<Brand, _>(&rt, blank).ok_or("closed")?;
-    expect_left(&rt, closed.left.as_slice());
-    assert_eq!(rt; closed.desk.history().len(), 4);
+    expect_end(&rt, use_desk::<Brand, _>(&rt, blank))?;
     Ok(())
 }
 
@@ -218,13 +234,17 @@ fn tell_desk<N: Naming, H: Wait + Drop>(rt: &(impl Wait + Abort + Print), blank:
     requires viewers { All (λ v. v.origin ≡ origin_of N.board N.book) blank.viewers }
 {
     let mut opened = start::<N, H>(blank);
-    match pop_seat(&mut opened) {
+    let is_told = match pop_seat(&mut opened) {
         Some((mut pass, mut viewer)) => {
             insert_and_tell(rt, &opened.shared, &mut pass, &mut viewer);
+            drop(pass);
+            drop(viewer);
             true
         }
         None => false,
-    }
+    };
+    let_go(opened);
+    is_told
 }
 
 #[test]

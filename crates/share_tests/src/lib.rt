@@ -1,6 +1,6 @@
 //! What no clause of the shared desk says: that it is opened at its limits where memory is ample, that a viewer reads nothing once
-//! it is ended, that threads which use it at once come to an end, that no entry is made where memory was refused, and the same
-//! call then succeeds when it is made again, and the texts of faults.
+//! it is ended, that no entry is made where memory was refused, and the same call then succeeds when it is made again, and the
+//! texts of faults. Threads that use a desk at once are tried by the program shared_soak.
 #![tactic(auto)]
 
 #[cfg(test)]
@@ -15,8 +15,6 @@ mod limits;
 mod opening;
 #[cfg(test)]
 mod passes;
-#[cfg(test)]
-mod race;
 #[cfg(test)]
 mod refused;
 #[cfg(test)]

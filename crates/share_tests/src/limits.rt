@@ -34,22 +34,27 @@ fn expect_empty(rt: &impl Abort, viewers: &mut [Viewer]) {
     }
 }
 
-/// Closes the desk but for its last viewer. Whether that one then reads nothing, where memory is ample.
-fn end_but_for_last<N: Naming, H: Wait + Drop>(rt: &impl Wait, opened: Opened<N, H>) -> bool
-    requires { AreOf N.board.id opened.passes.items }
-{
-    let Opened {
-        shared,
-        passes,
-        mut viewers,
-    } = opened;
-    let Some(mut last) = viewers.pop() else {
-        return false;
-    };
-    match close(rt, shared, passes, viewers) {
-        Some(_) => version(&mut last).is_err(),
+/// Whether the viewer reads nothing. Not where there is none.
+fn reads_nothing(viewer: Option<Viewer>) -> bool {
+    match viewer {
+        Some(mut viewer) => version(&mut viewer).is_err(),
         None => false,
     }
+}
+
+/// Closes the desk but for this viewer. Whether it then reads nothing, where memory is ample.
+fn end_but_for<N: Naming, H: Wait + Drop>(
+    rt: &impl Wait,
+    opened: Opened<N, H>,
+    viewer: Option<Viewer>,
+) -> bool
+    requires { AreOf N.board.id opened.passes.items }
+{
+    let closed = close(rt, opened);
+    let is_closed = closed.is_some();
+    let is_ended = reads_nothing(viewer);
+    drop(closed);
+    is_closed && is_ended
 }
 
 /// Each viewer reads the empty history. Then the desk is closed. Whether a viewer that is left then reads nothing.
@@ -60,7 +65,8 @@ fn use_desk<N: Naming, H: Wait + Drop>(rt: &(impl Wait + Abort), blank: Blank<H>
 {
     let mut opened = start::<N, H>(blank);
     expect_empty(rt, opened.viewers.as_mut_slice());
-    end_but_for_last(rt, opened)
+    let last = opened.viewers.pop();
+    end_but_for(rt, opened, last)
 }
 
 /// What came of a desk whose checkpoints lie so far apart, with so many passes and viewers, where it was opened.

@@ -3,7 +3,7 @@ ghost use Rattle.std.specs.Prelude.{◌≡◌, All, IfOk, IfSome};
 ghost use Rattle.pf_board.specs.Passes.{AreOf};
 ghost use Rattle.pf_share.specs.Locked.{origin_of};
 
-use crate::passes::{close, pop_two, put_two};
+use crate::passes::{close, let_go, pop_two, put_two};
 use crate::refused::say;
 use pf_scenario::settings::Settings;
 use pf_share::blank::Blank;
@@ -12,8 +12,6 @@ use pf_share::closed::Closed;
 use pf_share::fault::OpenFault;
 use pf_share::naming::Naming;
 use pf_share::opened::Opened;
-use pf_share::shared::Shared;
-use pf_share::viewer::Viewer;
 use std::alloc::Global;
 use std::process::Abort;
 use std::sync::Wait;
@@ -55,43 +53,33 @@ pub(crate) fn begin<N: Naming, H: Wait + Drop>(
     ensures rest { IfSome result (λ r. AreOf N.board.id r.0.passes.items) }
     ensures board { IfSome result (λ r. (r.1.0.board ≡ N.board.id) × (r.1.1.board ≡ N.board.id)) }
 {
-    let Opened {
-        shared,
-        mut passes,
-        viewers,
-    } = start::<N, H>(blank);
-    match pop_two::<N>(&mut passes) {
-        Some(two) => Some((
-            Opened {
-                shared,
-                passes,
-                viewers,
-            },
-            two,
-        )),
-        None => None,
+    let mut opened = start::<N, H>(blank);
+    match pop_two::<N>(&mut opened.passes) {
+        Some(two) => Some((opened, two)),
+        None => {
+            let_go(opened);
+            None
+        }
     }
 }
 
 /// Ends the desk. Where that is refused, all came back.
 fn close_again<N: Naming, H: Wait + Drop>(
     rt: &(impl Wait + Abort + Print),
-    shared: Shared<N, H>,
-    passes: Vec<DeskPass>,
-    viewers: Vec<Viewer>,
+    opened: Opened<N, H>,
 ) -> Option<Closed>
-    requires { AreOf N.board.id passes.items }
+    requires { AreOf N.board.id opened.passes.items }
 {
+    let Opened {
+        shared,
+        passes,
+        viewers,
+    } = opened;
     match shared.close(rt, passes, viewers) {
         Ok(closed) => Some(closed),
         Err(opened) => {
-            let Opened {
-                shared,
-                passes,
-                viewers,
-            } = opened;
             say(rt, "Shared::close");
-            close(rt, shared, passes, viewers)
+            close(rt, opened)
         }
     }
 }
@@ -99,20 +87,17 @@ fn close_again<N: Naming, H: Wait + Drop>(
 /// What is left of the desk, once these two passes are put back.
 pub(crate) fn end<N: Naming, H: Wait + Drop>(
     rt: &(impl Wait + Abort + Print),
-    opened: Opened<N, H>,
+    mut opened: Opened<N, H>,
     first: DeskPass,
     second: DeskPass,
 ) -> Option<Closed>
     requires rest { AreOf N.board.id opened.passes.items }
     requires board { (first.board ≡ N.board.id) × (second.board ≡ N.board.id) }
 {
-    let Opened {
-        shared,
-        passes,
-        viewers,
-    } = opened;
-    match put_two::<N>(passes, first, second) {
-        Some(passes) => close_again(rt, shared, passes, viewers),
-        None => None,
+    if put_two::<N>(&mut opened.passes, first, second) {
+        close_again(rt, opened)
+    } else {
+        let_go(opened);
+        None
     }
 }

@@ -6,7 +6,7 @@ ghost use Rattle.pf_share.specs.Locked.{origin_of};
 use pf_share::calls::DeskPass;
 use pf_share::closed::Closed;
 use pf_share::naming::Naming;
-use pf_share::shared::Shared;
+use pf_share::opened::Opened;
 use pf_share::viewer::Viewer;
 use std::sync::Wait;
 
@@ -31,30 +31,26 @@ pub(crate) fn pop_two<N: Naming>(passes: &mut Vec<DeskPass>) -> Option<(DeskPass
     Some((first, second))
 }
 
-/// A pass, put back.
-#[tactic(auto, using(crate::proofs::Boarded::more))]
-pub(crate) fn put<N: Naming>(mut passes: Vec<DeskPass>, pass: DeskPass) -> Option<Vec<DeskPass>>
-    requires passes { AreOf N.board.id passes.items }
+/// Puts a pass back. Whether there was memory.
+pub(crate) fn put<N: Naming>(passes: &mut Vec<DeskPass>, pass: DeskPass) -> bool
+    requires passes { AreOf N.board.id passes.old.items }
     requires board { pass.board ≡ N.board.id }
-    ensures { IfSome result (λ v. AreOf N.board.id v.items) }
+    ensures { AreOf N.board.id passes.new.items }
 {
-    match passes.push(pass) {
-        Ok(()) => Some(passes),
-        Err(_) => None,
-    }
+    passes.push(pass).is_ok()
 }
 
-/// Two passes, put back.
+/// Puts two passes back. Whether there was memory.
 pub(crate) fn put_two<N: Naming>(
-    passes: Vec<DeskPass>,
+    passes: &mut Vec<DeskPass>,
     first: DeskPass,
     second: DeskPass,
-) -> Option<Vec<DeskPass>>
-    requires passes { AreOf N.board.id passes.items }
+) -> bool
+    requires passes { AreOf N.board.id passes.old.items }
     requires board { (first.board ≡ N.board.id) × (second.board ≡ N.board.id) }
-    ensures { IfSome result (λ v. AreOf N.board.id v.items) }
+    ensures { AreOf N.board.id passes.new.items }
 {
-    put::<N>(put::<N>(passes, first)?, second)
+    put::<N>(passes, first) && put::<N>(passes, second)
 }
 
 /// The last viewer.
@@ -65,17 +61,26 @@ pub(crate) fn pop_viewer<N: Naming>(viewers: &mut Vec<Viewer>) -> Option<Viewer>
     viewers.pop()
 }
 
+/// Lets a desk go, with all its parts. Who may have to drop one calls this.
+pub(crate) fn let_go<N: Naming, H: Wait + Drop>(_opened: Opened<N, H>) {}
+
 /// What is left of the desk, where memory is ample.
 pub(crate) fn close<N: Naming, H: Wait + Drop>(
     rt: &impl Wait,
-    shared: Shared<N, H>,
-    passes: Vec<DeskPass>,
-    viewers: Vec<Viewer>,
+    opened: Opened<N, H>,
 ) -> Option<Closed>
-    requires { AreOf N.board.id passes.items }
+    requires { AreOf N.board.id opened.passes.items }
 {
+    let Opened {
+        shared,
+        passes,
+        viewers,
+    } = opened;
     match shared.close(rt, passes, viewers) {
         Ok(closed) => Some(closed),
-        Err(_) => None,
+        Err(opened) => {
+            let_go(opened);
+            None
+        }
     }
 }
