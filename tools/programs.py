@@ -11,6 +11,26 @@ CASES = TOP / "crates" / "pfair" / "cases"
 LONGEST_RUN = 120
 
 
+def said_by(*words):
+    """What a program wrote, or nothing where it failed."""
+    done = subprocess.run(words, cwd=TOP, stdin=subprocess.DEVNULL, capture_output=True, text=True)
+    return done.stdout.strip() if done.returncode == 0 else ""
+
+
+def commit_number():
+    """The number that is this commit's name, or None where there is no commit."""
+    commit = said_by("git", "rev-parse", "HEAD")
+    return int(commit, 16) if commit else None
+
+
+def seed_of(words):
+    """The seed that these words give, or that this commit's name draws, of nine digits at most; 1 where there is no commit."""
+    if words:
+        return int(words[0])
+    number = commit_number()
+    return 1 if number is None else number % 10**9
+
+
 def built(path, maker):
     """The program at this path. Where there is none, the tool ends and says what makes it."""
     path = pathlib.Path(path).resolve()

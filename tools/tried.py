@@ -1,10 +1,10 @@
-"""The record of wrong bodies: on which texts the prover refused those of each crate."""
+"""The record of wrong bodies: on which texts, and by which prover, those of each crate were refused."""
+import functools
 import hashlib
 import re
-import subprocess
 
-from programs import TOP
-from prover import all_below
+from programs import TOP, commit_number, said_by
+from prover import all_below, kit
 
 RECORD = TOP / "tried.txt"
 
@@ -14,8 +14,8 @@ HEAD = """\
 # those that the gate tries, or all, with those of more/. tools/try-edits writes this file, by --record.
 """
 
-# To be raised where something else counts as refused: what was recorded before then counts no more.
-FORM = 1
+# The tools whose code decides what counts as refused, and what is asked of the prover.
+JUDGES = ("try-edits", "edits.py", "prover.py", "tried.py")
 
 # Into how many lots the crates are dealt out: a run of the gate tries one lot though it is recorded.
 LOTS = 6
@@ -25,12 +25,6 @@ OWN = ("Answers.antt", "Invariants.antt", "Proof.antt")
 
 # A function's first line.
 FUNCTION = re.compile(r"( *)(pub |pub\([a-z]+\) |)fn ")
-
-
-def said_by(*words):
-    """What a program wrote, or nothing where it failed."""
-    done = subprocess.run(words, cwd=TOP, stdin=subprocess.DEVNULL, capture_output=True, text=True)
-    return done.stdout.strip() if done.returncode == 0 else ""
 
 
 def texts_of(name, parts):
@@ -81,14 +75,44 @@ def seen_of(text):
     return "\n".join([*sorted(f"{path} {name}" for path, name in named), *rest])
 
 
+@functools.cache
 def seen_below(crate):
     """The files of a crate as the crates above it see them, by their names: no function's own proof, no private lemmas."""
+    return list(shown_files(crate))
+
+
+def shown_files(crate):
+    """Each of these files in turn."""
     lemmas = TOP / "crates" / crate / "proofs" / "Lib.antt"
     declared = lemmas.read_text().split("\n") if lemmas.is_file() else []
     hidden = {lemmas, *(lemmas.with_name(f"{it[4:]}.antt") for it in declared if it.startswith("mod "))}
     for file in texts_of(crate, ("src", "specs", "proofs")):
         if file not in hidden and file.name not in OWN:
             yield file, seen_of(file.read_text()) if file.suffix == ".rt" else file.read_text()
+
+
+def library_lines(name):
+    """The lines that a library of the kit has of itself: the sum of its files, which the prover compares, and what it uses."""
+    return (kit() / "rlibs" / f"{name}.rlib" / "format").read_text().split("\n")
+
+
+@functools.cache
+def library_sums(name):
+    """The sum of a library of the kit, and those of the libraries below it, by their names."""
+    lines = library_lines(name)
+    found = {name: next(it for it in lines if it.startswith("sum "))}
+    for line in lines:
+        word, _, below = line.partition(" ")
+        found |= library_sums(below) if word == "dep" else {}
+    return found
+
+
+def kit_sums(name, uses):
+    """The sums of the kit's libraries that a crate stands on: std, those that it uses, and those of the crates below it."""
+    found = library_sums("std")
+    for it in dict.fromkeys(library for crate in (name, *all_below(name, uses)) for library in uses[crate]):
+        found = found | (library_sums(it) if it not in uses else {})
+    return sorted(found.items())
 
 
 def size_of(name):
@@ -106,8 +130,8 @@ def lots_of(names):
 
 def lot_of_commit(names):
     """The lot that this commit's name draws; all crates where there is no commit."""
-    commit = said_by("git", "rev-parse", "HEAD")
-    return lots_of(names)[int(commit, 16) % LOTS] if commit else names
+    number = commit_number()
+    return names if number is None else lots_of(names)[number % LOTS]
 
 
 class Record:
@@ -115,15 +139,17 @@ class Record:
 
     def __init__(self, uses):
         self.uses = uses
-        # Two toolchains of one logic prove the same statements.
-        self.logic = said_by("rt", "version").partition(" logic ")[2]
+        # Another build of the toolchain may search otherwise, and another tool may count otherwise.
+        self.toolchain = said_by("rt", "version")
+        self.judges = [(TOP / "tools" / it).read_text() for it in JUDGES]
         lines = RECORD.read_text().split("\n") if RECORD.is_file() else []
         # Of each crate its sum, and which of its wrong bodies were refused.
         self.lines = {it.split()[0]: it.split()[1:] for it in lines if it and not it.startswith("#")}
 
     def sum_of(self, name):
-        """A sum of the logic, of the crate's texts and wrong bodies, and of what it can see of the crates below it."""
-        found = hashlib.sha256(repr((FORM, self.logic, self.uses[name])).encode())
+        """A sum of the toolchain, of the tools that judge, of the kit's libraries that the crate stands on, of its texts and
+        wrong bodies, and of what it can see of the crates below it."""
+        found = hashlib.sha256(repr((self.toolchain, self.judges, kit_sums(name, self.uses), self.uses[name])).encode())
         own = ((it, it.read_text()) for it in texts_of(name, ("src", "specs", "proofs", "wrong-bodies")))
         below = (it for crate in sorted(all_below(name, self.uses)) for it in seen_below(crate))
         for file, text in (*own, *below):
