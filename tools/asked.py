@@ -1,0 +1,73 @@
+"""Words and what pfair must answer them, byte for byte: help, the version, and what it refuses.
+
+crates/pfair/cases/words has the expected bytes: WORD.help is the front of what help tells of that word, and of the program in
+pfair.help, and behind each stands the file lesson, but behind help.help; version is what is told of the version. The file
+refusals has the words that are refused: lines '$ pfair WORDS', as a shell reads them, then what is told of each on standard
+error, and the status in brackets.
+"""
+import shlex
+from dataclasses import dataclass
+
+from programs import case_bytes, run_to_end
+
+# A script that is bad, so that words which are answered before anything is read are seen to be.
+BAD_SCRIPT = b"step\n"
+
+# Each word behind which help may be asked for, and `pfair` for the program.
+TAUGHT = ("pfair", "run", "check", "diff", "drill")
+
+
+@dataclass
+class Answer:
+    """Words, a script on standard input, and all that is written and told for them, with the status."""
+    words: list
+    script: bytes
+    written: bytes
+    told: bytes
+    status: int
+
+    def fault(self, program):
+        """What the program did instead, if it did."""
+        done = run_to_end([program, *self.words], f"{self.words}", input=self.script)
+        if (done.stdout, done.stderr, done.returncode) != (self.written, self.told, self.status):
+            return f"{self.words} {self.script!r}: {done.stdout[:2000]!r} {done.stderr!r} status {done.returncode}"
+
+
+def ways_to_help(word):
+    """The words that ask for help of this word, or of the program."""
+    front, behind = ([], []) if word == "pfair" else ([word], [word])
+    return [[*front, "--help"], [*front, "-h"], ["help", *behind], [*front, "-h", "x"]]
+
+
+def helps():
+    """Help of the program and of each word, in each way in which it may be asked for, and the version."""
+    lesson = case_bytes("words/lesson")
+    texts = [(words, case_bytes(f"words/{it}.help") + lesson) for it in TAUGHT for words in ways_to_help(it)]
+    texts += [(["help", "help"], case_bytes("words/help.help"))]
+    texts += [([word], case_bytes("words/version")) for word in ("--version", "-V")]
+    for words, text in texts:
+        yield Answer(words, BAD_SCRIPT, text, b"", 0)
+
+
+def refusals():
+    """The words that are refused."""
+    asked, told = [], ""
+    for line in case_bytes("words/refusals").decode().splitlines(keepends=True):
+        if line.startswith("$ pfair "):
+            asked, told = [*asked, shlex.split(line[len("$ pfair "):])], ""
+        elif line.startswith("["):
+            for words in asked:
+                yield Answer(words, BAD_SCRIPT, b"", told.encode(), int(line.strip("[]\n")))
+            asked = []
+        else:
+            told += line
+
+
+def untaught(formats):
+    """A text for each format that the lesson has no line for, each line of no format, and an example that is none."""
+    lesson = case_bytes("words/lesson").decode()
+    section = lesson.partition("\nFormats:\n")[2].partition("\n\n")[0].split("\n")
+    taught = {line.split()[0] for line in section}
+    faults = [f"words/lesson: {it}: a format without a line, or a line without a format" for it in sorted(taught ^ set(formats))]
+    example = "".join(f"  {line}\n" for line in case_bytes("three-tasks.csv").decode().splitlines())
+    return faults + ([] if example in lesson else ["words/lesson: its example is not the script three-tasks"])
