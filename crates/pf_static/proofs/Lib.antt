@@ -1,3 +1,4 @@
 pub mod Weights
 pub mod Serving
 pub mod Timely
+pub mod Fits

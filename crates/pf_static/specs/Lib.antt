@@ -7,3 +7,4 @@ pub use Rattle.pf_order.specs.KeyOf
 pub mod Periodic
 pub mod Choice
 pub mod Laws
+pub mod Service
