@@ -24,6 +24,10 @@ class Edit:
     is_of_bodies: bool
     # Whether it stands in more/, so that the gate does not try it.
     is_more: bool
+    # The clause that it breaks, by its function and its name, or None where it names none.
+    clause: tuple
+    # Its file.
+    file: pathlib.Path
 
 
 def bracketed(text):
@@ -140,6 +144,12 @@ def read_changes(file):
     return changes
 
 
+def read_clause(file):
+    """The clause that an edit's file names, by its function and its name, or None."""
+    named = re.search(r"^clause: (\S+) (\S+)$", file.read_text(), re.M)
+    return named and named.groups()
+
+
 def read_edits(folder):
     """The texts of the crate in this folder, its edits, those in more/ too, and a text for each that can't be applied."""
     edits, bad = [], []
@@ -151,5 +161,6 @@ def read_edits(folder):
         if not changes or after is None:
             bad.append(f"{folder.name}/{file.stem}: an old text does not stand in its file exactly once")
             continue
-        edits.append(Edit(file.stem, changes, *touched_by(folder.name, texts, after), file.parent.name == "more"))
+        touched, is_of_bodies = touched_by(folder.name, texts, after)
+        edits.append(Edit(file.stem, changes, touched, is_of_bodies, file.parent.name == "more", read_clause(file), file))
     return texts, edits, bad

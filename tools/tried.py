@@ -15,7 +15,7 @@ HEAD = """\
 """
 
 # The tools whose code decides what counts as refused, and what is asked of the prover.
-JUDGES = ("try-edits", "edits.py", "prover.py", "tried.py")
+JUDGES = ("try-edits", "clauses.py", "edits.py", "prover.py", "tried.py")
 
 # Into how many lots the crates are dealt out: a run of the gate tries one lot though it is recorded.
 LOTS = 6

@@ -1,0 +1,124 @@
+"""Clauses: which of a contract's a goal is of, which are left open in what the prover said, and which a wrong body breaks.
+
+A clause is named by its function, as the prover names it but for the crate, and then by its own name: of `ensures NAME { .. }`
+that is NAME, of an `ensures` without a name `ensures`, and of all else the name that the prover gives the goal, as
+`invariant_of-result`, `push-requires` or `loop-t-preserved`.
+"""
+import re
+
+# Goals that what a function ensures holds where it returns. One goal stands for a clause on one way out.
+RETURNS = re.compile(r"returns(-.*)?")
+NAMED = re.compile(r".*-clause-([\w']+?)(?:-\d+)?")
+
+# A line on a goal that no search proved, with what is said of it; a line on an answer by hand, or on what rests on one; and
+# how a function stands.
+UNPROVED = re.compile(r"note: \S+?:\d+:\d+: .*\(`([^`]+)`\)(.*)")
+REFUSED = re.compile(r"(?:\./)?proofs/(\S+)/Answers\.antt:\d+:\d+: error: `([^`]+)`: (.*)")
+RESTING = re.compile(r"(?:\./)?proofs/(\S+)/Answers\.antt:\d+:\d+: error: \d+ declarations? that depends? .* not checked: (.*)")
+STANDS = re.compile(r"fn ([\w:+]+): (.*)")
+
+# What an answer is refused with that names what is no longer there. It says nothing of the clause.
+MISNAMED = re.compile(r"can be named from here|is not in scope|has no field|has no `|is no name")
+
+# What is known of an open goal: values make it false; search ended without a proof, or at a limit; its answer by hand was
+# refused, or names what isn't there; or it rests on what was refused.
+VALUES, SEARCHED, LIMIT, ANSWER, RESTS, FORM = "values", "searched", "limit", "answer", "rests", "form"
+
+
+def clause_of(goal):
+    """The clause that a goal is of."""
+    if not RETURNS.fullmatch(goal):
+        return goal
+    named = NAMED.fullmatch(goal)
+    return named[1] if named else "ensures"
+
+
+def mark_of(said):
+    """What is known of a goal that no search proved, by the end of its line."""
+    if "allow values" in said:
+        return VALUES
+    return LIMIT if "one of its limits" in said else SEARCHED
+
+
+def open_clauses(crate, text):
+    """Of each clause that is left open in what the prover said, what is known of it, by its function and its name."""
+    found, pending = {}, []
+
+    def add(function, goal, mark):
+        found.setdefault((function.removeprefix(f"{crate}::"), clause_of(goal)), set()).add(mark)
+
+    for line in text.split("\n"):
+        unproved, refused, resting, stands = (it.match(line) for it in (UNPROVED, REFUSED, RESTING, STANDS))
+        if refused:
+            add(refused[1].replace("/", "::"), refused[2], FORM if MISNAMED.search(refused[3]) else ANSWER)
+        elif resting:
+            for goal in re.findall(r"(?:^|, )([^\s,]+)", resting[2]):
+                add(resting[1].replace("/", "::"), goal, RESTS)
+        elif unproved:
+            pending.append((unproved[1], mark_of(unproved[2])))
+        elif stands:
+            for goal, mark in pending:
+                add(stands[1], goal, mark)
+            pending = []
+    return found
+
+
+def answers_file(function):
+    """The file with a function's answers by hand."""
+    return f"proofs/{function.replace('::', '/')}/Answers.antt"
+
+
+def blocks_of(text):
+    """The declarations of a file of answers, each with the name that it declares, or None, and its lines."""
+    found = [(None, [])]
+    for line in text.split("\n"):
+        declares = re.match(r"(?:pub )?([^\s:(]+) :", line)
+        if declares:
+            found.append((declares[1], []))
+        elif re.match(r"--", line):
+            found.append((None, []))
+        found[-1][1].append(line)
+    return found
+
+
+def is_by_hand(texts, function, clause):
+    """Whether an answer by hand proves this clause on some way out."""
+    return any(name and clause_of(name) == clause for name, _ in blocks_of(texts.get(answers_file(function), "")))
+
+
+def without_answers(texts, function, clause):
+    """The texts without the answers by hand to this clause, so that search alone is asked."""
+    path = answers_file(function)
+    left = (lines for name, lines in blocks_of(texts[path]) if not name or clause_of(name) != clause)
+    return {**texts, path: "\n".join(line for lines in left for line in lines)}
+
+
+def is_of(crate, edit, function):
+    """Whether an edit changes this function, or the module that has it."""
+    return any(f"{crate}::{function}" == it or f"{crate}::{function}".startswith(f"{it}::") for it in edit.touched)
+
+
+def evidence(crate, texts, edit, found):
+    """Whether an edit leaves its clause open, which is of what it changes; and where an answer by hand stands for the clause,
+    so that search alone is to be asked too, the marks that this must leave."""
+    marks, by_search = found.get(edit.clause, set()), {VALUES, SEARCHED, LIMIT}
+    if not is_of(crate, edit, edit.clause[0]):
+        return False, None
+    if not edit.is_of_bodies:
+        return bool(marks - {FORM}), None
+    if not is_by_hand(texts, *edit.clause):
+        return bool(marks & by_search), None
+    # Where the answers by hand only name what is no longer there, another form alone may be refused.
+    return bool(marks), by_search if marks & {ANSWER, VALUES} else {VALUES}
+
+
+def rank_of(clause, marks):
+    """The order in which clauses are proposed: what a function ensures before all else, and what is surest to be false first."""
+    order = (VALUES, SEARCHED, LIMIT, ANSWER, RESTS, FORM)
+    return "-" in clause[1], min(order.index(it) for it in marks)
+
+
+def proposed(crate, edit, found):
+    """The clauses that an edit leaves open, the likeliest first."""
+    mine = [(clause, marks) for clause, marks in found.items() if is_of(crate, edit, clause[0])]
+    return [clause for clause, marks in sorted(mine, key=lambda it: rank_of(*it))]
