@@ -1,5 +1,5 @@
 -- Lists with one element in the middle: what holds of each, and of every two.
-use Rattle.std.proofs.Common.{Some, None, ◌≡◌, suc, Bool, true, false, List, [], ◌∷◌, ◌++◌, map, refl, ap, arith, inl, inr}
+use Rattle.std.proofs.Common.{Some, None, ◌≡◌, suc, Bool, true, false, if◌then◌else◌, List, [], ◌∷◌, ◌++◌, map, refl, ap, arith, inl, inr}
 use Rattle.std.specs.List.{All, AllPairs, list_any, filter, find}
 use Rattle.std.proofs.lemmas.List.Elements.{All-nil, All-cons, All-head, All-tail, All-append, filter-append}
 use Rattle.std.proofs.lemmas.List.Kept.{AllPairs-cons}
@@ -118,3 +118,10 @@ found p (x ∷ xs) h =
       | inr later ↦ let rest = found p xs later in
           record { front = x ∷ rest.front; at = rest.at; back = rest.back; is = ap (λ zs. x ∷ zs) rest.is; passes = rest.passes }
     ]
+
+-- two tests that agree at these elements keep the same of them
+pub filter_same : {X : Type 0} (p q : X → Bool) (xs : List X) → All (λ x. p x ≡ q x) xs → filter p xs ≡ filter q xs
+filter_same p q [] h = refl
+filter_same p q (x ∷ xs) h =
+    let here = All-head (λ x. p x ≡ q x) x xs h in
+    rw here (ap (λ zs. if q x then x ∷ zs else zs) (filter_same p q xs (All-tail (λ x. p x ≡ q x) x xs h)))

@@ -1,9 +1,11 @@
-ghost use Rattle.std.specs.Prelude.{◌≡◌, ◌<◌, true, [], ◌∷◌, ◌++◌, length, filter, All, IfOk, OnOk, OnErr};
+ghost use Rattle.std.specs.Prelude.{◌≡◌, ◌<◌, ◌≤◌, true, [], ◌∷◌, ◌++◌, length, filter, All, IfOk, OnOk, OnErr};
 ghost use Rattle.std.specs.List.{list_any};
-ghost use Rattle.pf_scenario.specs.Event.{is_of_slot, in_run_order};
+ghost use Rattle.pf_scenario.specs.declared.settings.TheConstants.{WIDE_HORIZON};
+ghost use Rattle.pf_scenario.specs.Event.{slot_of, is_of_slot, in_run_order};
 ghost use Rattle.pf_scenario.specs.Scenario.{with_number, is_held, events_without};
 ghost use Rattle.pf_scenario.specs.Edit.{join_alike, leave_alike};
 ghost use Rattle.pf_scenario.specs.Index.{IsNewEvent, event_at, with_event};
+ghost use Rattle.pf_scenario.specs.TimeOrder.{in_time_order, is_before, is_between};
 
 use crate::by_number::ByNumber;
 use crate::event::{Event, Numbered};
@@ -157,6 +159,23 @@ impl Agenda {
         }
     }
 
+    /// The events of the slots from `from` up to but not including `to`, in time order.
+    fn of_slots(&self, from: u32, to: u32) -> Result<Vec<Numbered>, AllocError>
+        requires { from ≤ to }
+        ensures value { IfOk result (λ v. v.items ≡ filter (is_between from to) (in_time_order self.now)) }
+        ensures near { All (λ x. slot_of x.event < WIDE_HORIZON) self.now }
+    {
+        let mut events = Vec::new(*self.joins.allocator());
+        for place in self.order.range(Place::first_of(from)..Place::first_of(to)) {
+            let id = u64::from(place.id);
+            let Some(event) = self.events.get(id) else {
+                unreachable!()
+            };
+            events.push(Numbered { id, event })?;
+        }
+        Ok(events)
+    }
+
     /// The events of slot t, in the order of a run.
     ///
     /// # Errors
@@ -165,25 +184,25 @@ impl Agenda {
     pub fn of_slot(&self, t: u64) -> Result<Vec<Numbered>, AllocError>
         ensures { IfOk result (λ v. v.items ≡ in_run_order (filter (is_of_slot t) self.now)) }
     {
-        let mut events = Vec::new(*self.joins.allocator());
         if t >= WIDE_HORIZON {
-            return Ok(events);
+            return Ok(Vec::new(*self.joins.allocator()));
         }
         if self.is_behind(t) {
-            return Ok(events);
+            return Ok(Vec::new(*self.joins.allocator()));
         }
         let slot = t as u32;
-        for place in self
-            .order
-            .range(Place::first_of(slot)..Place::first_of(slot + 1))
-        {
-            let id = u64::from(place.id);
-            let Some(event) = self.events.get(id) else {
-                unreachable!()
-            };
-            events.push(Numbered { id, event })?;
-        }
-        Ok(events)
+        self.of_slots(slot, slot + 1)
+    }
+
+    /// The events of the slots below t, in time order.
+    ///
+    /// # Errors
+    ///
+    /// Where memory is refused.
+    pub fn below(&self, t: u64) -> Result<Vec<Numbered>, AllocError>
+        ensures { IfOk result (λ v. v.items ≡ filter (is_before t) (in_time_order self.now)) }
+    {
+        self.of_slots(0, t.min(WIDE_HORIZON) as u32)
     }
 
     /// The events.

@@ -1,7 +1,7 @@
 ghost use Rattle.std.specs.Prelude.{◌≡◌, ◌≤◌, ◌↔◌, Option, Some, None, IfOk, OnOk, OnErr, Err};
 ghost use Rattle.std.specs.List.{list_any};
 ghost use Rattle.std.specs.Result.{result_err};
-ghost use Rattle.pf_scenario.specs.Scenario.{Plan, opening_plan, is_held, events_without, plan_after, number_of_change, held_slot, slot_touched, events_of};
+ghost use Rattle.pf_scenario.specs.Scenario.{Plan, opening_plan, is_held, events_without, plan_after, number_of_change, held_slot, slot_touched, events_of, past};
 ghost use Rattle.pf_scenario.specs.Edit.{IsScenario, event_fault, edit_fault, unless, join_alike, leave_alike};
 ghost use Rattle.pf_scenario.specs.declared.fault.EditFault.{EditFault};
 ghost use Rattle.pf_scenario.specs.declared.fault.EditFault.TheVariants.{EventNotFound};
@@ -254,6 +254,18 @@ impl Scenario {
         ensures scenario { IsScenario self.now }
     {
         self.events.of_slot(t)
+    }
+
+    /// The events of the slots below t, in the order in which a run takes them. It costs by those events, not by slots.
+    ///
+    /// # Errors
+    ///
+    /// Where memory is refused.
+    pub fn events_before(&self, t: u64) -> Result<Vec<Numbered>, AllocError>
+        ensures value { IfOk result (λ v. v.items ≡ past self.now t) }
+        ensures scenario { IsScenario self.now }
+    {
+        self.events.below(t)
     }
 
     /// The number that the next new event gets, 1 to 1,048,576; the last is never given.

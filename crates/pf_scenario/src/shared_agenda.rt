@@ -4,6 +4,7 @@ ghost use Rattle.pf_scenario.specs.Event.{is_of_slot, in_run_order};
 ghost use Rattle.pf_scenario.specs.Scenario.{with_number, is_held, events_without};
 ghost use Rattle.pf_scenario.specs.Edit.{join_alike, leave_alike};
 ghost use Rattle.pf_scenario.specs.Index.{IsNewEvent, event_at, with_event};
+ghost use Rattle.pf_scenario.specs.TimeOrder.{in_time_order, is_before};
 
 use crate::agenda::Agenda;
 use crate::event::{Event, Numbered};
@@ -157,6 +158,17 @@ impl SharedAgenda {
         ensures { IfOk result (λ v. v.items ≡ in_run_order (filter (is_of_slot t) self.now)) }
     {
         self.agenda().of_slot(t)
+    }
+
+    /// The events of the slots below t, in time order.
+    ///
+    /// # Errors
+    ///
+    /// Where memory is refused.
+    pub fn below(&self, t: u64) -> Result<Vec<Numbered>, AllocError>
+        ensures { IfOk result (λ v. v.items ≡ filter (is_before t) (in_time_order self.now)) }
+    {
+        self.agenda().below(t)
     }
 
     /// The events.

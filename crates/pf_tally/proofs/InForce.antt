@@ -1,5 +1,5 @@
 -- The events in force: how they are found, and what is known of them.
-use Rattle.std.proofs.Common.{◌≡◌, ℕ, zero, suc, ◌+◌, ◌<◌, ◌≤◌, not, ◌||◌, ◌==◌, Result, Ok, Err, List, [], ◌∷◌, ◌++◌, length, map, filter, get_or, All, AllPairs, ⊎_elim, refl, sym, ap, ap₂, ◌∙◌, arith}
+use Rattle.std.proofs.Common.{◌≡◌, ℕ, zero, suc, ◌<◌, ◌≤◌, not, ◌||◌, ◌==◌, Result, Ok, Err, List, [], ◌∷◌, ◌++◌, length, map, filter, get_or, All, AllPairs, ⊎_elim, refl, sym, ap, ap₂, ◌∙◌, arith}
 use Rattle.std.specs.List.{list_any}
 use Rattle.std.specs.List.Sorted.{IsNonDecreasing, IsBinarySearchResult}
 use Rattle.std.specs.Ordering.{nat_cmp}
@@ -53,18 +53,12 @@ pub in_force-append : (denials : List Denied) (xs ys : List Numbered) → in_for
 unfolding in_force
 in_force-append denials xs ys = filter-append (λ x. not (is_denied denials x)) xs ys
 
-pub in_force_none : (denials : List Denied) → in_force denials [] ≡ []
-unfolding in_force
-in_force_none denials = refl
-
--- the events of the next slot
-pub standing_more : (s : Plan) (denials : List Denied) (numbers used : List ℕ) (t u : ℕ) (xs ys zs : List Numbered) → AreNumbersOf denials numbers → used ≡ numbers →
-    xs ≡ in_force denials (past s t) → ys ≡ events_of s t → u ≡ t + 1 →
-    zs ≡ xs ++ filter (λ x. not (list_any (λ n. n == x.id) used)) ys → zs ≡ in_force denials (past s u)
-standing_more s denials numbers used t u xs ys zs are same of_xs of_ys next is =
-    is ∙ ap₂ (λ a b. a ++ b) of_xs (ap (λ ns. filter (λ x. not (list_any (λ n. n == x.id) ns)) ys) same ∙ kept_in_force denials numbers ys are ∙ ap (in_force denials) of_ys)
-    ∙ sym (in_force-append denials (past s t) (events_of s t))
-    ∙ ap (λ n. in_force denials (past s n)) (let z : suc t ≡ u = omega arith in z)
+-- Use: those of the past's events are kept that are not denied.
+pub standing_are : (s : Plan) (denials : List Denied) (numbers used : List ℕ) (t : ℕ) (none xs ys zs : List Numbered) → AreNumbersOf denials numbers → used ≡ numbers →
+    none ≡ [] → xs ≡ past s t → ys ≡ xs → zs ≡ none ++ filter (λ x. not (list_any (λ n. n == x.id) used)) ys → zs ≡ in_force denials (past s t)
+standing_are s denials numbers used t none xs ys zs are same empty of_xs of_ys is =
+    is ∙ ap₂ (λ a b. a ++ b) empty
+    (ap (λ ns. filter (λ x. not (list_any (λ n. n == x.id) ns)) ys) same ∙ kept_in_force denials numbers ys are ∙ ap (in_force denials) (of_ys ∙ of_xs))
 
 -- the events of a past rise by slot
 past_rises : (s : Plan) (t : ℕ) → AllPairs (λ x y. slot_of x.event ≤ slot_of y.event) (past s t)

@@ -30,11 +30,12 @@ use Rattle.pf_tally.specs.Late.{late_misses, CanMiss}
 use Rattle.pf_tally.specs.Misses.{leaves_after, misses_of_task, miss_cmp, in_miss_order, misses_of}
 use Rattle.pf_tally.specs.Quanta.{slots_in}
 use Rattle.pf_tally.specs.Walk.{late_quanta, IsAt}
+use Rattle.pf_tally.specs.WalkedRun.{IsWalkOf}
 use Rattle.pf_tally.specs.declared.held.Held.{Held}
 use Rattle.pf_tally.specs.declared.journal.Journal.{Journal}
 use Rattle.pf_tally.specs.declared.lag.Lag.{Lag}
 use Rattle.pf_tally.specs.declared.miss.Miss.{Miss}
-use Rattle.pf_tally.specs.declared.walk.Walk.{Walk}
+use Rattle.pf_tally.specs.declared.walked_run.WalkedRun.{WalkedRun}
 use Rattle.pf_tally.proofs.Chains.{stops_within}
 use Rattle.pf_tally.proofs.Joined.{can_tally, inside_joined, log_shares}
 use Rattle.pf_tally.proofs.Ledgers.{ran_of_run, can_miss, task_noted}
@@ -62,84 +63,83 @@ lags_known s n journal lags tasks k known of_tasks of_lags over =
 pub journal_log : (s : Plan) (n : ℕ) (journal : Journal) (xs : List Numbered) → IsJournal s n journal → xs ≡ journal.events.items → IsLog journal.settings n xs
 journal_log s n journal xs known is = let P : System → List Numbered → Type 0 = λ system xs. IsLog system n xs in subst₂ P (sym known.settings) (sym is) known.log
 
-pub walk_known : (rows : List (List (Option Pick))) (journal : Journal) (xs : List Numbered) (walk : Walk) → xs ≡ journal.events.items →
-    All (IsAt rows (length rows) xs walk) (filter_map (join_of journal.settings.base) xs) →
-    All (IsAt rows (length rows) journal.events.items walk) (filter_map (join_of journal.settings.base) journal.events.items)
-walk_known rows journal xs walk is walked =
-    let P : List Numbered → Type 0 = λ xs. All (IsAt rows (length rows) xs walk) (filter_map (join_of journal.settings.base) xs) in subst P is walked
+pub walk_known : (s : Plan) (rows : List (List (Option Pick))) (denials : List Denied) (run : WalkedRun) (xs : List Numbered) → AreOfRun s (length rows) rows denials → IsJournal s (length rows) run.journal →
+    xs ≡ run.journal.events.items → All (IsAt rows (length rows) xs run.walk) (filter_map (join_of run.journal.settings.base) xs) → IsWalkOf s rows denials run
+walk_known s rows denials run xs are journal is walked =
+    let P : List Numbered → Type 0 = λ xs. All (IsAt rows (length rows) xs run.walk) (filter_map (join_of run.journal.settings.base) xs) in
+    record { of_run = are; journal = journal; walk = subst P is walked }
 
 -- what is known of a task that was walked
-module _ (s : Plan) (rows : List (List (Option Pick))) (denials : List Denied) (are : AreOfRun s (length rows) rows denials) (journal : Journal) (known : IsJournal s (length rows) journal)
-    (walk : Walk) (walked : All (IsAt rows (length rows) journal.events.items walk) (filter_map (join_of journal.settings.base) journal.events.items))
-    (j : Joined) (at : Contains (filter_map (join_of journal.settings.base) journal.events.items) j) where
-  pub journal_can : CanTally j (slots_in rows j.task) journal.events.items journal.now
+module _ (s : Plan) (rows : List (List (Option Pick))) (denials : List Denied) (run : WalkedRun) (known : IsWalkOf s rows denials run)
+    (j : Joined) (at : Contains (filter_map (join_of run.journal.settings.base) run.journal.events.items) j) where
+  pub journal_can : CanTally j (slots_in rows j.task) run.journal.events.items run.journal.now
   journal_can =
-      let P : ℕ → Type 0 = CanTally j (slots_in rows j.task) journal.events.items in
-      let Q : System → Type 0 = λ system. Contains (filter_map (join_of system.base) journal.events.items) j in
-      subst P (sym known.now)
-      (can_tally s.settings (length rows) journal.events.items j (run_of s (length rows)) (slots_in rows j.task) known.log (subst Q known.settings at) known.slots
-      (sym (ran_of_run s rows denials j.task are)))
+      let P : ℕ → Type 0 = CanTally j (slots_in rows j.task) run.journal.events.items in
+      let Q : System → Type 0 = λ system. Contains (filter_map (join_of system.base) run.journal.events.items) j in
+      subst P (sym known.journal.now)
+      (can_tally s.settings (length rows) run.journal.events.items j (run_of s (length rows)) (slots_in rows j.task) known.journal.log (subst Q known.journal.settings at) known.journal.slots
+      (sym (ran_of_run s rows denials j.task known.of_run)))
 
-  walked_at : IsAt rows (length rows) journal.events.items walk j
-  walked_at = All-contains (IsAt rows (length rows) journal.events.items walk) (filter_map (join_of journal.settings.base) journal.events.items) j walked at
+  walked_at : IsAt rows (length rows) run.journal.events.items run.walk j
+  walked_at = All-contains (IsAt rows (length rows) run.journal.events.items run.walk) (filter_map (join_of run.journal.settings.base) run.journal.events.items) j known.walk at
 
-  pub walked_received : (received : ℕ) → received ≡ option_map_or (λ p. p.received) (value_of walk.progress j.task) 0 → received ≡ length (slots_in rows j.task)
+  pub walked_received : (received : ℕ) → received ≡ option_map_or (λ p. p.received) (value_of run.walk.progress j.task) 0 → received ≡ length (slots_in rows j.task)
   walked_received received is =
       is ∙ ap (λ o. option_map_or (λ p. p.received) o 0) (let a = walked_at in a.progress)
       ∙ ap (λ rows. length (slots_in rows j.task)) (take_all (length rows) rows (omega arith))
 
-  pub walked_delays : (held : List Held) → held ≡ noted_of walk.delays j.task → held ≡ held_from (next_in (slots_in rows j.task)) j j.slot journal.events.items
+  pub walked_delays : (held : List Held) → held ≡ noted_of run.walk.delays j.task → held ≡ held_from (next_in (slots_in rows j.task)) j j.slot run.journal.events.items
   walked_delays held is = is ∙ (let a = walked_at in a.delays)
 
-  pub walked_late : (held : List Held) (late : List Miss) → held ≡ noted_of walk.delays j.task → late ≡ noted_of walk.late j.task → late ≡ late_quanta j held 1 (slots_in rows j.task)
+  pub walked_late : (held : List Held) (late : List Miss) → held ≡ noted_of run.walk.delays j.task → late ≡ noted_of run.walk.late j.task → late ≡ late_quanta j held 1 (slots_in rows j.task)
   walked_late held late of_held is =
       is ∙ (let a = walked_at in a.late)
       ∙ ap₂ (λ held rows. late_quanta j held 1 (slots_in rows j.task)) (sym (walked_delays held of_held)) (take_all (length rows) rows (omega arith))
 
   -- its clock
-  pub delays_small : (held : List Held) → held ≡ noted_of walk.delays j.task → All IsSmall held
+  pub delays_small : (held : List Held) → held ≡ noted_of run.walk.delays j.task → All IsSmall held
   delays_small held is =
       let P : List Held → Type 0 = All IsSmall in
-      subst P (sym (walked_delays held is)) (all_small j (slots_in rows j.task) journal.events.items journal.now journal_can)
+      subst P (sym (walked_delays held is)) (all_small j (slots_in rows j.task) run.journal.events.items run.journal.now journal_can)
 
-  pub delays_apart : (held : List Held) → held ≡ noted_of walk.delays j.task → stopped_below journal.now j.weight held ≤ journal.now - j.slot
+  pub delays_apart : (held : List Held) → held ≡ noted_of run.walk.delays j.task → stopped_below run.journal.now j.weight held ≤ run.journal.now - j.slot
   delays_apart held is =
       let can = journal_can in
-      let P : List Held → Type 0 = λ held. stopped_below journal.now j.weight held ≤ journal.now - j.slot in
-      subst P (sym (walked_delays held is)) (stops_within j (slots_in rows j.task) journal.events.items journal.now can.share can.rise can.joined)
+      let P : List Held → Type 0 = λ held. stopped_below run.journal.now j.weight held ≤ run.journal.now - j.slot in
+      subst P (sym (walked_delays held is)) (stops_within j (slots_in rows j.task) run.journal.events.items run.journal.now can.share can.rise can.joined)
 
-  pub walked_lag : (held : List Held) (clock received : ℕ) (lag : Lag) → held ≡ noted_of walk.delays j.task → clock + stopped_below journal.now j.weight held ≡ journal.now - j.slot →
-      received ≡ option_map_or (λ p. p.received) (value_of walk.progress j.task) 0 →
+  pub walked_lag : (held : List Held) (clock received : ℕ) (lag : Lag) → held ≡ noted_of run.walk.delays j.task → clock + stopped_below run.journal.now j.weight held ≡ run.journal.now - j.slot →
+      received ≡ option_map_or (λ p. p.received) (value_of run.walk.progress j.task) 0 →
       lag ≡ record { task = j.task; cost = j.weight.cost; period = j.weight.period; received = received; scaled = pos (j.weight.cost * clock) -ℤ pos (j.weight.period * received) } →
-      lag ≡ lag_of (run_of s (length rows)) journal.events.items j
+      lag ≡ lag_of (run_of s (length rows)) run.journal.events.items j
   walked_lag held clock received lag of_held of_clock of_received of_lag =
-      lag_counted j (slots_in rows j.task) journal.events.items journal.now held clock lag journal_can (walked_delays held of_held) of_clock
+      lag_counted j (slots_in rows j.task) run.journal.events.items run.journal.now held clock lag journal_can (walked_delays held of_held) of_clock
       (of_lag ∙ ap (λ received. let lag : Lag = record { task = j.task; cost = j.weight.cost; period = j.weight.period; received = received; scaled = pos (j.weight.cost * clock) -ℤ pos (j.weight.period * received) } in lag)
       (walked_received received of_received))
-      (run_of s (length rows)) (known.slots ∙ sym known.now) (sym (ran_of_run s rows denials j.task are))
+      (run_of s (length rows)) (known.journal.slots ∙ sym known.journal.now) (sym (ran_of_run s rows denials j.task known.of_run))
 
   -- its misses
-  pub journal_misses : (held : List Held) → held ≡ noted_of walk.delays j.task → CanMiss j held journal.now
-  journal_misses held is = can_miss j (slots_in rows j.task) journal.events.items journal.now held journal_can (walked_delays held is)
+  pub journal_misses : (held : List Held) → held ≡ noted_of run.walk.delays j.task → CanMiss j held run.journal.now
+  journal_misses held is = can_miss j (slots_in rows j.task) run.journal.events.items run.journal.now held journal_can (walked_delays held is)
 
-  pub walked_misses : (held : List Held) (late : List Miss) (received last : ℕ) (diary : List Numbered) (misses mid after : List Miss) → held ≡ noted_of walk.delays j.task → late ≡ noted_of walk.late j.task →
-      received ≡ option_map_or (λ p. p.received) (value_of walk.progress j.task) 0 → diary ≡ noted_of journal.diaries j.task →
-      ((t : ℕ) → nat_le t last ≡ (nat_le t journal.now && leaves_after diary j t)) → mid ≡ misses ++ filter (λ m. nat_le m.deadline last) late →
-      ((ran : List ℕ) (start : List Miss) → length ran ≡ received → mid ≡ start ++ late_misses j ran held last received → after ≡ start ++ late_misses j ran held last journal.now) →
-      after ≡ misses ++ misses_of_task (run_of s (length rows)) journal.events.items j
+  pub walked_misses : (held : List Held) (late : List Miss) (received last : ℕ) (diary : List Numbered) (misses mid after : List Miss) → held ≡ noted_of run.walk.delays j.task → late ≡ noted_of run.walk.late j.task →
+      received ≡ option_map_or (λ p. p.received) (value_of run.walk.progress j.task) 0 → diary ≡ noted_of run.journal.diaries j.task →
+      ((t : ℕ) → nat_le t last ≡ (nat_le t run.journal.now && leaves_after diary j t)) → mid ≡ misses ++ filter (λ m. nat_le m.deadline last) late →
+      ((ran : List ℕ) (start : List Miss) → length ran ≡ received → mid ≡ start ++ late_misses j ran held last received → after ≡ start ++ late_misses j ran held last run.journal.now) →
+      after ≡ misses ++ misses_of_task (run_of s (length rows)) run.journal.events.items j
   walked_misses held late received last diary misses mid after of_held of_late of_received of_diary of_last first rest =
       let R = slots_in rows j.task in
       let long = walked_received received of_received in
       let found : filter (λ m. nat_le m.deadline last) late ≡ late_misses j R held last received =
       ap (filter (λ m. nat_le m.deadline last)) (walked_late held late of_held of_late ∙ ap (late_quanta j held 1) (sym (take_all (length R) R (omega arith))))
       ∙ late_found j R held last (length R) (omega arith) ∙ ap (late_misses j R held last) (sym long) in
-      let of_now : journal.now ≡ length rows = known.now in
-      let own : leaves_after diary j ≡ leaves_after journal.events.items j =
-      ap (λ xs. leaves_after xs j) (of_diary ∙ known.diaries.each j.task) ∙ leaves_own journal.events.items j in
-      task_noted j R journal.events.items (length rows) last held misses after (walked_delays held of_held)
+      let of_now : run.journal.now ≡ length rows = known.journal.now in
+      let own : leaves_after diary j ≡ leaves_after run.journal.events.items j =
+      ap (λ xs. leaves_after xs j) (of_diary ∙ known.journal.diaries.each j.task) ∙ leaves_own run.journal.events.items j in
+      task_noted j R run.journal.events.items (length rows) last held misses after (walked_delays held of_held)
       (λ t. of_last t ∙ ap₂ (λ n (leaves : ℕ → Bool). nat_le t n && leaves t) of_now own)
       (rest R misses (sym long) (first ∙ ap (λ ms. misses ++ ms) found) ∙ ap (λ n. misses ++ late_misses j R held last n) of_now)
-      s known.scenario known.slots (ran_of_run s rows denials j.task are)
+      s known.journal.scenario known.journal.slots (ran_of_run s rows denials j.task known.of_run)
 
 -- a step over the tasks inside
 pub inside_at : (journal : Journal) (tasks : List Joined) (k : ℕ) (j : Joined) → tasks ≡ by_task (inside journal.settings.base journal.events.items) → k < length tasks → j ≡ get_or tasks k j →

@@ -25,3 +25,4 @@ pub mod Figures
 pub mod Told
 pub mod Ranges
 pub mod Walk
+pub mod WalkedRun

@@ -6,18 +6,15 @@ ghost use Rattle.pf_run.specs.RunRows.{AreOfRun};
 ghost use Rattle.pf_tally.specs.Lags.{lags_of};
 
 use crate::admitted::Admitted;
-use crate::clock::clock_at;
-use crate::inside::tasks_inside;
-use crate::journal::make_journal;
 use crate::lag::Lag;
-use crate::walk::walk_run;
+use crate::walked_run::walk_over;
 use pf_place::rows::Rows;
 use pf_run::denied::Denied;
 use pf_scenario::scenario::Scenario;
 use std::alloc::{AllocError, Global};
 
 /// The lag of a task of this clock that received so many quanta.
-fn lag_at(task: Admitted, clock: u64, received: u64) -> Lag
+pub(crate) fn lag_at(task: Admitted, clock: u64, received: u64) -> Lag
     requires number { task.task ≤ LARGEST_TASK }
     requires clock { clock ≤ WIDE_HORIZON }
     requires received { received ≤ WIDE_HORIZON }
@@ -57,13 +54,6 @@ pub fn lags(
     requires { AreOfRun scenario.now (length rows.now) rows.now denials.now }
     ensures { IfOk result (λ v. v.items ≡ lags_of scenario.now (run_of scenario.now (length rows.now))) }
 {
-    let journal = make_journal(alloc, scenario, rows, denials)?;
-    let walk = walk_run(alloc, journal.settings, &journal.events, rows)?;
-    let tasks = tasks_inside(alloc, journal.settings, &journal.events, &journal.diaries)?;
-    let mut lags = Vec::with_capacity(alloc, tasks.len())?;
-    for task in &tasks {
-        let clock = clock_at(*task, walk.delays(*task), journal.now);
-        lags.push(lag_at(*task, clock, walk.received(*task)))?;
-    }
-    Ok(lags)
+    let run = walk_over(alloc, scenario, rows, denials)?;
+    run.lags(alloc)
 }

@@ -4,19 +4,18 @@ ghost use Rattle.pf_run.specs.RunRows.{AreOfRun};
 ghost use Rattle.pf_tally.specs.Late.{late_misses, CanMiss};
 ghost use Rattle.pf_tally.specs.Misses.{misses_of};
 
-use crate::admitted::{Admitted, admitted_tasks};
+use crate::admitted::Admitted;
 use crate::held::Held;
-use crate::journal::make_journal;
-use crate::late::{due_of, last_due};
+use crate::late::due_of;
 use crate::miss::Miss;
-use crate::walk::walk_run;
+use crate::walked_run::walk_over;
 use pf_place::rows::Rows;
 use pf_run::denied::Denied;
 use pf_scenario::scenario::Scenario;
 use std::alloc::{AllocError, Global};
 
 /// Appends those of the windows that ran late which are due by the slot `last`.
-fn note_late(misses: &mut Vec<Miss>, late: &[Miss], last: u64) -> Result<(), AllocError>
+pub(crate) fn note_late(misses: &mut Vec<Miss>, late: &[Miss], last: u64) -> Result<(), AllocError>
     ensures { OnOk result (misses.new.items ≡ misses.old.items ++ filter (λ m. nat_le m.deadline last) late.now) }
 {
     for miss in late {
@@ -29,7 +28,7 @@ fn note_late(misses: &mut Vec<Miss>, late: &[Miss], last: u64) -> Result<(), All
 
 /// Appends the windows of the task that did not run, up to subtask `now`, and are due by the slot `last`: those behind
 /// its first `received` subtasks.
-fn note_unrun(
+pub(crate) fn note_unrun(
     misses: &mut Vec<Miss>,
     task: Admitted,
     delays: &[Held],
@@ -73,24 +72,6 @@ pub fn misses(
     requires { AreOfRun scenario.now (length rows.now) rows.now denials.now }
     ensures { IfOk result (λ v. v.items ≡ misses_of scenario.now (run_of scenario.now (length rows.now))) }
 {
-    let journal = make_journal(alloc, scenario, rows, denials)?;
-    let walk = walk_run(alloc, journal.settings, &journal.events, rows)?;
-    let tasks = admitted_tasks(alloc, journal.settings, &journal.events)?;
-    let now = journal.now;
-    let mut misses = Vec::new(alloc);
-    for task in &tasks {
-        let last = last_due(journal.diary(*task), *task, now);
-        note_late(&mut misses, walk.late(*task), last)?;
-        let received = walk.received(*task) as u32;
-        note_unrun(
-            &mut misses,
-            *task,
-            walk.delays(*task),
-            last,
-            received,
-            now as u32,
-        )?;
-    }
-    misses.sort_unstable_by_key(|miss| (miss.deadline, miss.task));
-    Ok(misses)
+    let run = walk_over(alloc, scenario, rows, denials)?;
+    run.misses(alloc)
 }

@@ -61,10 +61,8 @@ pub(crate) fn standing_events(
     ensures { IfOk result (λ v. v.items ≡ in_force denials.now (past scenario.now now)) }
 {
     let denied = denied_numbers(alloc, denials)?;
-    let mut standing = Vec::new(alloc);
-    for t in 0..now {
-        let events = scenario.slot_events(t)?;
-        keep(&mut standing, &events, &denied)?;
-    }
+    let events = scenario.events_before(now)?;
+    let mut standing = Vec::with_capacity(alloc, events.len())?;
+    keep(&mut standing, &events, &denied)?;
     Ok(standing)
 }

@@ -1,0 +1,23 @@
+-- A scenario's run that was walked over.
+use Rattle.std.specs.Prelude.{Option, List, length, filter_map, All}
+use Rattle.pf_order.specs.declared.pick.Pick.{Pick}
+use Rattle.pf_scenario.specs.Scenario.{Plan}
+use Rattle.pf_run.specs.declared.denied.Denied.{Denied}
+use Rattle.pf_run.specs.Inside.{join_of}
+use Rattle.pf_run.specs.RunRows.{AreOfRun}
+use Rattle.pf_tally.specs.Journal.{IsJournal}
+use Rattle.pf_tally.specs.Walk.{IsAt}
+use Rattle.pf_tally.specs.declared.walked_run.WalkedRun.{WalkedRun}
+
+-- the run of this scenario, which these are the rows and the denials of
+pub record IsWalkOf (s : Plan) (rows : List (List (Option Pick))) (denials : List Denied) (run : WalkedRun) : Type 0 where
+  pub of_run : AreOfRun s (length rows) rows denials
+  pub journal : IsJournal s (length rows) run.journal
+  pub walk : All (IsAt rows (length rows) run.journal.events.items run.walk) (filter_map (join_of run.journal.settings.base) run.journal.events.items)
+
+-- the run of some scenario
+pub record IsWalked (run : WalkedRun) : Type 0 where
+  pub scenario : Plan
+  pub rows : List (List (Option Pick))
+  pub denials : List Denied
+  pub is : IsWalkOf scenario rows denials run
