@@ -10,7 +10,7 @@ use Rattle.pf_ideal.proofs.Flows.{flow-late}
 use Rattle.pf_ideal.proofs.Windows.{offset-next}
 use Rattle.pf_ideal.proofs.Border.{is_pick, is_full, crosses, is_chosen, border_at}
 use Rattle.pf_ideal.proofs.Relevant as relevant
-use Rattle.pf_ideal.proofs.Gains.{flow_of, asked_of, gain_of_slot, gain_of_chosen, gain_of_other}
+use Rattle.pf_ideal.proofs.Gains.{flow_of, asked_of, gain_of_slot, gain_of_chosen, gain_of_chosen_last, gain_of_other, gain_of_other_last}
 
 -- how many relevant subtasks of the task run below slot v
 unfoldable pub got_of : Schedule → ℕ → ℕ → ℕ
@@ -76,7 +76,27 @@ module _ (s : Schedule) (ok : IsByReach s) where
       (λ (other : is_chosen s v (border_at s (suc v)) t ≡ false).
       omega (
         arith,
-        gain_of_other s ok t v n lt holes (λ chosen. both_ways (is_chosen s v (border_at s (suc v)) t) other chosen),
+        gain_of_other s ok t v n (omega (arith, lt)) holes
+            (λ chosen. both_ways (is_chosen s v (border_at s (suc v)) t) other chosen) lt,
+        quanta-mono (got_of s t v) (got_of s t (suc n + v)) (got-rises t v (suc n + v) (omega arith)),
+      ))
+      (cases_Bool (is_chosen s v (border_at s (suc v)) t))
+
+  -- one task over n + 1 holes up to the end
+  gain_of_task_last : (t v n : ℕ) → suc n + v ≡ s.end → relevant.AreHoles s ok v n →
+      flow_of s t (suc n + v) + s.quantum * got_of s t v ≤ flow_of s t v + s.quantum * got_of s t (suc n + v)
+  gain_of_task_last t v n last holes = ⊎_elim
+      (λ (chosen : is_chosen s v (border_at s (suc v)) t ≡ true).
+      omega (
+        arith,
+        gain_of_chosen_last s ok t v n,
+        quanta-mono (got_of s t v + suc n) (got_of s t (suc n + v)) (got-holes t v n (omega (arith, last)) holes chosen),
+      ))
+      (λ (other : is_chosen s v (border_at s (suc v)) t ≡ false).
+      omega (
+        arith,
+        gain_of_other_last s ok t v n (omega (arith, last)) holes
+            (λ chosen. both_ways (is_chosen s v (border_at s (suc v)) t) other chosen) last,
         quanta-mono (got_of s t v) (got_of s t (suc n + v)) (got-rises t v (suc n + v) (omega arith)),
       ))
       (cases_Bool (is_chosen s v (border_at s (suc v)) t))
@@ -120,12 +140,12 @@ module _ (s : Schedule) (ok : IsByReach s) where
       )
 
   -- up to slot v: even up to `from`, and holes from there on
-  pub record IsCovered (v : ℕ) : Type 0 where
-    pub from : ℕ
-    pub holes : ℕ
-    pub sum : holes + from ≡ v
-    pub are_holes : (k : ℕ) → k < holes → relevant.IsHole s (k + from)
-    pub even : IsEven s from
+  record IsCovered (v : ℕ) : Type 0 where
+    from : ℕ
+    holes : ℕ
+    sum : holes + from ≡ v
+    are_holes : (k : ℕ) → k < holes → relevant.IsHole s (k + from)
+    even : IsEven s from
 
   covered_start : IsCovered 0
   covered_start = record {
@@ -184,6 +204,38 @@ module _ (s : Schedule) (ok : IsByReach s) where
       })
       (cases_Bool (is_full s v (border_at s (suc v))))
 
-  pub covered : (v : ℕ) → v ≤ s.end → IsCovered v
+  covered : (v : ℕ) → v ≤ s.end → IsCovered v
   covered zero le = covered_start
   covered (suc v) le = covered_next v le (covered v (omega (arith, le)))
+
+  -- from the start v of n + 1 holes up to the end
+  even_last : (v n : ℕ) → suc n + v ≡ s.end → relevant.AreHoles s ok v n → IsEven s v → IsEven s (suc n + v)
+  even_last v n last holes even =
+      let left = sum_by-plus (λ t. flow_of s t (suc n + v)) (λ t. s.quantum * got_of s t v) s.tasks in
+      let right = sum_by-plus (λ t. flow_of s t v) (λ t. s.quantum * got_of s t (suc n + v)) s.tasks in
+      let all =
+      sum_by-mono (λ t. flow_of s t (suc n + v) + s.quantum * got_of s t v)
+      (λ t. flow_of s t v + s.quantum * got_of s t (suc n + v)) s.tasks (λ t. gain_of_task_last t v n last holes) in
+      omega (
+        arith,
+        left,
+        right,
+        all,
+        even,
+        overload-rises v (suc n + v) (omega arith),
+        sum_by-times s.quantum (λ t. got_of s t v) s.tasks,
+        sum_by-times s.quantum (λ t. got_of s t (suc n + v)) s.tasks,
+      )
+
+  -- at the end all is even
+  pub even_at_end : IsEven s s.end
+  even_at_end = by cover.holes cover.from cover.sum cover.are_holes cover.even where
+    cover : IsCovered s.end
+    cover = covered s.end (omega arith)
+
+    by : (n v : ℕ) → n + v ≡ s.end → ((k : ℕ) → k < n → relevant.IsHole s (k + v)) → IsEven s v → IsEven s s.end
+    by zero v sum holes even =
+        let same : v ≡ s.end = omega (arith, sum) in
+        subst (λ x. IsEven s x) same even
+    by (suc n) v sum holes even =
+        subst (λ x. IsEven s x) sum (even_last v n sum (relevant.are_holes s ok v n holes) even)

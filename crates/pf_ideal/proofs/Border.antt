@@ -1,8 +1,8 @@
--- The subtasks that a miss rests on, found by going back from the end, slot by slot. At each border between two slots
--- some subtasks are members, which run behind it or are missed, and the keys up to some bound count.
+-- The subtasks that the overdue ones rest on, found by going back from the end, slot by slot. At each border between two
+-- slots some subtasks are members, which run behind it or are overdue, and the keys up to some bound count.
 use Rattle.std.proofs.Common.{ℕ, zero, suc, ◌-◌, ◌==◌, Bool, ◌&&◌, ◌||◌, nat_le, if◌then◌else◌, count_by}
 use Rattle.std.specs.List.{list_any}
-use Rattle.pf_ideal.specs.Schedule.{Schedule}
+use Rattle.pf_ideal.specs.Schedule.{Schedule, is_overdue}
 
 -- which subtasks are members at a border, and which are within the bound
 pub record Border : Type 0 where
@@ -33,9 +33,9 @@ border_before s v b = record {
       if is_full s v b then b.bound t i else list_any (λ u. is_chosen s v b u && s.no_later t i u (s.done u v)) s.tasks;
 }
 
--- the border n slots before the end: there the members are the subtasks that are missed, and the bound is the end
+-- the border n slots before the end: there the members are the overdue subtasks, and the bound is the end
 unfoldable pub border_back : Schedule → ℕ → Border
-border_back s zero = record { member = s.missed; bound = λ t i. nat_le (s.deadline t i) s.end }
+border_back s zero = record { member = is_overdue s; bound = λ t i. nat_le (s.deadline t i) s.end }
 border_back s (suc n) = border_before s (s.end - suc n) (border_back s n)
 
 -- the border before slot v

@@ -5,8 +5,9 @@ use Rattle.std.proofs.lemmas.Bool.{cases_Bool, or_cases, or_left, or_right, and_
 use Rattle.pf_ideal.specs.Schedule.{Schedule, IsByReach}
 use Rattle.pf_ideal.proofs.Sums.{list_any-found, list_any-at}
 use Rattle.pf_ideal.proofs.Quanta.{done-runs, done-next, done-rises}
+use Rattle.pf_ideal.proofs.Overdue.{overdue_is}
 use Rattle.pf_ideal.proofs.Border.{Border, is_pick, is_full, crosses, is_chosen, border_before, border_back, border_at}
-use Rattle.pf_ideal.proofs.Holes.{IsSound, waits_at_hole}
+use Rattle.pf_ideal.proofs.Holes.{IsSound, not_next}
 
 module _ (s : Schedule) (ok : IsByReach s) where
   end_sound : IsSound s s.end (border_back s 0)
@@ -15,10 +16,10 @@ module _ (s : Schedule) (ok : IsByReach s) where
     within = λ t i h. leb-true (s.deadline t i) s.end h;
     closed = λ t i u j less h.
         le-leb (s.deadline t i) s.end (omega (arith, ok.order.deadline t i u j less, leb-true (s.deadline u j) s.end h));
-    behind = λ t i h. ok.misses.late t i h;
-    due = λ t i h. omega (arith, ok.misses.due t i h);
+    behind = λ t i h. (overdue_is s t i h).2;
+    due = λ t i h. (overdue_is s t i h).1;
     lives = λ t i h. inr h;
-    waits = λ t i h early. le-leb (s.deadline t i) s.end (omega (arith, ok.misses.due t i h));
+    waits = λ t i h next early. le-leb (s.deadline t i) s.end (overdue_is s t i h).1;
   }
 
   -- the border before the slot v from the one behind it
@@ -106,17 +107,17 @@ module _ (s : Schedule) (ok : IsByReach s) where
         hole_under t i hole (it.0, it.1, ok.order.transitive t i u j it.0 (s.done it.0 v) less it.2))
         (cases_Bool (is_full s v b))
 
-    before_waits : (t i : ℕ) → (border_before s v b).member t i ≡ true → s.release t i < v →
+    before_waits : (t i : ℕ) → (border_before s v b).member t i ≡ true → s.done t v ≡ i → s.release t i < v →
         (border_before s v b).bound t i ≡ true
     unfolding IsUnder
-    before_waits t i h early = ⊎_elim member chosen (member_before t i h) where
+    before_waits t i h next early = ⊎_elim member chosen (member_before t i h) where
       member : b.member t i ≡ true → (border_before s v b).bound t i ≡ true
-      member m = ⊎_elim
-          (λ (full : is_full s v b ≡ true).
-          subst (λ x. x ≡ true) (sym (full_bound t i full)) (sound.waits t i m (omega (arith, early))))
+      member m =
+          let still : s.done t (suc v) ≡ i = omega (arith, sound.behind t i m, done-next s ok t v, next) in
+          let bounded : b.bound t i ≡ true = sound.waits t i m still (omega (arith, early)) in
+          ⊎_elim (λ (full : is_full s v b ≡ true). subst (λ x. x ≡ true) (sym (full_bound t i full)) bounded)
           (λ (hole : is_full s v b ≡ false).
-          let waits = waits_at_hole s ok t i v b sound below hole m (omega (arith, early)) in
-          absurd (omega (arith, early, waits.begins)))
+          absurd (not_next s ok t i v b sound below hole m (omega (arith, early)) bounded next))
           (cases_Bool (is_full s v b))
 
       chosen : (is_chosen s v b t ≡ true) × (i ≡ s.done t v) → (border_before s v b).bound t i ≡ true

@@ -4,8 +4,10 @@ use Rattle.std.proofs.Math.Nat.{lt_of_mul-lt-mul_right, mul-le-mul_right}
 use Rattle.std.proofs.lemmas.Bool.{cases_lt, cases_Bool, and_parts, and_from, eqb-true, eq-eqb, both_ways, cond-true}
 use Rattle.pf_ideal.specs.Schedule.{Schedule, IsByReach, Reaches}
 use Rattle.pf_ideal.proofs.Flows.{flow, flow-rate, flow-late, flow-still, flow-early, flow-plus}
-use Rattle.pf_ideal.proofs.Windows.{offset-next, offset-rises, window-some, deadline-next, deadline-climbs, asked-rises}
+use Rattle.pf_ideal.proofs.Windows.{offset-next, offset-rises, window-some, deadline-climbs, asked-rises}
 use Rattle.pf_ideal.proofs.Quanta.{done-rises, done-few, runs_between}
+use Rattle.pf_ideal.proofs.Overdue.{overdue_is}
+use Rattle.pf_ideal.proofs.Holes.{inside_waiting}
 use Rattle.pf_ideal.proofs.Relevant as relevant
 
 -- what the relevant subtasks of a task have had of the ideal run where the task has asked for x, and by slot v
@@ -42,12 +44,12 @@ module _ (s : Schedule) (ok : IsByReach s) where
   slow t zero = omega arith
   slow t (suc k) = omega (arith, slow t k, ok.windows.within t)
 
-  lives : (t i : ℕ) → relevant.is_relevant s t i ≡ true → (i < s.done t s.end) ⊎ (s.missed t i ≡ true)
-  lives t i m = (relevant.sound s ok 0 (omega arith)).lives t i m
-
   is_inside : (t i v : ℕ) → v < s.end → relevant.is_relevant s t i ≡ true → s.release t i ≤ v → v < s.deadline t i →
       s.inside t v ≡ true
-  is_inside t i v below m from upto = ok.presence.through t i v below from upto (lives t i m)
+  is_inside t i v below m from upto = ⊎_elim
+      (λ ran. ok.presence.through t i v below from upto ran)
+      (λ late. ok.presence.stays t i v below from (overdue_is s t i late).0)
+      ((relevant.sound s ok 0 (omega arith)).lives t i m)
 
   asked-inside : (t v : ℕ) → s.inside t v ≡ true → asked_of s v t ≡ s.units t
   asked-inside t v there = cond-true (s.inside t v) (s.units t) 0 there
@@ -88,13 +90,21 @@ module _ (s : Schedule) (ok : IsByReach s) where
   gain_of_chosen t v n lt holes chosen =
       let e = suc n + v in
       let last : relevant.IsChosen s (n + v) t = relevant.chosen_onward s ok t v n (omega (arith, lt)) holes chosen in
-      let cross =
-      relevant.crossing s ok t (n + v) (omega (arith, lt)) (relevant.holes-last s ok v n holes) last in
+      let cross = relevant.crossing s ok t (n + v) (relevant.holes-last s ok v n holes) last in
       let i = s.done t (n + v) in
+      let behind = relevant.sound s ok (suc (n + v)) (omega (arith, lt)) in
       let there : s.inside t e ≡ true =
-      ok.presence.through t (suc i) e lt (omega (arith, cross.begins)) (omega (arith, cross.last, deadline-next s ok t i))
-      ((relevant.sound s ok (suc (n + v)) (omega (arith, lt))).lives t (suc i) cross.member) in
+      inside_waiting s ok t (suc i) e lt (behind.lives t (suc i) cross.member)
+      (omega (arith, behind.behind t (suc i) cross.member, ap (λ x. s.done t x) (plus n v)))
+      (omega (arith, cross.released)) in
       omega (arith, asked-inside t e there, slow t (suc n), flow-slots t v (suc e) (omega arith))
+    where
+      plus : (a b : ℕ) → suc a + b ≡ suc (a + b)
+      plus a b = omega arith
+
+  -- one that is chosen at n + 1 holes up to the end
+  pub gain_of_chosen_last : (t v n : ℕ) → flow_of s t (suc n + v) ≤ flow_of s t v + suc n * s.quantum
+  gain_of_chosen_last t v n = omega (arith, slow t (suc n), flow-slots t v (suc n + v) (omega arith))
 
   -- quanta and gaps add up
   offset-later : (t j n : ℕ) →
@@ -165,7 +175,7 @@ module _ (s : Schedule) (ok : IsByReach s) where
       )
 
   -- a task that is not chosen at n + 1 holes
-  module _ (t v n : ℕ) (lt : suc n + v < s.end) (holes : relevant.AreHoles s ok v n) (not : relevant.IsChosen s v t → ⊥) where
+  module _ (t v n : ℕ) (le : suc n + v ≤ s.end) (holes : relevant.AreHoles s ok v n) (not : relevant.IsChosen s v t → ⊥) where
     e : ℕ
     e = suc n + v
 
@@ -182,10 +192,10 @@ module _ (s : Schedule) (ok : IsByReach s) where
         let m' : relevant.is_relevant s t (s.done t run.0) ≡ true =
         subst (λ y. relevant.is_relevant s t y ≡ true) (sym run.4) m in
         let chosen : relevant.IsChosen s run.0 t =
-        relevant.relevant_chosen s ok t run.0 (omega (arith, run.2, lt)) m' run.3 in
+        relevant.relevant_chosen s ok t run.0 (omega (arith, run.2, le)) m' run.3 in
         let front = relevant.holes-front s ok v n k (omega (arith, run.2, run.1)) holes in
         absurd
-        (not (relevant.chosen_backward s ok t v k (omega (arith, run.2, run.1, lt)) front
+        (not (relevant.chosen_backward s ok t v k (omega (arith, run.2, run.1, le)) front
         (subst (λ z. relevant.IsChosen s z t) same chosen))))
         (λ ge. ge) (cases_lt l (s.done t (suc (n + v))))
 
@@ -194,95 +204,129 @@ module _ (s : Schedule) (ok : IsByReach s) where
     unfolding e
     released_after l m from = ⊎_elim
         (λ (early : s.release t l < suc n + v).
-        let member = relevant.relevant_member s ok t l (suc (n + v)) (omega (arith, lt)) m (unrun l m from) in
+        let member = relevant.relevant_member s ok t l (suc (n + v)) (omega (arith, le)) m (unrun l m from) in
         let waits =
-        relevant.waits_at s ok t l (n + v) (omega (arith, lt)) (relevant.holes-last s ok v n holes) member
+        relevant.waits_at s ok t l (n + v) (omega (arith, le)) (relevant.holes-last s ok v n holes) member
         (omega (arith, early)) in
-        absurd (not (relevant.chosen_backward s ok t v n (omega (arith, lt)) holes waits.chosen)))
+        absurd (not (relevant.chosen_backward s ok t v n (omega (arith, le)) holes waits.1)))
         (λ ge. ge) (cases_lt (s.release t l) (suc n + v))
 
     ran_due : (j : ℕ) → j < s.done t v → relevant.is_relevant s t j ≡ true → s.deadline t j ≤ suc v
-    ran_due j before m = relevant.ran_due s ok t j v (omega (arith, lt)) hole m before
+    ran_due j before m = relevant.ran_due s ok t j v (omega (arith, le)) hole m before
 
     offset_after : (j : ℕ) → s.done t v ≤ j → relevant.is_relevant s t j ≡ true → e * s.units t ≤ s.offset t j
     offset_after j from m =
         omega (arith, asked-rises s ok t e (s.release t j) (released_after j m from), ok.windows.released t j)
 
-    -- a subtask that ran is due right after the first hole
-    is_due : ℕ → Bool
-    is_due j = relevant.is_relevant s t j && (s.deadline t j == suc v)
-
-    -- where none is
-    gain_of_none : ((i : ℕ) → i < s.done t v → is_due i ≡ false) → flow_of s t (suc e) ≤ flow_of s t v + asked_of s e t
-    unfolding e is_due
-    gain_of_none none = ⊎_elim
-        (λ (there : s.inside t e ≡ true).
+    -- at holes up to the end: all that ran was due before, and nothing else is left
+    pub gain_of_other_last : suc n + v ≡ s.end → flow_of s t (suc n + v) ≤ flow_of s t v
+    unfolding e
+    gain_of_other_last last =
         omega (
           arith,
-          asked-inside t e there,
-          flow-apart t v (suc e * s.units t) (v * s.units t) (e * s.units t) (omega (arith, lt)) (omega arith) over offset_after,
-        ))
-        (λ (away : s.inside t e ≡ false).
-        omega (
-          arith,
-          flow-apart t v (suc e * s.units t) (v * s.units t) (suc e * s.units t) (omega (arith, lt)) (omega arith) over (later away),
-        ))
-        (cases_Bool (s.inside t e))
-      where
-        over : (j : ℕ) → j < s.done t v → relevant.is_relevant s t j ≡ true → s.offset t j + s.quantum ≤ v * s.units t
-        over j before m = ⊎_elim
-            (λ (same : s.deadline t j ≡ suc v).
-            absurd
-            (both_ways (is_due j) (none j before)
-            (and_from (relevant.is_relevant s t j) (s.deadline t j == suc v) m (eq-eqb (s.deadline t j) (suc v) same))))
-            (λ (le : s.deadline t j ≤ v). omega (arith, ok.windows.ends t j, asked-rises s ok t (s.deadline t j) v le))
-            (same_or_less (s.deadline t j) v (ran_due j before m)) where
-              same_or_less : (a b : ℕ) → a ≤ suc b → (a ≡ suc b) ⊎ (a ≤ b)
-              same_or_less a b le = ⊎_elim (λ x. inl (omega (arith, x, le))) (λ x. inr x) (cases_lt b a)
-
-        later : s.inside t e ≡ false → (j : ℕ) → s.done t v ≤ j → relevant.is_relevant s t j ≡ true →
-            suc e * s.units t ≤ s.offset t j
-        later away j from m =
-            let late : e ≤ s.release t j = released_after j m from in
-            ⊎_elim
-            (λ (more : e < s.release t j).
-            omega (arith, asked-rises s ok t (suc e) (s.release t j) more, ok.windows.released t j))
-            (λ (le : s.release t j ≤ e).
-            absurd (both_ways (s.inside t e) away (is_inside t j e lt m le (omega (arith, late, window-some s ok t j)))))
-            (cases_lt e (s.release t j))
-
-    -- where one is: by its reach the task is still inside, and what follows it comes late
-    gain_of_due : (j : ℕ) → j < s.done t v → is_due j ≡ true → flow_of s t (suc e) ≤ flow_of s t v + asked_of s e t
-    unfolding e is_due
-    gain_of_due j before is =
-        let both = and_parts (relevant.is_relevant s t j) (s.deadline t j == suc v) is in
-        let due : s.deadline t j ≡ suc v = eqb-true (s.deadline t j) (suc v) both.1 in
-        let u = relevant.ran_under s ok t j v (omega (arith, lt)) hole both.0 before in
-        let last = (relevant.crossing s ok u.0 v (omega (arith, lt)) hole u.1).last in
-        let far : Reaches s t j n =
-        ok.order.reach t j u.0 (s.done u.0 v) n u.2 (omega (arith, due, last))
-        (relevant.reaches s ok u.0 v n (omega (arith, lt)) holes u.1) in
-        let there : s.inside t e ≡ true =
-        ok.presence.past t j e n lt (omega (arith, before, done-rises s ok t v e (omega arith))) (omega (arith, due)) far in
-        let due_asked : s.deadline t j * s.units t ≡ suc v * s.units t = ap (λ z. z * s.units t) due in
-        omega (
-          arith,
-          asked-inside t e there,
-          ok.windows.ends t j,
-          ok.windows.due t j,
-          due_asked,
-          flow-apart t v (suc e * s.units t) (s.offset t j + s.quantum) (s.offset t j + s.quantum + suc n * s.units t)
-              (omega (arith, lt)) (omega (arith, ok.windows.due t j, due_asked))
-              (λ i ran m. no_later i (ran_due i ran m) due)
-              (λ l from m. late_offset t j l v n (omega (arith, before, from)) due far (released_after l m from)),
+          flow-apart t v (e * s.units t) (v * s.units t) (e * s.units t) (omega (arith, le)) (omega arith) first none_left,
         )
       where
-        no_later : (i : ℕ) → s.deadline t i ≤ suc v → s.deadline t j ≡ suc v →
-            s.offset t i + s.quantum ≤ s.offset t j + s.quantum
-        no_later i le due = ⊎_elim
-            (λ (more : j < i). absurd (omega (arith, le, due, deadline-climbs s ok t j i (omega (arith, more)), more)))
-            (λ (up : i ≤ j). omega (arith, offset-rises s ok t i j up)) (cases_lt j i)
+        first : (j : ℕ) → j < s.done t v → relevant.is_relevant s t j ≡ true → s.offset t j + s.quantum ≤ v * s.units t
+        first j before m =
+            let u = relevant.ran_under s ok t j v (omega (arith, le)) hole m before in
+            let due : s.deadline t j ≤ v =
+            omega (
+              arith,
+              ok.order.deadline t j u.0 (s.done u.0 v) u.2,
+              relevant.due_before s ok u.0 v n (omega (arith, last)) holes u.1,
+            ) in
+            omega (arith, ok.windows.ends t j, asked-rises s ok t (s.deadline t j) v due)
 
-    pub gain_of_other : flow_of s t (suc (suc n + v)) ≤ flow_of s t v + asked_of s (suc n + v) t
-    unfolding e
-    gain_of_other = ⊎_elim (λ it. gain_of_due it.0 it.1 it.2) gain_of_none (search_below is_due (s.done t v))
+        none_left : (j : ℕ) → s.done t v ≤ j → relevant.is_relevant s t j ≡ true → e * s.units t ≤ s.offset t j
+        none_left j from m =
+            absurd
+            (omega (
+              arith,
+              last,
+              released_after j m from,
+              window-some s ok t j,
+              (relevant.sound s ok 0 (omega arith)).due t j m,
+            ))
+
+    -- at holes that a full slot follows
+    module _ (lt : suc n + v < s.end) where
+      -- a subtask that ran is due right after the first hole
+      is_due : ℕ → Bool
+      is_due j = relevant.is_relevant s t j && (s.deadline t j == suc v)
+
+      -- where none is
+      gain_of_none : ((i : ℕ) → i < s.done t v → is_due i ≡ false) → flow_of s t (suc e) ≤ flow_of s t v + asked_of s e t
+      unfolding e is_due
+      gain_of_none none = ⊎_elim
+          (λ (there : s.inside t e ≡ true).
+          omega (
+            arith,
+            asked-inside t e there,
+            flow-apart t v (suc e * s.units t) (v * s.units t) (e * s.units t) (omega (arith, lt)) (omega arith) over offset_after,
+          ))
+          (λ (away : s.inside t e ≡ false).
+          omega (
+            arith,
+            flow-apart t v (suc e * s.units t) (v * s.units t) (suc e * s.units t) (omega (arith, lt)) (omega arith) over (later away),
+          ))
+          (cases_Bool (s.inside t e))
+        where
+          over : (j : ℕ) → j < s.done t v → relevant.is_relevant s t j ≡ true → s.offset t j + s.quantum ≤ v * s.units t
+          over j before m = ⊎_elim
+              (λ (same : s.deadline t j ≡ suc v).
+              absurd
+              (both_ways (is_due j) (none j before)
+              (and_from (relevant.is_relevant s t j) (s.deadline t j == suc v) m (eq-eqb (s.deadline t j) (suc v) same))))
+              (λ (le : s.deadline t j ≤ v). omega (arith, ok.windows.ends t j, asked-rises s ok t (s.deadline t j) v le))
+              (same_or_less (s.deadline t j) v (ran_due j before m)) where
+                same_or_less : (a b : ℕ) → a ≤ suc b → (a ≡ suc b) ⊎ (a ≤ b)
+                same_or_less a b le = ⊎_elim (λ x. inl (omega (arith, x, le))) (λ x. inr x) (cases_lt b a)
+
+          later : s.inside t e ≡ false → (j : ℕ) → s.done t v ≤ j → relevant.is_relevant s t j ≡ true →
+              suc e * s.units t ≤ s.offset t j
+          later away j from m =
+              let late : e ≤ s.release t j = released_after j m from in
+              ⊎_elim
+              (λ (more : e < s.release t j).
+              omega (arith, asked-rises s ok t (suc e) (s.release t j) more, ok.windows.released t j))
+              (λ (le : s.release t j ≤ e).
+              absurd (both_ways (s.inside t e) away (is_inside t j e lt m le (omega (arith, late, window-some s ok t j)))))
+              (cases_lt e (s.release t j))
+
+      -- where one is: by its reach the task is still inside, and what follows it comes late
+      gain_of_due : (j : ℕ) → j < s.done t v → is_due j ≡ true → flow_of s t (suc e) ≤ flow_of s t v + asked_of s e t
+      unfolding e is_due
+      gain_of_due j before is =
+          let both = and_parts (relevant.is_relevant s t j) (s.deadline t j == suc v) is in
+          let due : s.deadline t j ≡ suc v = eqb-true (s.deadline t j) (suc v) both.1 in
+          let u = relevant.ran_under s ok t j v (omega (arith, lt)) hole both.0 before in
+          let last : s.deadline u.0 (s.done u.0 v) ≡ suc v =
+          omega (arith, due, ok.order.deadline t j u.0 (s.done u.0 v) u.2, (relevant.crossing s ok u.0 v hole u.1).due) in
+          let far : Reaches s t j n =
+          ok.order.reach t j u.0 (s.done u.0 v) n u.2 (omega (arith, due, last))
+          (relevant.reaches s ok u.0 v n (omega (arith, lt)) holes u.1 last) in
+          let there : s.inside t e ≡ true =
+          ok.presence.past t j e n lt (omega (arith, before, done-rises s ok t v e (omega arith))) (omega (arith, due)) far in
+          let due_asked : s.deadline t j * s.units t ≡ suc v * s.units t = ap (λ z. z * s.units t) due in
+          omega (
+            arith,
+            asked-inside t e there,
+            ok.windows.ends t j,
+            ok.windows.due t j,
+            due_asked,
+            flow-apart t v (suc e * s.units t) (s.offset t j + s.quantum) (s.offset t j + s.quantum + suc n * s.units t)
+                (omega (arith, lt)) (omega (arith, ok.windows.due t j, due_asked))
+                (λ i ran m. no_later i (ran_due i ran m) due)
+                (λ l from m. late_offset t j l v n (omega (arith, before, from)) due far (released_after l m from)),
+          )
+        where
+          no_later : (i : ℕ) → s.deadline t i ≤ suc v → s.deadline t j ≡ suc v →
+              s.offset t i + s.quantum ≤ s.offset t j + s.quantum
+          no_later i le due = ⊎_elim
+              (λ (more : j < i). absurd (omega (arith, le, due, deadline-climbs s ok t j i (omega (arith, more)), more)))
+              (λ (up : i ≤ j). omega (arith, offset-rises s ok t i j up)) (cases_lt j i)
+
+      pub gain_of_other : flow_of s t (suc (suc n + v)) ≤ flow_of s t v + asked_of s (suc n + v) t
+      unfolding e
+      gain_of_other = ⊎_elim (λ it. gain_of_due it.0 it.1 it.2) gain_of_none (search_below is_due (s.done t v))

@@ -3,10 +3,11 @@ pub mod Sums
 pub mod Flows
 pub mod Windows
 pub mod Quanta
+pub mod Overdue
 pub mod Border
 pub mod Holes
 pub mod Borders
 pub mod Relevant
 pub mod Gains
 pub mod Blocks
-pub mod Misses
+pub mod Costs

@@ -32,18 +32,7 @@ pub count_by-mono : (p q : ℕ → Bool) (xs : List ℕ) → ((x : ℕ) → p x 
     count_by p xs ≤ count_by q xs
 count_by-mono p q xs imp = sum_by-mono (λ x. one (p x)) (λ x. one (q x)) xs (λ x. one-mono (p x) (q x) (imp x))
 
--- one that passes is counted
-pub count_by-some : (p : ℕ → Bool) (t : ℕ) (xs : List ℕ) → list_any (λ u. t == u) xs ≡ true → p t ≡ true →
-    1 ≤ count_by p xs
-count_by-some p t [] known h = absurd (false≢true known)
-count_by-some p t (x ∷ xs) known h = ⊎_elim
-    (λ (same : (t == x) ≡ true).
-    omega (arith, sum_by-cons (λ y. one (p y)) x xs, here same))
-    (λ rest. omega (arith, sum_by-cons (λ y. one (p y)) x xs, count_by-some p t xs rest h))
-    (or_cases (t == x) (list_any (λ u. t == u) xs) known) where
-      here : (t == x) ≡ true → 1 ≤ one (p x)
-      here same = one-mono true (p x) (λ _. subst (λ y. p y ≡ true) (eqb-true t x same) h)
-
+-- where some are counted, one passes
 pub count_by-found : (p : ℕ → Bool) (xs : List ℕ) → 1 ≤ count_by p xs → (x : ℕ) × (p x ≡ true)
 count_by-found p [] some = absurd (omega (arith, some))
 count_by-found p (x ∷ xs) some = ⊎_elim (λ (here : p x ≡ true). (x, here))

@@ -32,6 +32,10 @@ module _ (s : Schedule) (ok : IsByReach s) where
       (omega (arith, ok.windows.due t i, ok.windows.begins t (suc i), offset-next t i)) in
       omega arith
 
+  -- no later subtask is released sooner
+  pub release-rises : (t i j : ℕ) → i ≤ j → s.release t i ≤ s.release t j
+  release-rises t i j le = rises (s.release t) (λ n. omega (arith, window-some t n, release-next t n)) i j le
+
   -- what a task asks for in a slots, and in b
   pub asked-rises : (t a b : ℕ) → a ≤ b → a * s.units t ≤ b * s.units t
   asked-rises t a b le = mul-le-mul_right (s.units t) le

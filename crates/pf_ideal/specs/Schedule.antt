@@ -2,8 +2,8 @@
 -- group deadlines: tasks ask for processor time at constant rates, each quantum has a window, and an order says whose
 -- quantum goes first. Tasks come and go, and may be held back between one subtask and the next.
 -- Here a task's subtasks are numbered from 0: subtask i is the one that is next where i have run.
-use Rattle.std.specs.Prelude.{◌≡◌, ℕ, zero, suc, ◌+◌, ◌-◌, ◌*◌, ◌<◌, ◌≤◌, ◌==◌, ◌⊎◌, Bool, true, false, ◌&&◌, if◌then◌else◌, List, sum_by, count_by}
-use Rattle.std.specs.List.{list_any}
+use Rattle.std.specs.Prelude.{◌≡◌, ℕ, zero, suc, ◌+◌, ◌-◌, ◌*◌, ◌<◌, ◌≤◌, ◌==◌, Bool, true, false, ◌&&◌, nat_le, if◌then◌else◌, List, sum_by, count_by}
+use Rattle.std.specs.List.{list_any, range_with_len}
 
 pub record Schedule : Type 0 where
   -- the tasks, by number; the units that make a quantum, and how many of them a task asks for in each slot
@@ -24,9 +24,9 @@ pub record Schedule : Type 0 where
   pub inside : ℕ → ℕ → Bool
   -- how many processors are in use in a slot
   pub count : ℕ → ℕ
-  -- the slot up to which it goes, and which subtasks, of those due there, are missed
+  -- the slot up to which it goes, and which tasks stay up to there, once they are inside
   pub end : ℕ
-  pub missed : ℕ → ℕ → Bool
+  pub stays : ℕ → Bool
 
 -- the task is one of these
 abbrev pub is_task : Schedule → ℕ → Bool
@@ -68,21 +68,16 @@ pub record RunsInOrder (s : Schedule) : Type 0 where
   pub first : (t v : ℕ) → v < s.end → s.inside t v ≡ true → s.release t (s.done t v) ≤ v → s.runs t v ≡ false →
       s.count v ≤ count_by (λ u. s.runs u v && s.no_later u (s.done u v) t (s.done t v)) s.tasks
 
--- Presence: a task is inside through the window of each subtask that runs or is missed, and as far as a subtask that ran
--- reaches past its deadline: this is what the rule of leaving is for
+-- Presence: a task is inside from the release of each subtask that runs, through its window and until it runs, and as far
+-- as one that ran reaches past its deadline: this is what the rule of leaving is for. One that stays is inside from its
+-- first release to the end.
 pub record StaysInside (s : Schedule) : Type 0 where
-  pub through : (t i v : ℕ) → v < s.end → s.release t i ≤ v → v < s.deadline t i →
-      (i < s.done t s.end) ⊎ (s.missed t i ≡ true) → s.inside t v ≡ true
+  pub through : (t i v : ℕ) → v < s.end → s.release t i ≤ v → v < s.deadline t i → i < s.done t s.end →
+      s.inside t v ≡ true
+  pub until : (t i v u : ℕ) → s.release t i ≤ v → v ≤ u → u < s.end → s.runs t u ≡ true → s.inside t v ≡ true
   pub past : (t i v n : ℕ) → v < s.end → i < s.done t v → v ≡ s.deadline t i + n → Reaches s t i n →
       s.inside t v ≡ true
-
--- Misses: those that are looked at are the first. A subtask with an earlier deadline, of a task that is inside through
--- its window, ran in time.
-pub record MissesAreFirst (s : Schedule) : Type 0 where
-  pub none_before : (t i v : ℕ) → v < s.end → s.deadline t i < s.end → s.inside t v ≡ true → s.deadline t i ≤ suc v →
-      i < s.done t (s.deadline t i)
-  pub due : (t i : ℕ) → s.missed t i ≡ true → s.deadline t i ≡ s.end
-  pub late : (t i : ℕ) → s.missed t i ≡ true → s.done t s.end ≤ i
+  pub stays : (t i v : ℕ) → v < s.end → s.release t i ≤ v → s.stays t ≡ true → s.inside t v ≡ true
 
 -- the laws that the theorem rests on
 pub record IsByReach (s : Schedule) : Type 0 where
@@ -90,7 +85,14 @@ pub record IsByReach (s : Schedule) : Type 0 where
   pub order : RanksByReach s
   pub choice : RunsInOrder s
   pub presence : StaysInside s
-  pub misses : MissesAreFirst s
+
+-- subtask i is overdue at the end: it is due by then, it has not run, and its task stays
+abbrev pub is_overdue : Schedule → ℕ → ℕ → Bool
+is_overdue s t i = s.stays t && nat_le (s.deadline t i) s.end && nat_le (s.done t s.end) i
+
+-- how many of the task's subtasks are: none is due before its number
+abbrev pub overdue_of : Schedule → ℕ → ℕ
+overdue_of s t = count_by (is_overdue s t) (range_with_len 0 s.end)
 
 -- what the tasks inside ask of a slot
 abbrev pub load : Schedule → ℕ → ℕ

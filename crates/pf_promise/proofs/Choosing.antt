@@ -1,5 +1,5 @@
 -- A run serves its tasks in the order of PD2, by the shifts that stay.
-use Rattle.std.proofs.Common.{◌≡◌, ◌≢◌, ℕ, suc, ◌+◌, ◌-◌, ◌<◌, ◌≤◌, ◌==◌, ◌&&◌, Bool, true, false, not, nat_le, cond, if◌then◌else◌, max, List, [], ◌∷◌, ◌++◌, length, take, map, filter, get_or, sum_by, count_by, All, Contains, arith, refl, ap, ap₂, sym, ◌∙◌, subst, inl, inr, ⊎_elim}
+use Rattle.std.proofs.Common.{◌≡◌, ◌≢◌, ℕ, suc, ◌+◌, ◌-◌, ◌<◌, ◌≤◌, ◌==◌, ◌&&◌, Bool, true, false, not, cond, if◌then◌else◌, max, List, [], ◌∷◌, ◌++◌, length, take, map, filter, get_or, sum_by, count_by, All, Contains, arith, refl, ap, ap₂, sym, ◌∙◌, subst, inl, inr, ⊎_elim}
 use Rattle.std.specs.List.{list_any}
 use Rattle.std.proofs.lemmas.Bool.{cases_Bool, cases_lt, eqb-true, eq-eqb, both_ways, and_from, and_parts, not_from_false, false_from_ne_true}
 use Rattle.std.proofs.lemmas.List.{take_more, take-take, length-take-le, get_or_past}
@@ -31,14 +31,14 @@ use Rattle.pf_promise.proofs.Shifts.{no_slot, done-runs, done-idle, done-past, s
 use Rattle.pf_promise.proofs.Slots.{key_now, IsReady, ready_is, is_ready, RunsBy, runs_by, chosen_runs}
 use Rattle.pf_promise.proofs.Joining.{all_joined, task_at, demand_of, task_at-is, is_known}
 
--- subtask i, numbered from 0, is due at the slot `end`, before which its task didn't leave, and hasn't run before
+-- the deadline of subtask i, numbered from 0
 abbrev pub due_in : Plan → List Slot → ℕ → ℕ → ℕ
 due_in s r t i = deadline_of (task_at s r t).weight (suc i) + shift_of r (events_in_force s r (length r)) (task_at s r t) (suc i)
 
-abbrev pub is_late : Plan → List Slot → ℕ → ℕ → ℕ → Bool
-is_late s r end t i =
-    is_among (demand_of s r).tasks t && (due_in s r t i == end)
-    && leaves_after (events_in_force s r (length r)) (task_at s r t) end && nat_le (done r t end) i
+-- the task joined, and did not leave before the slot
+abbrev pub stays_to : Plan → List Slot → ℕ → ℕ → Bool
+stays_to s r end t =
+    is_among (demand_of s r).tasks t && leaves_after (events_in_force s r (length r)) (task_at s r t) end
 
 abbrev pub service_of : Plan → List Slot → ℕ → Service
 service_of s r end = record {
@@ -47,7 +47,7 @@ service_of s r end = record {
   inside = λ t v. list_any (λ (j : Joined). j.task == t) (inside s.settings.base (events_in_force s r (suc v)));
   count = λ v. count_of s.settings.processors (events_in_force s r (suc v));
   end = end;
-  missed = is_late s r end;
+  stays = stays_to s r end;
 }
 
 abbrev pub schedule_upto : Plan → List Slot → ℕ → Schedule

@@ -12,6 +12,9 @@ pub mod Choosing
 pub mod Presence
 pub mod Overloads
 pub mod Ran
+pub mod Overdue
 pub mod Counted
+pub mod Waiting
+pub mod Tardiness
 pub mod Promises
 pub mod Settings

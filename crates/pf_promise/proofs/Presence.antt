@@ -1,9 +1,9 @@
 -- A task of a run is inside through its windows and as far as its subtasks reach: by the rule of leaving, and because
 -- later delays hold back no subtask that ran.
-use Rattle.std.proofs.Common.{◌≡◌, ℕ, zero, suc, ◌+◌, ◌<◌, ◌≤◌, ◌==◌, ◌⊎◌, ◌&&◌, ◌||◌, Bool, true, false, not, nat_le, cond, if◌then◌else◌, Option, None, Some, List, [], ◌∷◌, ◌++◌, length, find, get_or, Contains, arith, refl, ap, sym, ◌∙◌, subst, inl, inr, ⊎_elim}
+use Rattle.std.proofs.Common.{◌≡◌, ℕ, zero, suc, ◌+◌, ◌<◌, ◌≤◌, ◌==◌, ◌⊎◌, ◌||◌, Bool, true, false, not, nat_le, cond, if◌then◌else◌, Option, None, Some, List, [], ◌∷◌, ◌++◌, length, find, get_or, Contains, arith, refl, ap, sym, ◌∙◌, subst, inl, inr, ⊎_elim}
 use Rattle.std.specs.List.{list_any}
 use Rattle.std.specs.Option.{option_map_or}
-use Rattle.std.proofs.lemmas.Bool.{cases_Bool, cases_lt, and_parts, eqb-true, eq-eqb, leb-true, le-leb, both_ways, or_cases, not_from_false, false≢true}
+use Rattle.std.proofs.lemmas.Bool.{cases_Bool, cases_lt, and_parts, eq-eqb, leb-true, le-leb, both_ways, or_cases, not_from_false, false≢true}
 use Rattle.std.proofs.lemmas.List.Elements.{All-contains, Contains-append_cases, filter_map-append}
 use Rattle.pf_weight.specs.Share.{Share, IsShare, is_heavy}
 use Rattle.pf_window.specs.Window.{release_of, deadline_of, bit_of}
@@ -23,7 +23,7 @@ use Rattle.pf_tally.specs.Misses.{due_of, leaves_after}
 use Rattle.pf_tally.proofs.Windows.{deadlines_rise, deadline_late}
 use Rattle.pf_tally.proofs.Subs.{Giver, from_filter_map}
 use Rattle.pf_ideal.specs.Schedule as ideal
-use Rattle.pf_ideal.specs.Schedule.{StaysInside, MissesAreFirst, IsByReach}
+use Rattle.pf_ideal.specs.Schedule.{StaysInside, IsByReach}
 use Rattle.pf_ideal.proofs.Rising.{rises}
 use Rattle.pf_reach.specs.Reach.{WindowsReach}
 use Rattle.pf_reach.proofs.Reaching.{group_deadlines_end_reach, reach_bit}
@@ -35,7 +35,7 @@ use Rattle.pf_promise.proofs.Shifts.{no_slot, done-rises, standing_below, contai
 use Rattle.pf_promise.proofs.Slots.{to_filter, none_found, inside_stays}
 use Rattle.pf_promise.proofs.Leaves.{last_due, free}
 use Rattle.pf_promise.proofs.Joining.{task_at, demand_of, IsKnown, known, is_task, is_demand, shift-rises}
-use Rattle.pf_promise.proofs.Choosing.{due_in, is_late, service_of, schedule_upto, shift_slot, counted, IsInside, inside_is, inside_known, runs_inside, choice}
+use Rattle.pf_promise.proofs.Choosing.{due_in, stays_to, service_of, schedule_upto, shift_slot, counted, IsInside, inside_is, inside_known, runs_inside, choice}
 
 join_slot : (base : ℕ) (event : Event) (j : Joined) → joined_by base event ≡ Some j → j.slot ≡ slot_of event
 join_slot base (Join slot task cost period early) j is = ap slot_or (sym is) where
@@ -90,6 +90,13 @@ module _ (s : Plan) (scenario : IsScenario s) (r : List Slot) (run : IsRun s (le
       ran_known t i v (omega (arith, le))
       (omega (arith, ran, counted s scenario r run t v, ap {B = ℕ} (λ b. if b then 1 else 0) idle)))
       (cases_Bool (runs t (get_or r v no_slot)))
+
+  -- what is in force by a slot is so by a later one
+  grown : (v u : ℕ) → v ≤ u → (x : Numbered) → Contains (events_in_force s r (suc v)) x →
+      Contains (events_in_force s r (suc u)) x
+  grown v u le x at =
+      let rest : Splits s r (suc v) (suc u) = splits s r (suc v) (suc u) (omega (arith, le)) in
+      subst (λ zs. Contains zs x) (sym rest.is) (contains_grown (events_in_force s r (suc v)) rest.rest x at)
 
   module _ (t : ℕ) (is : IsKnown s scenario r t) where
     abbrev j : Joined
@@ -230,7 +237,7 @@ module _ (s : Plan) (scenario : IsScenario s) (r : List Slot) (run : IsRun s (le
           omega (arith, below, leb-true due (slot_of y.event) h)
 
     -- a task that is inside leaves no sooner
-    inside_leaves_after : (due v : ℕ) → v < length r → due ≤ suc v → Contains (inside base (events_in_force s r (suc v))) j →
+    pub inside_leaves_after : (due v : ℕ) → v < length r → due ≤ suc v → Contains (inside base (events_in_force s r (suc v))) j →
         leaves_after end_now j due ≡ true
     inside_leaves_after due v lt le at = by (find (λ y. is_leave_of j.task y.event) end_now) refl where
       rest : Splits s r (suc v) (length r)
@@ -247,62 +254,36 @@ module _ (s : Plan) (scenario : IsScenario s) (r : List Slot) (run : IsRun s (le
           (λ later. omega (arith, le, All-contains (λ x. suc v ≤ slot_of x.event) rest.rest y rest.later later))
           (Contains-append_cases (events_in_force s r (suc v)) rest.rest y (subst (λ zs. Contains zs y) rest.is both.0)))
 
-  -- what is known of a subtask that is late
-  record IsLate (end t i : ℕ) : Type 0 where
-    task : IsKnown s scenario r t
-    due : due_in s r t i ≡ end
-    after : leaves_after end_now (task_at s r t) end ≡ true
-    late : done r t end ≤ i
-
-  late_is : (end t i : ℕ) → is_late s r end t i ≡ true → IsLate end t i
-  late_is end t i late =
-      let among = is_among (demand_of s r).tasks t in
-      let due = due_in s r t i == end in
-      let after = leaves_after end_now (task_at s r t) end in
-      let third = and_parts (among && due && after) (nat_le (done r t end) i) late in
-      let second = and_parts (among && due) after third.0 in
-      let first = and_parts among due second.0 in
-      record {
-        task = known s scenario r t first.0;
-        due = eqb-true (due_in s r t i) end first.1;
-        after = second.1;
-        late = leb-true (done r t end) i third.1;
-      }
-
-  -- every subtask with a deadline below the slot, and whose task did not leave before it, ran before it
-  abbrev pub IsTimely : ℕ → Type 0
-  IsTimely end = (t i : ℕ) → is_among (demand_of s r).tasks t ≡ true → due_in s r t i < end →
-      leaves_after end_now (task_at s r t) (due_in s r t i) ≡ true → i < done r t (due_in s r t i)
-
   module _ (end : ℕ) (within : end ≤ length r) where
     presence : StaysInside (schedule_upto s r end)
-    presence = record { through = through; past = past } where
+    presence = record { through = through; until = until; past = past; stays = stays } where
       joined_by_slot : (t i : ℕ) → (task_at s r t).slot ≤ shift_of r end_now (task_at s r t) (suc i)
       joined_by_slot t i = shift_slot r end_now (task_at s r t) (suc i)
 
       through : (t i v : ℕ) → v < end →
           release_of (task_at s r t).weight (suc i) + shift_of r end_now (task_at s r t) (suc i) ≤ v → v < due_in s r t i →
-          (i < done r t end) ⊎ (is_late s r end t i ≡ true) →
+          i < done r t end →
           list_any (λ (k : Joined). k.task == t) (inside base (events_in_force s r (suc v))) ≡ true
-      through t i v lt from upto which =
-          let slot : (task_at s r t).slot ≤ v = omega (arith, from, joined_by_slot t i) in
-          ⊎_elim
-          (λ (ran : i < done r t end).
+      through t i v lt from upto ran =
+          let below : v < length r = omega (arith, lt, within) in
           let at_end : i < done r t (length r) = omega (arith, ran, done-rises r t end (length r) within) in
           let task : IsKnown s scenario r t = known s scenario r t (ran_known t i end within ran) in
-          inside_unless t task v (omega (arith, lt, within)) slot
+          inside_unless t task v below (omega (arith, from, joined_by_slot t i))
           (λ x at leaves.
-          omega (
-            arith,
-            upto,
-            due_last t task i at_end,
-            left_free t task v i (omega (arith, lt, within)) at_end x at leaves,
-          )))
-          (λ (late : is_late s r end t i ≡ true).
-          let it : IsLate end t i = late_is end t i late in
-          inside_unless t it.task v (omega (arith, lt, within)) slot
-          (λ x at leaves. omega (arith, lt, leave_later t it.task end v (omega (arith, lt, within)) it.after x at leaves)))
-          which
+          omega (arith, upto, due_last t task i at_end, left_free t task v i below at_end x at leaves))
+
+      until : (t i v u : ℕ) →
+          release_of (task_at s r t).weight (suc i) + shift_of r end_now (task_at s r t) (suc i) ≤ v → v ≤ u → u < end →
+          runs t (get_or r u no_slot) ≡ true →
+          list_any (λ (k : Joined). k.task == t) (inside base (events_in_force s r (suc v))) ≡ true
+      until t i v u from upto lt running =
+          let later : u < length r = omega (arith, lt, within) in
+          let there = runs_inside s scenario r run u later t running in
+          let it : IsInside s scenario r run u later t = inside_is s scenario r run u later t there in
+          let task : IsKnown s scenario r t = known s scenario r t (inside_known s scenario r run u later t there) in
+          inside_unless t task v (omega (arith, later, upto)) (omega (arith, from, joined_by_slot t i))
+          (λ x at leaves.
+          inside_stays base (events_in_force s r (suc u)) (task_at s r t) x it.at (grown v u upto x at) leaves)
 
       past : (t i v n : ℕ) → v < end → i < done r t v → v ≡ due_in s r t i + n →
           ideal.Reaches (schedule_upto s r end) t i n →
@@ -317,29 +298,23 @@ module _ (s : Plan) (scenario : IsScenario s) (r : List Slot) (run : IsRun s (le
           (λ x at leaves.
           omega (arith, here, reach_last t task i n at_end reach, left_free t task v i below at_end x at leaves))
 
-    misses : IsTimely end → MissesAreFirst (schedule_upto s r end)
-    misses timely = record {
-      none_before = none_before;
-      due = λ t i late. (late_is end t i late).due;
-      late = λ t i late. (late_is end t i late).late;
-    } where
-      none_before : (t i v : ℕ) → v < end → due_in s r t i < end →
-          list_any (λ (k : Joined). k.task == t) (inside base (events_in_force s r (suc v))) ≡ true → due_in s r t i ≤ suc v →
-          i < done r t (due_in s r t i)
-      none_before t i v lt below there le =
-          let below_end : v < length r = omega (arith, lt, within) in
-          let among = inside_known s scenario r run v below_end t there in
-          let it : IsInside s scenario r run v below_end t = inside_is s scenario r run v below_end t there in
-          timely t i among below
-          (inside_leaves_after t (known s scenario r t among) (due_in s r t i) v below_end le it.at)
+      stays : (t i v : ℕ) → v < end →
+          release_of (task_at s r t).weight (suc i) + shift_of r end_now (task_at s r t) (suc i) ≤ v →
+          stays_to s r end t ≡ true →
+          list_any (λ (k : Joined). k.task == t) (inside base (events_in_force s r (suc v))) ≡ true
+      stays t i v lt from stay =
+          let below : v < length r = omega (arith, lt, within) in
+          let both = and_parts (is_among (demand_of s r).tasks t) (leaves_after end_now (task_at s r t) end) stay in
+          let task : IsKnown s scenario r t = known s scenario r t both.0 in
+          inside_unless t task v below (omega (arith, from, joined_by_slot t i))
+          (λ x at leaves. omega (arith, lt, leave_later t task end v below both.1 x at leaves))
 
-    pub is_by_reach : IsTimely end → IsByReach (schedule_upto s r end)
-    is_by_reach timely =
+    pub is_by_reach : IsByReach (schedule_upto s r end)
+    is_by_reach =
         let both = pd2_is_by_reach (demand_of s r) (service_of s r end) (is_demand s scenario r) in
         record {
           windows = both.windows;
           order = both.order;
           choice = choice s scenario r run end within;
           presence = presence;
-          misses = misses timely;
         }

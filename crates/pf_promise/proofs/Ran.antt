@@ -1,5 +1,5 @@
 -- A subtask ran before a slot by its picks where it did so by the count of its task's quanta.
-use Rattle.std.proofs.Common.{◌≡◌, ℕ, zero, suc, ◌+◌, ◌<◌, ◌≤◌, ◌==◌, ◌&&◌, Bool, true, false, not, nat_le, nat_lt, cond, if◌then◌else◌, Option, None, Some, List, [], ◌∷◌, length, position, get_or, Contains, arith, refl, ap, sym, ◌∙◌, subst, ⊎_elim}
+use Rattle.std.proofs.Common.{◌≡◌, ℕ, zero, suc, ◌+◌, ◌<◌, ◌≤◌, ◌==◌, ◌&&◌, Bool, true, false, not, nat_le, nat_lt, cond, if◌then◌else◌, Option, None, Some, List, [], ◌∷◌, length, position, get_or, Contains, arith, refl, ap, ◌∙◌, subst, ⊎_elim}
 use Rattle.std.specs.List.{list_any, position_or_len}
 use Rattle.std.specs.Option.{option_map_or}
 use Rattle.std.proofs.lemmas.Bool.{cases_Bool, cases_lt, and_parts, and_from, leb-true, leb-false, le-leb, lt-leb, lt-ltb, both_ways, cond-true, true≢false, true_from_ne_false}
@@ -13,7 +13,7 @@ use Rattle.pf_run.specs.Inside.{Joined}
 use Rattle.pf_run.specs.Run.{events_in_force, IsRun}
 use Rattle.pf_tally.specs.Misses.{due_of, ran_in, leaves_after, is_missed}
 use Rattle.pf_promise.proofs.Shifts.{no_slot, done-runs, done-rises}
-use Rattle.pf_promise.proofs.Joining.{all_joined, task_at, task_at-joined}
+use Rattle.pf_promise.proofs.Joining.{all_joined, task_at-joined}
 use Rattle.pf_promise.proofs.Choosing.{due_in, counted, runs_pick, picked_next}
 
 -- the first place that passes is no later than one that does
@@ -113,8 +113,3 @@ module _ (s : Plan) (scenario : IsScenario s) (r : List Slot) (run : IsRun s (le
   module _ (j : Joined) (at : Contains (all_joined s r) j) (i : ℕ) where
     pub due_in_is : due_in s r j.task i ≡ due_of r end_now j (suc i)
     due_in_is = ap (λ k. due_of r end_now k (suc i)) (task_at-joined s scenario r j at)
-
-    pub after_in : leaves_after end_now j (due_of r end_now j (suc i)) ≡ true →
-        leaves_after end_now (task_at s r j.task) (due_in s r j.task i) ≡ true
-    after_in after =
-        subst (λ k. leaves_after end_now k (due_of r end_now k (suc i)) ≡ true) (sym (task_at-joined s scenario r j at)) after

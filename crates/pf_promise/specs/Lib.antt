@@ -3,6 +3,8 @@ pub use Rattle.pf_scenario.specs.Edit
 pub use Rattle.pf_run.specs.Record
 pub use Rattle.pf_run.specs.Inside
 pub use Rattle.pf_run.specs.Run
+pub use Rattle.pf_tally.specs.Figures
 pub use Rattle.pf_tally.specs.Misses
 pub mod Load
+pub mod Overdue
 pub mod Laws

@@ -2,7 +2,7 @@
 //! the load, no window is missed, whatever joins, leaves and is delayed.
 #![tactic(auto)]
 
-ghost use Rattle.pf_promise.specs.Laws.{LoadIsWithinCap, MissCostsQuantum, MissesCostQuanta, NoWindowIsMissed, SettingsSuffice};
+ghost use Rattle.pf_promise.specs.Laws.{LatenessCostsQuanta, LoadIsWithinCap, MissCostsQuantum, MissesCostQuanta, NoWindowIsMissed, OverdueCostsQuanta, SettingsSuffice, TardinessCostsQuanta, TardinessIsBounded};
 
 /// The load never passes the cap, at every point of every run.
 pub fn the_load_never_passes_the_cap()
@@ -14,10 +14,32 @@ pub fn a_miss_costs_a_quantum()
     ensures { MissCostsQuantum }
 {}
 
-/// As many windows as a run misses with the first deadline of a miss, so many whole quanta of overload lie in the slots
-/// below that deadline, at the least.
+/// As many windows as a run misses with one deadline, so many whole quanta of overload lie in the slots below that
+/// deadline, at the least.
 pub fn misses_cost_quanta()
     ensures { MissesCostQuanta }
+{}
+
+/// As many windows as are overdue at a slot, so many whole quanta of overload lie in the slots below it, at the least: of
+/// every slot and every run, however many windows of a task are overdue, and whatever was missed before.
+pub fn overdue_costs_quanta()
+    ensures { OverdueCostsQuanta }
+{}
+
+/// A window that is overdue at a slot, and so comes late by so and so many slots, cost as many quanta of overload before
+/// its deadline. What is asked for after the deadline makes nothing later.
+pub fn lateness_costs_quanta()
+    ensures { LatenessCostsQuanta }
+{}
+
+/// A missed window whose subtask ran some slots late cost as many quanta of overload before its deadline.
+pub fn tardiness_costs_quanta()
+    ensures { TardinessCostsQuanta }
+{}
+
+/// No task of a run is tardy by more slots than the run's overload has quanta.
+pub fn tardiness_is_bounded()
+    ensures { TardinessIsBounded }
 {}
 
 /// A run whose load is within the processors in use, in each slot, misses no window.

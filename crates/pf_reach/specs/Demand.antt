@@ -21,14 +21,14 @@ pub record IsDemand (d : Demand) : Type 0 where
   pub rise : (t i : ℕ) → d.shift t i ≤ d.shift t (suc i)
 
 -- of a task and a slot: it runs there, how many of its subtasks ran below, it is inside; how many processors are in use
--- in a slot; the slot up to which the schedule goes, and which subtasks are missed there, numbered from 0
+-- in a slot; the slot up to which the schedule goes, and which tasks stay up to there, once they are inside
 pub record Service : Type 0 where
   pub runs : ℕ → ℕ → Bool
   pub done : ℕ → ℕ → ℕ
   pub inside : ℕ → ℕ → Bool
   pub count : ℕ → ℕ
   pub end : ℕ
-  pub missed : ℕ → ℕ → Bool
+  pub stays : ℕ → Bool
 
 -- the key of a task's subtask, numbered from 0
 abbrev pub key_in : Demand → ℕ → ℕ → Priority
@@ -50,5 +50,5 @@ schedule_of d g = record {
   inside = g.inside;
   count = g.count;
   end = g.end;
-  missed = g.missed;
+  stays = g.stays;
 }

@@ -1,11 +1,10 @@
--- A schedule that PD2's rule allows, up to a slot, keeps the laws of schedules by deadline and reach, where each subtask
--- with a deadline below that slot ran before its deadline.
-use Rattle.std.proofs.Common.{◌≡◌, ℕ, zero, suc, ◌+◌, ◌<◌, ◌≤◌, ◌==◌, Bool, true, false, not, ◌&&◌, nat_le, if◌then◌else◌, count_by, arith, refl, ap, sym, subst, ⊎_elim}
-use Rattle.std.proofs.lemmas.Bool.{cases_Bool, and_parts, and_from, leb-true, eqb-true, not_from_false}
+-- A schedule that PD2's rule allows, up to a slot, keeps the laws of schedules by deadline and reach.
+use Rattle.std.proofs.Common.{◌≡◌, ℕ, zero, suc, ◌+◌, ◌<◌, ◌≤◌, Bool, true, false, not, ◌&&◌, if◌then◌else◌, count_by, arith, refl, ap, sym, subst, ⊎_elim}
+use Rattle.std.proofs.lemmas.Bool.{cases_Bool, and_parts, and_from, not_from_false}
 use Rattle.pf_window.specs.Window.{release_of, deadline_of}
 use Rattle.pf_order.specs.Priority.{Priority, precedes}
 use Rattle.pf_order.specs.KeyOf.{key_of}
-use Rattle.pf_ideal.specs.Schedule.{Schedule, IsByReach, RunsInOrder, StaysInside, MissesAreFirst}
+use Rattle.pf_ideal.specs.Schedule.{Schedule, IsByReach, RunsInOrder, StaysInside}
 use Rattle.pf_ideal.proofs.Sums.{count_by-mono}
 use Rattle.pf_reach.specs.Demand.{Service, key_in, schedule_of}
 use Rattle.pf_reach.proofs.Keys.{preceding_not_behind}
@@ -18,10 +17,6 @@ use Rattle.pf_static.proofs.Weights.{weight_or, demand_of, weight-known, is_dema
 abbrev pub due_of : Periodic → ℕ → ℕ → ℕ
 due_of p t i = deadline_of (weight_or p t) (suc i) + 0
 
--- subtask i is due at the slot `end`, and hasn't run before
-abbrev pub is_late : Periodic → (ℕ → ℕ → Bool) → ℕ → ℕ → ℕ → Bool
-is_late p runs end t i = is_task_of p t && (due_of p t i == end) && nat_le (received_of runs t end) i
-
 abbrev pub service_of : Periodic → (ℕ → ℕ → Bool) → ℕ → Service
 service_of p runs end = record {
   runs = runs;
@@ -29,15 +24,11 @@ service_of p runs end = record {
   inside = λ t v. is_task_of p t;
   count = λ v. p.processors;
   end = end;
-  missed = is_late p runs end;
+  stays = is_task_of p;
 }
 
 abbrev pub schedule_upto : Periodic → (ℕ → ℕ → Bool) → ℕ → Schedule
 schedule_upto p runs end = schedule_of (demand_of p) (service_of p runs end)
-
--- every subtask with a deadline below the slot ran before it
-abbrev pub IsTimely : Periodic → (ℕ → ℕ → Bool) → ℕ → Type 0
-IsTimely p runs end = (t i : ℕ) → is_task_of p t ≡ true → due_of p t i < end → i < received_of runs t (due_of p t i)
 
 module _ (p : Periodic) (runs : ℕ → ℕ → Bool) (is : IsFeasible p) (pd2 : IsPD2 p runs) where
   ran_known : (t i v : ℕ) → i < received_of runs t v → is_task_of p t ≡ true
@@ -87,36 +78,15 @@ module _ (p : Periodic) (runs : ℕ → ℕ → Bool) (is : IsFeasible p) (pd2 :
             (not_from_false (precedes (key_of_next t) (key_of_next u))
             (subst (λ k. precedes (key_of_next t) k ≡ false) (key-known u v (pd2.known u v both.0)) behind'))
 
-  misses : (end : ℕ) → IsTimely p runs end → MissesAreFirst (schedule_upto p runs end)
-  misses end timely = record {
-    none_before = λ t i v below lt known le. timely t i known lt;
-    due = λ t i late. (late_parts t i late).1;
-    late = λ t i late. (late_parts t i late).2;
-  } where
-    late_parts : (t i : ℕ) → is_late p runs end t i ≡ true →
-        (is_task_of p t ≡ true) × (due_of p t i ≡ end) × (received_of runs t end ≤ i)
-    late_parts t i late =
-        let both = and_parts (is_task_of p t && (due_of p t i == end)) (nat_le (received_of runs t end) i) late in
-        let first = and_parts (is_task_of p t) (due_of p t i == end) both.0 in
-        (first.0, eqb-true (due_of p t i) end first.1, leb-true (received_of runs t end) i both.1)
-
   presence : (end : ℕ) → StaysInside (schedule_upto p runs end)
   presence end = record {
-    through = λ t i v below from upto which.
-        ⊎_elim (λ ran. ran_known t i end ran)
-        (λ late. (and_parts (is_task_of p t) (due_of p t i == end)
-        (and_parts (is_task_of p t && (due_of p t i == end)) (nat_le (received_of runs t end) i) late).0).0)
-        which;
+    through = λ t i v below from upto ran. ran_known t i end ran;
+    until = λ t i v u from upto below running. pd2.known t u running;
     past = λ t i v n below ran here far. ran_known t i v ran;
+    stays = λ t i v below from known. known;
   }
 
-  pub is_by_reach : (end : ℕ) → IsTimely p runs end → IsByReach (schedule_upto p runs end)
-  is_by_reach end timely =
+  pub is_by_reach : (end : ℕ) → IsByReach (schedule_upto p runs end)
+  is_by_reach end =
       let both = pd2_is_by_reach (demand_of p) (service_of p runs end) (is_demand p is) in
-      record {
-        windows = both.windows;
-        order = both.order;
-        choice = choice end;
-        presence = presence end;
-        misses = misses end timely;
-      }
+      record { windows = both.windows; order = both.order; choice = choice end; presence = presence end }
