@@ -1,0 +1,3 @@
+mod Pigeonhole
+mod Eligible
+mod Missed

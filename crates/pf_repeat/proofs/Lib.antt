@@ -1,0 +1,6 @@
+mod Shifted
+mod Ordered
+mod Start
+mod Choices
+mod Spans
+mod Repeats
