@@ -73,7 +73,7 @@ key_is : (q : List Slot) (xs : List Numbered) (j : Joined) →
 unfolding member_of
 key_is q xs j = refl
 
-eligible_is : (q : List Slot) (xs : List Numbered) (j : Joined) →
+pub eligible_is : (q : List Slot) (xs : List Numbered) (j : Joined) →
     eligible_from (member_of q xs j) ≡ max j.slot (release_of j.weight (next_sub q j.task) + shift_of q xs j (next_sub q j.task) - j.early)
 unfolding member_of
 eligible_is q xs j = refl
@@ -97,7 +97,7 @@ module _ (s : Plan) (scenario : IsScenario s) (r : List Slot) (run : IsRun s (le
     abbrev front : List Slot
     front = take v r
 
-    front_length : length front ≡ v
+    pub front_length : length front ≡ v
     front_length = length-take-le v r (omega (arith, lt))
 
     next : IsNextSlot s front (get_or r v no_slot)
@@ -137,11 +137,11 @@ module _ (s : Plan) (scenario : IsScenario s) (r : List Slot) (run : IsRun s (le
     unfolding done
     done_front j u le = ap (count_by (runs j.task)) (take-take u v r le)
 
-    sub_front : (j : Joined) → next_sub front j.task ≡ sub_at r j v
+    pub sub_front : (j : Joined) → next_sub front j.task ≡ sub_at r j v
     sub_front j =
         ap (λ n. n + 1) (ap (λ u. done front j.task u) front_length ∙ done_front j v (omega arith))
 
-    shift_front : (j : Joined) → shift_of front now j (next_sub front j.task) ≡ shift_at s r j v
+    pub shift_front : (j : Joined) → shift_of front now j (next_sub front j.task) ≡ shift_at s r j v
     shift_front j =
         ap (λ i. shift_of front now j i) (sub_front j)
         ∙ shift-slots front r now j (sub_at r j v) v early (λ u le. done_front j u le) where

@@ -37,7 +37,7 @@ use Rattle.pf_promise.proofs.Leaves.{last_due, free}
 use Rattle.pf_promise.proofs.Joining.{task_at, demand_of, IsKnown, known, is_task, is_demand, shift-rises}
 use Rattle.pf_promise.proofs.Choosing.{due_in, stays_to, service_of, schedule_upto, shift_slot, counted, IsInside, inside_is, inside_known, runs_inside, choice}
 
-join_slot : (base : ℕ) (event : Event) (j : Joined) → joined_by base event ≡ Some j → j.slot ≡ slot_of event
+pub join_slot : (base : ℕ) (event : Event) (j : Joined) → joined_by base event ≡ Some j → j.slot ≡ slot_of event
 join_slot base (Join slot task cost period early) j is = ap slot_or (sym is) where
   slot_or : Option Joined → ℕ
   slot_or None = 0

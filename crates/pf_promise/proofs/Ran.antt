@@ -37,7 +37,7 @@ module _ (s : Plan) (scenario : IsScenario s) (r : List Slot) (run : IsRun s (le
   not_before j i due = option_map_or (λ t. nat_le due t) (ran_in r j (suc i)) true
 
   -- the slot in which a subtask ran
-  slot_of_sub : (t i v : ℕ) → v ≤ length r → i < done r t v →
+  pub slot_of_sub : (t i v : ℕ) → v ≤ length r → i < done r t v →
       (u : ℕ) × (u < v) × (runs t (get_or r u no_slot) ≡ true) × (done r t u ≡ i)
   unfolding done
   slot_of_sub t i zero le ran = absurd (omega (arith, ran))

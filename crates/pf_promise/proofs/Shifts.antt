@@ -164,7 +164,7 @@ pub done-front : (q more : List Slot) (task t : ℕ) → t ≤ length q → done
 unfolding done
 done-front q more task t le = ap (λ z. count_by (runs task) z) (take-append-le t q more le)
 
-next_release_of : (q : List Slot) (xs : List Numbered) (j : Joined) →
+pub next_release_of : (q : List Slot) (xs : List Numbered) (j : Joined) →
     next_release (member_of q xs j) ≡ release_of j.weight (next_sub q j.task) + shift_of q xs j (next_sub q j.task)
 unfolding member_of
 next_release_of q xs j = refl

@@ -46,7 +46,7 @@ backs_are r j u (x ∷ xs) before =
     ∙ sym (sum_by-cons (λ x. delay_from j x.event) x xs)
 
 -- the shift that a delay at slot u found
-found_shift : (r : List Slot) (j : Joined) (u : ℕ) (before : List Numbered) → All (λ x. slot_of x.event ≤ u) before →
+pub found_shift : (r : List Slot) (j : Joined) (u : ℕ) (before : List Numbered) → All (λ x. slot_of x.event ≤ u) before →
     shift_of r before j (next_at r j u) ≡ j.slot + sum_by (λ x. delay_from j x.event) before
 unfolding shift_of
 found_shift r j u before earlier = ap (λ n. j.slot + n) (backs_are r j u before earlier)

@@ -88,7 +88,7 @@ in_force_below s n denials =
     All-filter (λ x. not (is_denied denials x)) (λ x. slot_of x.event < n) (past s n)
     (λ k d within. past_below s n (get_or (past s n) k d) (Contains-get_or (past s n) k d within))
 
-in_force_rises : (s : Plan) (n : ℕ) (denials : List Denied) → RiseFrom 0 (in_force denials (past s n))
+pub in_force_rises : (s : Plan) (n : ℕ) (denials : List Denied) → RiseFrom 0 (in_force denials (past s n))
 unfolding in_force
 in_force_rises s n denials =
     rise_from_pairs 0 (filter (λ x. not (is_denied denials x)) (past s n))

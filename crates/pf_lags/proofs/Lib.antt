@@ -1,0 +1,9 @@
+pub mod Clocks
+pub mod Eligible
+pub mod Stays
+pub mod Above
+pub mod Below
+pub mod Within
+pub mod Stops
+pub mod Showing
+pub mod Responses
