@@ -2,6 +2,10 @@ pub mod Counting
 pub mod Digits
 pub mod FieldExamples
 pub mod GrammarExamples
+pub mod Lines
+pub mod Opening
 pub mod Places
+pub mod Reading
 pub mod Records
 pub mod ScriptExamples
+pub mod ToldExamples

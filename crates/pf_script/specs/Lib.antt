@@ -1,5 +1,11 @@
 pub use Rattle.csv.specs.Records
 pub use Rattle.pf_scenario.specs.System
+pub mod Answers
 pub mod Fields
 pub mod Grammar
+pub mod Left
+pub mod Opened
+pub mod Parsing
+pub mod Places
 pub mod Script
+pub mod Told

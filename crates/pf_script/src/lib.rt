@@ -1,9 +1,19 @@
-//! Records and lines of scripts. The one contract of this crate: the records are those of the script's bytes, and each
-//! is the line that its version's grammar says, or none.
+//! What scripts tell. The one contract of this crate: a reader answers record by record what the script's bytes tell, or the
+//! first thing that is wrong with a record.
 #![tactic(auto)]
 
+pub mod fault;
 pub mod fields;
 pub mod grammar;
 pub mod line;
+pub mod line_reader;
+pub mod opened;
+pub mod parse;
+mod place;
+pub mod reader;
+pub mod record;
+mod record_lines;
 pub mod script;
+pub mod stage;
+pub mod state;
 pub mod version;

@@ -1,0 +1,59 @@
+use crate::fault::ScriptFault;
+use crate::reader::ScriptReader;
+use crate::record::{LineTold, Record};
+use csv::ByteRecord;
+use std::marker::Model;
+
+/// The records after a script's settings, up to the first fault. Contracts see it as what is left of them.
+#[derive(Drop)]
+pub struct LineReader<'a> {
+    reader: ScriptReader<'a>,
+}
+
+impl<'a> Model for LineReader<'a> {
+    ghost use Rattle.pf_script.specs.Answers.{AreLines};
+    ghost use Rattle.pf_script.specs.Told.{LinesTold, rest_in};
+
+    ghost Value = { LinesTold };
+
+    ghost view = { λ r. rest_in r.reader };
+
+    ghost invariant = { λ r. AreLines r.reader };
+}
+
+impl<'a> LineReader<'a> {
+    ghost use Rattle.std.specs.Prelude.{◌≡◌};
+    ghost use Rattle.csv.specs.Records.{fields_of};
+    ghost use Rattle.pf_script.specs.Answers.{AreLines, ReadsLine};
+    ghost use Rattle.pf_script.specs.Told.{rest_in};
+
+    /// The records that a reader has left after the settings.
+    pub(crate) fn new(reader: ScriptReader<'a>) -> Self
+        requires { AreLines reader }
+        ensures { result ≡ rest_in reader.entry }
+    {
+        LineReader { reader }
+    }
+
+    /// The next record after the settings, whose fields are then in `row`; `None` after the last one.
+    ///
+    /// # Errors
+    ///
+    /// `Bad` at the first record that is none of the script's, and `Memory` where memory is refused. Nothing is then
+    /// promised of a further call.
+    pub fn next(&mut self, row: &mut ByteRecord) -> Result<Option<LineTold>, ScriptFault>
+        ensures { ReadsLine result (fields_of row.new) self.old self.new }
+    {
+        let Some(told) = self.reader.next(row)? else {
+            return Ok(None);
+        };
+        let Record::Asks(asks) = told.says else {
+            unreachable!()
+        };
+        Ok(Some(LineTold {
+            number: told.number,
+            line: told.line,
+            asks,
+        }))
+    }
+}

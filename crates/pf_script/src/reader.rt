@@ -1,0 +1,109 @@
+ghost use Rattle.std.specs.Prelude.{ℕ, List, ◌∷◌};
+ghost use Rattle.pf_script.specs.Answers.{ReadsNext};
+ghost use Rattle.pf_script.specs.Told.{Reading, reading};
+
+use crate::fault::{BadRecord, RecordFault, ScriptFault};
+use crate::fields::Fields;
+use crate::record::{Record, RecordTold};
+use crate::record_lines::RecordLines;
+use crate::script::Script;
+use crate::state::ScriptState;
+use csv::ByteRecord;
+use std::alloc::Global;
+use std::marker::Model;
+
+/// A script that is read record by record, one of which is in memory at a time, in the record of the caller's. Contracts see
+/// it as the list of what is left to read: records, and faults.
+#[derive(Drop)]
+pub struct ScriptReader<'a> {
+    records: Script<'a>,
+    places: RecordLines<'a>,
+    state: ScriptState,
+    // How many records were read.
+    number: u64,
+    ended: bool,
+}
+
+impl<'a> Model for ScriptReader<'a> {
+    ghost use Rattle.std.specs.Prelude.{◌+◌, ◌<◌, ◌-◌, ◌^◌, List, [], length, if◌then◌else◌};
+    ghost use Rattle.pf_script.specs.Left.{lines_left};
+    ghost use Rattle.pf_script.specs.Told.{Reading, readings_from};
+
+    ghost Value = { List Reading };
+
+    ghost view = { λ r. if r.ended then [] else readings_from r.state (r.number + 1) (lines_left r.places) r.records };
+
+    ghost invariant = { λ r. r.number + length r.records < 2 ^ 64 - 1 };
+}
+
+impl<'a> ScriptReader<'a> {
+    ghost use Rattle.std.specs.Prelude.{◌≡◌, ◌+◌, ◌<◌, ◌-◌, ◌^◌, length};
+    ghost use Rattle.csv.specs.Records.{fields_of};
+    ghost use Rattle.pf_script.specs.Answers.{ReadsNext};
+    ghost use Rattle.pf_script.specs.Told.{readings};
+
+    /// All records of a script. A byte order mark before the first one is passed over.
+    pub fn new(alloc: Global, bytes: &'a [u8]) -> Self
+        ensures { result ≡ readings bytes.now }
+    {
+        ScriptReader {
+            records: Script::new(alloc, bytes),
+            places: RecordLines::new(bytes),
+            state: ScriptState::new(),
+            number: 0,
+            ended: false,
+        }
+    }
+
+    /// The next record, whose fields are then in `row`; `None` after the last one.
+    ///
+    /// # Errors
+    ///
+    /// `Bad` at a record that is none of the script's: the next call goes on as though it had not been there. `Missing` at the
+    /// end of a script without settings, once. `Memory` where memory is refused: nothing is left to read.
+    pub fn next(&mut self, row: &mut ByteRecord) -> Result<Option<RecordTold>, ScriptFault>
+        ensures { ReadsNext result (fields_of row.new) self.old self.new }
+    {
+        if self.ended {
+            return Ok(None);
+        }
+        let Ok(found) = self.records.next(row) else {
+            self.ended = true;
+            return Err(ScriptFault::Memory);
+        };
+        let line = self.places.next_line();
+        if !found {
+            self.ended = true;
+            row.clear();
+            return match self.state.end_fault() {
+                Some(fault) => Err(ScriptFault::Missing(BadRecord {
+                    number: self.number + 1,
+                    line,
+                    fault,
+                })),
+                None => Ok(None),
+            };
+        }
+        self.number += 1;
+        let said = self.state.take(&Fields::new(row));
+        answer(self.number, line, said)
+    }
+}
+
+/// The answer to a record of this number, which begins on this line and says this.
+fn answer(
+    number: u64,
+    line: u64,
+    said: Result<Record, RecordFault>,
+) -> Result<Option<RecordTold>, ScriptFault>
+    ensures { (fields : List (List ℕ)) (rest : List Reading) → ReadsNext result fields (reading number line fields said ∷ rest) rest }
+{
+    match said {
+        Ok(says) => Ok(Some(RecordTold { number, line, says })),
+        Err(fault) => Err(ScriptFault::Bad(BadRecord {
+            number,
+            line,
+            fault,
+        })),
+    }
+}

@@ -1,0 +1,47 @@
+use crate::line::Line;
+use crate::version::Version;
+use pf_scenario::settings::Settings;
+
+/// The settings that a script opens with.
+#[derive(Clone, Copy, Debug, PartialEq, Eq)]
+pub struct ScriptSettings {
+    /// The version of the script.
+    pub version: Version,
+    /// What the scenario is set in.
+    pub settings: Settings,
+    /// The distance of checkpoints in slots, 1 to `LARGEST_DISTANCE`.
+    pub every: u64,
+}
+
+/// What a record of a script says.
+#[derive(Clone, Copy, Debug, PartialEq, Eq)]
+pub enum Record {
+    /// The script is of the second version.
+    Heading,
+    /// The settings.
+    Settings(ScriptSettings),
+    /// After the settings, what a desk is asked for.
+    Asks(Line),
+}
+
+/// A record that was read, and where it stands.
+#[derive(Clone, Copy, Debug, PartialEq, Eq)]
+pub struct RecordTold {
+    /// Its number, counted from 1.
+    pub number: u64,
+    /// The line of the file on which it begins, counted from 1.
+    pub line: u64,
+    /// What it says.
+    pub says: Record,
+}
+
+/// A record after the settings, and where it stands.
+#[derive(Clone, Copy, Debug, PartialEq, Eq)]
+pub struct LineTold {
+    /// Its number, counted from 1.
+    pub number: u64,
+    /// The line of the file on which it begins, counted from 1.
+    pub line: u64,
+    /// What it asks for.
+    pub asks: Line,
+}
