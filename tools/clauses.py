@@ -2,7 +2,8 @@
 
 A clause is named by its function, as the prover names it but for the crate, and then by its own name: of `ensures NAME { .. }`
 that is NAME, of an `ensures` without a name `ensures`, and of all else the name that the prover gives the goal, as
-`invariant_of-result`, `push-requires` or `loop-t-preserved`.
+`invariant_of-result`, `push-requires` or `loop-t-preserved`. That a function ends, which one that calls itself has to prove by
+a measure, is its clause `measure`.
 """
 import re
 
@@ -57,7 +58,7 @@ def open_clauses(crate, text):
         elif unproved:
             pending.append((unproved[1], mark_of(unproved[2])))
         elif stands:
-            for goal, mark in pending:
+            for goal, mark in pending + [("measure", SEARCHED)] * ("expected a measure in" in stands[2]):
                 add(stands[1], goal, mark)
             pending = []
     return found
