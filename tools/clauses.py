@@ -15,7 +15,7 @@ NAMED = re.compile(r".*-clause-([\w']+?)(?:-\d+)?")
 # how a function stands.
 UNPROVED = re.compile(r"note: \S+?:\d+:\d+: .*\(`([^`]+)`\)(.*)")
 REFUSED = re.compile(r"(?:\./)?proofs/(\S+)/Answers\.antt:\d+:\d+: error: `([^`]+)`: (.*)")
-RESTING = re.compile(r"(?:\./)?proofs/(\S+)/Answers\.antt:\d+:\d+: error: \d+ declarations? that depends? .* not checked: (.*)")
+RESTING = re.compile(r"(?:\./)?proofs/(\S+)/Answers\.antt:\d+:\d+: error: \d+ declarations? that depends? on `([^`]+)`.* not checked: (.*)")
 STANDS = re.compile(r"fn ([\w:+]+): (.*)")
 
 # What an answer is refused with that names what is no longer there. It says nothing of the clause.
@@ -41,29 +41,6 @@ def mark_of(said):
     return LIMIT if "one of its limits" in said else SEARCHED
 
 
-def open_clauses(crate, text):
-    """Of each clause that is left open in what the prover said, what is known of it, by its function and its name."""
-    found, pending = {}, []
-
-    def add(function, goal, mark):
-        found.setdefault((function.removeprefix(f"{crate}::"), clause_of(goal)), set()).add(mark)
-
-    for line in text.split("\n"):
-        unproved, refused, resting, stands = (it.match(line) for it in (UNPROVED, REFUSED, RESTING, STANDS))
-        if refused:
-            add(refused[1].replace("/", "::"), refused[2], FORM if MISNAMED.search(refused[3]) else ANSWER)
-        elif resting:
-            for goal in re.findall(r"(?:^|, )([^\s,]+)", resting[2]):
-                add(resting[1].replace("/", "::"), goal, RESTS)
-        elif unproved:
-            pending.append((unproved[1], mark_of(unproved[2])))
-        elif stands:
-            for goal, mark in pending + [("measure", SEARCHED)] * ("expected a measure in" in stands[2]):
-                add(stands[1], goal, mark)
-            pending = []
-    return found
-
-
 def answers_file(function):
     """The file with a function's answers by hand."""
     return f"proofs/{function.replace('::', '/')}/Answers.antt"
@@ -82,9 +59,14 @@ def blocks_of(text):
     return found
 
 
+def goals_answered(texts, function):
+    """The goals to which a function has answers by hand."""
+    return {name for name, lines in blocks_of(texts.get(answers_file(function), "")) if name and f": goal.{name}" in lines[0]}
+
+
 def is_by_hand(texts, function, clause):
     """Whether an answer by hand proves this clause on some way out."""
-    return any(name and clause_of(name) == clause for name, _ in blocks_of(texts.get(answers_file(function), "")))
+    return any(clause_of(name) == clause for name in goals_answered(texts, function))
 
 
 def without_answers(texts, function, clause):
@@ -92,6 +74,58 @@ def without_answers(texts, function, clause):
     path = answers_file(function)
     left = (lines for name, lines in blocks_of(texts[path]) if not name or clause_of(name) != clause)
     return {**texts, path: "\n".join(line for lines in left for line in lines)}
+
+
+class Found:
+    """What the prover left open, as it is read line by line: of each clause, by its function and its name, what is known."""
+
+    def __init__(self, crate, texts):
+        self.crate, self.texts, self.open = crate, texts, {}
+        # Goals of which the function is told behind them, and the declarations beside answers that are refused for a name.
+        self.pending, self.misnamed = [], set()
+
+    def add(self, function, goal, mark):
+        """Notes what is known of a function's goal."""
+        self.open.setdefault((function.removeprefix(f"{self.crate}::"), clause_of(goal)), set()).add(mark)
+
+    def refuse(self, function, name, said):
+        """Notes that an answer, or a declaration beside it, is refused."""
+        mark = FORM if MISNAMED.search(said) else ANSWER
+        self.misnamed |= {(function, name)} if mark == FORM else set()
+        if name in goals_answered(self.texts, function):
+            self.add(function, name, mark)
+
+    def rest(self, function, below, names):
+        """Notes the answers that rest on what was refused."""
+        for goal in re.findall(r"(?:^|, )([^\s,]+)", names):
+            if goal in goals_answered(self.texts, function):
+                self.add(function, goal, FORM if (function, below) in self.misnamed else RESTS)
+
+    def stand(self, function, said):
+        """Notes how a function stands: what was told before is of its goals."""
+        for goal, mark in self.pending + [("measure", SEARCHED)] * ("expected a measure in" in said):
+            self.add(function, goal, mark)
+        self.pending = []
+
+    def read(self, line):
+        """Reads a line."""
+        unproved, refused, resting, stands = (it.match(line) for it in (UNPROVED, REFUSED, RESTING, STANDS))
+        if refused:
+            self.refuse(refused[1].replace("/", "::"), refused[2], refused[3])
+        elif resting:
+            self.rest(resting[1].replace("/", "::"), resting[2], resting[3])
+        elif unproved:
+            self.pending.append((unproved[1], mark_of(unproved[2])))
+        elif stands:
+            self.stand(stands[1], stands[2])
+
+
+def open_clauses(crate, texts, said):
+    """Of each clause that is left open in what the prover said, what is known of it, by its function and its name."""
+    found = Found(crate, texts)
+    for line in said.split("\n"):
+        found.read(line)
+    return found.open
 
 
 def is_of(crate, edit, function):
@@ -110,7 +144,7 @@ def evidence(crate, texts, edit, found):
     if not is_by_hand(texts, *edit.clause):
         return bool(marks & by_search), None
     # Where the answers by hand only name what is no longer there, another form alone may be refused.
-    return bool(marks), by_search if marks & {ANSWER, VALUES} else {VALUES}
+    return bool(marks), by_search if marks & {ANSWER, RESTS, VALUES} else {VALUES}
 
 
 def rank_of(clause, marks):
