@@ -123,14 +123,17 @@ module _ (s : Plan) (scenario : IsScenario s) (start : IsSynchronous s) (r : Lis
           first_few s.settings.processors (keys_in s r v) (firsts_in s r v) firsts_are,
         )
 
+    runs_is : (task : ℕ) (d : Slot) → runs task (get_or r v d) ≡ list_any (λ (k : Priority). k.task == task) (firsts_in s r v)
+    runs_is task d =
+        ap (list_any (λ (p : Pick). p.task == task)) (picks_are d)
+        ∙ list_any-map (λ (p : Pick). p.task == task) pick_of_key (firsts_in s r v)
+
     -- Use: only released subtasks run.
     pub runs_released : (j : Joined) (d : Slot) → Contains (tasks_in s r) j → runs j.task (get_or r v d) ≡ true →
         release_of j.weight (done r j.task v + 1) ≤ v
     runs_released j d at running =
-        let picked : list_any (λ (k : Priority). k.task == j.task) (firsts_in s r v) ≡ true =
-        sym (ap (list_any (λ (p : Pick). p.task == j.task)) (picks_are d)
-        ∙ list_any-map (λ (p : Pick). p.task == j.task) pick_of_key (firsts_in s r v)) ∙ running in
-        let it = list_any-contains (λ (k : Priority). k.task == j.task) (firsts_in s r v) picked in
+        let found : runs j.task (get_or r v d) ≡ list_any (λ (k : Priority). k.task == j.task) (firsts_in s r v) = runs_is j.task d in
+        let it = list_any-contains (λ (k : Priority). k.task == j.task) (firsts_in s r v) (sym found ∙ running) in
         let giver : Giver (next_in r v) (tasks_in s r) it.0 =
         from_filter_map (next_in r v) (tasks_in s r) it.0 ((firsts_are.exactly it.0).0 it.1).0 in
         let both =

@@ -1,9 +1,10 @@
 -- The schedule repeats: where each task has its share after a span, the same subtasks are released a span later, but for
 -- their numbers, in the same order; so the same tasks run, slot after slot.
-use Rattle.std.proofs.Common.{◌≡◌, ℕ, zero, suc, ◌+◌, ◌*◌, ◌<◌, ◌≤◌, ◌==◌, Bool, true, false, nat_le, if◌then◌else◌, Option, None, Some, option_map, List, [], ◌∷◌, length, map, filter_map, get_or, All, Contains, arith, refl, ap, ap₂, sym, ◌∙◌, subst}
+use Rattle.std.proofs.Common.{◌≡◌, ℕ, zero, suc, ◌+◌, ◌*◌, ◌/◌, ◌%◌, ◌<◌, ◌≤◌, ◌==◌, Bool, true, false, nat_le, if◌then◌else◌, Option, None, Some, option_map, List, [], ◌∷◌, length, map, filter_map, find, get_or, All, Contains, arith, refl, ap, ap₂, sym, ◌∙◌, ⊎_elim}
 use Rattle.std.specs.List.{list_any, cons_option}
 use Rattle.std.specs.Option.{option_map_or}
 use Rattle.std.proofs.Math.Nat.{lt_of_mul-lt-mul_right}
+use Rattle.std.proofs.lemmas.Bool.{cases_lt}
 use Rattle.std.proofs.lemmas.Bool.Decides.{nat_tests}
 use Rattle.std.proofs.lemmas.List.Elements.{All-head, All-tail, All-weaker, All-contains_itself, All-contains}
 use Rattle.pf_window.specs.Window.{release_of}
@@ -19,15 +20,17 @@ use Rattle.pf_run.specs.Run.{events_in_force, pick_of_key, IsRun}
 use Rattle.pf_run.proofs.Counting.{map_map}
 use Rattle.pf_promise.proofs.Sets.{list_any-map}
 use Rattle.pf_promise.proofs.Shifts.{no_slot}
-use Rattle.pf_promise.proofs.Members.{find_joined}
-use Rattle.pf_promise.proofs.Joining.{joins_at_most}
+use Rattle.pf_promise.proofs.Members.{found_is, find_joined}
+use Rattle.pf_promise.proofs.Joining.{joins_at_most, is_task}
 use Rattle.pf_promise.proofs.Choosing.{counted}
-use Rattle.pf_repeat.specs.Synchronous.{IsSynchronous, tasks_in, IsSpan, owed_in, owed_to, later_pick, AreEven}
-use Rattle.pf_repeat.specs.Laws.{RepeatsAfter, SpansEndEven}
+use Rattle.pf_repeat.specs.Synchronous.{IsSynchronous, tasks_in, IsSpan, owed_in, owed_to, later_pick}
+use Rattle.pf_repeat.specs.Laws.{RepeatsAfter, FirstSpanIsAll, SpansEndEven}
 use Rattle.pf_repeat.proofs.Shifted.{later_key, release_later, key_later}
 use Rattle.pf_repeat.proofs.Ordered.{precedes-later, first_keys-kept}
 use Rattle.pf_repeat.proofs.Choices.{next_in, keys_in, picks_are}
-use Rattle.pf_repeat.proofs.Spans.{task_is, owed-exact, fits_to_none, none_to_even, full}
+use Rattle.pf_repeat.proofs.Lags.{HaveShares, shares_at_first, shares_to_even}
+use Rattle.pf_repeat.proofs.Multiples.{multiple_is_span}
+use Rattle.pf_repeat.proofs.Spans.{task_is, owed-exact, fits_to_none, none_to_even, full, span_decides}
 
 -- what a function gives of each element, changed alike
 filter_map-later : {X Y : Type 0} (f g : X → Option Y) (h : Y → Y) (xs : List X) →
@@ -51,16 +54,8 @@ one_product p a b real e =
     let down : b < a + 1 = lt_of_mul-lt-mul_right p (omega (arith, e, real)) in
     omega (arith, up, down)
 
--- nothing is received, and nothing is owed, before slot 0
-even_at_first : (s : Plan) (r : List Slot) (t : ℕ) → t ≡ 0 → AreEven s r t
-unfolding done
-even_at_first s r t none =
-    subst (λ u. AreEven s r u) (sym none)
-    (All-weaker (Contains (tasks_in s r)) (λ j. j.weight.period * done r j.task 0 ≡ j.weight.cost * 0) (λ j at. omega arith)
-    (tasks_in s r) (All-contains_itself (tasks_in s r)))
-
 module _ (s : Plan) (scenario : IsScenario s) (start : IsSynchronous s) (r : List Slot) (run : IsRun s (length r) r) (span : ℕ)
-    (is : IsSpan s r span) (even : AreEven s r span) where
+    (is : IsSpan s r span) (even : HaveShares s r span) where
   abbrev owed : ℕ → ℕ
   owed = owed_to s r span
 
@@ -165,27 +160,6 @@ module _ (s : Plan) (scenario : IsScenario s) (start : IsSynchronous s) (r : Lis
   pub repeats : (t : ℕ) (d : Slot) → t + span < length r → (get_or r (t + span) d).picks ≡ map (later_pick s r span) (get_or r t d).picks
   repeats t d lt = picks_later t d d lt (ahead t (omega (arith, lt)))
 
-  -- each span ends even
-  pub ends_even : (q : ℕ) → q * span ≤ length r → AreEven s r (q * span)
-  unfolding IsAhead
-  ends_even zero le = even_at_first s r (0 * span) (omega arith)
-  ends_even (suc q) le =
-      let next : q * span + span ≡ suc q * span = omega arith in
-      let within : q * span + span ≤ length r = omega (arith, le) in
-      let before = ends_even q (omega (arith, within)) in
-      All-weaker (Contains (tasks_in s r)) (λ j. j.weight.period * done r j.task (suc q * span) ≡ j.weight.cost * (suc q * span))
-      (λ j at.
-      let own : j.weight.period * done r j.task (q * span) ≡ j.weight.cost * (q * span) =
-      All-contains (λ i. i.weight.period * done r i.task (q * span) ≡ i.weight.cost * (q * span)) (tasks_in s r) j before at in
-      let more : done r j.task (q * span + span) ≡ done r j.task (q * span) + owed_in span j =
-      All-contains (λ i. done r i.task (q * span + span) ≡ done r i.task (q * span) + owed_in span i) (tasks_in s r) j
-      (ahead (q * span) within) at in
-      let exact = owed-exact s scenario start r run span is j at in
-      let product : j.weight.period * done r j.task (suc q * span) ≡ j.weight.period * (done r j.task (q * span) + owed_in span j) =
-      ap (λ n. j.weight.period * n) (ap (λ t. done r j.task t) (sym next) ∙ more) in
-      omega (arith, product, own, exact))
-      (tasks_in s r) (All-contains_itself (tasks_in s r))
-
 pub repeats_after : RepeatsAfter
 repeats_after s n r span t d scenario run start is fits lt =
     let whole = full s n r run in
@@ -193,11 +167,45 @@ repeats_after s n r span t d scenario run start is fits lt =
     let none = fits_to_none s scenario start r whole span is.some (omega (arith, long)) fits in
     repeats s scenario start r whole span is (none_to_even s scenario start r whole span is.some (omega (arith, long)) is none) t d long
 
+abbrev pick_of : ℕ → ℕ → Pick
+pick_of task sub = record { task = task; sub = sub }
+
+-- no pick is later by no slots
+later_by_none : (s : Plan) (r : List Slot) (p : Pick) → IsScenario s → later_pick s r 0 p ≡ p
+later_by_none s r p scenario = ap (λ (n : ℕ). pick_of p.task n) (omega (arith, none)) where
+  none : owed_to s r 0 p.task ≡ 0
+  none = by (find (λ j. j.task == p.task) (tasks_in s r)) refl where
+    by : (o : Option Joined) → find (λ j. j.task == p.task) (tasks_in s r) ≡ o → option_map_or (owed_in 0) o 0 ≡ 0
+    by None is = refl
+    by (Some j) is =
+        let share = (is_task s scenario r j (found_is (λ i. i.task == p.task) (tasks_in s r) j is).0).share in
+        let real : 1 ≤ j.weight.period = omega (arith, share.some, share.within) in
+        omega (arith, real)
+
+pub first_span_is_all : FirstSpanIsAll
+first_span_is_all s n r span t d scenario run start is fits lt = ⊎_elim
+    (λ (none : t / span < 1).
+    let q : t / span ≡ 0 = omega (arith, none) in
+    let place : t ≡ t % span = omega (arith, is.some, ap (λ k. k * span) q) in
+    let by : t / span * span ≡ 0 = omega (arith, ap (λ k. k * span) q) in
+    ap (λ k. (get_or r k d).picks) place
+    ∙ sym (all_same (λ p. later_by_none s r p scenario) (get_or r (t % span) d).picks)
+    ∙ ap (λ k. map (later_pick s r k) (get_or r (t % span) d).picks) (sym by))
+    (λ (some : 1 ≤ t / span).
+    let place : t ≡ t % span + t / span * span = omega (arith, is.some) in
+    ap (λ k. (get_or r k d).picks) place
+    ∙ repeats_after s n r (t / span * span) (t % span) d scenario run start (multiple_is_span s r span (t / span) scenario is some) fits
+    (omega (arith, place, lt)))
+    (cases_lt (t / span) 1)
+  where
+    all_same : {X : Type 0} {f : X → X} → ((x : X) → f x ≡ x) → (xs : List X) → map f xs ≡ xs
+    all_same same [] = refl
+    all_same same (x ∷ xs) = ap₂ (λ y ys. y ∷ ys) (same x) (all_same same xs)
+
 pub spans_end_even : SpansEndEven
-spans_end_even s n r span zero scenario run start is fits le = even_at_first s r (0 * span) (omega arith)
+spans_end_even s n r span zero scenario run start is fits le =
+    shares_to_even s start r (0 * span) (shares_at_first s r (0 * span) (omega arith))
 spans_end_even s n r span (suc q) scenario run start is fits le =
-    let whole = full s n r run in
-    let long : suc q * span ≤ length r = omega (arith, le, run.slots) in
-    let one : span ≤ length r = omega (arith, long) in
-    let none = fits_to_none s scenario start r whole span is.some one fits in
-    ends_even s scenario start r whole span is (none_to_even s scenario start r whole span is.some one is none) (suc q) long
+    let more = multiple_is_span s r span (suc q) scenario is (omega arith) in
+    let decided = span_decides s n r (suc q * span) scenario run start more le in
+    decided.by_lags.0 (decided.by_load.1 fits)

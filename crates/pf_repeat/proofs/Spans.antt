@@ -1,6 +1,6 @@
 -- One span decides: no window is missed in it where the load is within the processors; then each task has its share at its
 -- end; and then no more was asked for than the processors have.
-use Rattle.std.proofs.Common.{◌≡◌, ℕ, zero, suc, ◌+◌, ◌-◌, ◌*◌, ◌/◌, ◌%◌, ◌<◌, ◌≤◌, ◌==◌, Bool, true, false, List, [], ◌∷◌, ◌++◌, length, take, map, filter, filter_map, get_or, sum_by, count_by, All, Contains, arith, refl, ap, sym, ◌∙◌, subst, ⊎_elim}
+use Rattle.std.proofs.Common.{◌≡◌, ℕ, zero, suc, ◌+◌, ◌-◌, ◌*◌, ◌%◌, ◌<◌, ◌≤◌, ◌==◌, Bool, true, false, List, [], ◌∷◌, ◌++◌, length, take, map, filter, filter_map, get_or, sum_by, count_by, All, Contains, arith, refl, ap, sym, ◌∙◌, subst, ⊎_elim}
 use Rattle.std.specs.List.{flat_map, range_with_len}
 use Rattle.std.proofs.Math.Nat.{mul-le-mul_right, lt_of_mul-lt-mul_right}
 use Rattle.std.proofs.lemmas.Bool.{cases_Bool, cases_lt, eqb-true, eq-eqb}
@@ -10,7 +10,6 @@ use Rattle.std.proofs.lemmas.List.FromFn.{length-range_with_len, get_or-range_wi
 use Rattle.std.proofs.lemmas.List.Sorted.{length_permutation}
 use Rattle.std.proofs.lemmas.List.Sums.{sum_by-cons}
 use Rattle.pf_window.specs.Window.{release_of, deadline_of}
-use Rattle.pf_window.proofs.Quotients.{floor_is, floor_only}
 use Rattle.pf_order.specs.declared.pick.Pick.{Pick}
 use Rattle.pf_scenario.specs.Scenario.{Plan}
 use Rattle.pf_scenario.specs.Edit.{IsScenario}
@@ -32,10 +31,11 @@ use Rattle.pf_promise.proofs.Joining.{IsTask, is_task, tasks_differ}
 use Rattle.pf_promise.proofs.Choosing.{counted}
 use Rattle.pf_promise.proofs.Ran.{is_miss}
 use Rattle.pf_promise.proofs.Promises.{no_window_is_missed}
-use Rattle.pf_repeat.specs.Synchronous.{IsSynchronous, tasks_in, IsSpan, owed_in, AreEven}
-use Rattle.pf_repeat.specs.Laws.{LoadFits, SpanDecides, NoneBeyond, BaseIsSpan}
+use Rattle.pf_repeat.specs.Synchronous.{IsSynchronous, tasks_in, IsSpan, owed_in}
+use Rattle.pf_repeat.specs.Laws.{LoadFits, SpanDecides, NoneBeyond}
 use Rattle.pf_repeat.proofs.Shifted.{deadline_at, release_at, more_within}
 use Rattle.pf_repeat.proofs.Start.{BeginsAtStart, begins_joined, all_inside, never_shifted, count_is, leaves_late, same_events, all_join}
+use Rattle.pf_repeat.proofs.Lags.{HaveShares, shares_to_even, even_to_shares}
 use Rattle.pf_repeat.proofs.Choices.{few_picks, runs_released}
 
 -- empty lists
@@ -242,7 +242,7 @@ module _ (s : Plan) (scenario : IsScenario s) (start : IsSynchronous s) (r : Lis
       ∙ ap (filter_map (join_of s.settings.base)) (same_events s start r (suc t) (length r) (omega arith) some))
 
   -- where each task has its share, no more was asked for than the processors have
-  pub even_fits : (span : ℕ) → 1 ≤ span → span ≤ length r → AreEven s r span → LoadFits s r
+  pub even_fits : (span : ℕ) → 1 ≤ span → span ≤ length r → HaveShares s r span → LoadFits s r
   unfolding quanta_of
   even_fits span some le even =
       let sums : units_of * span ≤ sum_by (λ (j : Joined). done r j.task span) (tasks_in s r) * s.settings.base =
@@ -284,7 +284,7 @@ module _ (s : Plan) (scenario : IsScenario s) (start : IsSynchronous s) (r : Lis
         )
 
   -- in a run of one span that missed no window each task has its share
-  pub none_even : IsSpan s r (length r) → misses_of s r ≡ [] → AreEven s r (length r)
+  pub none_even : IsSpan s r (length r) → misses_of s r ≡ [] → HaveShares s r (length r)
   none_even is none =
       All-weaker (Contains (tasks_in s r)) (λ j. j.weight.period * done r j.task (length r) ≡ j.weight.cost * length r)
       (λ j at.
@@ -316,7 +316,7 @@ module _ (s : Plan) (scenario : IsScenario s) (start : IsSynchronous s) (r : Lis
   unfolding done
   same_done task t within = ap (count_by (runs task)) (take-take t span r within)
 
-  even_front : AreEven s front span → AreEven s r span
+  even_front : HaveShares s front span → HaveShares s r span
   even_front even =
       subst (λ js. All (λ j. j.weight.period * done r j.task span ≡ j.weight.cost * span) js) same_tasks
       (All-weaker (λ j. j.weight.period * done front j.task span ≡ j.weight.cost * span)
@@ -340,11 +340,11 @@ module _ (s : Plan) (scenario : IsScenario s) (start : IsSynchronous s) (r : Lis
         ap (sum_by (λ (j : Joined). j.weight.units)) same_tasks,
       )
 
-  pub none_to_even : IsSpan s r span → misses_of s front ≡ [] → AreEven s r span
+  pub none_to_even : IsSpan s r span → misses_of s front ≡ [] → HaveShares s r span
   none_to_even is none =
-      even_front (subst (AreEven s front) front_long (none_even s scenario start front front_run (span_front is) none))
+      even_front (subst (HaveShares s front) front_long (none_even s scenario start front front_run (span_front is) none))
 
-  pub even_to_fits : AreEven s r span → LoadFits s r
+  pub even_to_fits : HaveShares s r span → LoadFits s r
   even_to_fits even = even_fits s scenario start r run span some le even
 
   pub fits_to_none : LoadFits s r → misses_of s front ≡ []
@@ -362,25 +362,13 @@ span_decides s n r span scenario run start is le =
     let none = fits_to_none s scenario start r whole span is.some within in
     record {
       by_load = ((λ missed. fits (even missed)), none);
-      by_shares = (even, (λ own. none (fits own)));
+      by_lags = (
+        (λ missed. shares_to_even s start r span (even missed)),
+        (λ lags. none (fits (even_to_shares s start r span lags))),
+      );
     }
 
 pub none_beyond : NoneBeyond
 none_beyond s n r span scenario run start is le none =
     fits_none s scenario start r (full s n r run) (omega (arith, is.some, le, run.slots))
     ((span_decides s n r span scenario run start is le).by_load.0 none)
-
-pub base_is_span : BaseIsSpan
-base_is_span s n r scenario run = record {
-  some = scenario.settings.limits.base.some;
-  whole = All-weaker (Contains (tasks_in s r)) (λ j. j.weight.cost * s.settings.base % j.weight.period ≡ 0)
-      (λ j at.
-      let task = is_task s scenario r j at in
-      let real : 1 ≤ j.weight.period = omega (arith, task.share.some, task.share.within) in
-      whole_of j.weight.units (j.weight.cost * s.settings.base) j.weight.period real task.exact)
-      (tasks_in s r) (All-contains_itself (tasks_in s r));
-} where
-  whole_of : (q n p : ℕ) → 1 ≤ p → q * p ≡ n → n % p ≡ 0
-  whole_of q n p real is =
-      let same : q ≡ n / p = floor_only (record { within = omega (arith, is); next = omega (arith, is, real) }) (floor_is n p real) in
-      omega (arith, real, is, ap (λ k. k * p) same)

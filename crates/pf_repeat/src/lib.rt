@@ -2,16 +2,16 @@
 //! first span doesn't miss is never missed.
 #![tactic(auto)]
 
-ghost use Rattle.pf_repeat.specs.Laws.{BaseIsSpan, SpanDecides, NoneBeyond, RepeatsAfter, SpansEndEven};
+ghost use Rattle.pf_repeat.specs.Laws.{TheseAreSpans, SpanDecides, NoneBeyond, RepeatsAfter, FirstSpanIsAll, SpansEndEven};
 
-/// The base is a span of every run: so many slots that each task is owed a whole number of quanta in them. So is any common
-/// multiple of the periods.
-pub fn the_base_is_a_span()
-    ensures { BaseIsSpan }
+/// The base is a span, which is so many slots that each task is owed a whole number of quanta in them. So is any common
+/// multiple of the periods, and any multiple of a span.
+pub fn these_are_spans()
+    ensures { TheseAreSpans }
 {}
 
-/// One span decides: no window is missed in its slots just where the load is within the processors, and just where each
-/// task has received exactly its share at its end.
+/// One span decides: no window is missed in its slots just where the load is within the processors, and just where every lag
+/// is 0 at its end.
 pub fn a_span_decides()
     ensures { SpanDecides }
 {}
@@ -27,7 +27,13 @@ pub fn the_schedule_repeats()
     ensures { RepeatsAfter }
 {}
 
-/// Where the load is within the processors, each task has received exactly its share at every multiple of a span.
+/// Where the load is within the processors, each slot of a run, however long, has the picks of its place in the first span,
+/// in the same order, each greater by what its task is owed in the spans between.
+pub fn the_first_span_is_the_whole_schedule()
+    ensures { FirstSpanIsAll }
+{}
+
+/// Where the load is within the processors, every lag is 0 at every multiple of a span.
 pub fn each_span_ends_even()
     ensures { SpansEndEven }
 {}
