@@ -7,6 +7,8 @@ a measure, is its clause `measure`.
 """
 import re
 
+from edits import functions_of
+
 # Goals that what a function ensures holds where it returns. One goal stands for a clause on one way out.
 RETURNS = re.compile(r"returns(-.*)?")
 NAMED = re.compile(r".*-clause-([\w']+?)(?:-\d+)?")
@@ -60,8 +62,8 @@ def blocks_of(text):
 
 
 def goals_answered(texts, function):
-    """The goals to which a function has answers by hand."""
-    return {name for name, lines in blocks_of(texts.get(answers_file(function), "")) if name and f": goal.{name}" in lines[0]}
+    """The goals to which a function has answers by hand, in the order of their file."""
+    return [name for name, lines in blocks_of(texts.get(answers_file(function), "")) if name and f": goal.{name}" in lines[0]]
 
 
 def is_by_hand(texts, function, clause):
@@ -74,6 +76,16 @@ def without_answers(texts, function, clause):
     path = answers_file(function)
     left = (lines for name, lines in blocks_of(texts[path]) if not name or clause_of(name) != clause)
     return {**texts, path: "\n".join(line for lines in left for line in lines)}
+
+
+def resting_on(texts, function, name):
+    """The declarations of a function's file of answers that cite this one, or one that does."""
+    blocks = [(it, set(re.findall(r"[^\s(),.{}]+", " ".join(lines)))) for it, lines in blocks_of(texts.get(answers_file(function), ""))]
+    found, fresh = set(), {name}
+    while fresh:
+        found |= fresh
+        fresh = {it for it, words in blocks if it and it not in found and words & fresh}
+    return found - {name}
 
 
 class Found:
@@ -92,11 +104,15 @@ class Found:
         """Notes that an answer, or a declaration beside it, is refused."""
         mark = FORM if MISNAMED.search(said) else ANSWER
         self.misnamed |= {(function, name)} if mark == FORM else set()
-        if name in goals_answered(self.texts, function):
-            self.add(function, name, mark)
+        resting = resting_on(self.texts, function, name)
+        for goal in goals_answered(self.texts, function):
+            if goal == name:
+                self.add(function, goal, mark)
+            elif goal in resting:
+                self.add(function, goal, FORM if mark == FORM else RESTS)
 
     def rest(self, function, below, names):
-        """Notes the answers that rest on what was refused."""
+        """Notes the answers that rest on what was refused. The prover names three of them at most."""
         for goal in re.findall(r"(?:^|, )([^\s,]+)", names):
             if goal in goals_answered(self.texts, function):
                 self.add(function, goal, FORM if (function, below) in self.misnamed else RESTS)
@@ -147,13 +163,24 @@ def evidence(crate, texts, edit, found):
     return bool(marks), by_search if marks & {ANSWER, RESTS, VALUES} else {VALUES}
 
 
-def rank_of(clause, marks):
-    """The order in which clauses are proposed: what a function ensures before all else, and what is surest to be false first."""
+def ensured(crate, texts, function):
+    """The names of what a function ensures, in the order of its contract."""
+    for path in (it for it in texts if it.startswith("src/")):
+        inside = functions_of(crate, path, texts[path])
+        lines = [line for line, name in zip(texts[path].split("\n"), inside) if name == f"{crate}::{function}"]
+        if lines:
+            return re.findall(r"^ +ensures\*? (\w+) \{", "\n".join(lines), re.M)
+    return []
+
+
+def proposed(crate, texts, edit, found):
+    """The clauses that an edit leaves open, the likeliest first: what a function ensures before all else, what is surest to be
+    false before the rest, and then in the order of the contract."""
     order = (VALUES, SEARCHED, LIMIT, ANSWER, RESTS, FORM)
-    return "-" in clause[1], min(order.index(it) for it in marks)
 
+    def rank(clause):
+        names = ensured(crate, texts, clause[0])
+        place = names.index(clause[1]) if clause[1] in names else len(names)
+        return "-" in clause[1], min(order.index(it) for it in found[clause]), place
 
-def proposed(crate, edit, found):
-    """The clauses that an edit leaves open, the likeliest first."""
-    mine = [(clause, marks) for clause, marks in found.items() if is_of(crate, edit, clause[0])]
-    return [clause for clause, marks in sorted(mine, key=lambda it: rank_of(*it))]
+    return sorted((clause for clause in found if is_of(crate, edit, clause[0])), key=rank)
