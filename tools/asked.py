@@ -5,16 +5,17 @@ pfair.help, and behind each stands the file lesson, but behind help.help; versio
 refusals has the words that are refused: lines '$ pfair WORDS', as a shell reads them, then what is told of each on standard
 error, and the status in brackets.
 """
+import difflib
 import shlex
 from dataclasses import dataclass
 
-from programs import case_bytes, run_to_end
+from programs import CASES, case_bytes, run_to_end
 
 # A script that is bad, so that words which are answered before anything is read are seen to be.
 BAD_SCRIPT = b"step\n"
 
-# Each word behind which help may be asked for, and `pfair` for the program.
-TAUGHT = ("pfair", "run", "check", "diff", "drill")
+# Each word behind which help may be asked for, and `pfair` for the program; what help tells of itself is another text.
+TAUGHT = sorted(it.stem for it in (CASES / "words").glob("*.help") if it.stem != "help")
 
 
 @dataclass
@@ -30,7 +31,14 @@ class Answer:
         """What the program did instead, if it did."""
         done = run_to_end([program, *self.words], f"{self.words}", input=self.script)
         if (done.stdout, done.stderr, done.returncode) != (self.written, self.told, self.status):
-            return f"{self.words} {self.script!r}: {done.stdout[:2000]!r} {done.stderr!r} status {done.returncode}"
+            return (f"{self.words} {self.script[:200]!r}: status {done.returncode}, not {self.status}; what is written and told:\n"
+                    f"{difference(self.written, done.stdout)}{difference(self.told, done.stderr)}")
+
+
+def difference(wanted, given):
+    """The lines that differ: `-` stands before those that are wanted, `+` before those that came."""
+    lines = [text.decode(errors="backslashreplace").splitlines(keepends=True) for text in (wanted, given)]
+    return "".join(it if it.endswith("\n") else it + "\n" for it in difflib.unified_diff(*lines, n=0) if it[:3] not in ("---", "+++"))
 
 
 def ways_to_help(word):
@@ -63,11 +71,19 @@ def refusals():
             told += line
 
 
+def listed(text, heading):
+    """The first word of each line of a section of help."""
+    section = text.decode().partition(f"\n{heading}:\n")[2].partition("\n\n")[0]
+    return {line.split()[0] for line in section.split("\n")}
+
+
 def untaught(formats):
-    """A text for each format that the lesson has no line for, each line of no format, and an example that is none."""
-    lesson = case_bytes("words/lesson").decode()
-    section = lesson.partition("\nFormats:\n")[2].partition("\n\n")[0].split("\n")
-    taught = {line.split()[0] for line in section}
+    """A text for each format that the lesson has no line for, each line of no format, each word without a help text, or with one
+    that the program's help does not list, and an example that is none."""
+    lesson = case_bytes("words/lesson")
+    taught = listed(lesson, "Formats")
     faults = [f"words/lesson: {it}: a format without a line, or a line without a format" for it in sorted(taught ^ set(formats))]
-    example = "".join(f"  {line}\n" for line in case_bytes("three-tasks.csv").decode().splitlines())
+    words = listed(case_bytes("words/pfair.help"), "Commands") ^ {"help", *TAUGHT} - {"pfair"}
+    faults += [f"words/pfair.help: {it}: a word without a help text, or a help text without a word" for it in sorted(words)]
+    example = b"".join(b"  " + line for line in case_bytes("three-tasks.csv").splitlines(keepends=True))
     return faults + ([] if example in lesson else ["words/lesson: its example is not the script three-tasks"])
