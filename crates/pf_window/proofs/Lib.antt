@@ -1,3 +1,4 @@
 pub mod Quotients
 pub mod Lacks
 pub mod Groups
+pub mod Advancing

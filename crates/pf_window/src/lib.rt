@@ -4,6 +4,8 @@
 //! Times are slots counted from the task's start; subtasks are numbered from 1.
 #![tactic(auto)]
 
+pub mod windows;
+
 ghost use Rattle.std.specs.Prelude.{◌≡◌, ◌^◌, ◌≤◌};
 ghost use Rattle.pf_window.specs.Window.{release_of, deadline_of, bit_of};
 ghost use Rattle.pf_window.specs.Group.{IsGroupOf, group_of};
