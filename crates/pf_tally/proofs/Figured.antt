@@ -13,11 +13,11 @@ use Rattle.pf_order.specs.declared.pick.Pick.{Pick}
 use Rattle.pf_window.specs.Window.{release_of}
 use Rattle.pf_scenario.specs.Event.{slot_of}
 use Rattle.pf_scenario.specs.Scenario.{Plan}
-use Rattle.pf_scenario.specs.Edit.{IsScenario, join_alike}
+use Rattle.pf_scenario.specs.Edit.{join_alike}
 use Rattle.pf_scenario.specs.declared.event.Numbered.{Numbered}
 use Rattle.pf_scenario.proofs.Sorting.{sorted_keeps}
 use Rattle.pf_scenario.specs.declared.settings.TheConstants.{WIDE_HORIZON}
-use Rattle.pf_run.specs.Record.{Slot, runs, done}
+use Rattle.pf_run.specs.Record.{Slot, done}
 use Rattle.pf_run.specs.Inside.{Joined, join_of, shift_of}
 use Rattle.pf_run.specs.Run.{events_in_force}
 use Rattle.pf_run.specs.Computed.{run_of}
@@ -30,7 +30,11 @@ use Rattle.pf_tally.specs.Late.{CanMiss, hold_of, released_at}
 use Rattle.pf_tally.specs.Ledger.{IsLedger}
 use Rattle.pf_tally.specs.Misses.{misses_of_task}
 use Rattle.pf_tally.specs.Own.{events_of_task}
-use Rattle.pf_tally.specs.Quanta.{places_from, slots_of}
+use Rattle.pf_tally.specs.Quanta.{places_from, slots_in, slots_of}
+use Rattle.pf_tally.specs.WalkedRun.{CanFigure, IsWalkOf}
+use Rattle.pf_tally.specs.declared.walked_run.WalkedRun.{WalkedRun}
+use Rattle.pf_run.specs.declared.denied.Denied.{Denied}
+use Rattle.pf_place.specs.Occupancy.{is_seated}
 use Rattle.pf_tally.specs.Ranges.{lag_by}
 use Rattle.pf_tally.specs.Figures.{processors_in, migrations_behind, preemptions_behind, responses_from, extremes_of, with_value, extremes_upto, scaled_at, last_slot, greatest_tardiness, figures_of_task, figures_of}
 use Rattle.pf_tally.specs.declared.extremes.Extremes.{Extremes}
@@ -40,8 +44,9 @@ use Rattle.pf_tally.specs.declared.ledger.Ledger.{Ledger}
 use Rattle.pf_tally.specs.declared.miss.Miss.{Miss}
 use Rattle.pf_tally.proofs.Chains.{all_counted, clock_is}
 use Rattle.pf_tally.proofs.Holding.{next_is}
-use Rattle.pf_tally.proofs.Ledgers.{task_can, task_ran, task_diary}
-use Rattle.pf_tally.proofs.Own.{shift_own, clock_own, find_own, misses_own}
+use Rattle.pf_tally.proofs.Journals.{journal_can, walked_delays}
+use Rattle.pf_tally.proofs.Ledgers.{task_can}
+use Rattle.pf_tally.proofs.Own.{find_own}
 use Rattle.pf_tally.proofs.Places.{done_is}
 use Rattle.pf_tally.proofs.Sorts.{one_sorted}
 use Rattle.pf_tally.proofs.Tallies.{not_tied}
@@ -133,17 +138,9 @@ module _ (j : Joined) (ran : List ℕ) (xs : List Numbered) (n : ℕ) (can : Can
       ∙ ap (λ ran. told j processors ran (responses_from (release_at r xs j) j.weight.cost 1 (slots_of r j.task)) (misses_of_task r xs j)
       (extremes_upto (scaled_at r xs j) j.slot (last_slot xs j (length r) - j.slot))) (sym of_ran)
 
--- a task's own events are enough
-pub figures_own : (r : List Slot) (processors : List ℕ) (xs : List Numbered) (j : Joined) →
-    figures_of_task r processors (events_of_task j.task xs) j ≡ figures_of_task r processors xs j
-figures_own r processors xs j =
-    let releases : release_at r (events_of_task j.task xs) j ≡ release_at r xs j = λ k i. release_of j.weight i + shift_own r xs j k i in
-    let lags : scaled_at r (events_of_task j.task xs) j ≡ scaled_at r xs j = λ k t. pos (j.weight.cost * clock_own r xs j t k) -ℤ pos (j.weight.period * done r j.task t) in
-    let last : last_slot (events_of_task j.task xs) j (length r) ≡ last_slot xs j (length r) = ap (λ found. max j.slot (option_map_or (λ x. min (slot_of x.event) (length r)) found (length r))) (find_own xs j.task) in
-    let ran = slots_of r j.task in
-    ap₂ (λ release misses. told j processors ran (responses_from release j.weight.cost 1 ran) misses (extremes_upto (scaled_at r (events_of_task j.task xs) j) j.slot (last_slot (events_of_task j.task xs) j (length r) - j.slot)))
-    releases (misses_own r xs j)
-    ∙ ap₂ (λ f last. told j processors ran (responses_from (release_at r xs j) j.weight.cost 1 ran) (misses_of_task r xs j) (extremes_upto f j.slot (last - j.slot))) lags last
+-- a task's own events tell its last slot
+pub last_own : (xs : List Numbered) (j : Joined) (n : ℕ) → last_slot (events_of_task j.task xs) j n ≡ last_slot xs j n
+last_own xs j n = ap (λ found. max j.slot (option_map_or (λ x. min (slot_of x.event) n) found n)) (find_own xs j.task)
 
 -- the slots in which a task runs are among those of the record
 pub slots_within : {X : Type 0} (test : X → Bool) (t : ℕ) (xs : List X) → All (λ q. q < t + length xs) (places_from test t xs)
@@ -164,51 +161,62 @@ joined_sorted base xs found js once is same up =
     one_sorted (on_total (λ (j : Joined). j.task) nat_cmp_total) (filter_map (join_of base) xs) js
     (λ i k d before within. not_tied _ _ (differ i k d before within)) (subst P is same) up
 
--- a step over the tasks that joined, by number
+-- a task of those that joined, by number, has joined
+sorted_in : (base : ℕ) (xs : List Numbered) (tasks : List Joined) → tasks ≡ by_task (filter_map (join_of base) xs) → (k : ℕ) (j : Joined) → k < length tasks → j ≡ get_or tasks k j →
+    Contains (filter_map (join_of base) xs) j
+sorted_in base xs tasks of_tasks k j within is =
+    let joined = filter_map (join_of base) xs in
+    let P : Joined → Type 0 = Contains tasks in
+    let Q : List Joined → Type 0 = λ js. Contains js j in
+    Contains-permutation (by_task joined) joined j (IsPermutation-sym joined (by_task joined) (sorted_keeps task_cmp joined))
+    (subst Q of_tasks (subst P (sym is) (Contains-get_or tasks k j within)))
+
+-- a step over the tasks of a ledger that joined, by number
 module _ (s : Plan) (n : ℕ) (ledger : Ledger) (known : IsLedger s n ledger) (tasks : List Joined) (of_tasks : tasks ≡ by_task (filter_map (join_of ledger.settings.base) ledger.events.items)) where
   pub sorted_at : (k : ℕ) (j : Joined) → k < length tasks → j ≡ get_or tasks k j → Contains (filter_map (join_of ledger.settings.base) ledger.events.items) j
-  sorted_at k j within is =
-      let joined = filter_map (join_of ledger.settings.base) ledger.events.items in
-      let P : Joined → Type 0 = Contains tasks in
-      let Q : List Joined → Type 0 = λ js. Contains js j in
-      Contains-permutation (by_task joined) joined j (IsPermutation-sym joined (by_task joined) (sorted_keeps task_cmp joined))
-      (subst Q of_tasks (subst P (sym is) (Contains-get_or tasks k j within)))
+  sorted_at = sorted_in ledger.settings.base ledger.events.items tasks of_tasks
 
   pub figures_can : (k : ℕ) (j : Joined) (ran : List ℕ) (diary : List Numbered) → k < length tasks → j ≡ get_or tasks k j → ran ≡ noted_of ledger.quanta j.task →
       diary ≡ noted_of ledger.diaries j.task → CanTally j ran diary ledger.now
   figures_can k j ran diary within is = task_can s n ledger known j (sorted_at k j within is) ran diary
 
-  pub figures_within : (k : ℕ) (j : Joined) (ran : List ℕ) → k < length tasks → j ≡ get_or tasks k j → ran ≡ noted_of ledger.quanta j.task → All (λ t. t < WIDE_HORIZON) ran
-  figures_within k j ran within is of_ran =
-      let at = sorted_at k j within is in
-      let P : List ℕ → Type 0 = All (λ t. t < WIDE_HORIZON) in
-      let can = task_can s n ledger known j at ran (events_of_task j.task ledger.events.items) of_ran (sym (known.diaries.each j.task)) in
-      let most : ledger.now ≤ WIDE_HORIZON = can.within in
-      let short : length (run_of s n) ≤ WIDE_HORIZON = omega (arith, known.slots, known.now) in
-      let all = slots_within (runs j.task) 0 (run_of s n) in
-      subst P (sym (task_ran s n ledger known j at ran of_ran)) (λ k d within. let h : get_or (slots_of (run_of s n) j.task) k d < 0 + length (run_of s n) = all k d within in omega arith)
+-- a step over the tasks of a run that was walked over
+module _ (s : Plan) (rows : List (List (Option Pick))) (denials : List Denied) (run : WalkedRun) (known : IsWalkOf s rows denials run)
+    (tasks : List Joined) (of_tasks : tasks ≡ by_task (filter_map (join_of run.journal.settings.base) run.journal.events.items)) where
+  pub can_figure : (k : ℕ) (j : Joined) (ran : List ℕ) → k < length tasks → j ≡ get_or tasks k j → ran ≡ slots_in rows j.task → CanFigure run j ran
+  can_figure k j ran within is of_ran =
+      let at = sorted_in run.journal.settings.base run.journal.events.items tasks of_tasks k j within is in
+      let can = journal_can s rows denials run known j at in
+      let P : List ℕ → Type 0 = λ ran. CanTally j ran run.journal.events.items run.journal.now in
+      let Q : List ℕ → Type 0 = All (λ t. t < WIDE_HORIZON) in
+      let most : run.journal.now ≤ WIDE_HORIZON = can.within in
+      let short : length rows ≤ WIDE_HORIZON = omega (arith, known.journal.now) in
+      let all = slots_within (λ row. is_seated row j.task) 0 rows in
+      record {
+        walked = record { scenario = s; rows = rows; denials = denials; is = known };
+        joined = at;
+        can = subst P (sym of_ran) can;
+        delays = walked_delays s rows denials run known j at (noted_of run.walk.delays j.task) refl ∙ ap (λ ran. held_from (next_in ran) j j.slot run.journal.events.items) (sym of_ran);
+        slots = subst Q (sym of_ran) (λ k d within. let h : get_or (slots_in rows j.task) k d < 0 + length rows = all k d within in omega arith);
+      }
 
-  pub figures_step : (rows : List (List (Option Pick))) (on : List ℕ) (k : ℕ) (j : Joined) (ran : List ℕ) (diary : List Numbered) (figures : Figures) (before after : List Figures) →
-      k < length tasks → j ≡ get_or tasks k j → ran ≡ noted_of ledger.quanta j.task → diary ≡ noted_of ledger.diaries j.task → on ≡ processors_in rows j.task →
-      ((s : Plan) → IsScenario s → length (run_of s ledger.now) ≡ ledger.now → ran ≡ slots_of (run_of s ledger.now) j.task → figures ≡ figures_of_task (run_of s ledger.now) on diary j) →
-      after ≡ before ++ figures ∷ [] → before ≡ map (λ j. figures_of_task (run_of s n) (processors_in rows j.task) ledger.events.items j) (take k tasks) →
-      after ≡ map (λ j. figures_of_task (run_of s n) (processors_in rows j.task) ledger.events.items j) (take (k + 1) tasks)
-  figures_step rows on k j ran diary figures before after within is of_ran of_diary of_on of_figures push so_far =
-      let f : Joined → Figures = λ j. figures_of_task (run_of s n) (processors_in rows j.task) ledger.events.items j in
-      let e : ledger.now ≡ n = known.now in
-      let at = sorted_at k j within is in
+  pub figures_step : (on : List ℕ) (k : ℕ) (j : Joined) (ran : List ℕ) (figures : Figures) (before after : List Figures) →
+      k < length tasks → j ≡ get_or tasks k j → ran ≡ slots_in rows j.task → on ≡ processors_in rows j.task →
+      ((s : Plan) (rows : List (List (Option Pick))) (denials : List Denied) → IsWalkOf s rows denials run → ran ≡ slots_in rows j.task → figures ≡ figures_of_task (run_of s (length rows)) on run.journal.events.items j) →
+      after ≡ before ++ figures ∷ [] → before ≡ map (λ j. figures_of_task (run_of s (length rows)) (processors_in rows j.task) run.journal.events.items j) (take k tasks) →
+      after ≡ map (λ j. figures_of_task (run_of s (length rows)) (processors_in rows j.task) run.journal.events.items j) (take (k + 1) tasks)
+  figures_step on k j ran figures before after within is of_ran of_on of_figures push so_far =
+      let f : Joined → Figures = λ j. figures_of_task (run_of s (length rows)) (processors_in rows j.task) run.journal.events.items j in
       let this : figures ≡ f j =
-      of_figures s known.scenario (let P : ℕ → Type 0 = λ n. length (run_of s n) ≡ n in subst P (sym e) known.slots) (task_ran s n ledger known j at ran of_ran ∙ ap (λ n. slots_of (run_of s n) j.task) (sym e))
-      ∙ ap₂ (λ n on. figures_of_task (run_of s n) on diary j) e of_on
-      ∙ ap (λ xs. figures_of_task (run_of s n) (processors_in rows j.task) xs j) (task_diary s n ledger known j at diary of_diary)
-      ∙ figures_own (run_of s n) (processors_in rows j.task) ledger.events.items j in
+      of_figures s rows denials known of_ran ∙ ap (λ on. figures_of_task (run_of s (length rows)) on run.journal.events.items j) of_on in
       push ∙ ap₂ (λ xs y. xs ++ y ∷ []) so_far (this ∙ ap f is) ∙ sym (map_more f tasks k j within)
 
-  pub figures_all : (rows : List (List (Option Pick))) (figures : List Figures) (k : ℕ) → length tasks ≤ k →
-      figures ≡ map (λ j. figures_of_task (run_of s n) (processors_in rows j.task) ledger.events.items j) (take k tasks) → figures ≡ figures_of s (run_of s n) rows
+  pub figures_all : (figures : List Figures) (k : ℕ) → length tasks ≤ k →
+      figures ≡ map (λ j. figures_of_task (run_of s (length rows)) (processors_in rows j.task) run.journal.events.items j) (take k tasks) → figures ≡ figures_of s (run_of s (length rows)) rows
   unfolding figures_of
-  figures_all rows figures k over so_far =
+  figures_all figures k over so_far =
+      let n = length rows in
       let f : List Numbered → Joined → Figures = λ xs j. figures_of_task (run_of s n) (processors_in rows j.task) xs j in
       so_far
-      ∙ ap (map (f ledger.events.items)) (take_all k tasks over ∙ of_tasks)
-      ∙ ap₂ (λ (xs : List Numbered) base. map (f xs) (by_task (filter_map (join_of base) xs))) (known.events ∙ ap (events_in_force s (run_of s n)) (sym known.slots)) (ap (λ settings. settings.base) known.settings)
+      ∙ ap (map (f run.journal.events.items)) (take_all k tasks over ∙ of_tasks)
+      ∙ ap₂ (λ (xs : List Numbered) base. map (f xs) (by_task (filter_map (join_of base) xs))) (known.journal.events ∙ ap (events_in_force s (run_of s n)) (sym known.journal.slots)) (ap (λ settings. settings.base) known.journal.settings)

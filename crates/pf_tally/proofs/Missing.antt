@@ -7,10 +7,10 @@ use Rattle.std.specs.Ordering.{is_lt}
 use Rattle.std.specs.declared.cmp.Ordering.TheVariants.{Equal}
 use Rattle.std.specs.Cmp.{IsTotalOrder, nat_cmp_total}
 use Rattle.std.proofs.lemmas.Cmp.{on_total, then_total}
-use Rattle.std.proofs.lemmas.Bool.{cases_Bool, cond-true, cond-false, le-leb, lt-leb, leb-true, and_left, and_right, and_from}
+use Rattle.std.proofs.lemmas.Bool.{cases_Bool, cond-true, cond-false, le-leb, lt-leb, leb-true, and_left, and_from}
 use Rattle.std.proofs.lemmas.Bool.Decides.{nat_tests}
 use Rattle.std.proofs.lemmas.List.{append-nil, append_assoc, map-append, length-map, get_or-map, length-take-le, take_more}
-use Rattle.std.proofs.lemmas.Option.{cond_some, slice_get-get_or, slice_get_past}
+use Rattle.std.proofs.lemmas.Option.{slice_get-get_or, slice_get_past}
 use Rattle.std.proofs.lemmas.List.Elements.{filter-append, Contains-append_cases}
 use Rattle.std.proofs.lemmas.List.FromFn.{length-range_with_len, get_or-range_with_len}
 use Rattle.std.proofs.lemmas.List.Kept.{AllPairs-filter}
@@ -30,7 +30,7 @@ use Rattle.pf_run.proofs.Counting.{found_counted}
 use Rattle.pf_run.proofs.Containing.{contains_none, pairs_append, pairs_tail}
 use Rattle.pf_tally.specs.Clock.{next_at}
 use Rattle.pf_tally.specs.Held.{held_from}
-use Rattle.pf_tally.specs.Late.{hold_of, due_at, is_late, late_miss, late_misses, miss_if}
+use Rattle.pf_tally.specs.Late.{hold_of, due_at, is_late, late_miss, late_misses}
 use Rattle.pf_tally.specs.Misses.{due_of, ran_in, leaves_after, is_missed, miss_of, misses_of_task, miss_cmp, in_miss_order}
 use Rattle.pf_tally.specs.Quanta.{slots_of}
 use Rattle.pf_tally.specs.Walk.{late_quantum, late_quanta}
@@ -77,17 +77,6 @@ module _ (j : Joined) (ran : List ℕ) (held : List Held) (last : ℕ) where
       ∙ append_assoc start (late_misses j ran held last (i - 1)) (late_miss j ran held i ∷ [])
       ∙ ap (λ ms. start ++ ms)
       (ap (λ ms. late_misses j ran held last (i - 1) ++ ms) (sym (ap (λ i. cond (is_late j ran held last i) (late_miss j ran held i ∷ []) []) this ∙ cond-true (is_late j ran held last i) (late_miss j ran held i ∷ []) [] late))
-      ∙ sym (late_step (i - 1)) ∙ ap (late_misses j ran held last) n)
-
-  pub late_no : (misses start : List Miss) (i k : ℕ) → 1 ≤ i → k ≡ i + 1 → is_late j ran held last i ≡ false →
-      misses ≡ start ++ late_misses j ran held last (i - 1) → misses ≡ start ++ late_misses j ran held last (k - 1)
-  late_no misses start i k some next late before =
-      let n : (i - 1) + 1 ≡ k - 1 = omega arith in
-      let this : 1 + (i - 1) ≡ i = omega arith in
-      before
-      ∙ ap (λ ms. start ++ ms)
-      (sym (append-nil (late_misses j ran held last (i - 1)))
-      ∙ ap (λ ms. late_misses j ran held last (i - 1) ++ ms) (sym (ap (λ i. cond (is_late j ran held last i) (late_miss j ran held i ∷ []) []) this ∙ cond-false (is_late j ran held last i) (late_miss j ran held i ∷ []) [] late))
       ∙ sym (late_step (i - 1)) ∙ ap (late_misses j ran held last) n)
 
   none_later : (i d : ℕ) → IsShare j.weight → 1 ≤ i → last < due_at j held i → late_misses j ran held last ((i - 1) + d) ≡ late_misses j ran held last (i - 1)
@@ -219,23 +208,6 @@ pub misses_sorted : (r : List Slot) (xs : List Numbered) (js : List Joined) (ms 
 misses_sorted r xs js ms sorted shares differ is same up =
     let P : List Miss → Type 0 = λ ms. IsPermutation ms sorted in
     one_sorted miss_total (flat_map (misses_of_task r xs) js) sorted (all_untied r xs js shares differ) (subst P is same) up
-
--- what the look at one subtask says
-none_if : (b : Bool) (k : Miss) → None ≡ cond b (Some k) None → b ≡ false
-none_if true k is = cc
-none_if false k is = refl
-
-pub some_late : (j : Joined) (ran : List ℕ) (held : List Held) (last due i : ℕ) (m : Miss) → due ≡ due_at j held i → due ≤ last → Some m ≡ miss_if j ran due i →
-    (is_late j ran held last i ≡ true) × (m ≡ late_miss j ran held i)
-some_late j ran held last due i m of_due within is =
-    let e : Some m ≡ miss_if j ran (due_at j held i) i = is ∙ ap (λ d. miss_if j ran d i) of_due in
-    let both = cond_some (option_map_or (λ t. nat_le (due_at j held i) t) (slice_get ran (i - 1)) true) (late_miss j ran held i) m (sym e) in
-    (and_from _ _ (le-leb (due_at j held i) last (omega arith)) both.0, sym both.1)
-
-pub none_late : (j : Joined) (ran : List ℕ) (held : List Held) (last due i : ℕ) → due ≡ due_at j held i → None ≡ miss_if j ran due i → is_late j ran held last i ≡ false
-none_late j ran held last due i of_due is =
-    let e : None ≡ miss_if j ran (due_at j held i) i = is ∙ ap (λ d. miss_if j ran d i) of_due in
-    and_right _ _ (none_if (option_map_or (λ t. nat_le (due_at j held i) t) (slice_get ran (i - 1)) true) (late_miss j ran held i) e)
 
 -- what was found as a leave is one
 leave_passes : (task : ℕ) (x : Event) → is_leave_of task x ≡ true → ((a b : ℕ) → x ≡ Leave a b → ⊥) → ⊥

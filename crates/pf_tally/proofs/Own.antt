@@ -1,5 +1,5 @@
 -- Of a task only its own events count: for its shifts, its clock, its leave and its misses.
-use Rattle.std.proofs.Common.{◌≡◌, ℕ, ◌+◌, ◌-◌, ◌*◌, ◌<◌, ◌≤◌, Bool, true, false, ◌&&◌, ◌==◌, nat_le, not, cond, Option, None, Some, List, [], ◌∷◌, ◌++◌, length, take, get_or, map, filter, find, count_by, sum_by, All, ⊎_elim, refl, sym, ap, ap₂, ◌∙◌, subst, arith}
+use Rattle.std.proofs.Common.{◌≡◌, ℕ, ◌+◌, ◌-◌, ◌*◌, ◌<◌, ◌≤◌, Bool, true, false, ◌&&◌, ◌==◌, nat_le, not, cond, Option, None, Some, List, [], ◌∷◌, ◌++◌, length, take, get_or, filter, find, count_by, sum_by, All, ⊎_elim, refl, sym, ap, ap₂, ◌∙◌, subst, arith}
 use Rattle.std.specs.Prelude.{pos, ◌-ℤ◌}
 use Rattle.std.specs.List.{range_with_len}
 use Rattle.std.specs.Option.{option_map_or}
@@ -8,7 +8,7 @@ use Rattle.std.proofs.lemmas.List.{append-nil, take_all, take_more}
 use Rattle.std.proofs.lemmas.List.Elements.{All-filter, All-head, All-tail, filter-append}
 use Rattle.std.proofs.lemmas.Map.Views.{any-filter_same}
 use Rattle.std.proofs.lemmas.List.Sums.{sum_by-cons, length-filter, count_by-le-length}
-use Rattle.pf_window.specs.Window.{release_of, deadline_of}
+use Rattle.pf_window.specs.Window.{release_of}
 use Rattle.pf_scenario.specs.Event.{slot_of, task_of, is_leave_of}
 use Rattle.pf_scenario.specs.declared.event.Event.{Event}
 use Rattle.pf_scenario.specs.declared.event.Event.TheVariants.{Join, Leave, Delay, Limit}
@@ -18,11 +18,10 @@ use Rattle.pf_run.specs.Record.{Slot, done}
 use Rattle.pf_run.specs.Inside.{Joined, has_left, hold_back_of, shift_of}
 use Rattle.pf_tally.specs.Clock.{Stop, next_at, stop_by, stops_behind, is_stopped, clock_of}
 use Rattle.pf_tally.specs.Lags.{lag_of}
-use Rattle.pf_tally.specs.Misses.{due_of, ran_in, leaves_after, misses_of_task}
+use Rattle.pf_tally.specs.Misses.{leaves_after}
 use Rattle.pf_tally.specs.Log.{RiseFrom}
 use Rattle.pf_tally.specs.Held.{delay_from, CanTally}
 use Rattle.pf_tally.specs.declared.lag.Lag.{Lag}
-use Rattle.pf_tally.specs.declared.miss.Miss.{Miss}
 use Rattle.pf_table.specs.Lists.{noted_of}
 use Rattle.pf_tally.specs.Own.{is_own, events_of_task, AreDiaries}
 
@@ -149,15 +148,6 @@ find_own (x ∷ xs) task =
 
 pub leaves_own : (xs : List Numbered) (j : Joined) → leaves_after (events_of_task j.task xs) j ≡ leaves_after xs j
 leaves_own xs j = λ k t. option_map_or (λ x. nat_le t (slot_of x.event)) (find_own xs j.task k) true
-
--- Use: its misses.
-pub misses_own : (r : List Slot) (xs : List Numbered) (j : Joined) → misses_of_task r (events_of_task j.task xs) j ≡ misses_of_task r xs j
-misses_own r xs j =
-    let dues : due_of r (events_of_task j.task xs) j ≡ due_of r xs j = λ k i. deadline_of j.weight i + shift_own r xs j k i in
-    ap₂ (λ (due : ℕ → ℕ) (leaves : ℕ → Bool).
-    map (λ i. let miss : Miss = record { task = j.task; sub = i; deadline = due i; ran = ran_in r j i } in miss)
-    (filter (λ i. nat_le (due i) (length r) && leaves (due i) && option_map_or (λ t. nat_le (due i) t) (ran_in r j i) true) (range_with_len 1 (length r))))
-    dues (leaves_own xs j)
 
 -- what is known of the task
 rise_lower : (u v : ℕ) (xs : List Numbered) → u ≤ v → RiseFrom v xs → RiseFrom u xs

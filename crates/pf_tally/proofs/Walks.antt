@@ -26,7 +26,7 @@ use Rattle.pf_tally.specs.Log.{RiseFrom}
 use Rattle.pf_tally.specs.Held.{delay_from, next_in, held_by, held_from}
 use Rattle.pf_tally.specs.Late.{hold_of, due_at}
 use Rattle.pf_tally.specs.Quanta.{slots_in}
-use Rattle.pf_tally.specs.Walk.{late_quantum, late_quanta, delays_in, IsAt, IsWithin, AreApart, IsNew, AreWithin, with_quantum, late_of, HaveRun, HasWalked, with_delay, held_of, HasEvent}
+use Rattle.pf_tally.specs.Walk.{come, late_quantum, late_quanta, delays_in, IsAt, IsWithin, AreApart, IsNew, AreWithin, with_quantum, late_of, HaveRun, HasWalked, with_delay, held_of, HasEvent}
 use Rattle.pf_tally.specs.declared.held.Held.{Held}
 use Rattle.pf_tally.specs.declared.progress.Progress.{Progress}
 use Rattle.pf_tally.specs.declared.walk.Walk.{Walk}
@@ -153,10 +153,10 @@ late_kept j held more i (t ∷ ts) later =
 
 -- One row more.
 progress_more : (b : Bool) (w : Share) (ran : List ℕ) (t shift : ℕ) →
-    cond b (with_quantum (Some (let p : Progress = record { weight = w; received = length ran; shift = shift } in p))) (Some (let p : Progress = record { weight = w; received = length ran; shift = shift } in p))
-    ≡ Some (let p : Progress = record { weight = w; received = length (ran ++ cond b (t ∷ []) []); shift = shift } in p)
-progress_more true w ran t shift = ap (λ n. Some (let p : Progress = record { weight = w; received = n; shift = shift } in p)) (sym (length_push ran t))
-progress_more false w ran t shift = ap (λ xs. Some (let p : Progress = record { weight = w; received = length xs; shift = shift } in p)) (sym (append-nil ran))
+    cond b (with_quantum (Some (come w (length ran) shift))) (Some (come w (length ran) shift))
+    ≡ Some (come w (length (ran ++ cond b (t ∷ []) [])) shift)
+progress_more true w ran t shift = ap (λ n. Some (come w n shift)) (sym (length_push ran t))
+progress_more false w ran t shift = ap (λ xs. Some (come w (length xs) shift)) (sym (append-nil ran))
 
 late_more : (b : Bool) (j : Joined) (held : List Held) (ran : List ℕ) (t shift : ℕ) → shift ≡ j.slot + sum_by (hold_of (length ran + 1)) held →
     late_quanta j held 1 ran ++ cond b (late_quantum j.task (length ran + 1) (deadline_of j.weight (length ran + 1) + shift) t) []
@@ -183,7 +183,7 @@ row_walked rows t row xs j old new within is earlier ran at =
           ran.progress j.task
           ∙ ap (λ v. cond b (with_quantum v) v) at.progress
           ∙ progress_more b j.weight R t shift
-          ∙ ap (λ qs. Some (let p : Progress = record { weight = j.weight; received = length qs; shift = shift } in p)) (sym (slots_more rows t j.task row within is));
+          ∙ ap (λ qs. Some (come j.weight (length qs) shift)) (sym (slots_more rows t j.task row within is));
       delays = ap (λ ds. noted_of ds j.task) ran.delays ∙ at.delays;
       late =
           ran.late j.task
@@ -195,8 +195,8 @@ row_walked rows t row xs j old new within is earlier ran at =
 within_once : (b : Bool) (t most : ℕ) (v : Option Progress) → IsWithin t most v → IsWithin (t + 1) most (cond b (with_quantum v) v)
 within_once true t most None small = tt
 within_once false t most None small = tt
-within_once true t most (Some p) small = let h : p.received ≤ t = small.0 in (omega arith, small.1)
-within_once false t most (Some p) small = let h : p.received ≤ t = small.0 in (omega arith, small.1)
+within_once true t most (Some p) small = let h : p.windows.sub ≤ t + 1 = small.0 in (omega arith, small.1)
+within_once false t most (Some p) small = let h : p.windows.sub ≤ t + 1 = small.0 in (omega arith, small.1)
 
 pub within_ran : (old new : Walk) (ran : ℕ → Bool) (t most : ℕ) → HaveRun old new ran t → AreWithin t most old → AreWithin (t + 1) most new
 within_ran old new ran t most have small = record {
@@ -216,7 +216,7 @@ rows_walked rows from t row old mid new order within is before ran = record {
 
 -- One event more.
 record HasEffect (rows : List (List (Option Pick))) (t : ℕ) (xs : List Numbered) (new : Walk) (j : Joined) (x : Event) : Type 0 where
-  progress : value_of new.progress j.task ≡ Some (let p : Progress = record { weight = j.weight; received = length (slots_in (take t rows) j.task); shift = j.slot + sum_by (λ x. delay_from j x.event) xs + delay_from j x } in p)
+  progress : value_of new.progress j.task ≡ Some (come j.weight (length (slots_in (take t rows) j.task)) (j.slot + sum_by (λ x. delay_from j x.event) xs + delay_from j x))
   delays : noted_of new.delays j.task ≡ delays_in rows j xs ++ held_by (next_in (slots_in rows j.task)) j (j.slot + sum_by (λ x. delay_from j x.event) xs) x
   late : noted_of new.late j.task ≡ late_quanta j (delays_in rows j xs) 1 (slots_in (take t rows) j.task)
 
@@ -226,7 +226,7 @@ no_effect rows t xs old new j x same none nothing at = record {
   progress =
       ap (λ (w : Walk). value_of w.progress j.task) same
       ∙ at.progress
-      ∙ ap (λ n. Some (let p : Progress = record { weight = j.weight; received = length (slots_in (take t rows) j.task); shift = n } in p))
+      ∙ ap (λ n. Some (come j.weight (length (slots_in (take t rows) j.task)) n))
       (let z : j.slot + sum_by (λ x. delay_from j x.event) xs ≡ j.slot + sum_by (λ x. delay_from j x.event) xs + delay_from j x = omega (arith, none) in z);
   delays =
       ap (λ (w : Walk). noted_of w.delays j.task) same ∙ at.delays ∙ sym (append-nil (delays_in rows j xs))
@@ -248,10 +248,10 @@ effect rows t xs old new j (Delay slot task by) is has at =
     }
   where
     shifted : (b : Bool) (received shift : ℕ) →
-        cond b (with_delay by (Some (let p : Progress = record { weight = j.weight; received = received; shift = shift } in p))) (Some (let p : Progress = record { weight = j.weight; received = received; shift = shift } in p))
-        ≡ Some (let p : Progress = record { weight = j.weight; received = received; shift = shift + cond b by 0 } in p)
+        cond b (with_delay by (Some (come j.weight received shift))) (Some (come j.weight received shift))
+        ≡ Some (come j.weight received (shift + cond b by 0))
     shifted true received shift = refl
-    shifted false received shift = ap (λ n. Some (let p : Progress = record { weight = j.weight; received = received; shift = n } in p)) (let z : shift ≡ shift + 0 = omega arith in z)
+    shifted false received shift = ap (λ n. Some (come j.weight received n)) (let z : shift ≡ shift + 0 = omega arith in z)
 effect rows t xs old new j (Join slot task cost period early) is has at = no_effect rows t xs old new j (Join slot task cost period early) has refl (λ shift. refl) at
 effect rows t xs old new j (Leave slot task) is has at = no_effect rows t xs old new j (Leave slot task) has refl (λ shift. refl) at
 effect rows t xs old new j (Limit slot count) is has at = no_effect rows t xs old new j (Limit slot count) has refl (λ shift. refl) at
@@ -276,7 +276,7 @@ event_walked rows t xs x j old new is has at =
     let push = held_push next j j.slot xs x in
     let later : 1 + length R ≤ next (slot_of x.event) = omega (arith, next_here rows t j.task, ap next is) in
     record {
-      progress = e.progress ∙ ap (λ n. Some (let p : Progress = record { weight = j.weight; received = length R; shift = n } in p))
+      progress = e.progress ∙ ap (λ n. Some (come j.weight (length R) n))
           (let z : shift + delay_from j x.event ≡ j.slot + sum_by (λ x. delay_from j x.event) (xs ++ x ∷ []) = omega (arith, sum_by_push (λ x. delay_from j x.event) xs x) in z);
       delays = e.delays ∙ sym push;
       late = e.late ∙ sym (ap (λ held. late_quanta j held 1 R) push ∙ late_kept j (delays_in rows j xs) (held_by next j shift x.event) 1 R (held_later next j shift (1 + length R) x.event later));
@@ -284,7 +284,7 @@ event_walked rows t xs x j old new is has at =
 
 -- The walk at slot 0, task by task.
 abbrev pub new_progress : Joined → Progress
-new_progress j = record { weight = j.weight; received = 0; shift = j.slot }
+new_progress j = come j.weight 0 j.slot
 
 pub record IsEntered (tasks : List Joined) (table : Grown (Option Progress)) : Type 0 where
   pub none : table.1 ≡ None
@@ -334,7 +334,7 @@ all_new tasks k walk over is delays late =
     let all = subst P (take_all k tasks over) is in
     record {
       at = λ rows i d inside. let j = get_or tasks i d in record {
-        progress = all.own i d inside ∙ ap (λ n. Some (let p : Progress = record { weight = j.weight; received = 0; shift = n } in p)) (let z : j.slot ≡ j.slot + 0 = omega arith in z);
+        progress = all.own i d inside ∙ ap (λ n. Some (come j.weight 0 n)) (let z : j.slot ≡ j.slot + 0 = omega arith in z);
         delays = delays j.task;
         late = late j.task;
       };
@@ -363,7 +363,7 @@ within_more t most t' most' walk later wider small = record { none = small.none;
   where
     one_more : (v : Option Progress) → IsWithin t most v → IsWithin t' most' v
     one_more None small = tt
-    one_more (Some p) small = let low : p.received ≤ t = small.0 in let short : p.shift ≤ most = small.1 in (omega arith, omega arith)
+    one_more (Some p) small = let low : p.windows.sub ≤ t + 1 = small.0 in let short : p.shift ≤ most = small.1 in (omega arith, omega arith)
 
 within_event : (old new : Walk) (t most : ℕ) (system : System) (x : Event) → IsEvent system x → HasEvent old new x → AreWithin t most old → AreWithin t (most + LONGEST_DELAY) new
 within_event old new t most system (Delay slot task by) limits has small = record {

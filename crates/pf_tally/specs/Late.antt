@@ -1,5 +1,5 @@
 -- The misses of a task, by the slots in which it ran and by its delays.
-use Rattle.std.specs.Prelude.{ℕ, ◌+◌, ◌-◌, ◌<◌, ◌≤◌, Bool, true, ◌&&◌, nat_le, cond, if◌then◌else◌, Option, Some, None, List, All, map, filter, sum_by}
+use Rattle.std.specs.Prelude.{ℕ, ◌+◌, ◌-◌, ◌<◌, ◌≤◌, Bool, true, ◌&&◌, nat_le, cond, List, All, map, filter, sum_by}
 use Rattle.std.specs.List.{slice_get, range_with_len}
 use Rattle.std.specs.Option.{option_map_or}
 use Rattle.pf_weight.specs.Share.{IsShare}
@@ -31,13 +31,6 @@ is_late j ran held last i =
 abbrev pub late_miss : Joined → List ℕ → List Held → ℕ → Miss
 late_miss j ran held i =
     record { task = j.task; sub = i; deadline = due_at j held i; ran = slice_get ran (i - 1) }
-
--- the miss of a subtask that is due at this slot, unless it ran before
-abbrev pub miss_if : Joined → List ℕ → ℕ → ℕ → Option Miss
-miss_if j ran due i =
-    if option_map_or (λ t. nat_le due t) (slice_get ran (i - 1)) true
-    then Some (record { task = j.task; sub = i; deadline = due; ran = slice_get ran (i - 1) })
-    else None
 
 -- the misses among the first n subtasks
 abbrev pub late_misses : Joined → List ℕ → List Held → ℕ → ℕ → List Miss

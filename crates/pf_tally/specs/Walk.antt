@@ -1,5 +1,6 @@
 -- A walk over a run's slots: how far each task has come, which delays it met, and whose quanta came too late.
 use Rattle.std.specs.Prelude.{◌≡◌, ◌≢◌, ℕ, ◌+◌, ◌≤◌, Bool, ◌==◌, nat_le, cond, Option, Some, None, List, [], ◌∷◌, ◌++◌, length, take, sum_by, All, AllPairs}
+use Rattle.pf_weight.specs.Share.{Share}
 use Rattle.pf_weight.specs.declared.task.TheConstants.{LARGEST_TASK}
 use Rattle.pf_window.specs.Window.{deadline_of}
 use Rattle.pf_order.specs.declared.pick.Pick.{Pick}
@@ -33,13 +34,14 @@ late_quanta j held i (t ∷ ts) = late_quantum j.task i (due_at j held i) t ++ l
 abbrev pub delays_in : List (List (Option Pick)) → Joined → List Numbered → List Held
 delays_in rows j xs = held_from (next_in (slots_in rows j.task)) j j.slot xs
 
+-- how far a task of this weight has come that received so many quanta and has this shift
+abbrev pub come : Share → ℕ → ℕ → Progress
+come w received shift = record { windows = record { weight = w; sub = received + 1 }; shift = shift }
+
 -- how far a task has come behind the first t rows and these events
 abbrev pub progress_at : List (List (Option Pick)) → ℕ → List Numbered → Joined → Progress
-progress_at rows t xs j = record {
-  weight = j.weight;
-  received = length (slots_in (take t rows) j.task);
-  shift = j.slot + sum_by (λ x. delay_from j x.event) xs;
-}
+progress_at rows t xs j =
+    come j.weight (length (slots_in (take t rows) j.task)) (j.slot + sum_by (λ x. delay_from j x.event) xs)
 
 -- the walk is behind the first t rows and these events, as far as the task is concerned
 pub record IsAt (rows : List (List (Option Pick))) (t : ℕ) (xs : List Numbered) (walk : Walk) (j : Joined) : Type 0 where
@@ -56,7 +58,7 @@ pub record AreApart (tasks : List Joined) : Type 0 where
 -- so many quanta and slots of shift are the most that a task has
 abbrev pub IsWithin : ℕ → ℕ → Option Progress → Type 0
 IsWithin t most None = Unit {0}
-IsWithin t most (Some p) = (p.received ≤ t) × (p.shift ≤ most)
+IsWithin t most (Some p) = (p.windows.sub ≤ t + 1) × (p.shift ≤ most)
 
 pub record AreWithin (t most : ℕ) (walk : Walk) : Type 0 where
   pub none : walk.progress.1 ≡ None
@@ -70,12 +72,12 @@ pub record IsNew (tasks : List Joined) (walk : Walk) : Type 0 where
 -- one quantum more
 abbrev pub with_quantum : Option Progress → Option Progress
 with_quantum None = None
-with_quantum (Some p) = Some (record { weight = p.weight; received = p.received + 1; shift = p.shift })
+with_quantum (Some p) = Some (come p.windows.weight p.windows.sub p.shift)
 
 -- the miss of that quantum, in slot t
 abbrev pub late_of : ℕ → ℕ → Option Progress → List Miss
 late_of task t None = []
-late_of task t (Some p) = late_quantum task (p.received + 1) (deadline_of p.weight (p.received + 1) + p.shift) t
+late_of task t (Some p) = late_quantum task p.windows.sub (deadline_of p.windows.weight p.windows.sub + p.shift) t
 
 -- the tasks that pass the test ran in slot t
 pub record HaveRun (old new : Walk) (ran : ℕ → Bool) (t : ℕ) : Type 0 where
@@ -92,12 +94,12 @@ pub record HasWalked (rows : List (List (Option Pick))) (from to : ℕ) (old new
 -- one delay more
 abbrev pub with_delay : ℕ → Option Progress → Option Progress
 with_delay by None = None
-with_delay by (Some p) = Some (record { weight = p.weight; received = p.received; shift = p.shift + by })
+with_delay by (Some p) = Some (record { windows = p.windows; shift = p.shift + by })
 
 -- what it holds back
 abbrev pub held_of : ℕ → Option Progress → List Held
 held_of by None = []
-held_of by (Some p) = record { sub = p.received + 1; shift = p.shift; by = by } ∷ []
+held_of by (Some p) = record { sub = p.windows.sub; shift = p.shift; by = by } ∷ []
 
 -- the task was delayed by so many slots
 pub record IsHeldBack (old new : Walk) (task by : ℕ) : Type 0 where

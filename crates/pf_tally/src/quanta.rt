@@ -1,7 +1,9 @@
-ghost use Rattle.std.specs.Prelude.{All, IfOk, OnOk};
+ghost use Rattle.std.specs.Prelude.{◌≡◌, All, IfOk, OnOk};
 ghost use Rattle.pf_place.specs.Lent.{lent_row};
+ghost use Rattle.pf_table.specs.Lists.{noted_of};
 ghost use Rattle.pf_tally.specs.Noted.{IsRow, AreNoted, IsTableOf};
 
+use crate::admitted::Admitted;
 use pf_place::row_view::RowView;
 use pf_place::rows::Rows;
 use pf_table::lists::Lists;
@@ -42,4 +44,11 @@ pub(crate) fn quanta_by_task(
         }
     }
     Ok(table)
+}
+
+/// The slots in which the task runs, rising, by this table of them.
+pub(crate) fn quanta_of(table: &Lists<u64>, task: Admitted) -> &[u64]
+    ensures { result.now ≡ noted_of table.now task.task }
+{
+    table.get(task.task)
 }

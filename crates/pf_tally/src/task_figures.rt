@@ -1,49 +1,45 @@
-ghost use Rattle.std.specs.Prelude.{◌≡◌, ◌^◌, ◌<◌, length, All, IfOk};
+ghost use Rattle.std.specs.Prelude.{◌≡◌, Option, List, length, IfOk};
+ghost use Rattle.pf_order.specs.declared.pick.Pick.{Pick};
 ghost use Rattle.pf_scenario.specs.Scenario.{Plan};
-ghost use Rattle.pf_scenario.specs.Edit.{IsScenario};
-ghost use Rattle.pf_scenario.specs.declared.settings.TheConstants.{WIDE_HORIZON};
+ghost use Rattle.pf_run.specs.declared.denied.Denied.{Denied};
 ghost use Rattle.pf_run.specs.Computed.{run_of};
 ghost use Rattle.pf_run.specs.RunRows.{AreOfRun};
-ghost use Rattle.pf_tally.specs.Held.{CanTally};
-ghost use Rattle.pf_tally.specs.Quanta.{slots_of};
+ghost use Rattle.pf_tally.specs.Quanta.{slots_in};
 ghost use Rattle.pf_tally.specs.Figures.{figures_of, figures_of_task};
+ghost use Rattle.pf_tally.specs.WalkedRun.{CanFigure, IsWalkOf};
 
 use crate::admitted::{Admitted, admitted_by_number};
 use crate::extremes::extremes_of;
 use crate::figures::Figures;
-use crate::held::held_delays;
-use crate::ledger::make_ledger;
 use crate::moves::{migrations, preemptions};
 use crate::processors::{processors_by_task, processors_of};
+use crate::quanta::{quanta_by_task, quanta_of};
 use crate::range::{lag_range, last_slot};
 use crate::responses::responses;
 use crate::tardiness::greatest_tardiness;
-use crate::task_misses::note_task;
+use crate::walked_run::{WalkedRun, walk_over};
 use pf_place::rows::Rows;
 use pf_run::denied::Denied;
-use pf_scenario::event::Numbered;
 use pf_scenario::scenario::Scenario;
 use std::alloc::{AllocError, Global};
 
-/// The figures, after `now` slots, of a task that ran on these processors, in the slots `ran`, and whose own events these
-/// are.
+/// The figures of a task that has joined and ran on these processors, in the slots `ran`.
 fn figures_of_task(
     alloc: Global,
+    run: &WalkedRun,
     task: Admitted,
     processors: &[u32],
     ran: &[u64],
-    events: &[Numbered],
-    now: u64,
 ) -> Result<Figures, AllocError>
-    requires can { CanTally task ran.now events.now now }
-    requires slots { All (λ t. t < WIDE_HORIZON) ran.now }
-    ensures { (s : Plan) → IsScenario s → length (run_of s now) ≡ now → ran.now ≡ slots_of (run_of s now) task.task
-        → IfOk result (λ figures. figures ≡ figures_of_task (run_of s now) processors.now events.now task) }
+    requires { CanFigure run.now task ran.now }
+    ensures { (s : Plan) (rows : List (List (Option Pick))) (denials : List Denied) → IsWalkOf s rows denials run.now → ran.now ≡ slots_in rows task.task
+        → IfOk result (λ figures. figures ≡ figures_of_task (run_of s (length rows)) processors.now run.now.journal.events.items task) }
 {
-    let delays = held_delays(alloc, task, ran, events)?;
+    let delays = run.walk.delays(task);
     let mut misses = Vec::new(alloc);
-    note_task(alloc, &mut misses, task, ran, events, now)?;
-    let responses = responses(alloc, task, ran, &delays)?;
+    run.note_misses(&mut misses, task)?;
+    let responses = responses(alloc, task, ran, delays)?;
+    let last = last_slot(run.journal.diary(task), task, run.journal.now);
     Ok(Figures {
         task: task.task as u32,
         cost: task.weight.cost(),
@@ -55,7 +51,7 @@ fn figures_of_task(
         response: extremes_of(&responses),
         missed: misses.len() as u64,
         tardiness: greatest_tardiness(&misses),
-        lag: lag_range(task, ran, &delays, last_slot(events, task, now)),
+        lag: lag_range(task, ran, delays, last),
     })
 }
 
@@ -74,15 +70,16 @@ pub fn task_figures(
     requires { AreOfRun scenario.now (length rows.now) rows.now denials.now }
     ensures { IfOk result (λ v. v.items ≡ figures_of scenario.now (run_of scenario.now (length rows.now)) rows.now) }
 {
-    let ledger = make_ledger(alloc, scenario, rows, denials)?;
-    let processors = processors_by_task(alloc, ledger.settings.processors(), rows)?;
-    let tasks = admitted_by_number(alloc, ledger.settings, &ledger.events)?;
+    let run = walk_over(alloc, scenario, rows, denials)?;
+    let settings = run.settings();
+    let processors = processors_by_task(alloc, settings.processors(), rows)?;
+    let quanta = quanta_by_task(alloc, settings.processors(), rows)?;
+    let tasks = admitted_by_number(alloc, settings, run.events())?;
     let mut figures = Vec::with_capacity(alloc, tasks.len())?;
     for task in &tasks {
         let on = processors_of(&processors, *task);
-        let ran = ledger.quanta(*task);
-        let diary = ledger.diary(*task);
-        let told = figures_of_task(alloc, *task, on, ran, diary, ledger.now)?;
+        let ran = quanta_of(&quanta, *task);
+        let told = figures_of_task(alloc, &run, *task, on, ran)?;
         figures.push(told)?;
     }
     Ok(figures)

@@ -1,4 +1,4 @@
-ghost use Rattle.std.specs.Prelude.{◌≡◌, ◌^◌, ◌+◌, ◌*◌, ◌<◌, ◌≤◌, ◌==◌, ℕ, List, None, filter_map, length, take, All, IfOk, OnOk};
+ghost use Rattle.std.specs.Prelude.{◌≡◌, ◌^◌, ◌+◌, ◌-◌, ◌*◌, ◌<◌, ◌≤◌, ◌==◌, ℕ, List, None, filter_map, length, take, All, IfOk, OnOk};
 ghost use Rattle.std.specs.Option.{option_map_or};
 ghost use Rattle.pf_weight.specs.declared.task.TheConstants.{LARGEST_TASK};
 ghost use Rattle.pf_scenario.specs.Event.{slot_of};
@@ -24,7 +24,7 @@ use pf_scenario::event::{Event, Numbered};
 use pf_scenario::settings::Settings;
 use pf_table::lists::Lists;
 use pf_table::table::Table;
-use pf_window::deadline;
+use pf_window::windows::Windows;
 use std::alloc::{AllocError, Global};
 
 /// A walk over the slots of a run and its events in force: how far the tasks have come, and what was found on the way.
@@ -52,8 +52,7 @@ impl Walk {
             progress.set(
                 number,
                 Some(Progress {
-                    weight: task.weight,
-                    received: 0,
+                    windows: Windows::at(task.weight, 1),
                     shift: task.slot,
                 }),
             );
@@ -68,10 +67,10 @@ impl Walk {
     /// How many quanta the task has received.
     pub fn received(&self, task: Admitted) -> u64
         requires { task.task ≤ LARGEST_TASK }
-        ensures { result ≡ option_map_or (λ p. p.received) (value_of self.entry.now.progress task.task) 0 }
+        ensures { result ≡ option_map_or (λ p. p.windows.sub - 1) (value_of self.entry.now.progress task.task) 0 }
     {
         match self.progress.get(task.task as u32) {
-            Some(progress) => progress.received,
+            Some(progress) => u64::from(progress.windows.sub()) - 1,
             None => 0,
         }
     }
@@ -97,25 +96,19 @@ impl Walk {
         requires slot { t < WIDE_HORIZON }
         ensures { OnOk result (HaveRun self.old self.new (λ n. task == n) t) }
     {
-        if let Some(progress) = self.progress.get(task) {
-            let sub = progress.received + 1;
-            let due = deadline(progress.weight, sub as u32) + progress.shift;
+        if let Some(mut progress) = self.progress.get(task) {
+            let due = progress.windows.deadline() + progress.shift;
             if due <= t {
                 let miss = Miss {
                     task,
-                    sub: sub as u32,
+                    sub: progress.windows.sub(),
                     deadline: due,
                     ran: Some(t),
                 };
                 self.late.note(u64::from(task), miss)?;
             }
-            self.progress.set(
-                task,
-                Some(Progress {
-                    received: sub,
-                    ..progress
-                }),
-            );
+            progress.windows.advance();
+            self.progress.set(task, Some(progress));
         }
         Ok(())
     }
@@ -168,20 +161,15 @@ impl Walk {
         ensures { OnOk result (IsHeldBack self.old self.new task by) }
     {
         let number = task as u32;
-        if let Some(progress) = self.progress.get(number) {
+        if let Some(mut progress) = self.progress.get(number) {
             let held = Held {
-                sub: progress.received + 1,
+                sub: u64::from(progress.windows.sub()),
                 shift: progress.shift,
                 by,
             };
             self.delays.note(task, held)?;
-            self.progress.set(
-                number,
-                Some(Progress {
-                    shift: progress.shift + by,
-                    ..progress
-                }),
-            );
+            progress.shift += by;
+            self.progress.set(number, Some(progress));
         }
         Ok(())
     }

@@ -21,7 +21,9 @@ use crate::misses::{note_late, note_unrun};
 use crate::walk::{Walk, walk_run};
 use pf_place::rows::Rows;
 use pf_run::denied::Denied;
+use pf_scenario::event::Numbered;
 use pf_scenario::scenario::Scenario;
+use pf_scenario::settings::Settings;
 use std::alloc::{AllocError, Global};
 
 /// A run that was walked over: the events in force, and what the walk found.
@@ -47,6 +49,20 @@ pub(crate) fn walk_over(
 }
 
 impl WalkedRun {
+    /// What the scenario is set in.
+    pub fn settings(&self) -> Settings
+        ensures { result ≡ self.now.journal.settings }
+    {
+        self.journal.settings
+    }
+
+    /// The events in force, in run order.
+    pub fn events(&self) -> &[Numbered]
+        ensures { result.now ≡ self.now.journal.events.items }
+    {
+        &self.journal.events
+    }
+
     /// The lags of the tasks inside, by task number.
     pub fn lags(&self, alloc: Global) -> Result<Vec<Lag>, AllocError>
         requires { IsWalked self.now }
