@@ -11,3 +11,4 @@ pub mod Gathering
 pub mod Settling
 pub mod Laying
 mod Uncounted
+pub mod Rooms

@@ -28,3 +28,4 @@ pub mod Laid
 pub mod Small
 pub mod Settled
 pub mod Settlements
+pub mod Room

@@ -12,6 +12,7 @@ pub mod entry_view;
 pub mod fault;
 pub mod history;
 pub mod laws;
+mod never_misses;
 mod outcome;
 pub mod prepared;
 pub mod reply;
