@@ -1,0 +1,4 @@
+pub mod Entrants
+pub mod Steady
+pub mod Walked
+pub mod Fitting
