@@ -8,7 +8,7 @@ import re
 ROOTS = ("src/lib.rt", "src/main.rt")
 
 # A function's first line, and how an impl's begins.
-FUNCTION = re.compile(r"(\s*)(?:pub(?:\([^)]*\))? )?(?:const )?(?:unsafe )?fn (\w+)")
+FUNCTION = re.compile(r"(\s*)(?:pub(?:\([^)]*\))? )?(?:const )?(?:unsafe )?(?:extern \S+ )?fn (\w+)")
 IMPL = re.compile(r"(?:unsafe )?impl\b ?")
 
 

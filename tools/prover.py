@@ -23,6 +23,11 @@ def crates():
     return {line.partition(":")[0].split()[0]: line.partition(":")[2].split() for line in lines if line}
 
 
+def static_libraries():
+    """The crates that other languages link: no crate stands on one."""
+    return set(re.findall(r"^(\w+) staticlib:", (TOP / "crates.txt").read_text(), re.M))
+
+
 def all_below(name, uses):
     """The crates of the repository below this one."""
     found = []
@@ -48,6 +53,7 @@ def words_for(name, uses):
         words += ["-L", f"dependency={built}"]
         words += ["--extern", f"{it}={built}/{it}.rlib"] if it in uses[name] else []
     project = home / "rattle" / "logic" / "antt-project.json"
+    words += ["--crate-type", "staticlib"] if name in static_libraries() else []
     return words + ["--antt-project", str(project), "--logic-built", str(home / "logic_built"), "--links", f"{name}="]
 
 

@@ -1,0 +1,6 @@
+pub mod RawBoxValues
+pub mod HandleValues
+pub mod Crossing
+pub mod Stepping
+pub mod Filling
+pub mod WhatIf

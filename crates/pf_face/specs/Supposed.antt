@@ -1,0 +1,39 @@
+-- What a change would do.
+use Rattle.std.specs.Prelude.{ℕ, ◌≡◌, ◌⊎◌, Option, None, Some, List, [], ◌∷◌, ◌++◌}
+use Rattle.pf_desk.specs.declared.command.Command.{Command}
+use Rattle.pf_desk.specs.declared.reply.Reply.{Reply}
+use Rattle.pf_desk.specs.Machine.{reply_to, state_after}
+use Rattle.pf_desk.specs.Desk.{Shown, Seen, IsAsBefore, StandsForHistory, entry_of}
+use Rattle.pf_face.specs.declared.raw_reply.RawReply.{RawReply}
+use Rattle.pf_face.specs.declared.status.TheConstants.{OK, NO_MEMORY}
+use Rattle.pf_face.specs.declared.text_kind.TextKind.{TextKind}
+use Rattle.pf_face.specs.Replied.{status_of, told_of}
+use Rattle.pf_face.specs.Told.{FillsRoom}
+use Rattle.pf_face.specs.Texts.{text_seen}
+
+-- the caller has the reply of a command that was made ready; where it is a refusal the status tells it, and else the room
+-- has the text of what would be seen; or memory was refused, and all is as before
+abbrev pub TellsReady : Reply → Seen → TextKind → ℕ → ℕ → RawReply → RawReply → ℕ → List ℕ → List ℕ → Type 0
+TellsReady reply seen kind every status told telling count room filled =
+    ((status ≡ NO_MEMORY) × (telling ≡ told))
+    ⊎ ((telling ≡ told_of reply)
+    × (((status ≡ status_of reply) × (status ≡ OK → ⊥))
+    ⊎ ((status_of reply ≡ OK) × FillsRoom (text_seen kind every seen) status count room filled)))
+
+-- what is seen of the desk after a caller's command
+pub record IsSeenAfter (caller : ℕ) (command : Command) (d : Shown) (seen : Seen) : Type 0 where
+  pub stands : StandsForHistory (d.history ++ entry_of caller command (reply_to d.state command) ∷ []) seen
+  pub state : seen.state ≡ state_after d.state command (reply_to d.state command)
+
+-- the same of a caller's command, which was not made
+abbrev pub Supposes : ℕ → Command → TextKind → Shown → ℕ → RawReply → RawReply → ℕ → List ℕ → List ℕ → Type 0
+Supposes caller command kind d status told telling count room filled =
+    ((status ≡ NO_MEMORY) × (telling ≡ told))
+    ⊎ ((seen : Seen) × IsSeenAfter caller command d seen
+    × TellsReady (reply_to d.state command) seen kind d.every status told telling count room filled)
+
+-- a desk that is as before, or none
+abbrev pub StaysAsBefore : Option Shown → Option Shown → Type 0
+StaysAsBefore None after = after ≡ None
+StaysAsBefore (Some before) None = ⊥
+StaysAsBefore (Some before) (Some after) = IsAsBefore before after

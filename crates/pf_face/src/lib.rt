@@ -1,0 +1,28 @@
+//! The desk for callers in other languages: each call is one of pf_desk, pf_tally or pf_report at a handle that the caller
+//! keeps, and its status tells what was answered. The one contract of this crate: whatever a caller passes within the types
+//! of C, the desk behind its handle stays a desk, each command is answered as the desk machine answers it, and what is read
+//! is the desk's own. `include/pfair.h` is its header.
+#![tactic(auto)]
+
+mod commands;
+mod for_c;
+mod handle;
+mod opening;
+mod ranges;
+mod raw_box;
+mod raw_change;
+mod raw_denial;
+mod raw_event;
+mod raw_figures;
+mod raw_lag;
+mod raw_miss;
+mod raw_numbered;
+mod raw_pick;
+mod raw_reply;
+mod readings;
+mod room;
+mod status;
+mod supposing;
+mod text_kind;
+mod texts;
+mod version;

@@ -1,0 +1,124 @@
+ghost use Rattle.std.specs.Prelude.{◌≡◌, ◌⊎◌, None, IfSome};
+ghost use Rattle.pf_desk.specs.declared.command.Command.TheVariants.{Edit};
+ghost use Rattle.pf_desk.specs.Desk.{IsAsBefore};
+ghost use Rattle.pf_face.specs.declared.status.TheConstants.{OK, UNKNOWN_KIND};
+ghost use Rattle.pf_face.specs.Asked.{change_in};
+ghost use Rattle.pf_face.specs.Supposed.{StaysAsBefore, Supposes, TellsReady};
+ghost use Rattle.pf_face.specs.Texts.{kind_numbered};
+ghost use Rattle.pf_face.specs.Told.{Tells};
+
+use crate::handle::Handle;
+use crate::raw_change::RawChange;
+use crate::raw_reply::{RawReply, status};
+use crate::room::fill_text;
+use crate::status::{NO_MEMORY, NOT_OPEN, OK, UNKNOWN_KIND};
+use crate::text_kind::TextKind;
+use crate::texts::text_of_snapshot;
+use pf_desk::command::Command;
+use pf_desk::desk::Desk;
+use pf_desk::prepared::Prepared;
+use pf_order::meter::Meter;
+use pf_scenario::change::Change;
+use std::alloc::Global;
+
+/// Tells what a caller's change would be answered, and where it would be made, writes a text of the desk as it would then
+/// be. The desk is as before. `count` is how many bytes the text has, where the room is too short too.
+///
+/// # Errors
+///
+/// The number of the refusal that the change would get, which `reply` tells more of; `TOO_SHORT`; `NOT_OPEN`, `NO_MEMORY`
+/// and `UNKNOWN_KIND`, of the change or the text: `reply` is as before. The room is as before with each of them.
+#[unsafe(no_mangle)]
+pub extern "C" fn pfair_what_if(
+    alloc: Global,
+    desk: &mut Handle,
+    caller: u32,
+    change: &RawChange,
+    strict: bool,
+    reply: &mut RawReply,
+    kind: u64,
+    room: &mut [u8],
+    count: &mut usize,
+) -> u32
+    ensures unknown { (change_in change.now ≡ None) ⊎ (kind_numbered kind ≡ None) → (result ≡ UNKNOWN_KIND) × (reply.new ≡ reply.old) }
+    ensures supposes { IfSome (change_in change.now) (λ c. IfSome (kind_numbered kind) (λ k. Tells desk.old.value result
+        (λ d. Supposes caller (Edit c strict) k d result reply.old reply.new count.new room.old room.new))) }
+    ensures desk { StaysAsBefore desk.old.value desk.new.value }
+    ensures rest { (result ≡ OK → ⊥) → room.new ≡ room.old }
+{
+    let Some(change) = change.change() else {
+        return UNKNOWN_KIND;
+    };
+    let Some(kind) = TextKind::numbered(kind) else {
+        return UNKNOWN_KIND;
+    };
+    match desk.take(alloc) {
+        None => NOT_OPEN,
+        Some(mut held) => {
+            let status = suppose(
+                alloc, &mut held, caller, change, strict, reply, kind, room, count,
+            );
+            desk.put(alloc, held);
+            status
+        }
+    }
+}
+
+/// Tells what a change would be answered, and a text of the desk as it would then be.
+fn suppose(
+    alloc: Global,
+    desk: &mut Desk,
+    caller: u32,
+    change: Change,
+    strict: bool,
+    telling: &mut RawReply,
+    kind: TextKind,
+    room: &mut [u8],
+    count: &mut usize,
+) -> u32
+    ensures supposes { Supposes caller (Edit change strict) kind desk.old result telling.old telling.new count.new room.old room.new }
+    ensures desk { IsAsBefore desk.old desk.new }
+    ensures rest { (result ≡ OK → ⊥) → room.new ≡ room.old }
+{
+    let mut meter = Meter::new();
+    match desk.prepare(&mut meter, caller, Command::Edit { change, strict }) {
+        Ok(prepared) => tell_ready(
+            alloc,
+            &prepared,
+            desk.distance(),
+            telling,
+            kind,
+            room,
+            count,
+        ),
+        Err(_) => NO_MEMORY,
+    }
+}
+
+/// Tells the reply of a command that was made ready for a desk with such a distance of checkpoints, and a text of that desk
+/// as it would then be.
+fn tell_ready(
+    alloc: Global,
+    prepared: &Prepared,
+    every: u64,
+    telling: &mut RawReply,
+    kind: TextKind,
+    room: &mut [u8],
+    count: &mut usize,
+) -> u32
+    ensures tells { TellsReady prepared.now.entry.reply prepared.now.seen kind every result telling.old telling.new count.new room.old room.new }
+    ensures rest { (result ≡ OK → ⊥) → room.new ≡ room.old }
+{
+    let answer = status(prepared.reply());
+    if answer != OK {
+        *telling = RawReply::of(prepared.reply());
+        return answer;
+    }
+    match text_of_snapshot(alloc, prepared.snapshot(), kind, every) {
+        Ok(text) => {
+            *telling = RawReply::of(prepared.reply());
+            fill_text(&text, room, count)
+        }
+        Err(_) => NO_MEMORY,
+    }
+}

@@ -1,0 +1,248 @@
+/* Each call once, with values worked out by hand from docs/RULES.md. It writes nothing; its status is the line of the first
+ * check that fails, or 0. */
+#include "pfair.h"
+
+#include <string.h>
+
+#define CHECK(fact)                                                                                                    \
+    do {                                                                                                               \
+        if (!(fact)) return __LINE__ % 251 + 1;                                                                        \
+    } while (0)
+
+static pfair_change join(uint64_t task, uint64_t cost, uint64_t period) {
+    pfair_change change;
+    memset(&change, 0, sizeof change);
+    change.kind = PFAIR_INSERT;
+    change.event.kind = PFAIR_JOIN;
+    change.event.task = task;
+    change.event.cost = cost;
+    change.event.period = period;
+    return change;
+}
+
+/* A handle without a desk answers so, and leaves what it would write to. */
+static int closed(void) {
+    pfair_desk desk = PFAIR_NO_DESK;
+    pfair_change change = join(1, 2, 3);
+    pfair_reply reply = {7, 8};
+    pfair_pick row[2] = {{5, 5}, {5, 5}};
+    pfair_lag lag;
+    pfair_miss miss;
+    pfair_denial denial;
+    pfair_task_figures figures;
+    pfair_numbered event;
+    uint8_t text;
+    uint64_t now = 9, taken = 9;
+    size_t count = 9;
+    memset(&lag, 0, sizeof lag);
+    memset(&miss, 0, sizeof miss);
+    memset(&denial, 0, sizeof denial);
+    memset(&figures, 0, sizeof figures);
+    memset(&event, 0, sizeof event);
+    text = 0;
+    CHECK(pfair_edit(&desk, 1, &change, false, &reply) == PFAIR_NOT_OPEN && reply.event == 7 && reply.reason == 8);
+    CHECK(pfair_what_if(&desk, 1, &change, false, &reply, PFAIR_JSON, &text, 1, &count) == PFAIR_NOT_OPEN);
+    CHECK(reply.event == 7 && reply.reason == 8);
+    CHECK(pfair_step(&desk, 1) == PFAIR_NOT_OPEN);
+    CHECK(pfair_advance(&desk, 1, 3, &taken) == PFAIR_NOT_OPEN && taken == 0);
+    CHECK(pfair_now(&desk, &now) == PFAIR_NOT_OPEN && now == 9);
+    CHECK(pfair_row(&desk, 0, row, 2) == PFAIR_NOT_OPEN && row[0].task == 5);
+    CHECK(pfair_lags(&desk, &lag, 1, &count) == PFAIR_NOT_OPEN);
+    CHECK(pfair_misses(&desk, &miss, 1, &count) == PFAIR_NOT_OPEN);
+    CHECK(pfair_denials(&desk, &denial, 1, &count) == PFAIR_NOT_OPEN);
+    CHECK(pfair_figures(&desk, &figures, 1, &count) == PFAIR_NOT_OPEN);
+    CHECK(pfair_events(&desk, &event, 1, &count) == PFAIR_NOT_OPEN);
+    CHECK(pfair_text(&desk, PFAIR_JSON, &text, 1, &count) == PFAIR_NOT_OPEN && text == 0);
+    CHECK(pfair_schedule(&desk, 0, 0, &text, 1, &count) == PFAIR_NOT_OPEN && text == 0);
+    pfair_close(&desk);
+    CHECK(desk.inner == NULL);
+    return 0;
+}
+
+static int opening(void) {
+    pfair_desk desk = PFAIR_NO_DESK;
+    CHECK(pfair_open(&desk, 0, 3, 6, 64) == PFAIR_BAD_SETTINGS && desk.inner == NULL);
+    CHECK(pfair_open(&desk, 2, 3, 6, 4097) == PFAIR_BAD_SETTINGS && desk.inner == NULL);
+    CHECK(pfair_open_wide(&desk, 65, 3, 6, 64) == PFAIR_BAD_SETTINGS && desk.inner == NULL);
+    CHECK(pfair_open_wide(&desk, 2, 3, 6, 64) == PFAIR_OK && desk.inner != NULL);
+    CHECK(pfair_open(&desk, 2, 3, 6, 64) == PFAIR_ALREADY_OPEN);
+    CHECK(pfair_open_wide(&desk, 2, 3, 6, 64) == PFAIR_ALREADY_OPEN);
+    pfair_close(&desk);
+    CHECK(desk.inner == NULL);
+    pfair_close(&desk);
+    return 0;
+}
+
+/* Three tasks of 2/3 on two processors: each gets two quanta in three slots. */
+static int plan(pfair_desk *desk) {
+    uint64_t task, taken = 0;
+    CHECK(pfair_open(desk, 2, 3, 6, 64) == PFAIR_OK);
+    for (task = 1; task <= 3; task++) {
+        pfair_change change = join(task, 2, 3);
+        pfair_reply reply = {0, 0};
+        CHECK(pfair_edit(desk, 7, &change, false, &reply) == PFAIR_OK && reply.event == task && reply.reason == 0);
+    }
+    CHECK(pfair_step(desk, 7) == PFAIR_OK);
+    CHECK(pfair_advance(desk, 7, 2, &taken) == PFAIR_OK && taken == 2);
+    return 0;
+}
+
+static int rows(pfair_desk *desk) {
+    static const uint32_t tasks[3][2] = {{1, 2}, {1, 3}, {2, 3}};
+    static const uint32_t subs[3][2] = {{1, 1}, {2, 1}, {2, 2}};
+    pfair_pick row[3] = {{9, 9}, {9, 9}, {9, 9}};
+    uint64_t slot, now = 0;
+    CHECK(pfair_now(desk, &now) == PFAIR_OK && now == 3);
+    for (slot = 0; slot < 3; slot++) {
+        CHECK(pfair_row(desk, slot, row, 3) == PFAIR_OK);
+        CHECK(row[0].task == tasks[slot][0] && row[1].task == tasks[slot][1] && row[2].task == 9);
+        CHECK(row[0].sub == subs[slot][0] && row[1].sub == subs[slot][1]);
+    }
+    CHECK(pfair_row(desk, 3, row, 3) == PFAIR_OUT_OF_RANGE);
+    CHECK(pfair_row(desk, 0, row, 1) == PFAIR_TOO_SHORT);
+    return 0;
+}
+
+static int refusals(pfair_desk *desk) {
+    pfair_change change = join(3, 2, 3);
+    pfair_reply reply = {9, 9};
+    CHECK(pfair_edit(desk, 7, &change, false, &reply) == PFAIR_JOIN_TWICE && reply.event == 0 && reply.reason == 0);
+    change = join(4, 2, 7);
+    CHECK(pfair_edit(desk, 7, &change, false, &reply) == PFAIR_BAD_WEIGHT && reply.reason == PFAIR_PERIOD_NOT_IN_BASE);
+    change = join(4, 1, 3);
+    CHECK(pfair_edit(desk, 7, &change, true, &reply) == PFAIR_WOULD_DENY);
+    CHECK(reply.event == 4 && reply.reason == PFAIR_OVER_CAPACITY);
+    change.kind = 3;
+    CHECK(pfair_edit(desk, 7, &change, false, &reply) == PFAIR_UNKNOWN_KIND && reply.event == 4);
+    change = join(4, 1, 3);
+    change.event.kind = 4;
+    CHECK(pfair_edit(desk, 7, &change, false, &reply) == PFAIR_UNKNOWN_KIND);
+    change.kind = PFAIR_STRIKE;
+    change.id = 9;
+    CHECK(pfair_edit(desk, 7, &change, false, &reply) == PFAIR_EVENT_NOT_FOUND);
+    return 0;
+}
+
+/* What a strike of the third task would make of the schedule; the desk stays. */
+static int what_if(pfair_desk *desk) {
+    static const char then[] = "slot,p0,p1\n0,1/1,2/1\n1,1/2,2/2\n2,,\n";
+    static const char now[] = "slot,p0,p1\n0,1/1,2/1\n1,1/2,3/1\n2,2/2,3/2\n";
+    pfair_change change = join(0, 0, 0);
+    pfair_reply reply = {9, 9};
+    uint8_t text[256];
+    size_t count = 0;
+    memset(text, 0, sizeof text);
+    change.kind = PFAIR_STRIKE;
+    change.id = 3;
+    CHECK(pfair_what_if(desk, 7, &change, false, &reply, PFAIR_SCHEDULE, text, sizeof text, &count) == PFAIR_OK);
+    CHECK(reply.event == 3 && reply.reason == 0 && count == sizeof then - 1 && strcmp((const char *)text, then) == 0);
+    CHECK(pfair_what_if(desk, 7, &change, false, &reply, PFAIR_SCHEDULE, text, 4, &count) == PFAIR_TOO_SHORT);
+    change.id = 9;
+    CHECK(pfair_what_if(desk, 7, &change, false, &reply, PFAIR_SCHEDULE, text, 256, &count) == PFAIR_EVENT_NOT_FOUND);
+    CHECK(pfair_what_if(desk, 7, &change, false, &reply, PFAIR_JSON + 1, text, 256, &count) == PFAIR_UNKNOWN_KIND);
+    memset(text, 0, sizeof text);
+    CHECK(pfair_text(desk, PFAIR_SCHEDULE, text, sizeof text, &count) == PFAIR_OK && strcmp((const char *)text, now) == 0);
+    return 0;
+}
+
+static int lists(pfair_desk *desk) {
+    pfair_lag lags[4];
+    pfair_miss misses[4];
+    pfair_denial denials[1];
+    pfair_change change = join(4, 1, 3);
+    pfair_reply reply = {0, 0};
+    size_t count = 0;
+    memset(lags, 0, sizeof lags);
+    memset(misses, 0, sizeof misses);
+    memset(denials, 0, sizeof denials);
+    CHECK(pfair_lags(desk, lags, 2, &count) == PFAIR_TOO_SHORT && count == 3 && lags[0].task == 0);
+    CHECK(pfair_lags(desk, lags, 4, &count) == PFAIR_OK && count == 3);
+    CHECK(lags[2].task == 3 && lags[2].received == 2 && lags[2].scaled == 0 && lags[3].task == 0);
+    CHECK(pfair_denials(desk, denials, 0, &count) == PFAIR_OK && count == 0);
+    CHECK(pfair_edit(desk, 7, &change, false, &reply) == PFAIR_OK && reply.event == 4);
+    CHECK(pfair_denials(desk, denials, 0, &count) == PFAIR_TOO_SHORT && count == 1);
+    CHECK(pfair_denials(desk, denials, 1, &count) == PFAIR_OK && denials[0].reason == PFAIR_OVER_CAPACITY);
+    change.event.kind = PFAIR_LIMIT;
+    change.event.count = 1;
+    CHECK(pfair_edit(desk, 7, &change, false, &reply) == PFAIR_OK);
+    /* One processor gives its three quanta to 1/1, 2/1 and, a slot late, 3/1; the windows of 1/2, 2/2 and 3/2 end with slot 2. */
+    CHECK(pfair_misses(desk, misses, 3, &count) == PFAIR_TOO_SHORT && count == 4 && misses[0].task == 0);
+    CHECK(pfair_misses(desk, misses, 4, &count) == PFAIR_OK && count == 4);
+    CHECK(misses[0].task == 3 && misses[0].sub == 1 && misses[0].deadline == 2 && misses[0].ran == 2);
+    CHECK(misses[3].task == 3 && misses[3].sub == 2 && misses[3].deadline == 3 && misses[3].ran == PFAIR_NEVER);
+    return 0;
+}
+
+static int tasks_and_events(pfair_desk *desk) {
+    pfair_task_figures figures[3];
+    pfair_numbered events[3];
+    size_t count = 0;
+    memset(figures, 0, sizeof figures);
+    memset(events, 0, sizeof events);
+    CHECK(pfair_figures(desk, figures, 3, &count) == PFAIR_OK && count == 3);
+    CHECK(figures[1].task == 2 && figures[1].quanta == 2 && figures[1].jobs == 1);
+    CHECK(figures[1].response_least == 3 && figures[1].response_greatest == 3 && figures[1].missed == 0);
+    CHECK(figures[1].migrations == 1 && figures[1].preemptions == 1 && figures[1].tardiness == 0);
+    CHECK(pfair_events(desk, events, 2, &count) == PFAIR_TOO_SHORT && count == 3 && events[0].id == 0);
+    CHECK(pfair_events(desk, events, 3, &count) == PFAIR_OK && count == 3);
+    CHECK(events[2].id == 3 && events[2].event.kind == PFAIR_JOIN && events[2].event.period == 3);
+    CHECK(events[2].event.by == 0 && events[2].event.count == 0);
+    return 0;
+}
+
+static int texts(pfair_desk *desk) {
+    static const char begin[] = "{\"denials\":[", schedule[] = "slot,p0,p1\n0,1/1,2/1\n1,1/2,3/1\n2,2/2,3/2\n";
+    static const char script[] = "settings,2,3,6,64\njoin,0,1,2,3,0\njoin,0,2,2,3,0\njoin,0,3,2,3,0\nstep,3\n";
+    uint8_t text[1024];
+    uint64_t kind;
+    size_t count = 0, again = 0;
+    for (kind = PFAIR_SCHEDULE; kind <= PFAIR_JSON; kind++) {
+        memset(text, 0, sizeof text);
+        CHECK(pfair_text(desk, kind, text, 0, &count) == PFAIR_TOO_SHORT && count < sizeof text && text[0] == 0);
+        CHECK(pfair_text(desk, kind, text, count, &again) == PFAIR_OK && again == count && text[count] == 0);
+        if (kind == PFAIR_SCHEDULE) CHECK(strcmp((const char *)text, schedule) == 0);
+        if (kind == PFAIR_SCRIPT) CHECK(strcmp((const char *)text, script) == 0);
+        if (kind == PFAIR_JSON) CHECK(memcmp(text, begin, sizeof begin - 1) == 0 && text[count - 1] == '}');
+    }
+    count = 9;
+    CHECK(pfair_text(desk, PFAIR_JSON + 1, text, sizeof text, &count) == PFAIR_UNKNOWN_KIND && count == 9);
+    return 0;
+}
+
+static int ranges(pfair_desk *desk) {
+    static const char part[] = "slot,p0,p1\n1,1/2,3/1\n";
+    uint8_t text[256];
+    size_t count = 0;
+    memset(text, 0, sizeof text);
+    CHECK(pfair_schedule(desk, 1, 2, text, 4, &count) == PFAIR_TOO_SHORT && count == sizeof part - 1 && text[0] == 0);
+    CHECK(pfair_schedule(desk, 1, 2, text, sizeof text, &count) == PFAIR_OK && strcmp((const char *)text, part) == 0);
+    CHECK(pfair_schedule(desk, 2, 1, text, sizeof text, &count) == PFAIR_OUT_OF_RANGE);
+    CHECK(pfair_schedule(desk, 0, 4, text, sizeof text, &count) == PFAIR_OUT_OF_RANGE);
+    return 0;
+}
+
+static int version(void) {
+    uint8_t text[sizeof PFAIR_VERSION];
+    size_t count = 0;
+    memset(text, 0, sizeof text);
+    CHECK(pfair_version(text, 0, &count) == PFAIR_TOO_SHORT && count == sizeof PFAIR_VERSION - 1);
+    CHECK(pfair_version(text, sizeof text, &count) == PFAIR_OK && strcmp((const char *)text, PFAIR_VERSION) == 0);
+    return 0;
+}
+
+int main(void) {
+    pfair_desk desk = PFAIR_NO_DESK;
+    int failed = closed();
+    if (!failed) failed = opening();
+    if (!failed) failed = plan(&desk);
+    if (!failed) failed = rows(&desk);
+    if (!failed) failed = tasks_and_events(&desk);
+    if (!failed) failed = texts(&desk);
+    if (!failed) failed = ranges(&desk);
+    if (!failed) failed = what_if(&desk);
+    if (!failed) failed = version();
+    if (!failed) failed = refusals(&desk);
+    if (!failed) failed = lists(&desk);
+    pfair_close(&desk);
+    return failed;
+}

@@ -1,0 +1,205 @@
+"""The desk."""
+
+import ctypes
+import json
+import threading
+from types import TracebackType
+from typing import Any, Dict, Iterator, List, Optional, Type
+
+from pfair._errors import check, reason_name
+from pfair._events import Event, event_of, raw_event, unsigned
+from pfair._library import CALLS, NUMBERS, SIZE, U64, RawChange, RawDenial, RawDesk, RawEvent, RawFigures, RawLag, RawMiss
+from pfair._library import RawNumbered, RawPick, RawReply
+from pfair._told import Denial, Figures, Lag, Miss, Pick
+
+NEVER = (1 << 64) - 1
+
+TEXTS = ("schedule", "lags", "misses", "denials", "events", "script", "json")
+
+# Who runs on each processor, or None where it is idle or out of use.
+Row = List[Optional[Pick]]
+
+
+class Desk:
+    """A planner's desk: a plan of tasks, and its schedule slot by slot. Threads may share it, one call at a time.
+
+    processors  1 to 64
+    base        a number that each period divides, 1 to 2^30
+    cap         the most load, in 1/base, 1 to 2^44; processors * base, where it is left out, fills the processors
+    every       a checkpoint is kept each so many slots, 1 to 4,096: a change of the past is replayed from the last one
+    wide        whether there are 2^22 slots in place of 2^20
+    caller      the number under which the history keeps what is asked here
+
+    Raises BadSettings where a number is out of its limits, ValueError where 64 bits do not hold it. Each call may raise
+    MemoryError, and then the desk is as before; and ClosedDesk.
+    """
+
+    def __init__(
+        self, processors: int, base: int, cap: Optional[int] = None, every: int = 64, wide: bool = False, caller: int = 0
+    ) -> None:
+        self._raw = RawDesk()
+        self._turn = threading.RLock()
+        self._caller = unsigned(caller, 32)
+        numbers = (processors, base, processors * base if cap is None else cap, every)
+        check(self._call("open_wide" if wide else "open", *map(unsigned, numbers)))
+        self._processors = processors
+
+    @property
+    def processors(self) -> int:
+        """How many processors there are."""
+        return self._processors
+
+    def _call(self, name: str, *words: Any) -> int:
+        # ctypes lets other threads run during a call, and a handle is in one call at a time.
+        with self._turn:
+            return CALLS[name](self._raw, *words)
+
+    def close(self) -> None:
+        """Gives the memory back. A desk that is closed stays so."""
+        self._call("close")
+
+    def __enter__(self) -> "Desk":
+        return self
+
+    def __exit__(
+        self, kind: Optional[Type[BaseException]], error: Optional[BaseException], trace: Optional[TracebackType]
+    ) -> None:
+        self.close()
+
+    def __del__(self) -> None:
+        if hasattr(self, "_turn"):
+            self.close()
+
+    def _edit(self, kind: str, number: int, event: RawEvent, strict: bool) -> int:
+        reply = RawReply()
+        change = RawChange(NUMBERS[kind], unsigned(number), event)
+        check(self._call("edit", self._caller, change, strict, reply), reply.event, reply.reason)
+        return reply.event
+
+    def _what_if(self, text: str, kind: str, number: int, event: RawEvent) -> str:
+        reply = RawReply()
+        change = RawChange(NUMBERS[kind], unsigned(number), event)
+        words = (self._caller, change, False, reply, text_number(text))
+        told: bytes = self._all("what_if", ctypes.c_char, *words, reply=reply)
+        return told.decode("ascii")
+
+    def if_inserted(self, event: Event, text: str = "schedule") -> str:
+        """A text of the desk as it would be after an insert, which is not made; of the kinds of text. Raises Refused."""
+        return self._what_if(text, "INSERT", 0, raw_event(event))
+
+    def if_altered(self, number: int, event: Event, text: str = "schedule") -> str:
+        """The same of an alter."""
+        return self._what_if(text, "ALTER", number, raw_event(event))
+
+    def if_struck(self, number: int, text: str = "schedule") -> str:
+        """The same of a strike."""
+        return self._what_if(text, "STRIKE", number, RawEvent())
+
+    def insert(self, event: Event, strict: bool = False) -> int:
+        """Puts an event into the plan and gives its number.
+
+        The slots stepped are as though it had always stood there. A strict change is refused where the slots stepped would
+        then have any denial. Raises Refused.
+        """
+        return self._edit("INSERT", 0, raw_event(event), strict)
+
+    def alter(self, number: int, event: Event, strict: bool = False) -> int:
+        """Puts an event in the place of the one of this number, which it keeps. Else as insert."""
+        return self._edit("ALTER", number, raw_event(event), strict)
+
+    def strike(self, number: int, strict: bool = False) -> int:
+        """Takes the event of this number out of the plan. Else as insert."""
+        return self._edit("STRIKE", number, RawEvent(), strict)
+
+    def step(self) -> None:
+        """Takes the next slot. Raises Refused where none is left."""
+        check(self._call("step", self._caller))
+
+    def advance(self, count: int) -> int:
+        """Takes so many slots, or as many as are left: how many were taken."""
+        taken = U64()
+        status = self._call("advance", self._caller, unsigned(count), taken)
+        if status != NUMBERS["AT_HORIZON"]:
+            check(status)
+        return taken.value
+
+    @property
+    def now(self) -> int:
+        """How many slots were stepped."""
+        now = U64()
+        check(self._call("now", now))
+        return now.value
+
+    def row(self, slot: int) -> Row:
+        """Who runs on each processor in a slot. Raises OutOfRange where it was not stepped."""
+        room = (RawPick * self._processors)()
+        check(self._call("row", unsigned(slot), room, len(room)))
+        return [Pick(it.task, it.sub) if it.task else None for it in room]
+
+    def rows(self) -> Iterator[Row]:
+        """The rows of the slots stepped."""
+        for slot in range(self.now):
+            yield self.row(slot)
+
+    def schedule(self) -> List[Row]:
+        """All rows as a list, a slot each, with a column for each processor: what pandas.DataFrame takes."""
+        return list(self.rows())
+
+    def _all(self, name: str, element: Any, *words: Any, reply: Optional[RawReply] = None) -> Any:
+        """What a call fills, in a room that is made as long as the call asks for."""
+        with self._turn:
+            count, length = SIZE(), 0
+            while True:
+                room = (element * max(length, 1))()
+                status = self._call(name, *words, room, length, count)
+                if status != NUMBERS["TOO_SHORT"]:
+                    check(status, *((reply.event, reply.reason) if reply else ()))
+                    return room[: count.value]
+                length = count.value
+
+    def lags(self) -> List[Lag]:
+        """How far each task inside is from its fair share, by task."""
+        return [Lag(it.task, it.cost, it.period, it.received, it.scaled) for it in self._all("lags", RawLag)]
+
+    def misses(self) -> List[Miss]:
+        """The missed windows, by deadline, then by task."""
+        raw = self._all("misses", RawMiss)
+        return [Miss(it.task, it.sub, it.deadline, None if it.ran == NEVER else it.ran) for it in raw]
+
+    def denials(self) -> List[Denial]:
+        """The denials of the slots stepped, in the order in which the events were taken."""
+        return [Denial(it.slot, it.event, reason_name(it.reason)) for it in self._all("denials", RawDenial)]
+
+    def figures(self) -> List[Figures]:
+        """The figures of each task admitted in a slot stepped, by task."""
+        return [_figures_of(it) for it in self._all("figures", RawFigures)]
+
+    def events(self) -> Dict[int, Event]:
+        """The events held, by number."""
+        return {it.id: event_of(it.event) for it in self._all("events", RawNumbered)}
+
+    def text(self, kind: str) -> str:
+        """A text of the desk as docs/FORMATS.md has it.
+
+        The tables "schedule", "lags", "misses", "denials" and "events" are CSV; "script" is for the program pfair; "json" is the
+        whole report.
+        """
+        text: bytes = self._all("text", ctypes.c_char, text_number(kind))
+        return text.decode("ascii")
+
+    def report(self) -> Dict[str, Any]:
+        """The report, read from its JSON: the keys are denials, entries, lags, misses, now and schedule."""
+        report: Dict[str, Any] = json.loads(self.text("json"))
+        return report
+
+
+def text_number(kind: str) -> int:
+    if kind not in TEXTS:
+        raise ValueError(f"{kind!r} is none of {', '.join(TEXTS)}")
+    return NUMBERS[kind.upper()]
+
+
+def _figures_of(it: RawFigures) -> Figures:
+    response = (it.response_least, it.response_greatest) if it.jobs else None
+    first = (it.task, it.cost, it.period, it.quanta, it.migrations, it.preemptions, it.jobs)
+    return Figures(*first, response, it.missed, it.tardiness, (it.lag_least, it.lag_greatest))

@@ -1,0 +1,69 @@
+"""What a desk tells, as tuples with names."""
+
+from fractions import Fraction
+from typing import NamedTuple, Optional, Tuple
+
+
+class Pick(NamedTuple):
+    """A quantum of a processor: it goes to the task's subtask `sub`, counted from 1."""
+
+    task: int
+    sub: int
+
+
+class Lag(NamedTuple):
+    """How far a task is from its fair share: cost and received in quanta, the period in slots.
+
+    scaled is the lag times the period; above 0 the task is behind its share.
+    """
+
+    task: int
+    cost: int
+    period: int
+    received: int
+    scaled: int
+
+    @property
+    def lag(self) -> Fraction:
+        """The lag itself, in quanta."""
+        return Fraction(self.scaled, self.period)
+
+
+class Miss(NamedTuple):
+    """A window that was missed: the subtask did not run in a slot below the deadline.
+
+    ran is the slot in which it ran late, if it did.
+    """
+
+    task: int
+    sub: int
+    deadline: int
+    ran: Optional[int]
+
+
+class Denial(NamedTuple):
+    """An event of the plan that has no effect, since a rule of admission fails in its slot; reason names the rule."""
+
+    slot: int
+    event: int
+    reason: str
+
+
+class Figures(NamedTuple):
+    """What every simulator tells of a task: cost and quanta in quanta, the period, responses and tardiness in slots.
+
+    response is the least and the greatest of the jobs that were done, None where there is none; lag the least and the
+    greatest lag times the period, while the task was inside.
+    """
+
+    task: int
+    cost: int
+    period: int
+    quanta: int
+    migrations: int
+    preemptions: int
+    jobs: int
+    response: Optional[Tuple[int, int]]
+    missed: int
+    tardiness: int
+    lag: Tuple[int, int]

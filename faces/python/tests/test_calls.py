@@ -1,0 +1,112 @@
+"""Each call once, with values worked out by hand from docs/RULES.md."""
+
+import doctest
+import threading
+import unittest
+
+import pfair
+from pfair import BadSettings, ClosedDesk, Delay, Denial, Desk, Join, Lag, Leave, Limit, Miss, OutOfRange, Refused
+
+
+def three_of_two_thirds() -> Desk:
+    """Three tasks on two processors: each gets two quanta in three slots."""
+    desk = Desk(processors=2, base=3)
+    for task in (1, 2, 3):
+        desk.insert(Join(slot=0, task=task, cost=2, period=3))
+    return desk
+
+
+class Calls(unittest.TestCase):
+    def test_a_plan_and_what_is_told_of_it(self) -> None:
+        with three_of_two_thirds() as desk:
+            self.assertEqual(desk.advance(3), 3)
+            rows = [[(1, 1), (2, 1)], [(1, 2), (3, 1)], [(2, 2), (3, 2)]]
+            self.assertEqual(desk.schedule(), rows)
+            self.assertEqual(desk.lags(), [Lag(task, 2, 3, 2, 0) for task in (1, 2, 3)])
+            self.assertEqual(desk.lags()[0].lag, 0)
+            self.assertEqual((desk.misses(), desk.denials()), ([], []))
+            figures = desk.figures()[1]
+            self.assertEqual((figures.quanta, figures.jobs, figures.response), (2, 1, (3, 3)))
+            self.assertEqual(desk.events(), {task: Join(0, task, 2, 3) for task in (1, 2, 3)})
+            self.assertEqual(desk.text("schedule"), "slot,p0,p1\n0,1/1,2/1\n1,1/2,3/1\n2,2/2,3/2\n")
+            with self.assertRaises(ValueError):
+                desk.text("tables")
+            report = desk.report()
+            self.assertEqual((report["now"], report["entries"]), (3, 6))
+            self.assertEqual(report["schedule"], [[list(pick) for pick in row] for row in rows])
+            with self.assertRaises(OutOfRange):
+                desk.row(3)
+
+    def test_the_past_is_changed(self) -> None:
+        with three_of_two_thirds() as desk:
+            desk.advance(2)
+            desk.alter(1, Join(slot=1, task=1, cost=2, period=3))
+            self.assertEqual(desk.row(0), [(2, 1), (3, 1)])
+            desk.strike(1)
+            self.assertEqual(desk.row(1), [(2, 2), (3, 2)])
+            self.assertEqual(desk.insert(Limit(slot=0, count=1)), 4)
+            desk.step()
+            self.assertEqual(desk.misses(), [Miss(3, 2, 3, None)])
+            desk.insert(Delay(slot=5, task=2, by=2))
+            desk.insert(Leave(slot=9, task=2))
+
+    def test_what_would_be(self) -> None:
+        with three_of_two_thirds() as desk:
+            desk.advance(3)
+            before = desk.text("schedule")
+            self.assertEqual(desk.if_struck(3), "slot,p0,p1\n0,1/1,2/1\n1,1/2,2/2\n2,,\n")
+            self.assertIn('"event":4', desk.if_inserted(Join(0, 4, 1, 3), "json"))
+            self.assertTrue(desk.if_altered(1, Join(1, 1, 2, 3)).startswith("slot,p0,p1\n0,2/1,3/1\n"))
+            with self.assertRaises(Refused) as twice:
+                desk.if_inserted(Join(0, 3, 2, 3))
+            self.assertEqual(twice.exception.name, "JoinTwice")
+            self.assertEqual(desk.text("schedule"), before)
+
+    def test_refusals_tell_why(self) -> None:
+        with three_of_two_thirds() as desk:
+            with self.assertRaises(Refused) as twice:
+                desk.insert(Join(0, 3, 2, 3))
+            self.assertEqual((twice.exception.number, twice.exception.name), (16, "JoinTwice"))
+            with self.assertRaises(Refused) as weight:
+                desk.insert(Join(0, 4, 2, 7))
+            self.assertEqual(weight.exception.reason, "PeriodNotInBase")
+            desk.step()
+            with self.assertRaises(Refused) as strict:
+                desk.insert(Join(0, 4, 1, 3), strict=True)
+            told = strict.exception
+            self.assertEqual((told.name, told.event, told.reason), ("WouldDeny", 4, "OverCapacity"))
+            self.assertEqual(str(told), "refused 31 WouldDeny 4 OverCapacity")
+            desk.insert(Join(0, 4, 1, 3))
+            self.assertEqual(desk.denials(), [Denial(0, 4, "OverCapacity")])
+
+    def test_numbers_out_of_their_limits(self) -> None:
+        for numbers in ((0, 4), (65, 4), (2, 0), (2, 4, 0), (2, 4, 8, 0), (2, 4, 8, 4097)):
+            with self.assertRaises(BadSettings):
+                Desk(*numbers)
+        with self.assertRaises(ValueError):
+            Desk(processors=-1, base=4)
+        with Desk(2, 4) as desk:
+            with self.assertRaises(ValueError):
+                desk.advance(1 << 64)
+            with self.assertRaises(Refused):
+                desk.insert(Join(1 << 20, 1, 1, 4))
+        with Desk(2, 4, wide=True) as desk:
+            self.assertEqual(desk.insert(Join(1 << 20, 1, 1, 4)), 1)
+        with self.assertRaises(ClosedDesk):
+            desk.row(0)
+
+    def test_threads_share_a_desk(self) -> None:
+        with three_of_two_thirds() as desk:
+            threads = [threading.Thread(target=lambda: [desk.step() for _ in range(500)]) for _ in range(4)]
+            for thread in threads:
+                thread.start()
+            for thread in threads:
+                thread.join()
+            self.assertEqual(desk.now, 2000)
+
+    def test_the_example_of_the_documentation(self) -> None:
+        self.assertEqual(doctest.testmod(pfair).failed, 0)
+
+
+if __name__ == "__main__":
+    unittest.main()

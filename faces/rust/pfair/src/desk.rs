@@ -1,0 +1,297 @@
+use crate::error::answer;
+use crate::{Change, Denial, Error, Event, Figures, Lag, Miss, Row, Settings, Text};
+use pfair_sys as sys;
+use pfair_sys::raw::{pfair_pick, pfair_reply};
+use pfair_sys::Handle;
+use std::ops::Range;
+
+/// A planner's desk. It is `Send`, and drops its memory when it goes.
+///
+/// ```
+/// # use pfair::{Desk, Settings};
+/// let desk = Desk::open(Settings::new(2, 12))?;
+/// let slots = std::thread::spawn(move || desk.now()).join().unwrap();
+/// assert_eq!(slots, 0);
+/// # Ok::<(), pfair::Error>(())
+/// ```
+pub struct Desk {
+    handle: Handle,
+    settings: Settings,
+    caller: u32,
+}
+
+/// What is told of a call that has no reply.
+const NOTHING: pfair_reply = pfair_reply { event: 0, reason: 0 };
+
+impl Desk {
+    /// Opens a desk with an empty plan and no slot stepped.
+    ///
+    /// # Errors
+    ///
+    /// `BadSettings`, `NoMemory`.
+    pub fn open(settings: Settings) -> Result<Self, Error> {
+        let Settings { processors, base, cap, every, wide } = settings;
+        let mut handle = Handle::closed();
+        answer(handle.open(wide, processors, base, cap, every), NOTHING)?;
+        Ok(Desk { handle, settings, caller: 0 })
+    }
+
+    /// What the desk was opened with.
+    pub fn settings(&self) -> Settings {
+        self.settings
+    }
+
+    /// Enters what is asked from here on under this caller's number. It begins as 0.
+    pub fn set_caller(&mut self, caller: u32) {
+        self.caller = caller;
+    }
+
+    /// Inserts an event: its number.
+    ///
+    /// # Errors
+    ///
+    /// `Refused`, `NoMemory`.
+    pub fn insert(&mut self, event: Event) -> Result<u64, Error> {
+        self.edit(Change::Insert(event))
+    }
+
+    /// Makes a change: the number of the event concerned. What was stepped is as though it had always stood there.
+    ///
+    /// # Errors
+    ///
+    /// `Refused`, `NoMemory`.
+    ///
+    /// ```
+    /// # use pfair::{Change, Desk, Error, Event, Refusal, Settings};
+    /// let mut desk = Desk::open(Settings::new(1, 4))?;
+    /// desk.insert(Event::join(0, 1, 3, 4))?;
+    /// desk.advance(2)?;
+    /// // Slot 1 is past: it is replayed.
+    /// desk.edit(Change::Alter(1, Event::join(1, 1, 3, 4)))?;
+    /// assert_eq!(desk.row(0)?.to_string(), "-");
+    /// assert_eq!(desk.edit(Change::Strike(7)), Err(Error::Refused(Refusal::EventNotFound)));
+    /// # Ok::<(), Error>(())
+    /// ```
+    pub fn edit(&mut self, change: Change) -> Result<u64, Error> {
+        self.change(change, false)
+    }
+
+    /// The same, but refused where the slots stepped so far would then have any denial, old or new.
+    ///
+    /// # Errors
+    ///
+    /// `Refused`, with `WouldDeny` too; `NoMemory`.
+    pub fn edit_strictly(&mut self, change: Change) -> Result<u64, Error> {
+        self.change(change, true)
+    }
+
+    /// A text of the desk as it would be after a change, which is not made.
+    ///
+    /// # Errors
+    ///
+    /// `Refused` as the change would be, `NoMemory`.
+    ///
+    /// ```
+    /// # use pfair::{Change, Desk, Event, Settings, Text};
+    /// let mut desk = Desk::open(Settings::new(1, 2))?;
+    /// desk.insert(Event::join(0, 1, 1, 2))?;
+    /// desk.advance(2)?;
+    /// assert_eq!(desk.what_if(Change::Strike(1), Text::Schedule)?, "slot,p0\n0,\n1,\n");
+    /// assert_eq!(desk.text(Text::Schedule)?, "slot,p0\n0,1/1\n1,\n");
+    /// # Ok::<(), pfair::Error>(())
+    /// ```
+    pub fn what_if(&mut self, change: Change, kind: Text) -> Result<String, Error> {
+        let (change, kind, mut reply, mut room) = (change.to_raw(), kind.number(), NOTHING, Vec::new());
+        loop {
+            let mut count = 0;
+            match self.handle.what_if(self.caller, &change, false, &mut reply, kind, &mut room, &mut count) {
+                sys::PFAIR_TOO_SHORT => room.resize(count, 0),
+                status => {
+                    answer(status, reply)?;
+                    return Ok(String::from_utf8(room).expect("the library's texts are ASCII"));
+                }
+            }
+        }
+    }
+
+    fn change(&mut self, change: Change, strict: bool) -> Result<u64, Error> {
+        let mut reply = NOTHING;
+        let status = self.handle.edit(self.caller, &change.to_raw(), strict, &mut reply);
+        answer(status, reply)?;
+        Ok(reply.event)
+    }
+
+    /// Takes the next slot.
+    ///
+    /// # Errors
+    ///
+    /// `Refused` at the horizon, `NoMemory`.
+    pub fn step(&mut self) -> Result<(), Error> {
+        answer(self.handle.step(self.caller), NOTHING)
+    }
+
+    /// Takes slots until `count` were taken or none is left: how many were taken.
+    ///
+    /// # Errors
+    ///
+    /// `NoMemory`: `now` tells how many slots were taken.
+    pub fn advance(&mut self, count: u64) -> Result<u64, Error> {
+        let mut taken = 0;
+        match self.handle.advance(self.caller, count, &mut taken) {
+            sys::PFAIR_AT_HORIZON => Ok(taken),
+            status => answer(status, NOTHING).map(|()| taken),
+        }
+    }
+
+    /// How many slots were stepped.
+    pub fn now(&self) -> u64 {
+        let mut now = 0;
+        let status = self.handle.now(&mut now);
+        debug_assert_eq!(status, sys::PFAIR_OK, "an open desk tells");
+        now
+    }
+
+    /// Who runs on each processor in a slot.
+    ///
+    /// # Errors
+    ///
+    /// `OutOfRange` where the slot was not stepped.
+    pub fn row(&self, slot: u64) -> Result<Row, Error> {
+        let mut room = vec![pfair_pick::default(); self.settings.processors as usize];
+        answer(self.handle.row(slot, &mut room), NOTHING)?;
+        Ok(Row::new(slot, &room))
+    }
+
+    /// The rows of all slots stepped.
+    pub fn rows(&self) -> Rows<'_> {
+        Rows { desk: self, slot: 0, now: self.now() }
+    }
+
+    /// How far each task inside is from its fair share, by task.
+    ///
+    /// # Errors
+    ///
+    /// `NoMemory`.
+    pub fn lags(&self) -> Result<Vec<Lag>, Error> {
+        Ok(all(|room, count| self.handle.lags(room, count))?.into_iter().map(Lag::from).collect())
+    }
+
+    /// The missed windows, by deadline, then by task.
+    ///
+    /// # Errors
+    ///
+    /// `NoMemory`.
+    pub fn misses(&self) -> Result<Vec<Miss>, Error> {
+        Ok(all(|room, count| self.handle.misses(room, count))?.into_iter().map(Miss::from).collect())
+    }
+
+    /// The denials of the slots stepped, in the order in which the events were taken.
+    ///
+    /// # Errors
+    ///
+    /// None; a `Result` as for the others.
+    pub fn denials(&self) -> Result<Vec<Denial>, Error> {
+        Ok(all(|room, count| self.handle.denials(room, count))?.into_iter().map(Denial::from).collect())
+    }
+
+    /// The figures of each task admitted in a slot stepped, by task.
+    ///
+    /// # Errors
+    ///
+    /// `NoMemory`.
+    pub fn figures(&self) -> Result<Vec<Figures>, Error> {
+        Ok(all(|room, count| self.handle.figures(room, count))?.into_iter().map(Figures::from).collect())
+    }
+
+    /// The events held, by number.
+    ///
+    /// # Errors
+    ///
+    /// `NoMemory`.
+    pub fn events(&self) -> Result<Vec<(u64, Event)>, Error> {
+        let raw = all(|room, count| self.handle.events(room, count))?;
+        Ok(raw.into_iter().map(|it| (it.id, Event::of_raw(it.event))).collect())
+    }
+
+    /// A text of the desk.
+    ///
+    /// # Errors
+    ///
+    /// `NoMemory`.
+    ///
+    /// ```
+    /// # use pfair::{Desk, Event, Settings, Text};
+    /// let mut desk = Desk::open(Settings::new(1, 2))?;
+    /// desk.insert(Event::join(0, 1, 1, 2))?;
+    /// desk.advance(2)?;
+    /// assert_eq!(desk.text(Text::Schedule)?, "slot,p0\n0,1/1\n1,\n");
+    /// # Ok::<(), pfair::Error>(())
+    /// ```
+    pub fn text(&self, kind: Text) -> Result<String, Error> {
+        text(|room, count| self.handle.text(kind.number(), room, count))
+    }
+}
+
+impl Desk {
+    /// The schedule of these slots as CSV.
+    ///
+    /// # Errors
+    ///
+    /// `OutOfRange` where they were not all stepped, `NoMemory`.
+    pub fn schedule(&self, slots: Range<u64>) -> Result<String, Error> {
+        text(|room, count| self.handle.schedule(slots.start, slots.end, room, count))
+    }
+}
+
+/// The version of the library.
+pub fn version() -> String {
+    text(sys::version).expect("it takes no memory")
+}
+
+/// All that a call fills, in a room that is made as long as the call asks for.
+fn all<T: Clone + Default>(mut call: impl FnMut(&mut [T], &mut usize) -> u32) -> Result<Vec<T>, Error> {
+    let mut room = Vec::new();
+    loop {
+        let mut count = 0;
+        match call(&mut room, &mut count) {
+            sys::PFAIR_TOO_SHORT => room.resize(count, T::default()),
+            status => {
+                answer(status, NOTHING)?;
+                room.truncate(count);
+                return Ok(room);
+            }
+        }
+    }
+}
+
+/// The same of a text.
+fn text(call: impl FnMut(&mut [u8], &mut usize) -> u32) -> Result<String, Error> {
+    Ok(String::from_utf8(all(call)?).expect("the library's texts are ASCII"))
+}
+
+/// The rows of the slots stepped, in their order.
+pub struct Rows<'a> {
+    desk: &'a Desk,
+    slot: u64,
+    now: u64,
+}
+
+impl Iterator for Rows<'_> {
+    type Item = Row;
+
+    fn next(&mut self) -> Option<Row> {
+        if self.slot == self.now {
+            return None;
+        }
+        let row = self.desk.row(self.slot).ok();
+        self.slot += 1;
+        row
+    }
+
+    fn size_hint(&self) -> (usize, Option<usize>) {
+        let left = (self.now - self.slot) as usize;
+        (left, Some(left))
+    }
+}
+
+impl ExactSizeIterator for Rows<'_> {}

@@ -1,0 +1,124 @@
+//! The proved desk and a plain scheduler, given the same random commands, answer alike.
+//!
+//! PFAIR_COMMANDS tells how many commands there are, 100,000 where it is not set, and PFAIR_SEED where they begin.
+
+mod plain;
+
+use pfair::{Change, Desk, Error, Event, Settings, Text};
+use plain::PlainDesk;
+use std::env;
+
+/// Each divides the base, so that weights are many and sums often fill the processors exactly.
+const PERIODS: [u64; 12] = [1, 2, 3, 4, 5, 6, 8, 10, 12, 15, 20, 60];
+const BASE: u64 = 120;
+
+/// How many commands one pair of desks gets.
+const ROUND: u64 = 120;
+
+/// Random numbers (splitmix64; Steele, Lea and Flood, OOPSLA 2014).
+struct Random(u64);
+
+impl Random {
+    fn below(&mut self, bound: u64) -> u64 {
+        self.0 = self.0.wrapping_add(0x9e37_79b9_7f4a_7c15);
+        let mut mixed = self.0;
+        mixed = (mixed ^ (mixed >> 30)).wrapping_mul(0xbf58_476d_1ce4_e5b9);
+        mixed = (mixed ^ (mixed >> 27)).wrapping_mul(0x94d0_49bb_1331_11eb);
+        (mixed ^ (mixed >> 31)) % bound
+    }
+
+    fn one_in(&mut self, bound: u64) -> bool {
+        self.below(bound) == 0
+    }
+}
+
+/// An event near now, with a number out of its limits now and then.
+fn event(random: &mut Random, processors: u64, now: u64) -> Event {
+    let slot = if random.one_in(40) { (1 << 20) + random.below(3) - 1 } else { random.below(now + 12) };
+    let task = match random.below(60) {
+        0 => 0,
+        1 => 4_095 + random.below(2),
+        _ => 1 + random.below(12),
+    };
+    match random.below(8) {
+        0..=3 => {
+            let period = PERIODS[random.below(12) as usize] + if random.one_in(50) { 7 } else { 0 };
+            let cost = random.below(period + 1) + if random.one_in(80) { period } else { 0 };
+            let early = match random.below(60) {
+                0 => (1 << 20) + random.below(2),
+                1..=20 => random.below(6),
+                _ => 0,
+            };
+            Event::Join { slot, task, cost, period, early }
+        }
+        4 => Event::Leave { slot, task },
+        5 | 6 => Event::Delay { slot, task, by: if random.one_in(60) { 1 << 21 } else { random.below(9) } },
+        _ => Event::Limit { slot, count: random.below(processors + 2) },
+    }
+}
+
+fn change(random: &mut Random, processors: u64, now: u64, given: u64) -> Change {
+    match random.below(10) {
+        0..=5 => Change::Insert(event(random, processors, now)),
+        6 | 7 => Change::Alter(random.below(given + 2), event(random, processors, now)),
+        _ => Change::Strike(random.below(given + 2)),
+    }
+}
+
+fn compare(desk: &Desk, plain: &PlainDesk) {
+    assert_eq!(desk.now(), plain.now());
+    for (row, there) in desk.rows().zip(&plain.run().rows) {
+        let here: Vec<_> = row.picks.iter().map(|it| it.map(|pick| (pick.task.into(), pick.sub.into()))).collect();
+        assert_eq!(&here, there, "slot {}", row.slot);
+    }
+    assert_eq!(desk.lags().unwrap(), plain.lags());
+    assert_eq!(desk.misses().unwrap(), plain.misses());
+    assert_eq!(desk.denials().unwrap(), plain.denials());
+    assert_eq!(desk.events().unwrap(), plain.events());
+    assert_eq!(desk.text(Text::Json).unwrap(), plain.json());
+}
+
+/// A desk of each kind and so many commands: how many of them were not refused.
+fn round(seed: u64, commands: u64) -> u64 {
+    let mut random = Random(seed);
+    let processors = 1 + random.below(4);
+    let cap = (processors - 1) * BASE + 1 + random.below(2 * BASE);
+    let every = 1 + random.below(16);
+    let mut desk = Desk::open(Settings { cap, every, ..Settings::new(processors, BASE) }).expect("within the limits");
+    let mut plain = PlainDesk::open(processors, BASE, cap);
+    let mut given = 0;
+    let mut made = 0;
+    for number in 0..commands {
+        if random.below(3) == 0 {
+            let count = random.below(3);
+            assert_eq!(desk.advance(count), Ok(count));
+            (0..count).for_each(|_| plain.step());
+            made += 1;
+        } else {
+            let change = change(&mut random, processors, plain.now(), given);
+            let strict = random.one_in(4);
+            let here = if strict { desk.edit_strictly(change) } else { desk.edit(change) };
+            let there = plain.edit(&change, strict).map_err(Error::Refused);
+            assert_eq!(here, there, "seed {seed}, command {number}: {change:?}, strict {strict}");
+            given = here.map_or(given, |id| id.max(given));
+            made += u64::from(here.is_ok());
+        }
+        if number % 8 == 7 || number + 1 == commands {
+            compare(&desk, &plain);
+        }
+    }
+    made
+}
+
+fn number(name: &str, usual: u64) -> u64 {
+    env::var(name).map_or(usual, |text| text.parse().expect("a number"))
+}
+
+#[test]
+fn the_desk_and_a_plain_scheduler_answer_alike() {
+    let commands = number("PFAIR_COMMANDS", 100_000);
+    let first = number("PFAIR_SEED", 1);
+    let rounds = commands.div_ceil(ROUND);
+    let made: u64 = (first..first + rounds).map(|seed| round(seed, ROUND)).sum();
+    println!("{} commands, {made} of them made: the same answers", rounds * ROUND);
+}
