@@ -47,7 +47,7 @@ use Rattle.pf_tally.proofs.Holding.{next_is}
 use Rattle.pf_tally.proofs.Journals.{journal_can, walked_delays}
 use Rattle.pf_tally.proofs.Ledgers.{task_can}
 use Rattle.pf_tally.proofs.Own.{find_own}
-use Rattle.pf_tally.proofs.Places.{done_is}
+use Rattle.pf_tally.proofs.Places.{done_is, places_apart}
 use Rattle.pf_tally.proofs.Sorts.{one_sorted}
 use Rattle.pf_tally.proofs.Tallies.{not_tied}
 
@@ -197,6 +197,7 @@ module _ (s : Plan) (rows : List (List (Option Pick))) (denials : List Denied) (
         joined = at;
         can = subst P (sym of_ran) can;
         delays = walked_delays s rows denials run known j at (noted_of run.walk.delays j.task) refl ∙ ap (λ ran. held_from (next_in ran) j j.slot run.journal.events.items) (sym of_ran);
+        apart = let A : List ℕ → Type 0 = AllPairs (λ a b. a < b) in subst A (sym of_ran) (places_apart (λ row. is_seated row j.task) 0 rows);
         slots = subst Q (sym of_ran) (λ k d within. let h : get_or (slots_in rows j.task) k d < 0 + length rows = all k d within in omega arith);
       }
 

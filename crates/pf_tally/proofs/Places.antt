@@ -1,5 +1,5 @@
 -- What the slots in which a task runs say of its quanta.
-use Rattle.std.proofs.Common.{◌≡◌, ℕ, zero, suc, ◌+◌, ◌≤◌, Bool, true, false, nat_lt, cond, List, [], ◌∷◌, ◌++◌, length, take, get_or, count_by, All, ⊎_elim, refl, sym, ap, ap₂, ◌∙◌, subst, zero-add, arith, lt-ltb, le-ltb}
+use Rattle.std.proofs.Common.{◌≡◌, ℕ, zero, suc, ◌+◌, ◌<◌, ◌≤◌, Bool, true, false, nat_lt, cond, List, [], ◌∷◌, ◌++◌, length, take, get_or, count_by, All, AllPairs, ⊎_elim, refl, sym, ap, ap₂, ◌∙◌, subst, zero-add, arith, lt-ltb, le-ltb}
 use Rattle.std.specs.List.Sorted.{IsNonDecreasingBy}
 use Rattle.std.proofs.lemmas.Bool.{cases_Bool, cond-true, cond-false}
 use Rattle.std.proofs.lemmas.List.Sums.{sum_by-cons}
@@ -37,6 +37,18 @@ module _ {X : Type 0} (test : X → Bool) where
       rise_kept true t qs all up (suc i) zero d before within = absurd (omega arith)
       rise_kept true t qs all up (suc i) (suc j) d before within = up i j d (omega arith) (omega arith)
       rise_kept false t qs all up i j d before within = up i j d before within
+
+  -- no two places are the same
+  pub places_apart : (t : ℕ) (xs : List X) → AllPairs (λ a b. a < b) (places_from test t xs)
+  places_apart t [] = λ i j d before within. absurd (omega arith)
+  places_apart t (x ∷ xs) = apart_kept (test x) t (places_from test (t + 1) xs) (places_above (t + 1) xs) (places_apart (t + 1) xs)
+    where
+      apart_kept : (b : Bool) (t : ℕ) (qs : List ℕ) → All (λ q. t + 1 ≤ q) qs → AllPairs (λ a b. a < b) qs → AllPairs (λ a b. a < b) (cond b (t ∷ qs) qs)
+      apart_kept true t qs all up zero zero d before within = absurd (omega arith)
+      apart_kept true t qs all up zero (suc j) d before within = let h : t + 1 ≤ get_or qs j d = all j d (omega arith) in omega arith
+      apart_kept true t qs all up (suc i) zero d before within = absurd (omega arith)
+      apart_kept true t qs all up (suc i) (suc j) d before within = up i j d (omega arith) (omega arith)
+      apart_kept false t qs all up i j d before within = up i j d before within
 
   none_below : (u : ℕ) (qs : List ℕ) → All (λ q. u ≤ q) qs → count_by (λ q. nat_lt q u) qs ≡ 0
   none_below u [] all = refl

@@ -1,5 +1,5 @@
 -- The range of a lag, from the points at which quanta begin and end.
-use Rattle.std.proofs.Common.{◌≡◌, ◌≢◌, ℕ, zero, suc, ◌+◌, ◌-◌, ◌*◌, ◌<◌, ◌≤◌, ◌⊎◌, Bool, true, false, nat_lt, cond, List, [], ◌∷◌, length, map, get_or, count_by, sum_by, All, inl, inr, ⊎_elim, refl, sym, ap, ap₂, ◌∙◌, arith}
+use Rattle.std.proofs.Common.{◌≡◌, ◌≢◌, ℕ, zero, suc, ◌+◌, ◌-◌, ◌*◌, ◌<◌, ◌≤◌, ◌⊎◌, Bool, true, false, nat_lt, cond, List, [], ◌∷◌, length, map, get_or, count_by, sum_by, All, AllPairs, inl, inr, ⊎_elim, refl, sym, ap, ap₂, ◌∙◌, arith}
 use Rattle.std.specs.Prelude.{ℤ, ◌≤ℤ◌}
 use Rattle.std.specs.Int.{int_min, int_max}
 use Rattle.std.specs.List.Sorted.{IsNonDecreasing}
@@ -20,6 +20,7 @@ use Rattle.pf_tally.specs.Ranges.{lag_by}
 use Rattle.pf_tally.specs.declared.extremes.Extremes.{Extremes}
 use Rattle.pf_tally.specs.declared.held.Held.{Held}
 use Rattle.pf_tally.proofs.Chains.{chain_stops, parts_more, runs_and_stands}
+use Rattle.pf_tally.proofs.Holding.{count_from_cut}
 
 abbrev pub both : ℤ → ℤ → Extremes
 both least greatest = record { least = least; greatest = greatest }
@@ -98,6 +99,31 @@ pub range_next : (f : ℕ → ℤ) (a q : ℕ) → a ≤ q → extremes_upto f a
 range_next f a q low =
     ap (extremes_upto f a) (let z : q + 1 - a ≡ suc (q - a) = omega arith in z)
     ∙ ap (λ n. with_value (extremes_upto f a (q - a)) (f n)) (let z : a + suc (q - a) ≡ q + 1 = omega arith in z)
+
+-- of slots that rise, k are below slot k, and k + 1 are not above it
+pub counted_before : (ran : List ℕ) (k : ℕ) → AllPairs (λ a b. a < b) ran → k < length ran → k ≡ count_by (λ q. nat_lt q (get_or ran k 0)) ran
+counted_before ran k apart within =
+    sym (count_from_cut (λ q. nat_lt q (get_or ran k 0)) ran k (omega arith)
+    (λ i d before. let h : get_or ran i d < get_or ran k d = apart i k d before within in lt-ltb (get_or ran i d) (get_or ran k 0) (omega (arith, h, get_or_default ran k d 0 within)))
+    (λ i d above below. le-ltb (get_or ran i d) (get_or ran k 0) (not_above ran k i d apart above below)))
+  where
+    not_above : (ran : List ℕ) (k i d : ℕ) → AllPairs (λ a b. a < b) ran → k ≤ i → i < length ran → get_or ran k 0 ≤ get_or ran i d
+    not_above ran k i d apart above below = ⊎_elim
+        (λ less. let h : get_or ran k d < get_or ran i d = apart k i d less below in omega (arith, h, get_or_default ran k d 0 (omega arith)))
+        (λ over. let here : i ≡ k = omega arith in omega (arith, ap (λ i. get_or ran i d) here, get_or_default ran k d 0 (omega arith)))
+        (cases_lt k i)
+
+pub counted_with : (ran : List ℕ) (k : ℕ) → AllPairs (λ a b. a < b) ran → k < length ran → k + 1 ≡ count_by (λ q. nat_lt q (get_or ran k 0 + 1)) ran
+counted_with ran k apart within =
+    sym (count_from_cut (λ q. nat_lt q (get_or ran k 0 + 1)) ran (k + 1) (omega arith)
+    (λ i d before. lt-ltb (get_or ran i d) (get_or ran k 0 + 1) (not_below i d before))
+    (λ i d above below. let h : get_or ran k d < get_or ran i d = apart k i d (omega arith) below in le-ltb (get_or ran i d) (get_or ran k 0 + 1) (omega (arith, h, get_or_default ran k d 0 within))))
+  where
+    not_below : (i d : ℕ) → i < k + 1 → get_or ran i d < get_or ran k 0 + 1
+    not_below i d before = ⊎_elim
+        (λ less. let h : get_or ran i d < get_or ran k d = apart i k d less within in omega (arith, h, get_or_default ran k d 0 within))
+        (λ over. let here : i ≡ k = omega arith in omega (arith, ap (λ i. get_or ran i d) here, get_or_default ran k d 0 within))
+        (cases_lt i k)
 
 -- no slot counts that isn't among them
 none_more : (t : ℕ) (ran : List ℕ) → All (λ q. q ≢ t) ran → count_by (λ q. nat_lt q (t + 1)) ran ≡ count_by (λ q. nat_lt q t) ran

@@ -1,5 +1,5 @@
 -- A scenario's run that was walked over.
-use Rattle.std.specs.Prelude.{◌≡◌, ℕ, ◌<◌, Option, List, length, filter_map, All, Contains}
+use Rattle.std.specs.Prelude.{◌≡◌, ℕ, ◌<◌, Option, List, length, filter_map, All, AllPairs, Contains}
 use Rattle.pf_order.specs.declared.pick.Pick.{Pick}
 use Rattle.pf_scenario.specs.Scenario.{Plan}
 use Rattle.pf_run.specs.declared.denied.Denied.{Denied}
@@ -32,3 +32,4 @@ pub record CanFigure (run : WalkedRun) (j : Joined) (ran : List ℕ) : Type 0 wh
   pub can : CanTally j ran run.journal.events.items run.journal.now
   pub delays : noted_of run.walk.delays j.task ≡ held_from (next_in ran) j j.slot run.journal.events.items
   pub slots : All (λ t. t < WIDE_HORIZON) ran
+  pub apart : AllPairs (λ a b. a < b) ran

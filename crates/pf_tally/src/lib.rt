@@ -1,9 +1,9 @@
 //! How far each task is from its fair share, and which windows are missed. Its one contract: `lags` and `misses` are
 //! those of the scenario's run.
 //!
-//! Both come from one walk over a run, which keeps by task how far it has come, and a tally of both from the same one. The figures of a
-//! task rest on it too. Open to other tallies of a run is the ledger, with each task's own events and the slots in which
-//! it ran, and so are its delays and its shifts.
+//! Both come from one walk over a run, which keeps by task how far it has come, a tally of both from the same one, and
+//! the figures of each task rest on it too. Open to other tallies of a run is the ledger, with each task's own events and
+//! the slots in which it ran, and so are its delays and its shifts.
 #![tactic(auto)]
 
 pub mod admitted;

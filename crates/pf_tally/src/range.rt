@@ -1,10 +1,10 @@
-ghost use Rattle.std.specs.Prelude.{◌≡◌, ◌-◌, ◌^◌, ◌<◌, ◌≤◌, length, All};
+ghost use Rattle.std.specs.Prelude.{◌≡◌, ◌-◌, ◌^◌, ◌<◌, ◌≤◌, length, All, AllPairs};
 ghost use Rattle.std.specs.List.Sorted.{IsNonDecreasing};
 ghost use Rattle.pf_weight.specs.Share.{IsShare};
 ghost use Rattle.pf_scenario.specs.declared.settings.TheConstants.{WIDE_HORIZON};
 ghost use Rattle.pf_tally.specs.Held.{AreSuccessive, IsSmall};
 ghost use Rattle.pf_tally.specs.Figures.{extremes_upto, last_slot};
-ghost use Rattle.pf_tally.specs.Ranges.{lag_by};
+ghost use Rattle.pf_tally.specs.Ranges.{lag_by, lag_with};
 
 use crate::admitted::Admitted;
 use crate::clock::clock_at;
@@ -24,19 +24,18 @@ pub(crate) fn last_slot(events: &[Numbered], task: Admitted, now: u64) -> u64
     task.slot.max(left)
 }
 
-/// The lag of the task after the first t slots, times its period. It ran in the slots `ran`.
-fn lag_after(task: Admitted, ran: &[u64], delays: &[Held], t: u64) -> i64
+/// The lag of the task after the first t slots, times its period. It received so many quanta in them.
+fn lag_after(task: Admitted, received: u64, delays: &[Held], t: u64) -> i64
     requires share { IsShare task.weight }
     requires chain { AreSuccessive 0 task.slot delays.now }
     requires small { All IsSmall delays.now }
     requires joined { task.slot ≤ t }
     requires within { t ≤ WIDE_HORIZON }
-    requires rising { IsNonDecreasing ran.now }
-    requires few { length ran.now ≤ WIDE_HORIZON }
-    ensures { result ≡ lag_by task ran.now delays.now t }
+    requires few { received ≤ WIDE_HORIZON }
+    ensures { result ≡ lag_with task delays.now received t }
 {
     let owed = task.weight.cost() * clock_at(task, delays, t);
-    let had = task.weight.period() * slots_below(ran, t);
+    let had = task.weight.period() * received;
     owed as i64 - had as i64
 }
 
@@ -49,17 +48,22 @@ pub(crate) fn lag_range(task: Admitted, ran: &[u64], delays: &[Held], last: u64)
     requires joined { task.slot ≤ last }
     requires within { last ≤ WIDE_HORIZON }
     requires rising { IsNonDecreasing ran.now }
+    requires apart { AllPairs (λ a b. a < b) ran.now }
     requires few { length ran.now ≤ WIDE_HORIZON }
     ensures { result ≡ extremes_upto (lag_by task ran.now delays.now) task.slot (last - task.slot) }
 {
     let mut seen = task.slot;
-    let mut range = Extremes::of(lag_after(task, ran, delays, seen));
+    let mut received = 0;
+    let mut range = Extremes::of(lag_after(task, slots_below(ran, seen), delays, seen));
     for slot in ran {
         if seen <= *slot && *slot < last {
-            let before = lag_after(task, ran, delays, *slot);
+            let before = lag_after(task, received, delays, *slot);
             seen = *slot + 1;
-            range = range.with(before).with(lag_after(task, ran, delays, seen));
+            range = range
+                .with(before)
+                .with(lag_after(task, received + 1, delays, seen));
         }
+        received += 1;
     }
-    range.with(lag_after(task, ran, delays, last))
+    range.with(lag_after(task, slots_below(ran, last), delays, last))
 }
