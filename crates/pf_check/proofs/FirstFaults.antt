@@ -1,85 +1,101 @@
 -- The first fault of a script, record by record.
-use Rattle.std.proofs.Common.{◌≡◌, ◌+◌, ℕ, Bool, true, false, List, [], ◌∷◌, ◌++◌, length, Option, Some, None, refl, sym, ap, ◌∙◌}
-use Rattle.std.specs.Prelude.{◌&&◌, ◌||◌, ◌==◌, is_none, if◌then◌else◌, codes}
-use Rattle.std.proofs.lemmas.Bool.{and_parts, false≢true, true≢false}
+use Rattle.std.proofs.Common.{◌≡◌, ◌+◌, ℕ, Bool, true, false, List, [], ◌∷◌, length, Option, Some, None, Result, Ok, Err, refl, sym, ap, ◌∙◌, codes}
+use Rattle.std.specs.Prelude.{⊤, ◌&&◌, ◌==◌, is_some, if◌then◌else◌}
+use Rattle.std.specs.Result.{is_ok, result_ok}
+use Rattle.pf_script.specs.declared.fault.RecordFault.{RecordFault}
+use Rattle.pf_script.specs.declared.line.Line.{Line}
+use Rattle.pf_script.specs.declared.record.Record.{Record}
+use Rattle.pf_script.specs.declared.record.Record.TheVariants.{Heading, Settings, Asks}
+use Rattle.pf_script.specs.declared.stage.Stage.{Stage}
+use Rattle.pf_script.specs.declared.stage.Stage.TheVariants.{Beginning, Headed, Opened}
 use Rattle.pf_script.specs.declared.version.Version.{Version}
 use Rattle.pf_script.specs.declared.version.Version.TheVariants.{First, Second}
 use Rattle.pf_script.specs.Fields.{is_word}
-use Rattle.pf_script.specs.Grammar.{is_heading}
+use Rattle.pf_script.specs.Grammar.{is_heading, line_of}
+use Rattle.pf_script.specs.Parsing.{◌>>=◌, heading_at, line_at, opening_at, record_at}
+use Rattle.pf_script.specs.Places.{record_lines, line_at as first_line, lines_behind}
 use Rattle.pf_script.specs.Script.{script_records}
-use Rattle.pf_check.specs.declared.fault.RecordFault.{RecordFault}
-use Rattle.pf_check.specs.declared.stage.Stage.{Stage}
-use Rattle.pf_check.specs.declared.stage.Stage.TheVariants.{Beginning, Headed, Opened}
-use Rattle.pf_check.specs.Examined.{fault_of, stage_behind, stage_unless, stage_after}
-use Rattle.pf_check.specs.Laws.{FirstFaultEndsReading, ReadScriptsHaveNoFault, bad_among, bad_line, bad_opening, first_number, is_read, is_settings}
-use Rattle.pf_check.specs.Places.{record_lines, line_at, lines_behind}
-use Rattle.pf_check.specs.Reports.{Report, reports_of, reports_from, reports}
-use Rattle.pf_check.proofs.ReadRecords.{no_settings, read_records_have_no_fault}
+use Rattle.pf_script.specs.Told.{FaultTold, faults, faults_in, reading, readings_from, stage_after}
+use Rattle.pf_script.proofs.Lined.{line_read}
+use Rattle.pf_script.proofs.Opening.{IsSettled, opening_settled}
+use Rattle.pf_check.specs.Laws.{FirstFaultEndsReading, ReadScriptsHaveNoFault, bad_among, bad_line, bad_opening, first_number, is_settings}
+use Rattle.pf_check.proofs.ReadRecords.{no_settings, opening_read}
 
--- the first of a record's reports and those behind it, by its fault
-first_by : (stage : Stage) (line number : ℕ) (lines : List ℕ) (fields : List (List ℕ)) (records : List (List (List ℕ))) (fault : Option RecordFault)
-    → first_number (reports_of line number fields fault ++ reports_from (stage_unless stage fields fault) (number + 1) lines records)
-    ≡ (if is_none fault then first_number (reports_from (stage_behind stage fields) (number + 1) lines records) else Some number)
-first_by stage line number lines fields records None = refl
-first_by stage line number lines fields records (Some fault) = refl
+-- the number of the first bad record from a stage on
+abbrev first_from : Stage → ℕ → List ℕ → List (List (List ℕ)) → Option ℕ
+first_from stage number lines records = first_number (faults_in (readings_from stage number lines records))
 
--- the records from one on: that one, where it is not read, or those behind it
-first_from : (stage : Stage) (number : ℕ) (lines : List ℕ) (fields : List (List ℕ)) (records : List (List (List ℕ)))
-    → first_number (reports_from stage number lines (fields ∷ records))
-    ≡ (if is_read stage fields then first_number (reports_from (stage_behind stage fields) (number + 1) (lines_behind lines) records) else Some number)
-unfolding reports_from stage_after
-first_from stage number lines fields records =
-    first_by stage (line_at lines) number (lines_behind lines) fields records (fault_of stage fields)
-    ∙ rw (read_records_have_no_fault stage fields) refl
+-- the same where a record is read as this
+abbrev first_behind : Stage → ℕ → List ℕ → List (List ℕ) → List (List (List ℕ)) → Result Record RecordFault → Option ℕ
+first_behind stage number lines fields records r =
+    first_number (faults_in (reading number (first_line lines) fields r ∷ readings_from (stage_after stage r) (number + 1) (lines_behind lines) records))
 
-first_line : (version : Version) (number : ℕ) (lines : List ℕ) (records : List (List (List ℕ)))
-    → first_number (reports_from (Opened version) number lines records) ≡ bad_line version number records
-unfolding reports_from
-first_line version number lines [] = refl
-first_line version number lines (fields ∷ records) =
-    first_from (Opened version) number lines fields records ∙ rw (first_line version (number + 1) (lines_behind lines) records) refl
+first_line_from : (version : Version) (number : ℕ) (lines : List ℕ) (records : List (List (List ℕ)))
+    → first_from (Opened version) number lines records ≡ bad_line version number records
+unfolding readings_from record_at
+first_line_from version number lines [] = refl
+first_line_from version number lines (fields ∷ records) =
+    by (line_at version fields) (line_of version fields) (line_read version fields) (first_line_from version (number + 1) (lines_behind lines) records)
+  where
+    by : (r : Result Line RecordFault) (o : Option Line) → result_ok r ≡ o
+        → first_from (Opened version) (number + 1) (lines_behind lines) records ≡ bad_line version (number + 1) records
+        → first_behind (Opened version) number lines fields records (r >>= λ line. Ok (Asks line))
+        ≡ (if is_some o then bad_line version (number + 1) records else Some number)
+    by (Ok line) o is more = rw (← is) more
+    by (Err fault) o is more = rw (← is) refl
 
-first_opening : (number : ℕ) (lines : List ℕ) (records : List (List (List ℕ)))
-    → first_number (reports_from Headed number lines records) ≡ bad_opening Second number records
-unfolding reports_from
+-- where the settings are expected
+settings_then : (stage : Stage) (version : Version) (number : ℕ) (lines : List ℕ) (fields : List (List ℕ)) (records : List (List (List ℕ))) (r : Result Record RecordFault)
+    → IsSettled version r
+    → first_behind stage number lines fields records r ≡ (if is_ok r then bad_line version (number + 1) records else Some number)
+settings_then stage version number lines fields records (Ok Heading) settled = absurd settled
+settings_then stage version number lines fields records (Ok (Settings s)) settled =
+    rw settled.1 (first_line_from version (number + 1) (lines_behind lines) records)
+settings_then stage version number lines fields records (Ok (Asks line)) settled = absurd settled
+settings_then stage version number lines fields records (Err fault) settled = refl
+
+opening_then : (stage : Stage) (version : Version) (number : ℕ) (lines : List ℕ) (fields : List (List ℕ)) (records : List (List (List ℕ)))
+    → first_behind stage number lines fields records (opening_at version fields) ≡ (if is_settings fields then bad_line version (number + 1) records else Some number)
+opening_then stage version number lines fields records =
+    settings_then stage version number lines fields records (opening_at version fields) (opening_settled version fields)
+    ∙ ap (λ b. if b then bad_line version (number + 1) records else Some number) (opening_read version fields)
+
+first_opening : (number : ℕ) (lines : List ℕ) (records : List (List (List ℕ))) → first_from Headed number lines records ≡ bad_opening Second number records
+unfolding readings_from record_at
 first_opening number lines [] = refl
-first_opening number lines (fields ∷ records) =
-    first_from Headed number lines fields records ∙ rw (first_line Second (number + 1) (lines_behind lines) records) refl
-
-heading_word : (fields : List (List ℕ)) → is_heading fields ≡ true → is_word fields 0 (codes "pfair") ≡ true
-unfolding is_heading
-heading_word fields heading =
-    let first = and_parts ((length fields == 2) && is_word fields 0 (codes "pfair")) (is_word fields 1 (codes "2")) heading in
-    (and_parts (length fields == 2) (is_word fields 0 (codes "pfair")) first.0).1
+first_opening number lines (fields ∷ records) = opening_then Headed Second number lines fields records
 
 -- the first record is the heading, the settings, or bad
-first_choice : (heading settings word : Bool) (lines : List ℕ) (records : List (List (List ℕ))) → (heading ≡ true → word ≡ true) → (word ≡ true → settings ≡ false)
-    → (if heading || settings then first_number (reports_from (if word then Headed else Opened First) 2 lines records) else Some 1)
-    ≡ (if heading then bad_opening Second 2 records else if settings then bad_line First 2 records else Some 1)
-first_choice true settings true lines records named unlike = first_opening 2 lines records
-first_choice true settings false lines records named unlike = absurd (false≢true (named refl))
-first_choice false true true lines records named unlike = absurd (true≢false (unlike refl))
-first_choice false true false lines records named unlike = first_line First 2 lines records
-first_choice false false word lines records named unlike = refl
+abbrev heading_or : Bool → Bool → Bool → RecordFault → RecordFault → Result Record RecordFault → Result Record RecordFault
+heading_or named long second short why opening =
+    if named then ((if long then Ok tt else Err short) >>= λ (_ : ⊤). if second then Ok Heading else Err why) else opening
 
-first_record : (lines : List ℕ) (records : List (List (List ℕ))) → first_number (reports_from Beginning 1 lines records) ≡ bad_among records
-unfolding reports_from
+first_record : (lines : List ℕ) (records : List (List (List ℕ))) → first_from Beginning 1 lines records ≡ bad_among records
+unfolding readings_from record_at heading_at is_heading
 first_record lines [] = refl
 first_record lines (fields ∷ records) =
-    first_from Beginning 1 lines fields records
-    ∙ first_choice (is_heading fields) (is_settings fields) (is_word fields 0 (codes "pfair")) (lines_behind lines) records (heading_word fields) (no_settings fields)
+    by (is_word fields 0 (codes "pfair")) (length fields == 2) (is_word fields 1 (codes "2")) _ _ (no_settings fields)
+  where
+    by : (named long second : Bool) (short why : RecordFault) → (named ≡ true → is_settings fields ≡ false)
+        → first_behind Beginning 1 lines fields records (heading_or named long second short why (opening_at First fields))
+        ≡ (if (long && named) && second then bad_opening Second 2 records else if is_settings fields then bad_line First 2 records else Some 1)
+    by true true true short why none = first_opening 2 (lines_behind lines) records
+    by true true false short why none = rw (none refl) refl
+    by true false second short why none = rw (none refl) refl
+    by false true second short why none = opening_then Beginning First 1 lines fields records
+    by false false second short why none = opening_then Beginning First 1 lines fields records
 
 -- Use: the first fault of a script lies in the record at which its reading ends.
 pub first_fault_ends_reading : FirstFaultEndsReading
 first_fault_ends_reading script = first_record (record_lines script) (script_records script)
 
-no_first : (rs : List Report) → first_number rs ≡ None → rs ≡ []
+no_first : (told : List FaultTold) → first_number told ≡ None → told ≡ []
 no_first [] none = refl
-no_first (r ∷ rs) none = cc
+no_first (fault ∷ others) none = cc
 
 -- Use: a script has no fault exactly where all of it is read.
 pub read_scripts_have_no_fault : ReadScriptsHaveNoFault
 read_scripts_have_no_fault script = (
   λ none. sym (first_fault_ends_reading script) ∙ ap first_number none,
-  λ all. no_first (reports script) (first_fault_ends_reading script ∙ all),
+  λ all. no_first (faults script) (first_fault_ends_reading script ∙ all),
 )

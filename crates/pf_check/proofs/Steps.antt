@@ -1,251 +1,127 @@
 -- A check, one record after another.
-use Rattle.std.proofs.Common.{◌≡◌, ◌≤◌, ◌+◌, ◌-◌, ℕ, Bool, true, false, add-zero, subst, List, [], ◌∷◌, ◌++◌, length, Option, Some, None, Result, Ok, Err, refl, sym, ap, ap₂, ◌∙◌, append_assoc, arith, zero-add}
-use Rattle.std.specs.Prelude.{if◌then◌else◌, IfOk, OnOk, OnErr}
+use Rattle.std.proofs.Common.{◌≡◌, ◌+◌, ℕ, List, [], ◌++◌, length, Option, Some, None, Result, Ok, Err, refl, sym, ap, ap₂, ◌∙◌, append_assoc, arith, add-zero, zero-add}
+use Rattle.std.specs.Prelude.{OnOk, OnErr}
+use Rattle.std.specs.Result.{result_transpose}
 use Rattle.std.specs.Io.KnownBytes.{Appends}
 use Rattle.std.specs.List.{flat_map}
 use Rattle.std.proofs.lemmas.Grind.{flat_map-append}
-use Rattle.std.proofs.lemmas.List.{append-nil, length-append}
-use Rattle.std.proofs.KnownBytes.{Appends-nil}
-use Rattle.pf_script.specs.Fields.{field}
-use Rattle.pf_script.specs.Script.{script_records}
+use Rattle.std.proofs.lemmas.List.{length-append}
+use Rattle.pf_script.specs.declared.fault.ScriptFault.{ScriptFault}
+use Rattle.pf_script.specs.declared.fault.ScriptFault.TheVariants as script
+use Rattle.pf_script.specs.declared.record.RecordTold.{RecordTold}
+use Rattle.pf_script.specs.Answers.{ReadsNext}
+use Rattle.pf_script.specs.Told.{FaultTold, Reading, faults, faults_in, readings, records_in}
+use Rattle.pf_script.proofs.Counting.{records_counted}
 use Rattle.pf_stream.specs.Written.{TookAllBut, TookFront}
-use Rattle.pf_stream.proofs.Sending.{all_to_come, on_the_way, so-far-finished, so-far-stopped, so-far-unfinished, stopped_on_the_way, took-before}
+use Rattle.pf_stream.proofs.Sending.{all_to_come, on_the_way, so-far-finished, so-far-unfinished, stopped_on_the_way}
 use Rattle.pf_check.specs.declared.checker.Checker.{Checker}
-use Rattle.pf_check.specs.declared.fault.RecordFault.{RecordFault}
-use Rattle.pf_check.specs.Checked.{HasExamined, HasReported, IsFresh, report_in, reports_left, text_left, text_of_rest}
-use Rattle.pf_check.specs.Examined.{fault_of, stage_after, stage_behind}
-use Rattle.pf_check.specs.Places.{line_at, lines_behind, record_lines}
-use Rattle.pf_check.specs.Reports.{Report, check_text, end_fault, report, report_text, reports, reports_from, reports_of, totals_text}
-use Rattle.pf_check.proofs.Written.{all_but_as, appended_as, finished, front_of}
+use Rattle.pf_check.specs.Checked.{GoesOn, HasReported, IsFresh, faults_of, record_count, text_left, text_of_rest}
+use Rattle.pf_check.specs.Reports.{check_text, report_text, totals_text}
+use Rattle.pf_check.proofs.Written.{all_but_as}
 
--- a record without a fault was examined
-pub examined_fine : (line : ℕ) (fields : List (List ℕ)) (before after : Checker) (x : Option (List ℕ)) → fault_of before.stage fields ≡ None
-    → after.stage ≡ stage_behind before.stage fields → after.records ≡ before.records + 1 → after.faults ≡ before.faults → after.lines ≡ before.lines
-    → HasExamined line fields before after x x
-unfolding stage_after
-examined_fine line fields before after x fine stage records faults lines = record {
-  stage = rw fine stage;
-  records = records;
-  reported = rw fine (record {
-    faults = faults ∙ sym (add-zero before.faults);
-    text = ([], Appends-nil x, lines ∙ sym (append-nil before.lines));
-  });
-}
+-- what was read is the next of what was left
+pub record IsNext (read : Result RecordTold ScriptFault) (fields : List (List ℕ)) (old new : List Reading) : Type 0 where
+  pub faults : faults_in old ≡ faults_of read fields ++ faults_in new
+  pub records : records_in old ≡ record_count read + records_in new
 
--- the report of a record with a fault
-reported : (line : ℕ) (fields : List (List ℕ)) (at : List ℕ) (fault : RecordFault) (c : Checker)
-    → fault_of c.stage fields ≡ Some fault → at ≡ field fields (fault.field - 1)
-    → report_in c line fields (fault_of c.stage fields) ≡ report line (c.records + 1) at fault ∷ []
-reported line fields at fault c bad same =
-    ap (report_in c line fields) bad ∙ ap (λ t. report line (c.records + 1) t fault ∷ []) (sym same)
-
--- a record with a fault was examined
-pub examined_bad : {A E : Type 0} (r : Result A E) (line : ℕ) (fields : List (List ℕ)) (at : List ℕ) (fault : RecordFault) (before mid after : Checker) (old new : Option (List ℕ))
-    → fault_of before.stage fields ≡ Some fault → at ≡ field fields (fault.field - 1)
-    → mid ≡ record before { records = before.records + 1 } → after.stage ≡ mid.stage → after.records ≡ mid.records
-    → OnOk r (HasReported (report line (before.records + 1) at fault ∷ []) mid after old new)
-    → OnOk r (HasExamined line fields before after old new)
-unfolding stage_after
-examined_bad (Ok x) line fields at fault before mid after old new bad same is_mid stage records h =
-    let one : List Report = report line (before.records + 1) at fault ∷ [] in
-    record {
-      stage = rw bad (stage ∙ ap (λ c. c.stage) is_mid);
-      records = records ∙ ap (λ c. c.records) is_mid;
-      reported = subst (λ (rs : List Report). HasReported rs before after old new) (sym (reported line fields at fault before bad same)) (record {
-        faults = h.faults ∙ ap (λ c. c.faults + length one) is_mid;
-        text = subst (λ (c : Checker). TookAllBut after.lines old new (c.lines ++ flat_map report_text one)) is_mid h.text;
-      });
-    }
-examined_bad (Err e) line fields at fault before mid after old new bad same is_mid stage records h = tt
-
-pub stopped_bad : {A E : Type 0} (r : Result A E) (line : ℕ) (fields : List (List ℕ)) (at : List ℕ) (fault : RecordFault) (before : Checker) (old new : Option (List ℕ))
-    → fault_of before.stage fields ≡ Some fault → at ≡ field fields (fault.field - 1)
-    → OnErr r (TookFront old new (before.lines ++ flat_map report_text (report line (before.records + 1) at fault ∷ [])))
-    → OnErr r (TookFront old new (before.lines ++ flat_map report_text (report_in before line fields (fault_of before.stage fields))))
-stopped_bad r line fields at fault before old new bad same h =
-    subst (λ (rs : List Report). OnErr r (TookFront old new (before.lines ++ flat_map report_text rs))) (sym (reported line fields at fault before bad same)) h
-
--- a script ends behind its settings
-pub end_fine : (c : Checker) (line : ℕ) → end_fault c.stage ≡ None
-    → (c.lines ++ totals_text c.records c.faults ≡ text_left c (line ∷ []) []) × (c.faults ≡ c.faults + length (reports_left c (line ∷ []) []))
-unfolding reports_from
-end_fine c line fine = (
-  sym (ap (λ o. c.lines ++ (flat_map report_text (reports_of line (c.records + 1) [] o) ++ totals_text (c.records + 0) (c.faults + length (reports_of line (c.records + 1) [] o)))) fine
-      ∙ ap₂ (λ m n. c.lines ++ totals_text m n) (add-zero c.records) (add-zero c.faults)),
-  sym (ap (λ o. c.faults + length (reports_of line (c.records + 1) [] o)) fine ∙ add-zero c.faults),
-)
-
--- a script ends before its settings
-pub end_bad : (c : Checker) (line : ℕ) (fault : RecordFault) → end_fault c.stage ≡ Some fault
-    → ((c.lines ++ flat_map report_text (report line (c.records + 1) [] fault ∷ [])) ++ totals_text c.records (c.faults + 1) ≡ text_left c (line ∷ []) [])
-    × (c.faults + 1 ≡ c.faults + length (reports_left c (line ∷ []) []))
-unfolding reports_from
-end_bad c line fault bad =
-    let one : List Report = report line (c.records + 1) [] fault ∷ [] in (
-      append_assoc c.lines (flat_map report_text one) (totals_text c.records (c.faults + 1))
-          ∙ sym (ap (λ o. c.lines ++ (flat_map report_text (reports_of line (c.records + 1) [] o) ++ totals_text (c.records + 0) (c.faults + length (reports_of line (c.records + 1) [] o)))) bad
-          ∙ ap (λ m. c.lines ++ (flat_map report_text one ++ totals_text m (c.faults + 1))) (add-zero c.records)),
-      sym (ap (λ o. c.faults + length (reports_of line (c.records + 1) [] o)) bad),
-    )
-
--- what the end of a check writes, as it goes, where its last report was put before
-pub end_text : {A E : Type 0} (r : Result A E) (c after : Checker) (line : ℕ) (fault : RecordFault) (start mid new : Option (List ℕ)) → end_fault c.stage ≡ Some fault
-    → HasReported (report line (c.records + 1) [] fault ∷ []) c after start mid → after.records ≡ c.records
-    → OnOk r (Appends mid new (after.lines ++ totals_text after.records after.faults)) → OnOk r (Appends start new (text_left c (line ∷ []) []))
-end_text (Ok x) c after line fault start mid new bad h records k =
-    appended_as start new _ _ (end_bad c line fault bad).0
-    (finished start mid new after.lines (c.lines ++ flat_map report_text (report line (c.records + 1) [] fault ∷ [])) (totals_text c.records (c.faults + 1)) h.text
-    (appended_as mid new _ _ (ap₂ (λ m n. after.lines ++ totals_text m n) records h.faults) k))
-end_text (Err e) c after line fault start mid new bad h records k = tt
-
-pub end_front : {A E : Type 0} (r : Result A E) (c after : Checker) (line : ℕ) (fault : RecordFault) (start mid new : Option (List ℕ)) → end_fault c.stage ≡ Some fault
-    → HasReported (report line (c.records + 1) [] fault ∷ []) c after start mid → after.records ≡ c.records
-    → OnErr r (TookFront mid new (after.lines ++ totals_text after.records after.faults)) → OnErr r (TookFront start new (text_left c (line ∷ []) []))
-end_front (Ok x) c after line fault start mid new bad h records k = tt
-end_front (Err e) c after line fault start mid new bad h records k =
-    front_of start new _ _ (end_bad c line fault bad).0
-    (so-far-stopped start mid new after.lines (c.lines ++ flat_map report_text (report line (c.records + 1) [] fault ∷ [])) (totals_text c.records (c.faults + 1)) h.text
-    (front_of mid new _ _ (ap₂ (λ m n. after.lines ++ totals_text m n) records h.faults) k))
-
-pub end_faults : {E : Type 0} (r : Result ℕ E) (c after : Checker) (line : ℕ) (fault : RecordFault) (old new : Option (List ℕ)) → end_fault c.stage ≡ Some fault
-    → HasReported (report line (c.records + 1) [] fault ∷ []) c after old new → IfOk r (λ n. n ≡ after.faults)
-    → IfOk r (λ n. n ≡ c.faults + length (reports_left c (line ∷ []) []))
-end_faults (Ok n) c after line fault old new bad h k = k ∙ h.faults ∙ (end_bad c line fault bad).1
-end_faults (Err e) c after line fault old new bad h k = k
-
-pub end_stopped : (c : Checker) (line : ℕ) (fault : RecordFault) (old new : Option (List ℕ)) → end_fault c.stage ≡ Some fault
-    → TookFront old new (c.lines ++ flat_map report_text (report line (c.records + 1) [] fault ∷ [])) → TookFront old new (text_left c (line ∷ []) [])
-end_stopped c line fault old new bad h =
-    front_of old new _ _ (end_bad c line fault bad).0
-    (took-before old new (c.lines ++ flat_map report_text (report line (c.records + 1) [] fault ∷ [])) (totals_text c.records (c.faults + 1)) h)
-
--- the reports that are left, one record on
-reports-next : (line : ℕ) (fields : List (List ℕ)) (rest : List (List (List ℕ))) (lines : List ℕ) (before after : Checker) (old new : Option (List ℕ))
-    → line ≡ line_at lines → HasExamined line fields before after old new
-    → reports_left before lines (fields ∷ rest) ≡ report_in before line fields (fault_of before.stage fields) ++ reports_left after (lines_behind lines) rest
-unfolding reports_from
-reports-next line fields rest lines before after old new is h = rw (h.stage, h.records, is) refl
+pub is_next : (r : Result (Option RecordTold) ScriptFault) (read : Result RecordTold ScriptFault) (fields : List (List ℕ)) (old new : List Reading)
+    → result_transpose r ≡ Some read → GoesOn read → ReadsNext r fields old new → IsNext read fields old new
+is_next (Ok None) read fields old new is on h = cc
+is_next (Ok (Some told)) read fields old new is on h =
+    let e : Ok told ≡ read = cc in rw (← e, h) (record { faults = refl; records = refl })
+is_next (Err (script.Bad bad)) read fields old new is on h =
+    let e : Err (script.Bad bad) ≡ read = cc in rw (← e, h) (record { faults = refl; records = refl })
+is_next (Err (script.Missing bad)) read fields old new is on h =
+    let e : Err (script.Missing bad) ≡ read = cc in rw (← e, h) (record { faults = refl; records = sym (zero-add (records_in new)) })
+is_next (Err script.Memory) read fields old new is on h =
+    let e : read ≡ Err script.Memory = cc in absurd (rw e at on)
 
 -- the text that is left, one record on
-rest-next : (line : ℕ) (fields : List (List ℕ)) (rest : List (List (List ℕ))) (lines : List ℕ) (before after : Checker) (old new : Option (List ℕ))
-    → line ≡ line_at lines → HasExamined line fields before after old new
-    → text_of_rest before lines (fields ∷ rest)
-    ≡ flat_map report_text (report_in before line fields (fault_of before.stage fields)) ++ text_of_rest after (lines_behind lines) rest
-rest-next line fields rest lines before after old new is h =
-    let now : List Report = report_in before line fields (fault_of before.stage fields) in
-    let others : List Report = reports_left after (lines_behind lines) rest in
-    let all = reports-next line fields rest lines before after old new is h in
-    let records : before.records + length (fields ∷ rest) ≡ after.records + length rest = omega (arith, h.records) in
-    let faults : before.faults + length (now ++ others) ≡ after.faults + length others = omega (arith, h.reported.faults, length-append now others) in
-    ap (λ rs. flat_map report_text rs ++ totals_text (before.records + length (fields ∷ rest)) (before.faults + length rs)) all
-    ∙ ap₂ (λ t u. t ++ u) (flat_map-append report_text now others) (ap₂ totals_text records faults)
-    ∙ append_assoc (flat_map report_text now) (flat_map report_text others) _
+rest_next : (read : Result RecordTold ScriptFault) (fields : List (List ℕ)) (old new : List Reading) (before after : Checker) (x y : Option (List ℕ))
+    → IsNext read fields old new → HasReported (faults_of read fields) before after x y → after.records ≡ before.records + record_count read
+    → text_of_rest before old ≡ flat_map report_text (faults_of read fields) ++ text_of_rest after new
+rest_next read fields old new before after x y is h counted =
+    let now : List FaultTold = faults_of read fields in
+    let records : before.records + records_in old ≡ after.records + records_in new = omega (arith, is.records, counted) in
+    let faults : before.faults + length (now ++ faults_in new) ≡ after.faults + length (faults_in new) = omega (arith, h.faults, length-append now (faults_in new)) in
+    ap (λ rs. flat_map report_text rs ++ totals_text (before.records + records_in old) (before.faults + length rs)) is.faults
+    ∙ ap₂ (λ t u. t ++ u) (flat_map-append report_text now (faults_in new)) (ap₂ totals_text records faults)
+    ∙ append_assoc (flat_map report_text now) (flat_map report_text (faults_in new)) _
 
--- Use: of a whole text a check has written all but what is left, before and behind a record.
-pub examined_on : (line : ℕ) (fields : List (List ℕ)) (records rest : List (List (List ℕ))) (lines : List ℕ) (before after : Checker) (start mid new : Option (List ℕ)) (whole : List ℕ)
-    → records ≡ fields ∷ rest → line ≡ line_at lines → HasExamined line fields before after mid new
-    → TookAllBut (text_left before lines records) start mid whole → TookAllBut (text_left after (lines_behind lines) rest) start new whole
-examined_on line fields records rest lines before after start mid new whole first is h way =
-    let next = ap (text_left before lines) first ∙ ap (λ t. before.lines ++ t) (rest-next line fields rest lines before after mid new is h) in
-    on_the_way start mid new before.lines after.lines (flat_map report_text (report_in before line fields (fault_of before.stage fields)))
-    (text_of_rest after (lines_behind lines) rest) whole (rw next at way) h.reported.text
+-- Use: of a whole text a check has written all but what is left, before and after a record.
+pub noted_on : (read : Result RecordTold ScriptFault) (fields : List (List ℕ)) (old new : List Reading) (before after : Checker)
+    (start mid end : Option (List ℕ)) (whole : List ℕ) → IsNext read fields old new
+    → HasReported (faults_of read fields) before after mid end → after.records ≡ before.records + record_count read
+    → TookAllBut (text_left before old) start mid whole → TookAllBut (text_left after new) start end whole
+noted_on read fields old new before after start mid end whole is h counted way =
+    let next = ap (λ t. before.lines ++ t) (rest_next read fields old new before after mid end is h counted) in
+    on_the_way start mid end before.lines after.lines (flat_map report_text (faults_of read fields)) (text_of_rest after new) whole (rw next at way) h.text
 
--- the text that is left, where a check stopped in a record
-stopped-text : (line : ℕ) (fields : List (List ℕ)) (rest : List (List (List ℕ))) (lines : List ℕ) (before : Checker) → line ≡ line_at lines
-    → (more : List ℕ) × (text_of_rest before lines (fields ∷ rest) ≡ flat_map report_text (report_in before line fields (fault_of before.stage fields)) ++ more)
-unfolding reports_from
-stopped-text line fields rest lines before is =
-    let now : List Report = report_in before line fields (fault_of before.stage fields) in
-    let others : List Report = reports_from (stage_after before.stage fields) (before.records + 1 + 1) (lines_behind lines) rest in
-    let faults : ℕ = before.faults + length (now ++ others) in (
-      flat_map report_text others ++ totals_text (before.records + length (fields ∷ rest)) faults,
-      rw (sym is) (ap (λ t. t ++ totals_text (before.records + length (fields ∷ rest)) faults) (flat_map-append report_text now others) ∙ append_assoc (flat_map report_text now) (flat_map report_text others) _),
+pub faults_on : (read : Result RecordTold ScriptFault) (fields : List (List ℕ)) (old new : List Reading) (before after all : ℕ)
+    → IsNext read fields old new → before + length (faults_in old) ≡ all → after ≡ before + length (faults_of read fields)
+    → after + length (faults_in new) ≡ all
+faults_on read fields old new before after all is whole counted =
+    omega (arith, whole, counted, ap length is.faults, length-append (faults_of read fields) (faults_in new))
+
+-- the faults of what was read come first in the text that is left
+split_rest : (now others : List FaultTold) (old : List Reading) (c : Checker) → faults_in old ≡ now ++ others
+    → (more : List ℕ) × (text_of_rest c old ≡ flat_map report_text now ++ more)
+split_rest now others old c e =
+    let totals : List ℕ = totals_text (c.records + records_in old) (c.faults + length (faults_in old)) in (
+      flat_map report_text others ++ totals,
+      ap (λ rs. flat_map report_text rs ++ totals) e ∙ ap (λ t. t ++ totals) (flat_map-append report_text now others)
+          ∙ append_assoc (flat_map report_text now) (flat_map report_text others) totals,
     )
 
-pub examined_stopped : (line : ℕ) (fields : List (List ℕ)) (records rest : List (List (List ℕ))) (lines : List ℕ) (before : Checker) (start mid new : Option (List ℕ)) (whole : List ℕ)
-    → records ≡ fields ∷ rest → line ≡ line_at lines
-    → TookFront mid new (before.lines ++ flat_map report_text (report_in before line fields (fault_of before.stage fields)))
-    → TookAllBut (text_left before lines records) start mid whole → TookFront start new whole
-examined_stopped line fields records rest lines before start mid new whole first is h way =
-    let next = stopped-text line fields rest lines before is in
-    stopped_on_the_way start mid new before.lines (flat_map report_text (report_in before line fields (fault_of before.stage fields))) next.0 whole
-    (rw (ap (text_left before lines) first ∙ ap (λ t. before.lines ++ t) next.1) at way) h
+stopped_rest : (r : Result (Option RecordTold) ScriptFault) (read : Result RecordTold ScriptFault) (fields : List (List ℕ)) (old new : List Reading) (c : Checker)
+    → result_transpose r ≡ Some read → ReadsNext r fields old new
+    → (more : List ℕ) × (text_of_rest c old ≡ flat_map report_text (faults_of read fields) ++ more)
+stopped_rest r (Ok told) fields old new c is h = split_rest [] (faults_in old) old c refl
+stopped_rest r (Err script.Memory) fields old new c is h = split_rest [] (faults_in old) old c refl
+stopped_rest r (Err (script.Bad bad)) fields old new c is h =
+    split_rest (faults_of (Err (script.Bad bad)) fields) (faults_in new) old c (is_next r (Err (script.Bad bad)) fields old new is tt h).faults
+stopped_rest r (Err (script.Missing bad)) fields old new c is h =
+    split_rest (faults_of (Err (script.Missing bad)) fields) (faults_in new) old c (is_next r (Err (script.Missing bad)) fields old new is tt h).faults
 
--- the faults that are counted and those that are left, one record on
-pub faults_on : (line : ℕ) (fields : List (List ℕ)) (records rest : List (List (List ℕ))) (lines : List ℕ) (before after : Checker) (old new : Option (List ℕ)) (all : ℕ)
-    → records ≡ fields ∷ rest → line ≡ line_at lines → HasExamined line fields before after old new
-    → before.faults + length (reports_left before lines records) ≡ all → after.faults + length (reports_left after (lines_behind lines) rest) ≡ all
-faults_on line fields records rest lines before after old new all first is h e =
-    let now : List Report = report_in before line fields (fault_of before.stage fields) in
-    let others : List Report = reports_left after (lines_behind lines) rest in
-    let next : length (reports_left before lines records) ≡ length (now ++ others) =
-    ap length (ap (reports_left before lines) first ∙ reports-next line fields rest lines before after old new is h) in
-    omega (arith, h.reported.faults, length-append now others, next, e)
-
--- a record has one report at most
-few-reports : (line number : ℕ) (fields : List (List ℕ)) (o : Option RecordFault) → length (reports_of line number fields o) ≤ 1
-few-reports line number fields None = omega arith
-few-reports line number fields (Some fault) = omega arith
-
-pub few_on : (line : ℕ) (fields : List (List ℕ)) (before after : Checker) (old new : Option (List ℕ)) → HasExamined line fields before after old new
-    → before.faults ≤ before.records → after.faults ≤ after.records
-few_on line fields before after old new h few =
-    omega (arith, h.records, h.reported.faults, few-reports line (before.records + 1) fields (fault_of before.stage fields))
+-- Use: the check stopped in a record.
+pub noted_stopped : (r : Result (Option RecordTold) ScriptFault) (read : Result RecordTold ScriptFault) (fields : List (List ℕ)) (old new : List Reading) (c : Checker)
+    (start mid end : Option (List ℕ)) (whole : List ℕ) → result_transpose r ≡ Some read → ReadsNext r fields old new
+    → TookFront mid end (c.lines ++ flat_map report_text (faults_of read fields))
+    → TookAllBut (text_left c old) start mid whole → TookFront start end whole
+noted_stopped r read fields old new c start mid end whole is h front way =
+    let next = stopped_rest r read fields old new c is h in
+    stopped_on_the_way start mid end c.lines (flat_map report_text (faults_of read fields)) next.0 whole
+    (rw (ap (λ t. c.lines ++ t) next.1) at way) front
 
 -- the beginning of a check
-fresh_left : (c : Checker) (script : List ℕ) → IsFresh c → text_left c (record_lines script) (script_records script) ≡ check_text script
+fresh_left : (c : Checker) (bytes : List ℕ) → IsFresh c → text_left c (readings bytes) ≡ check_text bytes
 unfolding check_text
-fresh_left c script h =
-    rw (h.stage, h.records, h.faults, h.lines)
-    (ap₂ (λ m n. flat_map report_text (reports script) ++ totals_text m n) (zero-add (length (script_records script))) (zero-add (length (reports script))))
+fresh_left c bytes h =
+    rw (h.records, h.faults, h.lines)
+    (ap₂ (λ m n. flat_map report_text (faults bytes) ++ totals_text m n) (zero-add (records_in (readings bytes)) ∙ records_counted bytes) (zero-add (length (faults bytes))))
 
-pub begun : (c : Checker) (lines : List ℕ) (records : List (List (List ℕ))) (script : List ℕ) (x : Option (List ℕ)) → IsFresh c
-    → lines ≡ record_lines script → records ≡ script_records script → TookAllBut (text_left c lines records) x x (check_text script)
-begun c lines records script x h is_lines is_records =
-    all_but_as _ x x _ _ (ap₂ (text_left c) is_lines is_records ∙ fresh_left c script h) (all_to_come x (text_left c lines records))
+-- Use: a check begins.
+pub begun : (c : Checker) (left : List Reading) (bytes : List ℕ) (x : Option (List ℕ)) → IsFresh c → left ≡ readings bytes
+    → TookAllBut (text_left c left) x x (check_text bytes)
+begun c left bytes x h is = all_but_as _ x x _ _ (ap (text_left c) is ∙ fresh_left c bytes h) (all_to_come x (text_left c left))
 
-pub begun_faults : (c : Checker) (lines : List ℕ) (records : List (List (List ℕ))) (script : List ℕ) → IsFresh c
-    → lines ≡ record_lines script → records ≡ script_records script → c.faults + length (reports_left c lines records) ≡ length (reports script)
-begun_faults c lines records script h is_lines is_records = rw (is_lines, is_records, h.stage, h.records, h.faults) (zero-add (length (reports script)))
+-- Use: nothing is left to read.
+pub none_left : (r : Result (Option RecordTold) ScriptFault) (fields : List (List ℕ)) (old new : List Reading)
+    → result_transpose r ≡ None → ReadsNext r fields old new → old ≡ []
+none_left (Ok None) fields old new is h = h.0
+none_left (Ok (Some told)) fields old new is h = cc
+none_left (Err fault) fields old new is h = cc
 
--- the end of a script lies on the line that is left
-end_left : (c : Checker) (line : ℕ) (lines : List ℕ) → line ≡ line_at lines → reports_left c lines [] ≡ reports_left c (line ∷ []) []
-unfolding reports_from
-end_left c line lines is = rw is refl
+last_text : (c : Checker) (left : List Reading) → left ≡ [] → text_left c left ≡ c.lines ++ totals_text c.records c.faults
+last_text c left none = ap (text_left c) none ∙ ap₂ (λ m n. c.lines ++ totals_text m n) (add-zero c.records) (add-zero c.faults)
 
-left_at_end : (c : Checker) (line : ℕ) (lines : List ℕ) (records : List (List (List ℕ))) → records ≡ [] → line ≡ line_at lines
-    → text_left c lines records ≡ text_left c (line ∷ []) []
-left_at_end c line lines records none is =
-    ap (text_left c lines) none
-    ∙ ap (λ rs. c.lines ++ (flat_map report_text rs ++ totals_text (c.records + 0) (c.faults + length rs))) (end_left c line lines is)
+-- Use: what a check writes at its end.
+pub ended : {A E : Type 0} (r : Result A E) (c : Checker) (left : List Reading) (start mid new : Option (List ℕ)) (whole : List ℕ) → left ≡ []
+    → TookAllBut (text_left c left) start mid whole → OnOk r (Appends mid new (c.lines ++ totals_text c.records c.faults)) → OnOk r (Appends start new whole)
+ended (Ok x) c left start mid new whole none way k = so-far-finished start mid new _ whole (rw (last_text c left none) at way) k
+ended (Err e) c left start mid new whole none way k = tt
 
--- Use: the records are at their end.
-pub ended : {A E : Type 0} (r : Result A E) (c : Checker) (line : ℕ) (lines : List ℕ) (records : List (List (List ℕ))) (start mid new : Option (List ℕ)) (whole : List ℕ)
-    → records ≡ [] → line ≡ line_at lines → TookAllBut (text_left c lines records) start mid whole
-    → OnOk r (Appends mid new (text_left c (line ∷ []) [])) → OnOk r (Appends start new whole)
-ended (Ok x) c line lines records start mid new whole none is way k =
-    so-far-finished start mid new _ whole (rw (left_at_end c line lines records none is) at way) k
-ended (Err e) c line lines records start mid new whole none is way k = tt
-
-pub ended_front : {A E : Type 0} (r : Result A E) (c : Checker) (line : ℕ) (lines : List ℕ) (records : List (List (List ℕ))) (start mid new : Option (List ℕ)) (whole : List ℕ)
-    → records ≡ [] → line ≡ line_at lines → TookAllBut (text_left c lines records) start mid whole
-    → OnErr r (TookFront mid new (text_left c (line ∷ []) [])) → OnErr r (TookFront start new whole)
-ended_front (Ok x) c line lines records start mid new whole none is way k = tt
-ended_front (Err e) c line lines records start mid new whole none is way k =
-    so-far-unfinished start mid new _ whole (rw (left_at_end c line lines records none is) at way) k
-
-pub ended_faults : {E : Type 0} (r : Result ℕ E) (c : Checker) (line : ℕ) (lines : List ℕ) (records : List (List (List ℕ))) (all : ℕ)
-    → records ≡ [] → line ≡ line_at lines → c.faults + length (reports_left c lines records) ≡ all
-    → IfOk r (λ n. n ≡ c.faults + length (reports_left c (line ∷ []) [])) → IfOk r (λ n. n ≡ all)
-ended_faults (Ok n) c line lines records all none is h k =
-    k ∙ ap (λ rs. c.faults + length rs) (sym (ap (reports_left c lines) none ∙ end_left c line lines is)) ∙ h
-ended_faults (Err e) c line lines records all none is h k = k
-
--- what a read of a record says
-pub is_first : (found : Bool) (old : List (List (List ℕ))) (fields : List (List ℕ)) (new : List (List (List ℕ)))
-    → old ≡ (if found then fields ∷ new else []) → found ≡ true → old ≡ fields ∷ new
-is_first found old fields new h is = rw is at h
-
-pub is_none : (found : Bool) (old : List (List (List ℕ))) (fields : List (List ℕ)) (new : List (List (List ℕ)))
-    → old ≡ (if found then fields ∷ new else []) → found ≡ false → old ≡ []
-is_none found old fields new h is = rw is at h
+pub ended_front : {A E : Type 0} (r : Result A E) (c : Checker) (left : List Reading) (start mid new : Option (List ℕ)) (whole : List ℕ) → left ≡ []
+    → TookAllBut (text_left c left) start mid whole → OnErr r (TookFront mid new (c.lines ++ totals_text c.records c.faults)) → OnErr r (TookFront start new whole)
+ended_front (Ok x) c left start mid new whole none way k = tt
+ended_front (Err e) c left start mid new whole none way k = so-far-unfinished start mid new _ whole (rw (last_text c left none) at way) k

@@ -1,7 +1,8 @@
 -- The laws of a check: a fault is what keeps a record from being read, and the first one lies where the reading of a script
 -- ends.
-use Rattle.std.specs.Prelude.{ℕ, ◌≡◌, ◌↔◌, ◌+◌, Bool, false, ◌&&◌, ◌||◌, nat_le, is_some, is_none, if◌then◌else◌, Option, Some, None, List, [], ◌∷◌}
+use Rattle.std.specs.Prelude.{ℕ, ◌≡◌, ◌↔◌, ◌+◌, Bool, false, ◌&&◌, ◌||◌, nat_le, is_some, if◌then◌else◌, Option, Some, None, List, [], ◌∷◌}
 use Rattle.std.specs.Option.{option_map_or}
+use Rattle.std.specs.Result.{is_ok}
 use Rattle.pf_weight.specs.declared.base.TheConstants.{LARGEST_BASE}
 use Rattle.pf_scenario.specs.declared.settings.TheConstants.{MOST_PROCESSORS, LARGEST_CAP}
 use Rattle.pf_timeline.specs.declared.timeline.TheConstants.{LARGEST_DISTANCE}
@@ -10,10 +11,10 @@ use Rattle.pf_script.specs.declared.version.Version.{Version}
 use Rattle.pf_script.specs.declared.version.Version.TheVariants.{First, Second}
 use Rattle.pf_script.specs.Grammar.{is_heading, opening_of, line_of}
 use Rattle.pf_script.specs.Script.{script_records}
-use Rattle.pf_check.specs.declared.stage.Stage.{Stage}
-use Rattle.pf_check.specs.declared.stage.Stage.TheVariants.{Beginning, Headed, Opened}
-use Rattle.pf_check.specs.Examined.{fault_of}
-use Rattle.pf_check.specs.Reports.{Report, reports}
+use Rattle.pf_script.specs.declared.stage.Stage.{Stage}
+use Rattle.pf_script.specs.declared.stage.Stage.TheVariants.{Beginning, Headed, Opened}
+use Rattle.pf_script.specs.Parsing.{record_at}
+use Rattle.pf_script.specs.Told.{FaultTold, faults}
 
 -- n is 1 to most
 abbrev pub is_one_to : ℕ → ℕ → Bool
@@ -57,19 +58,19 @@ bad_among (fields ∷ records) =
 abbrev pub bad_record : List ℕ → Option ℕ
 bad_record script = bad_among (script_records script)
 
--- the number of the record of the first report
-abbrev pub first_number : List Report → Option ℕ
+-- the number of the record of the first fault
+abbrev pub first_number : List FaultTold → Option ℕ
 first_number [] = None
-first_number (r ∷ rs) = Some r.number
+first_number (fault ∷ others) = Some fault.bad.number
 
 -- at each stage a record has no fault exactly where it is read
 abbrev pub ReadRecordsHaveNoFault : Type 0
-ReadRecordsHaveNoFault = (stage : Stage) (fields : List (List ℕ)) → is_none (fault_of stage fields) ≡ is_read stage fields
+ReadRecordsHaveNoFault = (stage : Stage) (fields : List (List ℕ)) → is_ok (record_at stage fields) ≡ is_read stage fields
 
 -- the first fault of a script lies in the record at which its reading ends
 abbrev pub FirstFaultEndsReading : Type 0
-FirstFaultEndsReading = (script : List ℕ) → first_number (reports script) ≡ bad_record script
+FirstFaultEndsReading = (script : List ℕ) → first_number (faults script) ≡ bad_record script
 
 -- a script has no fault exactly where all of it is read
 abbrev pub ReadScriptsHaveNoFault : Type 0
-ReadScriptsHaveNoFault = (script : List ℕ) → (reports script ≡ []) ↔ (bad_record script ≡ None)
+ReadScriptsHaveNoFault = (script : List ℕ) → (faults script ≡ []) ↔ (bad_record script ≡ None)

@@ -1,20 +1,19 @@
-ghost use Rattle.std.specs.Prelude.{◌≡◌, ◌+◌, ◌-◌, ◌^◌, ◌<◌, ◌≤◌, ◌++◌, ◌∷◌, [], length, IfOk, OnOk, OnErr};
+ghost use Rattle.std.specs.Prelude.{◌≡◌, ◌+◌, ◌-◌, ◌^◌, ◌<◌, ◌≤◌, ◌++◌, ◌∷◌, [], length, Err, IfOk, OnOk, OnErr};
 ghost use Rattle.std.specs.List.{flat_map};
 ghost use Rattle.std.specs.Io.KnownBytes.{Appends};
 ghost use Rattle.pf_stream.specs.Written.{TookFront};
 ghost use Rattle.pf_stream.specs.Reading.{longest_script};
-ghost use Rattle.pf_check.specs.Checked.{CountsCheck, HasExamined, HasReported, IsFresh, report_in, reports_left, text_left};
-ghost use Rattle.pf_check.specs.Examined.{fault_of};
-ghost use Rattle.pf_check.specs.Reports.{check_text, end_fault, report, report_text, reports, totals_text};
+ghost use Rattle.pf_script.specs.Told.{FaultTold, faults};
+ghost use Rattle.pf_check.specs.Checked.{CountsCheck, GoesOn, HasReported, IsFresh, faults_of, record_count};
+ghost use Rattle.pf_check.specs.Reports.{check_text, fault_shown, report_text, totals_text};
 
-use crate::examine::{fault_of, stage_behind};
-use crate::fault::{CheckFault, Reason, RecordFault};
-use crate::record_lines::RecordLines;
+use crate::fault::CheckFault;
 use crate::report::{push_report, push_totals};
-use crate::stage::Stage;
 use csv::ByteRecord;
+use pf_script::fault::{BadRecord, ScriptFault};
 use pf_script::fields::Fields;
-use pf_script::script::Script;
+use pf_script::reader::ScriptReader;
+use pf_script::record::RecordTold;
 use pf_stream::sink::Sink;
 use pf_stream::text_buffer::TextBuffer;
 use std::alloc::{AllocError, Global};
@@ -31,27 +30,22 @@ pub fn write_check<W: Sink>(alloc: Global, script: &[u8], writer: &mut W) -> Res
     requires short { length script.now ≤ longest_script }
     requires writes { W.failed writer.old < 2 ^ 64 - 1 }
     ensures text { OnOk result (Appends (W.contents writer.old) (W.contents writer.new) (check_text script.now)) }
-    ensures faults { IfOk result (λ faults. faults ≡ length (reports script.now)) }
+    ensures faults { IfOk result (λ n. n ≡ length (faults script.now)) }
     ensures front { OnErr result (TookFront (W.contents writer.old) (W.contents writer.new) (check_text script.now)) }
     ensures count { CountsCheck result (W.failed writer.old) (W.failed writer.new) }
 {
-    let mut records = Script::new(alloc, script);
-    let mut places = RecordLines::new(script);
+    let mut reader = ScriptReader::new(alloc, script);
     let mut row = ByteRecord::new(alloc);
     let mut checker = Checker::new(alloc)?;
-    'records: while records.next(&mut row)? {
-        let line = places.next_line();
-        let fields = Fields::new(&row);
-        checker.examine(writer, line, &fields)?;
+    'records: while let Some(read) = reader.next(&mut row).transpose() {
+        checker.note(writer, &Fields::new(&row), read)?;
     }
-    let last = places.next_line();
-    checker.end(writer, last)
+    checker.write_totals(writer)
 }
 
 /// A check on its way: how far the script is, and the text on its way to the writer.
 #[derive(Drop)]
 struct Checker {
-    stage: Stage,
     // How many records and how many faults there were.
     records: u64,
     faults: u64,
@@ -61,12 +55,11 @@ struct Checker {
 }
 
 impl Checker {
-    /// Nothing examined yet.
+    /// Nothing read yet.
     fn new(alloc: Global) -> Result<Self, AllocError>
         ensures { IfOk result (λ checker. IsFresh checker) }
     {
         Ok(Checker {
-            stage: Stage::Beginning,
             records: 0,
             faults: 0,
             lines: TextBuffer::new(alloc)?,
@@ -74,71 +67,79 @@ impl Checker {
         })
     }
 
-    /// Examines the next record, which begins on this line, and puts its report.
-    fn examine<W: Sink>(
+    /// Counts what was read next, a record with these fields, and puts its report where it has a fault.
+    fn note<W: Sink>(
         &mut self,
         writer: &mut W,
-        line: u64,
         fields: &Fields,
+        read: Result<RecordTold, ScriptFault>,
     ) -> Result<(), CheckFault>
         requires records { self.old.records < 2 ^ 64 - 1 }
         requires faults { self.old.faults < 2 ^ 64 - 1 }
         requires writes { W.failed writer.old < 2 ^ 64 - 1 }
-        ensures ok { OnOk result (HasExamined line fields.now self.old self.new (W.contents writer.old) (W.contents writer.new)) }
+        ensures ok { OnOk result (HasReported (faults_of read fields.now) self.old self.new (W.contents writer.old) (W.contents writer.new)) }
+        ensures records { OnOk result (self.new.records ≡ self.old.records + record_count read) }
+        ensures on { OnOk result (GoesOn read) }
         ensures err { OnErr result (TookFront (W.contents writer.old) (W.contents writer.new)
-            (self.old.lines ++ flat_map report_text (report_in self.old line fields.now (fault_of self.old.stage fields.now)))) }
+            (self.old.lines ++ flat_map report_text (faults_of read fields.now))) }
         ensures count { CountsCheck result (W.failed writer.old) (W.failed writer.new) }
     {
-        self.records += 1;
-        let Some(fault) = fault_of(self.stage, fields) else {
-            self.stage = stage_behind(self.stage, fields);
-            return Ok(());
-        };
-        let at = fields.field(fault.field.saturating_sub(1));
-        self.put_report(writer, line, self.records, at, fault)
+        match read {
+            Ok(_) => {
+                self.records += 1;
+                Ok(())
+            }
+            Err(fault) => self.note_fault(writer, fields, fault),
+        }
     }
 
-    /// Puts the report of a fault, of the record of this number.
+    /// The same of a record that was not read.
+    fn note_fault<W: Sink>(
+        &mut self,
+        writer: &mut W,
+        fields: &Fields,
+        fault: ScriptFault,
+    ) -> Result<(), CheckFault>
+        requires records { self.old.records < 2 ^ 64 - 1 }
+        requires faults { self.old.faults < 2 ^ 64 - 1 }
+        requires writes { W.failed writer.old < 2 ^ 64 - 1 }
+        ensures ok { OnOk result (HasReported (faults_of (Err fault) fields.now) self.old self.new (W.contents writer.old) (W.contents writer.new)) }
+        ensures records { OnOk result (self.new.records ≡ self.old.records + record_count (Err fault)) }
+        ensures on { OnOk result (GoesOn (Err fault)) }
+        ensures err { OnErr result (TookFront (W.contents writer.old) (W.contents writer.new)
+            (self.old.lines ++ flat_map report_text (faults_of (Err fault) fields.now))) }
+        ensures count { CountsCheck result (W.failed writer.old) (W.failed writer.new) }
+    {
+        match fault {
+            ScriptFault::Bad(bad) => {
+                self.records += 1;
+                self.put_report(writer, fields, bad)
+            }
+            ScriptFault::Missing(bad) => self.put_report(writer, fields, bad),
+            ScriptFault::Memory => Err(CheckFault::Memory),
+        }
+    }
+
+    /// Puts the report of a bad record with these fields.
     fn put_report<W: Sink>(
         &mut self,
         writer: &mut W,
-        line: u64,
-        number: u64,
-        at: &[u8],
-        fault: RecordFault,
+        fields: &Fields,
+        bad: BadRecord,
     ) -> Result<(), CheckFault>
         requires faults { self.old.faults < 2 ^ 64 - 1 }
         requires writes { W.failed writer.old < 2 ^ 64 - 1 }
-        ensures ok { OnOk result (HasReported (report line number at.now fault ∷ []) self.old self.new (W.contents writer.old) (W.contents writer.new)) }
-        ensures stage { self.new.stage ≡ self.old.stage }
+        ensures ok { OnOk result (HasReported (fault_shown bad fields.now ∷ []) self.old self.new (W.contents writer.old) (W.contents writer.new)) }
         ensures records { self.new.records ≡ self.old.records }
         ensures err { OnErr result (TookFront (W.contents writer.old) (W.contents writer.new)
-            (self.old.lines ++ flat_map report_text (report line number at.now fault ∷ []))) }
+            (self.old.lines ++ flat_map report_text (fault_shown bad fields.now ∷ []))) }
         ensures count { CountsCheck result (W.failed writer.old) (W.failed writer.new) }
     {
         self.faults += 1;
         self.text.clear();
-        push_report(&mut self.text, line, number, at, fault)?;
+        push_report(&mut self.text, fields, bad)?;
         self.lines.put(writer, self.text.as_bytes())?;
         Ok(())
-    }
-
-    /// Puts the report of a script that ends on this line before its settings, and the totals, and writes what waits.
-    fn end<W: Sink>(mut self, writer: &mut W, line: u64) -> Result<u64, CheckFault>
-        requires records { self.records < 2 ^ 64 - 1 }
-        requires faults { self.faults < 2 ^ 64 - 1 }
-        requires writes { W.failed writer.old < 2 ^ 64 - 1 }
-        ensures text { OnOk result (Appends (W.contents writer.old) (W.contents writer.new) (text_left self (line ∷ []) [])) }
-        ensures faults { IfOk result (λ faults. faults ≡ self.faults + length (reports_left self (line ∷ []) [])) }
-        ensures front { OnErr result (TookFront (W.contents writer.old) (W.contents writer.new) (text_left self (line ∷ []) [])) }
-        ensures count { CountsCheck result (W.failed writer.old) (W.failed writer.new) }
-    {
-        let Some(fault) = end_fault(self.stage) else {
-            return self.write_totals(writer);
-        };
-        let number = self.records + 1;
-        self.put_report(writer, line, number, &[], fault)?;
-        self.write_totals(writer)
     }
 
     /// Puts the totals, and writes what waits.
@@ -154,18 +155,5 @@ impl Checker {
         self.lines.put(writer, self.text.as_bytes())?;
         self.lines.finish(writer)?;
         Ok(self.faults)
-    }
-}
-
-/// The fault of a script that ends at this stage.
-fn end_fault(stage: Stage) -> Option<RecordFault>
-    ensures { result ≡ end_fault stage }
-{
-    match stage {
-        Stage::Beginning | Stage::Headed => Some(RecordFault {
-            field: 1,
-            reason: Reason::NoSettings,
-        }),
-        Stage::Opened(_) => None,
     }
 }

@@ -4,10 +4,6 @@
 #![tactic(auto)]
 
 pub mod checker;
-pub mod examine;
 pub mod fault;
 pub mod laws;
-mod place;
-mod record_lines;
 mod report;
-pub mod stage;

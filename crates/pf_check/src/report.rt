@@ -2,30 +2,34 @@ ghost use Rattle.std.specs.Prelude.{◌≡◌, ◌++◌, ◌<◌, true, take, On
 ghost use Rattle.std.specs.Fmt.{digit_glyph};
 ghost use Rattle.std.specs.String.{string_bytes};
 ghost use Rattle.std.specs.List.{flat_map};
-ghost use Rattle.pf_check.specs.Reports.{field_text, quoted, reason_text, report, report_text, shown_byte, event_words, change_words, totals_text};
+ghost use Rattle.pf_check.specs.Reports.{fault_shown, field_text, quoted, reason_text, report_text, shown_byte, event_words, change_words, totals_text};
 
-use crate::fault::{Reason, RecordFault};
+use pf_script::fault::{BadRecord, Reason};
+use pf_script::fields::Fields;
 use pf_script::version::Version;
 use std::alloc::AllocError;
 
 /// The most bytes of a field that are shown.
 pub const MOST_SHOWN: usize = 40;
 
-/// Adds the line that tells of a record's fault, with what is shown of the field that is at fault.
-#[tactic(auto, unfolding(crate::specs::Reports::report_text))]
-pub fn push_report(
-    text: &mut String,
-    line: u64,
-    number: u64,
-    at: &[u8],
-    fault: RecordFault,
-) -> Result<(), AllocError>
-    ensures { OnOk result (string_bytes text.new ≡ string_bytes text.old ++ report_text (report line number at.now fault)) }
+/// Adds the line that tells of a bad record with these fields, with what is shown of the one that is at fault.
+pub fn push_report(text: &mut String, fields: &Fields, bad: BadRecord) -> Result<(), AllocError>
+    ensures { OnOk result (string_bytes text.new ≡ string_bytes text.old ++ report_text (fault_shown bad fields.now)) }
 {
+    let at = fields.field(bad.fault.field.saturating_sub(1));
+    push_fault(text, at, bad)
+}
+
+/// Adds that line, with what is shown of these bytes.
+#[tactic(auto, unfolding(crate::specs::Reports::report_text))]
+fn push_fault(text: &mut String, at: &[u8], bad: BadRecord) -> Result<(), AllocError>
+    ensures { OnOk result (string_bytes text.new ≡ string_bytes text.old ++ report_text (record { bad = bad; at = at.now })) }
+{
+    let (line, number) = (bad.line, bad.number);
     write!(text, "line {line}, record {number}")?;
-    push_field(text, fault.field)?;
+    push_field(text, bad.fault.field)?;
     text.push_str(": ")?;
-    push_reason(text, at, fault.reason)?;
+    push_reason(text, at, bad.fault.reason)?;
     text.push_str("\n")
 }
 

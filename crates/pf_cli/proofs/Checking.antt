@@ -7,7 +7,8 @@ use Rattle.pf_stream.specs.declared.reading.ReadingFault.{ReadingFault}
 use Rattle.pf_stream.specs.declared.reading.ReadingFault.TheVariants.{Read, TooLong, Memory}
 use Rattle.pf_stream.specs.Written.{TookFront}
 use Rattle.pf_stream.specs.Reading.{longest_script, ReadsScript}
-use Rattle.pf_check.specs.Reports.{check_text, reports}
+use Rattle.pf_script.specs.Told.{faults}
+use Rattle.pf_check.specs.Reports.{check_text}
 use Rattle.pf_cli.specs.declared.fault.RunFault.TheVariants.{WriteFault, NoMemory}
 use Rattle.pf_cli.specs.Answers.{fault_of_reading}
 use Rattle.pf_cli.specs.Checks.{check_meaning, ChecksBytes}
@@ -20,7 +21,7 @@ short_check bytes short = let fits : nat_lt longest_script (length bytes) ≡ fa
 
 -- Use: a check was written to its end, or a front of it.
 pub checked : (bytes : List ℕ) (n : ℕ) (old new : Option (List ℕ)) → length bytes ≤ longest_script → Appends old new (check_text bytes)
-    → n ≡ length (reports bytes) → ChecksBytes bytes (Ok n) old new
+    → n ≡ length (faults bytes) → ChecksBytes bytes (Ok n) old new
 checked bytes n old new short wrote count = record { text = rw (short_check bytes short) (refl, wrote); faults = count }
 
 pub unwritten : (bytes : List ℕ) (old new : Option (List ℕ)) → length bytes ≤ longest_script → TookFront old new (check_text bytes)

@@ -13,7 +13,7 @@ use Rattle.pf_words.specs.declared.format.Format.{Format}
 use Rattle.pf_words.specs.declared.range_fault.RangeFault.{RangeFault}
 use Rattle.pf_words.specs.Formats.{range_fault}
 use Rattle.pf_check.specs.Laws as check
-use Rattle.pf_check.specs.Reports.{Report, reports}
+use Rattle.pf_script.specs.Told.{FaultTold, faults}
 use Rattle.pf_check.proofs.FirstFaults.{first_fault_ends_reading}
 use Rattle.pf_cli.specs.Laws.{RunsEndAtTheFirstFault, EndsAt, EndsWhole}
 use Rattle.pf_cli.specs.Meaning.{End, BadRecord, ScriptCourse, Meaning, text_unless, course_behind, report_meaning, report_text, seen_at, line_meaning, lines_meaning, settings_meaning, course_opened_by, opening_course, opening_meaning, records_meaning, script_meaning}
@@ -77,7 +77,7 @@ pub records_end : (format : Format) (records : List (List (List ℕ))) → EndsB
 records_end format [] = refl
 records_end format (fields ∷ records) = heading_end format (is_heading fields) fields records
 
-same_end : (format : Format) (rs : List Report) (end : End) → EndsBy format (check.first_number rs) end → EndsAt format rs end
+same_end : (format : Format) (rs : List FaultTold) (end : End) → EndsBy format (check.first_number rs) end → EndsAt format rs end
 same_end format [] end ends = ends
 same_end format (r ∷ rs) end ends = ends
 
@@ -85,5 +85,5 @@ same_end format (r ∷ rs) end ends = ends
 pub runs_end_at_first_fault : RunsEndAtTheFirstFault
 runs_end_at_first_fault format bytes short =
     let meant = subst (λ (m : Meaning). EndsBy format (check.bad_among (script_records bytes)) m.end) (sym (short_meaning format bytes short)) (records_end format (script_records bytes)) in
-    same_end format (reports bytes) (script_meaning format bytes).end
+    same_end format (faults bytes) (script_meaning format bytes).end
     (subst (λ o. EndsBy format o (script_meaning format bytes).end) (sym (first_fault_ends_reading bytes)) meant)

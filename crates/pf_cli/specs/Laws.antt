@@ -4,7 +4,7 @@ use Rattle.pf_words.specs.declared.format.Format.{Format}
 use Rattle.pf_words.specs.declared.range_fault.RangeFault.{RangeFault}
 use Rattle.pf_words.specs.Formats.{range_fault}
 use Rattle.pf_stream.specs.Reading.{longest_script}
-use Rattle.pf_check.specs.Reports.{Report, reports}
+use Rattle.pf_script.specs.Told.{FaultTold, faults}
 use Rattle.pf_cli.specs.Meaning.{End, Done, BadRecord, Outside, script_meaning}
 
 -- a script without a bad record ends well, but where the range of its format can't be shown
@@ -12,14 +12,14 @@ abbrev pub EndsWhole : Format → End → Type 0
 EndsWhole format end = (end ≡ Done) ⊎ ((now : ℕ) × (fault : RangeFault) × (end ≡ Outside fault) × (range_fault format now ≡ Some fault))
 
 -- how a script ends in which a check finds these faults: at the record of the first one
-abbrev pub EndsAt : Format → List Report → End → Type 0
+abbrev pub EndsAt : Format → List FaultTold → End → Type 0
 EndsAt format [] end = EndsWhole format end
-EndsAt format (r ∷ rs) end = end ≡ BadRecord r.number
+EndsAt format (fault ∷ others) end = end ≡ BadRecord fault.bad.number
 
 -- in every format a script that isn't too long ends at the first fault that a check finds in it
 abbrev pub RunsEndAtTheFirstFault : Type 0
 RunsEndAtTheFirstFault = (format : Format) (bytes : List ℕ) → length bytes ≤ longest_script →
-    EndsAt format (reports bytes) (script_meaning format bytes).end
+    EndsAt format (faults bytes) (script_meaning format bytes).end
 
 -- a script has no text where the range of its format can't be shown
 abbrev pub NothingIsWrittenOutside : Type 0

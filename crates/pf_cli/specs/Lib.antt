@@ -8,8 +8,7 @@ pub use Rattle.pf_words.specs.Formats
 pub use Rattle.pf_script.specs.Fields
 pub use Rattle.pf_script.specs.Grammar
 pub use Rattle.pf_script.specs.Script
-pub use Rattle.pf_check.specs.Examined
-pub use Rattle.pf_check.specs.Places
+pub use Rattle.pf_script.specs.Told
 pub use Rattle.pf_check.specs.Reports
 pub mod Answers
 pub mod Batching

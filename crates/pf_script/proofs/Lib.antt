@@ -1,6 +1,7 @@
 pub mod Counting
 pub mod Digits
 pub mod FieldExamples
+pub mod Lined
 pub mod GrammarExamples
 pub mod Lines
 pub mod Opening

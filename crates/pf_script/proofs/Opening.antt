@@ -50,37 +50,39 @@ within fields place most n = by (number_at fields place)
     by (Ok k) e = test (nat_le 1 k && nat_le k most) k refl e
     by (Err fault) e = cc
 
--- settings by which a desk can be opened, or a fault
-abbrev IsSettings : Record → Type 0
-IsSettings Heading = ⊥
-IsSettings (Settings s) = IsOpening s
-IsSettings (Asks line) = ⊥
+-- settings of this version, by which a desk can be opened, or a fault
+abbrev pub IsSettings : Version → Record → Type 0
+IsSettings version Heading = ⊥
+IsSettings version (Settings s) = IsOpening s × (s.version ≡ version)
+IsSettings version (Asks line) = ⊥
 
-abbrev IsSettled : Result Record RecordFault → Type 0
-IsSettled (Ok said) = IsSettings said
-IsSettled (Err fault) = ⊤
+abbrev pub IsSettled : Version → Result Record RecordFault → Type 0
+IsSettled version (Ok said) = IsSettings version said
+IsSettled version (Err fault) = ⊤
 
-then_settled : {A : Type 0} (r : Result A RecordFault) (f : A → Result Record RecordFault) → ((a : A) → r ≡ Ok a → IsSettled (f a)) → IsSettled (r >>= f)
-then_settled (Ok a) f h = h a refl
-then_settled (Err fault) f h = tt
+then_settled : {A : Type 0} (version : Version) (r : Result A RecordFault) (f : A → Result Record RecordFault) → ((a : A) → r ≡ Ok a → IsSettled version (f a))
+    → IsSettled version (r >>= f)
+then_settled version (Ok a) f h = h a refl
+then_settled version (Err fault) f h = tt
 
-settings_settled : (version : Version) (fields : List (List ℕ)) → IsSettled (settings_at version fields)
+settings_settled : (version : Version) (fields : List (List ℕ)) → IsSettled version (settings_at version fields)
 unfolding settings_at
 settings_settled version fields =
-    then_settled (of_length fields 5) _ (λ _ _.
-    then_settled (number_within fields 1 _) _ (λ _ _.
-    then_settled (number_within fields 2 _) _ (λ _ _.
-    then_settled (number_within fields 3 _) _ (λ _ _.
-    then_settled (number_within fields 4 _) _ (λ every is.
+    then_settled version (of_length fields 5) _ (λ _ _.
+    then_settled version (number_within fields 1 _) _ (λ _ _.
+    then_settled version (number_within fields 2 _) _ (λ _ _.
+    then_settled version (number_within fields 3 _) _ (λ _ _.
+    then_settled version (number_within fields 4 _) _ (λ every is.
     let limits = within fields 4 _ every is in
-    record { some = limits.0; within = limits.1 })))))
+    (record { some = limits.0; within = limits.1 }, refl))))))
 
-opening_settled : (version : Version) (fields : List (List ℕ)) → IsSettled (opening_at version fields)
+-- Use: where settings are expected there are some, or a fault.
+pub opening_settled : (version : Version) (fields : List (List ℕ)) → IsSettled version (opening_at version fields)
 unfolding opening_at
 opening_settled version fields = by (is_word fields 0 (codes "settings")) (names_line version fields) (settings_settled version fields)
   where
-    by : (settings line : Bool) → IsSettled (settings_at version fields)
-        → IsSettled (if settings then settings_at version fields else if line then Err (fault_at 0 NoSettings) else Err (fault_at 0 (NoRecord version)))
+    by : (settings line : Bool) → IsSettled version (settings_at version fields)
+        → IsSettled version (if settings then settings_at version fields else if line then Err (fault_at 0 NoSettings) else Err (fault_at 0 (NoRecord version)))
     by true line settled = settled
     by false true settled = tt
     by false false settled = tt
@@ -97,18 +99,18 @@ AreUnopened (Good told ∷ rest) = GoesOn told.says rest (AreUnopened rest)
 AreUnopened (Bad fault ∷ rest) = ⊤
 AreUnopened (Missing fault ∷ rest) = ⊤
 
-settings_follow : (stage : Stage) (number : ℕ) (lines : List ℕ) (fields : List (List ℕ)) (records : List (List (List ℕ))) (r : Result Record RecordFault)
-    → IsSettled r → AreUnopened (reading number (first_line lines) fields r ∷ readings_from (stage_after stage r) (number + 1) (lines_behind lines) records)
-settings_follow stage number lines fields records (Ok Heading) settled = absurd settled
-settings_follow stage number lines fields records (Ok (Settings s)) settled = (settled, opened_lines s.version (number + 1) (lines_behind lines) records)
-settings_follow stage number lines fields records (Ok (Asks line)) settled = absurd settled
-settings_follow stage number lines fields records (Err fault) settled = tt
+settings_follow : (stage : Stage) (version : Version) (number : ℕ) (lines : List ℕ) (fields : List (List ℕ)) (records : List (List (List ℕ))) (r : Result Record RecordFault)
+    → IsSettled version r → AreUnopened (reading number (first_line lines) fields r ∷ readings_from (stage_after stage r) (number + 1) (lines_behind lines) records)
+settings_follow stage version number lines fields records (Ok Heading) settled = absurd settled
+settings_follow stage version number lines fields records (Ok (Settings s)) settled = (settled.0, opened_lines s.version (number + 1) (lines_behind lines) records)
+settings_follow stage version number lines fields records (Ok (Asks line)) settled = absurd settled
+settings_follow stage version number lines fields records (Err fault) settled = tt
 
 headed : (number : ℕ) (lines : List ℕ) (records : List (List (List ℕ))) → AreUnopened (readings_from Headed number lines records)
 unfolding readings_from record_at
 headed number lines [] = tt
 headed number lines (fields ∷ records) =
-    settings_follow Headed number lines fields records (opening_at Second fields) (opening_settled Second fields)
+    settings_follow Headed Second number lines fields records (opening_at Second fields) (opening_settled Second fields)
 
 -- Use: a script begins with its heading, its settings, or a fault.
 pub beginning : (number : ℕ) (lines : List ℕ) (records : List (List (List ℕ))) → AreUnopened (readings_from Beginning number lines records)
@@ -124,7 +126,7 @@ beginning number lines (fields ∷ records) = by (is_word fields 0 (codes "pfair
     by true (Ok u) true = headed (number + 1) (lines_behind lines) records
     by true (Ok u) false = tt
     by true (Err fault) second = tt
-    by false long second = settings_follow Beginning number lines fields records (opening_at First fields) (opening_settled First fields)
+    by false long second = settings_follow Beginning First number lines fields records (opening_at First fields) (opening_settled First fields)
 
 -- a record after the settings is a line
 pub asking : (said : Record) → IsAsking said → ((line : Line) → said ≡ Asks line → ⊥) → ⊥

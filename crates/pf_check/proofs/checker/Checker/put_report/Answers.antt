@@ -1,7 +1,7 @@
 use Rattle.std.proofs.Common.{◌≡◌, ◌++◌, ap, ◌∙◌, refl, sym}
 use Rattle.std.proofs.lemmas.List.{append-nil}
 use Rattle.pf_stream.proofs.Sending.{anyway, none_written}
-use Rattle.pf_check.specs.Reports.{report, report_text}
+use Rattle.pf_check.specs.Reports.{fault_shown, report_text}
 use Rattle.pf_check.proofs.Written.{front_of}
 use Rattle.pf_check.proofs.checker.Checker.put_report.Goals as goal
 
@@ -10,7 +10,7 @@ returns-in_err-push_report-clause-err g c = anyway c.from_residual.result _ (non
 
 pub returns-in_err-put-clause-err : goal.returns-in_err-put-clause-err
 returns-in_err-put-clause-err g c =
-    let line : c.as_bytes.result.now ≡ report_text (report c.args.line c.args.number c.args.at.now c.args.fault) =
+    let line : c.as_bytes.result.now ≡ report_text (fault_shown c.args.bad c.args.fields.now) =
     c.as_bytes.ensures.value ∙ c.in_ok-push_report.ensures ∙ (rw c.clear.ensures.bytes refl) in
     anyway c.from_residual-in_err-put.result _
     (front_of _ _ _ _ (ap (λ t. c.args.self.now.lines ++ t) (line ∙ sym (append-nil _))) c.in_err-put.ensures.err)

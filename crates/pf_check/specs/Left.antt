@@ -1,7 +1,0 @@
--- The lines that are left of a text.
-use Rattle.std.specs.Prelude.{ℕ, if◌then◌else◌, List, [], drop}
-use Rattle.pf_check.specs.declared.record_lines.RecordLines.{RecordLines}
-use Rattle.pf_check.specs.Places.{lines_from, state_of}
-
-abbrev pub lines_left : RecordLines → List ℕ
-lines_left r = if r.ended then [] else lines_from (state_of r.place) r.line r.before (drop r.at r.bytes.now)
