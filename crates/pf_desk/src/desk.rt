@@ -40,6 +40,7 @@ use pf_scenario::scenario::Scenario;
 use pf_scenario::settings::Settings;
 use pf_tally::lag::Lag;
 use pf_tally::miss::Miss;
+use pf_tally::tally::{Tally, make_tally};
 use pf_tally::{lags, misses};
 use pf_timeline::fault::NewFault;
 use pf_timeline::timeline::Timeline;
@@ -555,6 +556,23 @@ impl Desk {
         ensures { IfOk result (λ v. v.items ≡ misses_of self.now.state.plan (run_of self.now.state.plan self.now.state.now)) }
     {
         misses::misses(
+            self.history.alloc(),
+            &self.scenario,
+            self.timeline.rows(),
+            self.timeline.denials(),
+        )
+    }
+
+    /// What `lags` and `misses` give, by one walk over the run.
+    ///
+    /// # Errors
+    ///
+    /// Where memory is refused.
+    pub fn tally(&self) -> Result<Tally, AllocError>
+        ensures lags { IfOk result (λ tally. tally.lags.items ≡ lags_of self.now.state.plan (run_of self.now.state.plan self.now.state.now)) }
+        ensures misses { IfOk result (λ tally. tally.misses.items ≡ misses_of self.now.state.plan (run_of self.now.state.plan self.now.state.now)) }
+    {
+        make_tally(
             self.history.alloc(),
             &self.scenario,
             self.timeline.rows(),

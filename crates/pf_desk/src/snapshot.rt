@@ -17,6 +17,7 @@ use pf_scenario::settings::Settings;
 use pf_tally::figures::Figures;
 use pf_tally::lag::Lag;
 use pf_tally::miss::Miss;
+use pf_tally::tally::{Tally, make_tally};
 use pf_tally::{lags, misses, task_figures};
 use std::alloc::{AllocError, Global};
 use std::marker::Model;
@@ -155,6 +156,23 @@ impl Snapshot {
         ensures { IfOk result (λ v. v.items ≡ misses_of self.now.state.plan (run_of self.now.state.plan self.now.state.now)) }
     {
         misses::misses(
+            self.alloc,
+            &self.scenario,
+            &self.rows,
+            self.denials.as_slice(),
+        )
+    }
+
+    /// What `lags` and `misses` give, by one walk over the run.
+    ///
+    /// # Errors
+    ///
+    /// Where memory is refused.
+    pub fn tally(&self) -> Result<Tally, AllocError>
+        ensures lags { IfOk result (λ tally. tally.lags.items ≡ lags_of self.now.state.plan (run_of self.now.state.plan self.now.state.now)) }
+        ensures misses { IfOk result (λ tally. tally.misses.items ≡ misses_of self.now.state.plan (run_of self.now.state.plan self.now.state.now)) }
+    {
+        make_tally(
             self.alloc,
             &self.scenario,
             &self.rows,

@@ -18,6 +18,7 @@ use pf_place::row_view::RowView;
 use pf_run::denied::Denied;
 use pf_tally::lag::Lag;
 use pf_tally::miss::Miss;
+use pf_tally::tally::Tally;
 use serde_json::{Value, json};
 use std::alloc::{AllocError, Global};
 
@@ -189,11 +190,10 @@ pub fn json_pieces(alloc: Global, snapshot: &Snapshot) -> Result<JsonPieces<'_>,
     let misses_key = Vec::from_slice(alloc, b",\"misses\":")?;
     let schedule_key = format!(in alloc; ",\"now\":{now},\"schedule\":")?.into_bytes();
     let end = Vec::from_slice(alloc, b"}")?;
-    let lags = LagRows::of(snapshot)?;
-    let misses = MissRows::of(snapshot)?;
+    let Tally { lags, misses } = snapshot.tally()?;
     let schedule = keyed(schedule_key, ScheduleRows::of(snapshot), Whole::new(end));
-    let misses = keyed(misses_key, misses, schedule);
-    let lags = keyed(lags_key, lags, misses);
+    let misses = keyed(misses_key, MissRows::of(misses), schedule);
+    let lags = keyed(lags_key, LagRows::of(lags), misses);
     Ok(keyed(denials_key, DenialRows::of(snapshot), lags))
 }
 

@@ -39,17 +39,13 @@ impl Model for LagRows {
 }
 
 impl LagRows {
-    ghost use Rattle.std.specs.Prelude.{◌≡◌, ◌∷◌, ◌+◌, ◌<◌, length, drop, IfOk};
-    ghost use Rattle.pf_run.specs.Computed.{run_of};
-    ghost use Rattle.pf_tally.specs.Lags.{lags_of};
+    ghost use Rattle.std.specs.Prelude.{◌≡◌, ◌∷◌, ◌+◌, ◌<◌, length, drop};
 
-    /// Those that a snapshot shows.
-    pub fn of(snapshot: &Snapshot) -> Result<Self, AllocError>
-        ensures { IfOk result (λ rows. rows ≡ lags_of snapshot.now.state.plan (run_of snapshot.now.state.plan snapshot.now.state.now)) }
+    /// The records of these lags.
+    pub fn of(lags: Vec<Lag>) -> Self
+        ensures { result ≡ lags.items }
     {
-        Ok(LagRows {
-            lags: snapshot.lags()?,
-        })
+        LagRows { lags }
     }
 
     /// The one at a place.
@@ -99,7 +95,7 @@ pub fn lag_pieces(alloc: Global, snapshot: &Snapshot) -> Result<LagPieces, Alloc
     let mut table = Table::new(alloc);
     table.push_texts(&["task", "cost", "period", "received", "lag"])?;
     let heading = Whole::new(table.finish()?);
-    let rows = LagRows::of(snapshot)?;
+    let rows = LagRows::of(snapshot.lags()?);
     Ok(Chain::new(heading, RecordPieces::new(rows)))
 }
 

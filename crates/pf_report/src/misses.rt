@@ -41,17 +41,13 @@ impl Model for MissRows {
 }
 
 impl MissRows {
-    ghost use Rattle.std.specs.Prelude.{◌≡◌, ◌∷◌, ◌+◌, ◌<◌, length, drop, IfOk};
-    ghost use Rattle.pf_run.specs.Computed.{run_of};
-    ghost use Rattle.pf_tally.specs.Misses.{misses_of};
+    ghost use Rattle.std.specs.Prelude.{◌≡◌, ◌∷◌, ◌+◌, ◌<◌, length, drop};
 
-    /// Those that a snapshot shows.
-    pub fn of(snapshot: &Snapshot) -> Result<Self, AllocError>
-        ensures { IfOk result (λ rows. rows ≡ misses_of snapshot.now.state.plan (run_of snapshot.now.state.plan snapshot.now.state.now)) }
+    /// The records of these missed windows.
+    pub fn of(misses: Vec<Miss>) -> Self
+        ensures { result ≡ misses.items }
     {
-        Ok(MissRows {
-            misses: snapshot.misses()?,
-        })
+        MissRows { misses }
     }
 
     /// The one at a place.
@@ -101,7 +97,7 @@ pub fn miss_pieces(alloc: Global, snapshot: &Snapshot) -> Result<MissPieces, All
     let mut table = Table::new(alloc);
     table.push_texts(&["task", "sub", "deadline", "ran"])?;
     let heading = Whole::new(table.finish()?);
-    let rows = MissRows::of(snapshot)?;
+    let rows = MissRows::of(snapshot.misses()?);
     Ok(Chain::new(heading, RecordPieces::new(rows)))
 }
 

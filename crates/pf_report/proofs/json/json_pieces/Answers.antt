@@ -19,6 +19,6 @@ returns c =
     key-denials c.keyed.ensures key-lags c.keyed-lags.ensures key-misses c.keyed-misses.ensures key-schedule c.keyed-schedule.ensures end
     ∙ (λ i. compact_text (report_object
     (array (items_of (map denial_data (c.of-4.ensures i)))) (c.version-entries.ensures i)
-    (array (items_of (map lag_data (c.in_ok-lags.ensures i))))
-    (array (items_of (map miss_data (c.in_ok-misses.ensures i)))) (c.now-now.ensures.value i)
-    (array (items_of (map (array_data sitter_data) (c.of-3.ensures i).rows)))))
+    (array (items_of (map lag_data ((c.of-3.ensures ∙ c.in_ok-lags.ensures.lags) i))))
+    (array (items_of (map miss_data ((c.of-2.ensures ∙ c.in_ok-lags.ensures.misses) i)))) (c.now-now.ensures.value i)
+    (array (items_of (map (array_data sitter_data) (c.of.ensures i).rows)))))
