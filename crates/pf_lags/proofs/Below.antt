@@ -29,7 +29,7 @@ use Rattle.pf_lags.proofs.Clocks.{clock_before}
 use Rattle.pf_lags.proofs.Stays.{events_rise, share_of_joined, IsInside, inside_is}
 
 -- where the clock is worth a quantum more than i, the deadline of subtask i + 1 is over
-deadline_passed : (w : Share) (i clock : ℕ) → IsShare w → w.period * i + w.period ≤ w.cost * clock → deadline_of w (suc i) ≤ clock
+pub deadline_passed : (w : Share) (i clock : ℕ) → IsShare w → w.period * i + w.period ≤ w.cost * clock → deadline_of w (suc i) ≤ clock
 unfolding deadline_of
 deadline_passed w i clock share worth =
     let it = ceil_is (suc i * w.period) w.cost share.some in
@@ -38,7 +38,7 @@ deadline_passed w i clock share worth =
     omega (arith, next)
 
 -- the clock starts with the join
-clock_begins : (r : List Slot) (xs : List Numbered) (j : Joined) (t : ℕ) → t ≡ j.slot → clock_of r xs j t ≡ 0
+pub clock_begins : (r : List Slot) (xs : List Numbered) (j : Joined) (t : ℕ) → t ≡ j.slot → clock_of r xs j t ≡ 0
 unfolding clock_of
 clock_begins r xs j t is =
     let none : t - j.slot ≡ 0 = omega (arith, is) in

@@ -3,6 +3,7 @@ pub mod Eligible
 pub mod Stays
 pub mod Above
 pub mod Below
+pub mod Paid
 pub mod Within
 pub mod Stops
 pub mod Showing

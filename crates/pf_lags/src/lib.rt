@@ -5,7 +5,7 @@
 #![tactic(auto)]
 
 ghost use Rattle.pf_lags.specs.JobLaws.{DueJobsAreDone, JobsAreInTime, JobsAreNotSooner};
-ghost use Rattle.pf_lags.specs.Laws.{LagsAreAbove, LagsAreBelow, LagsAreWithin, MissesShowInLags};
+ghost use Rattle.pf_lags.specs.Laws.{LagsAreAbove, LagsAreBelow, LagsAreWithin, LagsCostQuanta, MissesShowInLags};
 
 /// In every run, at each point of a task's stay, its scaled lag is above `-(period + cost * early)`: it is ahead by less
 /// than a quantum and what its clock gains in `early` slots.
@@ -16,6 +16,12 @@ pub fn lags_are_above()
 /// As long as a task missed no window, its scaled lag is below its period: it is behind by less than a quantum.
 pub fn lags_are_below()
     ensures { LagsAreBelow }
+{}
+
+/// In every run, whatever was missed, a task is behind its fair share by less than a quantum and what the overload of the
+/// slots so far has: `base * lag < period * (base + overload)`.
+pub fn lags_cost_quanta()
+    ensures { LagsCostQuanta }
 {}
 
 /// A task's figures tell of no missed window exactly where their greatest lag is below its period.
