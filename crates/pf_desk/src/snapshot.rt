@@ -1,4 +1,4 @@
-ghost use Rattle.std.specs.Prelude.{◌≡◌, length, IfOk};
+ghost use Rattle.std.specs.Prelude.{◌≡◌, ◌≤◌, ◌*◌, None, [], length, All, IfOk};
 ghost use Rattle.std.specs.List.{slice_get};
 ghost use Rattle.pf_place.specs.Lent.{places_lent};
 ghost use Rattle.pf_run.specs.Computed.{run_of};
@@ -6,7 +6,11 @@ ghost use Rattle.pf_run.specs.RunRows.{AreOfRun};
 ghost use Rattle.pf_tally.specs.Lags.{lags_of};
 ghost use Rattle.pf_tally.specs.Misses.{misses_of};
 ghost use Rattle.pf_tally.specs.Figures.{figures_of};
+ghost use Rattle.pf_promise.specs.Load.{overload_of};
+ghost use Rattle.pf_fit.specs.Fit.{IsFirstAbove};
 
+use pf_fit::fit::Fit;
+use pf_fit::fits;
 use pf_list::shared_vec::SharedVec;
 use pf_place::row_view::RowView;
 use pf_place::rows::Rows;
@@ -189,6 +193,27 @@ impl Snapshot {
         ensures { IfOk result (λ v. v.items ≡ figures_of self.now.state.plan (run_of self.now.state.plan self.now.state.now) self.now.rows) }
     {
         task_figures::task_figures(
+            self.alloc,
+            &self.scenario,
+            &self.rows,
+            self.denials.as_slice(),
+        )
+    }
+
+    /// Whether the loads of the slots below now were within the processors in use, and if not, from which slot on and by how
+    /// much. Where they were, no window was missed; and no task was tardy by more slots than the overload has quanta.
+    ///
+    /// # Errors
+    ///
+    /// Where memory is refused.
+    pub fn fits(&self) -> Result<Fit, AllocError>
+        ensures first { IfOk result (λ fit. IsFirstAbove self.now.state.plan (run_of self.now.state.plan self.now.state.now) self.now.state.now fit.first) }
+        ensures overload { IfOk result (λ fit. fit.overload ≡ overload_of self.now.state.plan (run_of self.now.state.plan self.now.state.now) self.now.state.now) }
+        ensures none { IfOk result (λ fit. fit.first ≡ None → misses_of self.now.state.plan (run_of self.now.state.plan self.now.state.now) ≡ []) }
+        ensures late { IfOk result (λ fit. All (λ f. self.now.state.plan.settings.base * f.tardiness ≤ fit.overload)
+            (figures_of self.now.state.plan (run_of self.now.state.plan self.now.state.now) self.now.rows)) }
+    {
+        fits::fits(
             self.alloc,
             &self.scenario,
             &self.rows,
