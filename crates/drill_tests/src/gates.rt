@@ -2,6 +2,7 @@
 
 use pf_board::quantum::Quantum;
 use pf_drill::gate::Gate;
+use pf_drill::worker::Worker;
 use std::sync::atomic::{AtomicBool, Ordering};
 use std::thread::yield_now;
 
@@ -16,7 +17,13 @@ pub(crate) struct GateShutTo {
 }
 
 impl Gate for GateShutTo {
-    fn arrive(&self, quantum: &Quantum) -> bool {
+    ghost use Rattle.std.specs.Prelude.{⊤};
+
+    ghost lets_in = { λ _ _ _. ⊤ };
+
+    ghost shuts_out = { λ _ _ _. ⊤ };
+
+    fn arrive(&self, _worker: &Worker, quantum: &Quantum) -> bool {
         quantum.task != self.task || quantum.sub != self.sub
     }
 }
@@ -39,7 +46,13 @@ impl MeetingGate {
 }
 
 impl Gate for MeetingGate {
-    fn arrive(&self, quantum: &Quantum) -> bool {
+    ghost use Rattle.std.specs.Prelude.{⊤};
+
+    ghost lets_in = { λ _ _ _. ⊤ };
+
+    ghost shuts_out = { λ _ _ _. ⊤ };
+
+    fn arrive(&self, _worker: &Worker, quantum: &Quantum) -> bool {
         if quantum.slot != 0 {
             return true;
         }

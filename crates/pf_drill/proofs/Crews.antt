@@ -107,12 +107,13 @@ commands_same (x ∷ log) = ap (λ l. x.1.command ∷ l) (commands_same log)
 
 -- Use: the text at the end is the drill's.
 pub drilled : (board : TableId) (settings : System) (crew : Crew) (seen : Seen) (text : List ℕ) → IsInStep board settings crew → ShowsPlan settings crew seen
-    → text ≡ drill_text seen crew.taken.items → IsDrill settings (commands_given crew) text
+    → text ≡ drill_text seen crew.taken.items → IsDrill settings (commands_given crew) crew.taken.items text
 drilled board settings crew seen text step shown is = record {
   history = entries_of crew.planner.seen;
   is_legal = shown.is_legal;
   commands_are = commands_same crew.planner.seen;
-  text_is = is ∙ ap₂ drill_text shown.shown (step.taken ∙ ap (issues quanta_of) step.history.callers);
+  taken_are = step.taken ∙ ap (issues quanta_of) step.history.callers;
+  text_is = is ∙ ap (λ s. drill_text s crew.taken.items) shown.shown;
 }
 
 -- Use: the crew of these passes, the last of which is the planner's.

@@ -1,6 +1,7 @@
 mod Crews
 mod Ends
 mod Entered
+mod Gated
 mod Issued
 mod Legal
 mod Rows

@@ -1,10 +1,11 @@
 -- What the first records of a script ask for.
 use Rattle.std.proofs.Common.{◌≡◌, ℕ, ◌+◌, Bool, true, false, Some, None, List, [], ◌∷◌, ◌++◌, ◌≤◌, ◌∙◌, refl, ap, subst, arith, inl, inr}
-use Rattle.std.specs.Prelude.{if◌then◌else◌, Result, Ok, Err, IfOk, IfErr}
+use Rattle.std.specs.Prelude.{if◌then◌else◌, All, Result, Ok, Err, IfOk, IfErr}
 use Rattle.pf_timeline.specs.Checkpoints.{largest_distance}
 use Rattle.pf_share.specs.Opening.{IsBadOpening}
 use Rattle.pf_scenario.specs.System.{System}
 use Rattle.pf_desk.specs.declared.command.Command.{Command}
+use Rattle.pf_board.specs.declared.quantum.Quantum.{Quantum}
 use Rattle.pf_script.specs.declared.line.Line.{Line}
 use Rattle.pf_script.specs.declared.version.Version.{Version}
 use Rattle.pf_script.specs.declared.version.Version.TheVariants.{First, Second}
@@ -14,7 +15,9 @@ use Rattle.pf_drill.specs.declared.fault.DrillFault.{DrillFault}
 use Rattle.pf_drill.specs.declared.fault.DrillFault.TheVariants.{BadLine, ReadFault, WriteFault, ScriptTooLong, GateShut, NoViewer, Unread, NoMemory}
 use Rattle.pf_drill.specs.Asked.{Asked, BadRecord, Whole, lines_asked, records_asked, script_asked, settings_asked, system_opened_by}
 use Rattle.pf_opening.specs.Commands.{commands_of}
-use Rattle.pf_drill.specs.Drilled.{Drills, IsDrill, IsHalt, Stops}
+use Rattle.pf_drill.specs.declared.worker.Worker.{Worker}
+use Rattle.pf_drill.specs.Drilled.{Drills, IsDrill, IsDrilled, IsHalt, Stops}
+use Rattle.pf_drill.specs.Gates.{Arrived}
 
 asked_is : (bytes : List ℕ) → script_asked bytes ≡ records_asked (script_records bytes)
 unfolding script_asked
@@ -63,31 +66,35 @@ pub asked_whole : (version : Version) (settings : System) (number : ℕ) (comman
 asked_whole version settings number commands records none = rw none refl
 
 -- Use: a halt stops whatever was asked for.
-pub stopped : (asked : Asked) (fault : DrillFault) → IsHalt fault → Stops asked fault
-stopped asked (BadLine number) halt = absurd halt
-stopped asked ReadFault halt = halt
-stopped asked WriteFault halt = halt
-stopped asked ScriptTooLong halt = halt
-stopped asked GateShut halt = halt
-stopped asked NoViewer halt = halt
-stopped asked Unread halt = halt
-stopped asked NoMemory halt = halt
+pub stopped : (shut : Type 0) (asked : Asked) (fault : DrillFault) → IsHalt shut fault → Stops shut asked fault
+stopped shut asked (BadLine number) halt = absurd halt
+stopped shut asked ReadFault halt = halt
+stopped shut asked WriteFault halt = halt
+stopped shut asked ScriptTooLong halt = halt
+stopped shut asked GateShut halt = halt
+stopped shut asked NoViewer halt = halt
+stopped shut asked Unread halt = halt
+stopped shut asked NoMemory halt = halt
 
 -- Use: the rest of a drill, whose commands are all known.
-pub finished : {V F : Type 0} (items : V → List ℕ) (asked : Asked) (settings : System) (commands : List Command) (r : Result V F) → asked ≡ Whole settings commands
-    → IfOk r (λ v. IsDrill settings commands (items v)) → IfOk r (λ v. Drills asked (items v))
-finished items asked settings commands (Ok v) is drill = rw is drill
-finished items asked settings commands (Err fault) is drill = tt
+pub finished : {V F : Type 0} (lets_in : Worker → Quantum → Type 0) (items : V → List ℕ) (asked : Asked) (settings : System) (commands : List Command) (taken : List Quantum)
+    (r : Result V F) → asked ≡ Whole settings commands → All (Arrived lets_in) taken
+    → IfOk r (λ v. IsDrill settings commands taken (items v)) → IfOk r (λ v. Drills lets_in asked (items v))
+finished lets_in items asked settings commands taken (Ok v) is arrived drill =
+    let drilled : IsDrilled lets_in settings commands (items v) = record { taken = taken; drill = drill; arrived = arrived } in
+    rw is drilled
+finished lets_in items asked settings commands taken (Err fault) is arrived drill = tt
 
-pub stopped_if : {V : Type 0} (asked : Asked) (r : Result V DrillFault) → IfErr r IsHalt → IfErr r (Stops asked)
-stopped_if asked (Ok v) halt = tt
-stopped_if asked (Err fault) halt = stopped asked fault halt
+pub stopped_if : {V : Type 0} (shut : Type 0) (asked : Asked) (r : Result V DrillFault) → IfErr r (IsHalt shut) → IfErr r (Stops shut asked)
+stopped_if shut asked (Ok v) halt = tt
+stopped_if shut asked (Err fault) halt = stopped shut asked fault halt
 
-pub drills_same : {V F : Type 0} (items : V → List ℕ) (a b : Asked) (r : Result V F) → a ≡ b → IfOk r (λ v. Drills a (items v)) → IfOk r (λ v. Drills b (items v))
-drills_same items a b r is drills = subst (λ x. IfOk r (λ v. Drills x (items v))) is drills
+pub drills_same : {V F : Type 0} (lets_in : Worker → Quantum → Type 0) (items : V → List ℕ) (a b : Asked) (r : Result V F) → a ≡ b
+    → IfOk r (λ v. Drills lets_in a (items v)) → IfOk r (λ v. Drills lets_in b (items v))
+drills_same lets_in items a b r is drills = subst (λ x. IfOk r (λ v. Drills lets_in x (items v))) is drills
 
-pub stops_same : {V : Type 0} (a b : Asked) (r : Result V DrillFault) → a ≡ b → IfErr r (Stops a) → IfErr r (Stops b)
-stops_same a b r is stops = subst (λ x. IfErr r (Stops x)) is stops
+pub stops_same : {V : Type 0} (shut : Type 0) (a b : Asked) (r : Result V DrillFault) → a ≡ b → IfErr r (Stops shut a) → IfErr r (Stops shut b)
+stops_same shut a b r is stops = subst (λ x. IfErr r (Stops shut x)) is stops
 
 -- Use: settings that are within their limits open a desk with a pass for each processor and the planner, and one viewer.
 pub may_open : (every passes m : ℕ) → 1 ≤ every → every ≤ largest_distance → m ≤ 64 → passes ≡ m + 1 → IsBadOpening every passes 1 → ⊥

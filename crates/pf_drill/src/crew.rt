@@ -1,4 +1,5 @@
-ghost use Rattle.std.specs.Prelude.{◌≡◌, ℕ, ◌+◌, ◌<◌, ◌++◌, ◌∷◌, [], length, map, slice_index_or, is_some, IfOk, IfErr, OnOk};
+ghost use Rattle.std.specs.Prelude.{◌≡◌, ℕ, ◌+◌, ◌<◌, ◌++◌, ◌∷◌, [], length, map, slice_index_or, is_some, All, IfOk, IfErr, OnOk};
+ghost use Rattle.std.specs.List.{list_any};
 ghost use mathlib.Core.List.{IsPrefix};
 ghost use Rattle.pf_board.specs.Passes.{new_passes};
 ghost use Rattle.pf_place.specs.Occupancy.{sitter};
@@ -7,6 +8,7 @@ ghost use Rattle.pf_scenario.specs.Scenario.{opening_plan};
 ghost use Rattle.pf_desk.specs.declared.command.Command.TheVariants.{Step};
 ghost use Rattle.pf_desk.specs.declared.reply.Reply.TheVariants.{Stepped};
 ghost use Rattle.pf_drill.specs.Drilled.{IsHalt};
+ghost use Rattle.pf_drill.specs.Gates.{Arrived, Arrives, SomeArrived};
 ghost use Rattle.pf_drill.specs.Rounds.{GoesOn, HasEntered, IsInStep, Works, commands_given, got_by, new_worker};
 
 use crate::fault::DrillFault;
@@ -18,6 +20,7 @@ use pf_desk::reply::Reply;
 use pf_place::row::Row;
 use pf_share::calls::DeskPass;
 use pf_share::done::Done;
+use pf_share::locked::Locked;
 use pf_share::naming::Naming;
 use pf_share::shared::Shared;
 use pf_share::step_refusal::StepRefusal;
@@ -51,15 +54,17 @@ impl Crew {
     >(
         &mut self,
         rt: &R,
-        shared: &Shared<N, H>,
+        shared: &Shared<N, Locked<N, H>>,
         gate: &G,
         command: Command,
     ) -> Result<(), DrillFault>
         requires scenario { IsScenario (opening_plan N.board.terms) }
         requires crew { IsInStep N.board.id N.board.terms self.old }
+        requires arrived { All (Arrived (G.lets_in gate.now)) self.old.taken.items }
         ensures crew { OnOk result (IsInStep N.board.id N.board.terms self.new) }
         ensures commands { OnOk result (commands_given self.new ≡ commands_given self.old ++ command ∷ []) }
-        ensures halt { IfErr result IsHalt }
+        ensures arrived { OnOk result (All (Arrived (G.lets_in gate.now)) self.new.taken.items) }
+        ensures halt { IfErr result (IsHalt (SomeArrived (G.shuts_out gate.now))) }
     {
         let reply = match self.enter(rt, shared, command) {
             Ok(reply) => reply,
@@ -75,13 +80,14 @@ impl Crew {
     fn enter<N: Naming, H: Wait + Drop>(
         &mut self,
         rt: &impl Wait,
-        shared: &Shared<N, H>,
+        shared: &Shared<N, Locked<N, H>>,
         command: Command,
     ) -> Result<Reply, DrillFault>
         requires { IsInStep N.board.id N.board.terms self.old }
         ensures entered { IfOk result (λ reply. HasEntered N.board.id N.board.terms reply self.new) }
         ensures commands { OnOk result (commands_given self.new ≡ commands_given self.old ++ command ∷ []) }
-        ensures halt { IfErr result IsHalt }
+        ensures taken { self.new.taken ≡ self.old.taken }
+        ensures halt { IfErr result (IsHalt ⊥) }
     {
         let Ok(done) = enter_as(rt, shared, &mut self.planner, command) else {
             return Err(DrillFault::NoMemory);
@@ -99,15 +105,23 @@ impl Crew {
         H: Wait + Drop + Send,
         R: Threads + Wait + Sync,
         G: Gate + Sync,
-    >(&mut self, rt: &R, shared: &Shared<N, H>, gate: &G, row: &Row) -> Result<(), DrillFault>
+    >(
+        &mut self,
+        rt: &R,
+        shared: &Shared<N, Locked<N, H>>,
+        gate: &G,
+        row: &Row,
+    ) -> Result<(), DrillFault>
         requires places { length row.now ≡ N.board.terms.processors }
         requires entered { (slot : ℕ) × HasEntered N.board.id N.board.terms (Stepped slot row.now) self.old }
+        requires arrived { All (Arrived (G.lets_in gate.now)) self.old.taken.items }
         ensures crew { OnOk result (IsInStep N.board.id N.board.terms self.new) }
         ensures seen { OnOk result (self.new.planner.seen ≡ self.old.planner.seen) }
-        ensures halt { IfErr result IsHalt }
+        ensures arrived { OnOk result (All (Arrived (G.lets_in gate.now)) self.new.taken.items) }
+        ensures halt { IfErr result (IsHalt (SomeArrived (G.shuts_out gate.now))) }
     {
         work_at_once(rt, shared, gate, &mut self.workers, row);
-        if self.workers.iter().any(|worker| worker.is_shut) {
+        if is_any_shut(&self.workers) {
             return Err(DrillFault::GateShut);
         }
         meet(shared, &mut self.planner, &mut self.workers);
@@ -124,7 +138,7 @@ impl Crew {
 /// Enters a command as the planner; a step once no quantum lies untaken.
 fn enter_as<N: Naming, H: Wait + Drop>(
     rt: &impl Wait,
-    shared: &Shared<N, H>,
+    shared: &Shared<N, Locked<N, H>>,
     planner: &mut DeskPass,
     command: Command,
 ) -> Result<Done, AllocError>
@@ -140,7 +154,7 @@ fn enter_as<N: Naming, H: Wait + Drop>(
 /// Takes the next slot as the planner, once no quantum lies untaken.
 fn step_as<N: Naming, H: Wait + Drop>(
     rt: &impl Wait,
-    shared: &Shared<N, H>,
+    shared: &Shared<N, Locked<N, H>>,
     planner: &mut DeskPass,
 ) -> Result<Done, AllocError>
     requires { planner.old.board ≡ N.board.id }
@@ -162,10 +176,11 @@ fn work_at_once<
     H: Wait + Drop + Send,
     R: Threads + Wait + Sync,
     G: Gate + Sync,
->(rt: &R, shared: &Shared<N, H>, gate: &G, workers: &mut [Worker], row: &Row)
+>(rt: &R, shared: &Shared<N, Locked<N, H>>, gate: &G, workers: &mut [Worker], row: &Row)
     requires { (k : ℕ) (d : _) → k < length workers.old → (slice_index_or workers.old k d).pass.board ≡ N.board.id }
-    ensures { (k : ℕ) (d : _) → k < length workers.old
+    ensures works { (k : ℕ) (d : _) → k < length workers.old
         → Works (is_some (sitter row.now (slice_index_or workers.old k d).pass.me)) (slice_index_or workers.old k d) (slice_index_or workers.new k d) }
+    ensures arrives { (k : ℕ) (d : _) → k < length workers.old → Arrives (G.lets_in gate.now) (G.shuts_out gate.now) (slice_index_or workers.new k d) }
 {
     let threads = workers.len().max(1);
     for_each_mut(
@@ -174,7 +189,8 @@ fn work_at_once<
         threads,
         &|_, worker: &mut Worker|
             requires { worker.now.pass.board ≡ N.board.id }
-            ensures { Works (is_some (sitter row.entry.now worker.entry.now.pass.me)) worker.entry.now worker.exit.now }
+            ensures works { Works (is_some (sitter row.entry.now worker.entry.now.pass.me)) worker.entry.now worker.exit.now }
+            ensures arrives { Arrives (G.lets_in gate.entry.now) (G.shuts_out gate.entry.now) worker.exit.now }
         { work(rt, shared, gate, worker, row) },
     );
 }
@@ -182,24 +198,28 @@ fn work_at_once<
 /// Lets a worker work: where the row has a pick on its processor, until it has that quantum.
 fn work<N: Naming, H: Wait + Drop, G: Gate>(
     rt: &impl Wait,
-    shared: &Shared<N, H>,
+    shared: &Shared<N, Locked<N, H>>,
     gate: &G,
     worker: &mut Worker,
     row: &Row,
 )
     requires { worker.old.pass.board ≡ N.board.id }
-    ensures { Works (is_some (sitter row.now worker.old.pass.me)) worker.old worker.new }
+    ensures works { Works (is_some (sitter row.now worker.old.pass.me)) worker.old worker.new }
+    ensures arrives { Arrives (G.lets_in gate.now) (G.shuts_out gate.now) worker.new }
 {
     let is_wanted = row.get(worker.pass.me()).is_some();
     worker.work(rt, shared, gate, is_wanted);
 }
 
+/// Whether the gate was shut to one of these workers.
+fn is_any_shut(workers: &[Worker]) -> bool
+    ensures { result ≡ list_any (λ w. w.is_shut) workers.now }
+{
+    workers.iter().any(|worker| worker.is_shut)
+}
+
 /// From now on the planner has seen all that a worker has.
-fn meet<N: Naming, H: Wait + Drop>(
-    shared: &Shared<N, H>,
-    planner: &mut DeskPass,
-    workers: &mut [Worker],
-)
+fn meet<N: Naming, L: Drop>(shared: &Shared<N, L>, planner: &mut DeskPass, workers: &mut [Worker])
     requires planner { planner.old.board ≡ N.board.id }
     requires workers { (k : ℕ) (d : _) → k < length workers.old → (slice_index_or workers.old k d).pass.board ≡ N.board.id }
     ensures workers { workers.new ≡ workers.old }
@@ -237,6 +257,7 @@ pub fn crew_of<N: Naming>(alloc: Global, mut passes: Vec<DeskPass>) -> Result<Cr
     requires { passes.items ≡ new_passes N.board.id N.board.terms (N.board.terms.processors + 1) }
     ensures crew { IfOk result (λ crew. IsInStep N.board.id N.board.terms crew) }
     ensures given { IfOk result (λ crew. commands_given crew ≡ []) }
+    ensures taken { IfOk result (λ crew. crew.taken.items ≡ []) }
 {
     let Some(planner) = passes.pop() else {
         return Err(AllocError);

@@ -3,6 +3,8 @@ ghost use Rattle.std.specs.Io.KnownBytes.{Keeps};
 ghost use Rattle.csv.specs.Records.{fields_of};
 ghost use Rattle.pf_drill.specs.Asked.{script_asked, settings_asked, system_opened_by};
 ghost use Rattle.pf_drill.specs.Drilled.{AnswersDrill, CountsReads, CountsWrites, Drills, IsUnwritten, Stops};
+ghost use Rattle.pf_drill.specs.Gates.{SomeArrived};
+ghost use Rattle.pf_drill.specs.declared.fault.DrillFault.TheVariants.{GateShut};
 ghost use Rattle.pf_script.specs.Grammar.{opening_of};
 ghost use Rattle.pf_stream.specs.Reading.{longest_script, TakesAtMost};
 
@@ -49,7 +51,8 @@ pub fn drill<R: Threads + Wait + Sync, S: Source, W: Sink, G: Gate + Sync>(
     requires reads { S.failed reader.old < 2 ^ 64 - 1 }
     requires writes { W.failed writer.old < 2 ^ 64 - 1 }
     ensures answer { IfSome (S.remaining reader.old)
-        (λ bytes. AnswersDrill bytes result (W.contents writer.old) (W.contents writer.new)) }
+        (λ bytes. AnswersDrill (G.lets_in gate.now) (G.shuts_out gate.now) bytes result (W.contents writer.old) (W.contents writer.new)) }
+    ensures shut { IfErr result (λ fault. fault ≡ GateShut → SomeArrived (G.shuts_out gate.now)) }
     ensures unwritten { IfErr result (λ fault. IsUnwritten fault → Keeps (W.contents writer.old) (W.contents writer.new)) }
     ensures taken { TakesAtMost (S.remaining reader.old) (S.remaining reader.new) (longest_script + 1) }
     ensures reads { CountsReads result (S.failed reader.old) (S.failed reader.new) }
@@ -74,8 +77,8 @@ fn drill_script<R: Threads + Wait + Sync, G: Gate + Sync>(
     gate: &G,
 ) -> Result<Vec<u8>, DrillFault>
     requires short { length bytes.now ≤ longest_script }
-    ensures drilled { IfOk result (λ text. Drills (script_asked bytes.now) text.items) }
-    ensures stopped { IfErr result (Stops (script_asked bytes.now)) }
+    ensures drilled { IfOk result (λ text. Drills (G.lets_in gate.now) (script_asked bytes.now) text.items) }
+    ensures stopped { IfErr result (Stops (SomeArrived (G.shuts_out gate.now)) (script_asked bytes.now)) }
 {
     let mut script = Script::new(alloc, bytes);
     let mut row = ByteRecord::new(alloc);
@@ -103,9 +106,9 @@ fn drill_from<R: Threads + Wait + Sync, G: Gate + Sync>(
 ) -> Result<Vec<u8>, DrillFault>
     requires counted { number + length script < 2 ^ 64 - 1 }
     ensures drilled { IfOk result
-        (λ text. Drills (settings_asked version number script.entry (system_opened_by version (opening_of (fields_of row)))) text.items) }
+        (λ text. Drills (G.lets_in gate.now) (settings_asked version number script.entry (system_opened_by version (opening_of (fields_of row)))) text.items) }
     ensures stopped { IfErr result
-        (Stops (settings_asked version number script.entry (system_opened_by version (opening_of (fields_of row))))) }
+        (Stops (SomeArrived (G.shuts_out gate.now)) (settings_asked version number script.entry (system_opened_by version (opening_of (fields_of row))))) }
 {
     let Some(opening) = read_opening(&Fields::new(&row)) else {
         return Err(DrillFault::BadLine(number));

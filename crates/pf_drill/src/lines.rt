@@ -1,10 +1,11 @@
-ghost use Rattle.std.specs.Prelude.{◌≡◌, ◌+◌, ◌^◌, ◌<◌, ◌++◌, ◌∷◌, [], length, replicate, IfOk, IfErr, OnOk};
+ghost use Rattle.std.specs.Prelude.{◌≡◌, ◌+◌, ◌^◌, ◌<◌, ◌++◌, ◌∷◌, [], length, replicate, All, IfOk, IfErr, OnOk};
 ghost use Rattle.std.specs.Arc.{arc_value};
 ghost use Rattle.pf_board.specs.Passes.{new_passes};
 ghost use Rattle.pf_desk.specs.declared.command.Command.TheVariants.{Step};
 ghost use Rattle.pf_drill.specs.Asked.{Whole, lines_asked};
 ghost use Rattle.pf_opening.specs.Commands.{commands_of};
 ghost use Rattle.pf_drill.specs.Drilled.{Drills, IsDrill, IsHalt, Stops, seen_in};
+ghost use Rattle.pf_drill.specs.Gates.{Arrived, SomeArrived};
 ghost use Rattle.pf_drill.specs.Rounds.{IsInStep, ShowsPlan, commands_given};
 ghost use Rattle.pf_scenario.specs.Edit.{IsScenario};
 ghost use Rattle.pf_scenario.specs.Scenario.{opening_plan};
@@ -24,6 +25,7 @@ use pf_script::line::Line;
 use pf_script::script::Script;
 use pf_script::version::Version;
 use pf_share::blank::Blank;
+use pf_share::locked::Locked;
 use pf_share::naming::Naming;
 use pf_share::opened::Opened;
 use pf_share::shared::Shared;
@@ -54,8 +56,8 @@ pub(crate) fn drill_lines<
     requires viewers { blank.viewers ≡ new_viewers (origin_of N.board N.book) 1 }
     requires scenario { IsScenario (opening_plan N.board.terms) }
     requires counted { first + length script < 2 ^ 64 }
-    ensures drilled { IfOk result (λ text. Drills (lines_asked version N.board.terms first [] script.entry) text.items) }
-    ensures stopped { IfErr result (Stops (lines_asked version N.board.terms first [] script.entry)) }
+    ensures drilled { IfOk result (λ text. Drills (G.lets_in gate.now) (lines_asked version N.board.terms first [] script.entry) text.items) }
+    ensures stopped { IfErr result (Stops (SomeArrived (G.shuts_out gate.now)) (lines_asked version N.board.terms first [] script.entry)) }
 {
     let Opened {
         shared,
@@ -83,14 +85,14 @@ pub(crate) fn drill_lines<
 fn finish<N: Naming, H: Wait + Drop>(
     rt: &impl Wait,
     alloc: Global,
-    shared: &Shared<N, H>,
+    shared: &Shared<N, Locked<N, H>>,
     mut crew: Crew,
     viewer: &mut Viewer,
 ) -> Result<Vec<u8>, DrillFault>
     requires crew { IsInStep N.board.id N.board.terms crew }
     requires viewer { viewer.old.origin ≡ origin_of N.board N.book }
-    ensures drilled { IfOk result (λ text. IsDrill N.board.terms (commands_given crew) text.items) }
-    ensures halt { IfErr result IsHalt }
+    ensures drilled { IfOk result (λ text. IsDrill N.board.terms (commands_given crew) crew.taken.items text.items) }
+    ensures halt { IfErr result (IsHalt ⊥) }
 {
     let snapshot = match last_snapshot(rt, shared, &mut crew, viewer) {
         Ok(snapshot) => snapshot,
@@ -110,7 +112,7 @@ fn take_lines<
     G: Gate + Sync,
 >(
     rt: &R,
-    shared: &Shared<N, H>,
+    shared: &Shared<N, Locked<N, H>>,
     gate: &G,
     crew: &mut Crew,
     mut script: Script,
@@ -120,11 +122,13 @@ fn take_lines<
 ) -> Result<(), DrillFault>
     requires scenario { IsScenario (opening_plan N.board.terms) }
     requires crew { IsInStep N.board.id N.board.terms crew.old }
+    requires arrived { All (Arrived (G.lets_in gate.now)) crew.old.taken.items }
     requires counted { first + length script < 2 ^ 64 }
     ensures crew { OnOk result (IsInStep N.board.id N.board.terms crew.new) }
+    ensures arrived { OnOk result (All (Arrived (G.lets_in gate.now)) crew.new.taken.items) }
     ensures whole { OnOk result
         (lines_asked version N.board.terms first (commands_given crew.old) script.entry ≡ Whole N.board.terms (commands_given crew.new)) }
-    ensures stopped { IfErr result (Stops (lines_asked version N.board.terms first (commands_given crew.old) script.entry)) }
+    ensures stopped { IfErr result (Stops (SomeArrived (G.shuts_out gate.now)) (lines_asked version N.board.terms first (commands_given crew.old) script.entry)) }
 {
     let mut number = first;
     'records: while script.next(&mut row)? {
@@ -146,12 +150,20 @@ fn take_line<
     H: Wait + Drop + Send,
     R: Threads + Wait + Sync,
     G: Gate + Sync,
->(rt: &R, shared: &Shared<N, H>, gate: &G, crew: &mut Crew, line: Line) -> Result<(), DrillFault>
+>(
+    rt: &R,
+    shared: &Shared<N, Locked<N, H>>,
+    gate: &G,
+    crew: &mut Crew,
+    line: Line,
+) -> Result<(), DrillFault>
     requires scenario { IsScenario (opening_plan N.board.terms) }
     requires crew { IsInStep N.board.id N.board.terms crew.old }
+    requires arrived { All (Arrived (G.lets_in gate.now)) crew.old.taken.items }
     ensures crew { OnOk result (IsInStep N.board.id N.board.terms crew.new) }
+    ensures arrived { OnOk result (All (Arrived (G.lets_in gate.now)) crew.new.taken.items) }
     ensures commands { OnOk result (commands_given crew.new ≡ commands_given crew.old ++ commands_of line) }
-    ensures halt { IfErr result IsHalt }
+    ensures halt { IfErr result (IsHalt (SomeArrived (G.shuts_out gate.now))) }
 {
     match line {
         Line::Edit { change, strict } => {
@@ -167,12 +179,20 @@ fn take_steps<
     H: Wait + Drop + Send,
     R: Threads + Wait + Sync,
     G: Gate + Sync,
->(rt: &R, shared: &Shared<N, H>, gate: &G, crew: &mut Crew, count: u64) -> Result<(), DrillFault>
+>(
+    rt: &R,
+    shared: &Shared<N, Locked<N, H>>,
+    gate: &G,
+    crew: &mut Crew,
+    count: u64,
+) -> Result<(), DrillFault>
     requires scenario { IsScenario (opening_plan N.board.terms) }
     requires crew { IsInStep N.board.id N.board.terms crew.old }
+    requires arrived { All (Arrived (G.lets_in gate.now)) crew.old.taken.items }
     ensures crew { OnOk result (IsInStep N.board.id N.board.terms crew.new) }
+    ensures arrived { OnOk result (All (Arrived (G.lets_in gate.now)) crew.new.taken.items) }
     ensures commands { OnOk result (commands_given crew.new ≡ commands_given crew.old ++ replicate count Step) }
-    ensures halt { IfErr result IsHalt }
+    ensures halt { IfErr result (IsHalt (SomeArrived (G.shuts_out gate.now))) }
 {
     for _turn in 0..count {
         match crew.answer(rt, shared, gate, Command::Step) {
@@ -190,7 +210,7 @@ fn take_steps<
 /// `Unread` where the readers' table gives no entry, the snapshot takes no further owner, or it is of a longer history.
 fn last_snapshot<N: Naming, H: Wait + Drop>(
     rt: &impl Wait,
-    shared: &Shared<N, H>,
+    shared: &Shared<N, Locked<N, H>>,
     crew: &mut Crew,
     viewer: &mut Viewer,
 ) -> Result<Arc<Snapshot>, DrillFault>
@@ -198,7 +218,7 @@ fn last_snapshot<N: Naming, H: Wait + Drop>(
     requires viewer { viewer.old.origin ≡ origin_of N.board N.book }
     ensures crew { crew.new ≡ crew.old }
     ensures shown { IfOk result (λ snapshot. ShowsPlan N.board.terms crew.old (arc_value snapshot)) }
-    ensures halt { IfErr result IsHalt }
+    ensures halt { IfErr result (IsHalt ⊥) }
 {
     let Ok(()) = shared.tell(rt, &mut crew.planner, viewer) else {
         return Err(DrillFault::Unread);

@@ -1,10 +1,12 @@
 ghost use Rattle.std.specs.Prelude.{◌≡◌, false, IfNone, IfSome};
+ghost use Rattle.pf_drill.specs.Gates.{Arrives};
 ghost use Rattle.pf_drill.specs.Rounds.{Grabs, Works, new_worker};
 
 use crate::gate::Gate;
 use pf_board::quantum::Quantum;
 use pf_board::take::Take;
 use pf_share::calls::DeskPass;
+use pf_share::locked::Locked;
 use pf_share::naming::Naming;
 use pf_share::shared::Shared;
 use std::sync::Wait;
@@ -36,16 +38,17 @@ impl Worker {
     pub fn work<N: Naming, H: Wait + Drop, G: Gate>(
         &mut self,
         rt: &impl Wait,
-        shared: &Shared<N, H>,
+        shared: &Shared<N, Locked<N, H>>,
         gate: &G,
         is_wanted: bool,
     )
         requires { self.old.pass.board ≡ N.board.id }
-        ensures { Works is_wanted self.old self.new }
+        ensures works { Works is_wanted self.old self.new }
+        ensures arrives { Arrives (G.lets_in gate.now) (G.shuts_out gate.now) self.new }
     {
         self.got = take_quantum(rt, shared, &mut self.pass, is_wanted);
         self.is_shut = match self.got {
-            Some(quantum) => !gate.arrive(&quantum),
+            Some(quantum) => !gate.arrive(self, &quantum),
             None => false,
         };
     }
@@ -54,7 +57,7 @@ impl Worker {
 /// Takes the quantum of the processor of the pass's number; where there is to be one, until the pass has it.
 fn take_quantum<N: Naming, H: Wait + Drop>(
     rt: &impl Wait,
-    shared: &Shared<N, H>,
+    shared: &Shared<N, Locked<N, H>>,
     pass: &mut DeskPass,
     is_wanted: bool,
 ) -> Option<Quantum>

@@ -1,5 +1,5 @@
 -- The status that the program ends with, and what it did to its streams.
-use Rattle.std.specs.Prelude.{ℕ, Bool, false, ◌≡◌, ◌+◌, List, Option, Some, None, IfOk, IfSome, IfErr, Result, Ok, Err, ◌==◌, if◌then◌else◌, ◌⊎◌}
+use Rattle.std.specs.Prelude.{ℕ, ⊤, Bool, false, ◌≡◌, ◌≢◌, ◌+◌, List, [], Option, Some, None, IfOk, IfSome, IfErr, Result, Ok, Err, ◌==◌, if◌then◌else◌, ◌⊎◌, string_bytes}
 use Rattle.std.specs.Io.KnownBytes.{Appends, Keeps}
 use Rattle.pf_cli.specs.declared.fault.RunFault.{RunFault}
 use Rattle.pf_cli.specs.declared.fault.RunFault.TheVariants.{BadLine, ReadFault, WriteFault, ScriptTooLong, BadRange, NoMemory}
@@ -7,7 +7,8 @@ use Rattle.pf_words.specs.declared.fail_on.FailOn.{FailOn}
 use Rattle.pf_words.specs.declared.format.Format.{Format}
 use Rattle.pf_words.specs.declared.request.WordsFault.{WordsFault}
 use Rattle.pf_words.specs.declared.request.WordsFault.TheVariants as words
-use Rattle.pf_words.specs.Asked.{Task, RunsIn, Checks, Diffs, Drills, task_asked, file_asked, AsksHelp, AsksVersion, IsRefused, AreMistaken}
+use Rattle.pf_words.specs.Asked.{Task, RunsIn, Checks, Diffs, Drills, task_asked, file_asked, AsksHelp, AsksVersion, IsRefused, IsShownTo, AreMistaken}
+use Rattle.pf_words.specs.Texts.{mistake_line}
 use Rattle.pf_words.specs.declared.mistake.Mistake.{Mistake}
 use Rattle.pf_words.specs.FailLists.{on_nothing}
 use Rattle.pf_stream.specs.Written.{TookFront}
@@ -118,10 +119,11 @@ abbrev pub DiffsScript : Option ℕ → ℕ → Streams → Streams → Type 0
 DiffsScript since status old new =
     (answer : Result (Unit {0}) RunFault) × (status ≡ status_of answer) × IsDiff since answer old new
 
--- this answer is one to the drill of the script, and the streams are as behind a run; after each fault but that of the
--- writer the writer is as it was
+-- this answer is one to the drill of the script at gates that are open, and the streams are as behind a run; after each fault
+-- but that of the writer the writer is as it was
 pub record IsDrilled (answer : Result (Unit {0}) DrillFault) (old new : Streams) : Type 0 where
-  pub meaning : IfSome old.input (λ bytes. drilled.AnswersDrill bytes answer old.output new.output)
+  pub meaning : IfSome old.input (λ bytes. drilled.AnswersDrill (λ worker quantum. ⊤) (λ worker quantum. ⊥) bytes answer old.output new.output)
+  pub never_shut : answer ≡ Err drill.GateShut → ⊥
   pub reads : drilled.CountsReads answer old.failed_reads new.failed_reads
   pub writes : drilled.CountsWrites answer old.failed_writes new.failed_writes
   pub unwritten : IfErr answer (λ fault. drilled.IsUnwritten fault → Keeps old.output new.output)
@@ -140,16 +142,26 @@ EndsUnread words status =
     ⊎ ((IsRefused words ⊎ ((mistake : Mistake) × AreMistaken words mistake)) × (status ≡ 2))
     ⊎ (status ≡ 4)
 
--- no script was read, and nothing was written but one text that was asked for: the whole of it where the status is 0,
--- and a front of it where that is 3
-pub record ReadsNothing (words : List (List ℕ)) (status : ℕ) (old new : Streams) : Type 0 where
+-- a text was told: the whole of it where no write failed, and else a front of it
+pub record Tells (old new : Option (List ℕ)) (old_failed new_failed : ℕ) (text : List ℕ) : Type 0 where
+  pub front : TookFront old new text
+  pub whole : new_failed ≡ old_failed → Appends old new text
+
+-- what is told of words that are refused, which is some text, and of those that are mistaken
+abbrev pub IsToldOf : List (List ℕ) → List ℕ → Type 0
+IsToldOf words text = (IsRefused words × (text ≢ [])) ⊎ ((mistake : Mistake) × AreMistaken words mistake × (text ≡ mistake_line mistake))
+
+-- no script was read, and nothing was written but the text that was asked for: the whole of it where the status is 0, and
+-- a front of it where that is 3; where it is 2, `told` holds of what is told of the words
+pub record ReadsNothing (words : List (List ℕ)) (status : ℕ) (old new : Streams) (told : List ℕ → Type 0) : Type 0 where
   pub ended : EndsUnread words status
   pub input : new.input ≡ old.input
   pub reads : new.failed_reads ≡ old.failed_reads
   pub writes : new.failed_writes ≡ old.failed_writes + (if status == 3 then 1 else 0)
-  pub shown : status ≡ 0 → (text : List ℕ) × Appends old.output new.output text
-  pub cut : status ≡ 3 → (text : List ℕ) × TookFront old.output new.output text
+  pub shown : status ≡ 0 → (text : List ℕ) × IsShownTo words text × Appends old.output new.output text
+  pub cut : status ≡ 3 → (text : List ℕ) × IsShownTo words text × TookFront old.output new.output text
   pub unwritten : (status ≡ 2) ⊎ (status ≡ 4) → Keeps old.output new.output
+  pub tells : status ≡ 2 → (text : List ℕ) × IsToldOf words text × told text
 
 -- a script was run in the format, to fail on that, checked, or drilled, or what its records changed was told
 abbrev pub Does : Task → ℕ → Streams → Streams → Type 0
@@ -158,11 +170,12 @@ Does Checks status old new = ChecksScript status old new
 Does (Diffs since) status old new = DiffsScript since status old new
 Does Drills status old new = DrillsScript status old new
 
--- something was done with a file in place of the reader, of whose bytes nothing is said; one that can't be opened is a
--- reader that failed
+-- there are bytes, those of a file, which no contract can name, and something was done with a reader of them; a file that
+-- can't be opened or read is a reader that failed
 abbrev pub WithFile : (Streams → Streams → Type 0) → (old_output : Option (List ℕ)) (old_failed : ℕ) (new_output : Option (List ℕ)) (new_failed : ℕ) → Type 0
 WithFile does old_output old_failed new_output new_failed =
-    (reads : ℕ) × does (seen_streams None 0 old_output old_failed) (seen_streams None reads new_output new_failed)
+    (bytes left : List ℕ) × (reads : ℕ)
+    × does (seen_streams (Some bytes) 0 old_output old_failed) (seen_streams (Some left) reads new_output new_failed)
 
 -- the reader is as before, and the task was done with a file
 pub record DoesWithFile (task : Task) (status : ℕ) (old new : Streams) : Type 0 where
@@ -173,10 +186,16 @@ pub record DoesWithFile (task : Task) (status : ℕ) (old new : Streams) : Type 
 -- words that ask for a run in a format, to fail on something, have the script run so, those that ask for a check have it
 -- checked, those that ask for a drill drilled, and those that ask what its records changed have that told: of the script of
 -- the file that they name, and else of the reader's; where they ask for nothing, nothing is read
-abbrev pub AnswersAsked : List (List ℕ) → Option Task → Option (List ℕ) → ℕ → Streams → Streams → Type 0
-AnswersAsked words (Some task) None status old new = Does task status old new
-AnswersAsked words (Some task) (Some file) status old new = DoesWithFile task status old new
-AnswersAsked words None file status old new = ReadsNothing words status old new
+abbrev pub AnswersAsked : List (List ℕ) → Option Task → Option (List ℕ) → ℕ → Streams → Streams → (List ℕ → Type 0) → Type 0
+AnswersAsked words (Some task) None status old new told = Does task status old new
+AnswersAsked words (Some task) (Some file) status old new told = DoesWithFile task status old new
+AnswersAsked words None file status old new told = ReadsNothing words status old new told
 
-abbrev pub AnswersWords : List (List ℕ) → ℕ → Streams → Streams → Type 0
-AnswersWords words status old new = AnswersAsked words (task_asked words) (file_asked words) status old new
+abbrev pub AnswersWords : List (List ℕ) → ℕ → Streams → Streams → (List ℕ → Type 0) → Type 0
+AnswersWords words status old new told = AnswersAsked words (task_asked words) (file_asked words) status old new told
+
+-- the text that is told of words that ask for nothing, but where memory was refused
+abbrev pub told_of : WordsFault → Option (List ℕ)
+told_of (words.Refused text) = Some (string_bytes text)
+told_of (words.Mistaken mistake) = Some (mistake_line mistake)
+told_of words.NoMemory = None

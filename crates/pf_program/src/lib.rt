@@ -3,6 +3,7 @@
 //! that ask what its last records changed have it tell that, and those that ask for a drill have it drilled.
 #![tactic(auto)]
 
+mod file_bytes;
 mod open_gate;
 pub mod program;
 

@@ -1,10 +1,11 @@
-ghost use Rattle.std.specs.Prelude.{None, ◌≡◌, ◌≢◌, ◌^◌, ◌-◌, ◌<◌, ◌+◌, ◌⊎◌, ◌==◌, if◌then◌else◌, map, IsOk, IsSome};
+ghost use Rattle.std.specs.Prelude.{None, ◌≡◌, ◌≢◌, ◌^◌, ◌-◌, ◌<◌, ◌+◌, ◌⊎◌, ◌==◌, if◌then◌else◌, map, IfSome, IsOk, IsSome};
 ghost use Rattle.std.specs.IoError.{error_kind};
 ghost use Rattle.std.specs.Io.KnownBytes.{Appends, Keeps};
 ghost use Rattle.pf_stream.specs.Written.{TookFront};
 ghost use Rattle.pf_words.specs.Asked.{file_asked, task_asked};
-ghost use Rattle.pf_program.specs.Status.{status_of, status_of_drill, status_of_words, seen_streams, AnswersWords, ChecksScript, DiffsScript, DrillsScript, RunsScript, WithFile};
+ghost use Rattle.pf_program.specs.Status.{status_of, status_of_drill, status_of_words, seen_streams, told_of, AnswersWords, ChecksScript, DiffsScript, DrillsScript, RunsScript, Tells, WithFile};
 
+use crate::file_bytes::file_bytes;
 use crate::open_gate::OpenGate;
 use pf_change::diff::diff;
 use pf_cli::check::check;
@@ -22,7 +23,6 @@ use pf_words::words::read_words;
 use std::alloc::Global;
 use std::convert::AsStr;
 use std::fmt::Display;
-use std::fs::File;
 use std::io;
 use std::io::{ErrorKind, Write};
 use std::rt::Files;
@@ -39,23 +39,25 @@ const NO_TEXT: &str = "error: invalid UTF-8 was detected in one or more argument
 /// The text of a fault goes to `faults`, whose own faults are passed over. Answers the status to exit with: 0 where the
 /// script was done, a check found no fault, or help was shown, 1 where the script has a bad record or is too long, 2
 /// where the words are refused or mistaken, or ask for slots that can't be shown, 3 where the reader or the writer failed
-/// or the file can't be opened or read, 4 where memory was refused, or a drill has no place for a reader, 5 where a gate
-/// stayed shut, 6 where the script was done, all was written, and the run fails on what the words list. Words that ask for
-/// a run, a check or a diff and name no file, or for a drill, and no others, have the reader read; with any other the reader
-/// is as before. Where the words ask for a drill, and only there, threads are started, and the call waits for them. The
-/// counts of failures of reader and writer must be below `u64::MAX` before the call.
+/// or the file can't be opened or read, 4 where memory was refused, or a drill has no place for a reader, 6 where the
+/// script was done, all was written, and the run fails on what the words list. Words that ask for a run, a check or a diff
+/// and name no file, or for a drill, and no others, have the reader read; with any other the reader is as before. Where the
+/// words ask for a drill, and only there, threads are started, and the call waits for them. The counts of failures of all
+/// three streams must be below `u64::MAX` before the call.
 pub fn main_words<
     H: AllocGlobal + Files + Threads + Wait + Sync,
     S: AsStr,
     R: Source,
     W: Sink,
-    F: Write,
+    F: Sink,
 >(rt: &H, words: &[S], reader: &mut R, writer: &mut W, faults: &mut F) -> u8
     requires reads { R.failed reader.old < 2 ^ 64 - 1 }
     requires writes { W.failed writer.old < 2 ^ 64 - 1 }
+    requires tells { F.failed faults.old < 2 ^ 64 - 1 }
     ensures streams { AnswersWords (map S.text words.now) result
         (seen_streams (R.remaining reader.old) (R.failed reader.old) (W.contents writer.old) (W.failed writer.old))
-        (seen_streams (R.remaining reader.new) (R.failed reader.new) (W.contents writer.new) (W.failed writer.new)) }
+        (seen_streams (R.remaining reader.new) (R.failed reader.new) (W.contents writer.new) (W.failed writer.new))
+        (Tells (F.contents faults.old) (F.contents faults.new) (F.failed faults.old) (F.failed faults.new)) }
     ensures unread { (task_asked (map S.text words.now) ≡ None) ⊎ IsSome (file_asked (map S.text words.now)) → reader.new ≡ reader.old }
     ensures quiet { result ≡ 0 → Keeps (F.contents faults.old) (F.contents faults.new) }
 {
@@ -92,7 +94,7 @@ pub fn tell_unread<F: Write>(fault: &io::Error, faults: &mut F) -> u8
 }
 
 /// Runs the script, and answers the status: 6 where the run fails on this.
-fn run_told<R: Source, W: Sink, F: Write>(
+fn run_told<R: Source, W: Sink, F: Sink>(
     alloc: Global,
     format: Format,
     fail_on: FailOn,
@@ -115,7 +117,7 @@ fn run_told<R: Source, W: Sink, F: Write>(
 }
 
 /// Runs the script of a file, and answers the status: 6 where the run fails on this.
-fn run_file<H: AllocGlobal + Files, W: Sink, F: Write>(
+fn run_file<H: AllocGlobal + Files, W: Sink, F: Sink>(
     rt: &H,
     format: Format,
     fail_on: FailOn,
@@ -127,21 +129,21 @@ fn run_file<H: AllocGlobal + Files, W: Sink, F: Write>(
     ensures streams { WithFile (RunsScript format fail_on result) (W.contents writer.old) (W.failed writer.old) (W.contents writer.new) (W.failed writer.new) }
     ensures quiet { result ≡ 0 → Keeps (F.contents faults.old) (F.contents faults.new) }
 {
-    match File::open(rt, path) {
-        Ok(file) => run_told(
+    match file_bytes(rt, path) {
+        Ok(bytes) => run_told(
             rt.alloc(),
             format,
             fail_on,
-            &mut CountedReader::new(file),
+            &mut CountedReader::new(bytes.as_slice()),
             writer,
             faults,
         ),
-        Err(_) => tell_outcome(Err(RunFault::ReadFault), faults),
+        Err(fault) => tell_outcome(Err(fault), faults),
     }
 }
 
 /// Checks the script of a file, and answers the status.
-fn check_file<H: AllocGlobal + Files, W: Sink, F: Write>(
+fn check_file<H: AllocGlobal + Files, W: Sink, F: Sink>(
     rt: &H,
     path: &str,
     writer: &mut W,
@@ -151,14 +153,19 @@ fn check_file<H: AllocGlobal + Files, W: Sink, F: Write>(
     ensures streams { WithFile (ChecksScript result) (W.contents writer.old) (W.failed writer.old) (W.contents writer.new) (W.failed writer.new) }
     ensures quiet { result ≡ 0 → Keeps (F.contents faults.old) (F.contents faults.new) }
 {
-    match File::open(rt, path) {
-        Ok(file) => check_told(rt.alloc(), &mut CountedReader::new(file), writer, faults),
-        Err(_) => tell_outcome(Err(RunFault::ReadFault), faults),
+    match file_bytes(rt, path) {
+        Ok(bytes) => check_told(
+            rt.alloc(),
+            &mut CountedReader::new(bytes.as_slice()),
+            writer,
+            faults,
+        ),
+        Err(fault) => tell_outcome(Err(fault), faults),
     }
 }
 
 /// Checks the script, and answers the status.
-fn check_told<R: Source, W: Sink, F: Write>(
+fn check_told<R: Source, W: Sink, F: Sink>(
     alloc: Global,
     reader: &mut R,
     writer: &mut W,
@@ -179,7 +186,7 @@ fn check_told<R: Source, W: Sink, F: Write>(
 }
 
 /// Tells what the records of the script of a file changed, and answers the status.
-fn diff_file<H: AllocGlobal + Files, W: Sink, F: Write>(
+fn diff_file<H: AllocGlobal + Files, W: Sink, F: Sink>(
     rt: &H,
     since: Option<u64>,
     path: &str,
@@ -190,20 +197,20 @@ fn diff_file<H: AllocGlobal + Files, W: Sink, F: Write>(
     ensures streams { WithFile (DiffsScript since result) (W.contents writer.old) (W.failed writer.old) (W.contents writer.new) (W.failed writer.new) }
     ensures quiet { result ≡ 0 → Keeps (F.contents faults.old) (F.contents faults.new) }
 {
-    match File::open(rt, path) {
-        Ok(file) => diff_told(
+    match file_bytes(rt, path) {
+        Ok(bytes) => diff_told(
             rt.alloc(),
             since,
-            &mut CountedReader::new(file),
+            &mut CountedReader::new(bytes.as_slice()),
             writer,
             faults,
         ),
-        Err(_) => tell_outcome(Err(RunFault::ReadFault), faults),
+        Err(fault) => tell_outcome(Err(fault), faults),
     }
 }
 
 /// Tells what the records of the script from this one on changed, or the last one, and answers the status.
-fn diff_told<R: Source, W: Sink, F: Write>(
+fn diff_told<R: Source, W: Sink, F: Sink>(
     alloc: Global,
     since: Option<u64>,
     reader: &mut R,
@@ -222,7 +229,7 @@ fn diff_told<R: Source, W: Sink, F: Write>(
 }
 
 /// Drills the script at gates that are always open, and answers the status.
-fn drill_told<H: Threads + Wait + Sync, R: Source, W: Sink, F: Write>(
+fn drill_told<H: Threads + Wait + Sync, R: Source, W: Sink, F: Sink>(
     rt: &H,
     alloc: Global,
     reader: &mut R,
@@ -241,7 +248,7 @@ fn drill_told<H: Threads + Wait + Sync, R: Source, W: Sink, F: Write>(
 }
 
 /// Writes a text that was asked for, and answers the status.
-fn show<W: Sink, F: Write>(text: &str, writer: &mut W, faults: &mut F) -> u8
+fn show<W: Sink, F: Sink>(text: &str, writer: &mut W, faults: &mut F) -> u8
     requires { W.failed writer.old < 2 ^ 64 - 1 }
     ensures shown { result ≡ 0 → Appends (W.contents writer.old) (W.contents writer.new) text.now }
     ensures cut { result ≡ 3 → TookFront (W.contents writer.old) (W.contents writer.new) text.now }
@@ -257,23 +264,28 @@ fn show<W: Sink, F: Write>(text: &str, writer: &mut W, faults: &mut F) -> u8
 }
 
 /// Tells why the words ask for nothing, and answers the status.
-fn refuse<F: Write>(fault: &WordsFault, faults: &mut F) -> u8
-    ensures { result ≡ status_of_words fault.now }
+fn refuse<F: Sink>(fault: &WordsFault, faults: &mut F) -> u8
+    requires { F.failed faults.old < 2 ^ 64 - 1 }
+    ensures status { result ≡ status_of_words fault.now }
+    ensures told { IfSome (told_of fault.now) (Tells (F.contents faults.old) (F.contents faults.new) (F.failed faults.old) (F.failed faults.new)) }
 {
     match fault {
-        WordsFault::Refused(text) => {
-            let _ = faults.write_all(text.as_bytes());
-            2
-        }
-        WordsFault::Mistaken(mistake) => {
-            tell(mistake, faults);
-            2
-        }
+        WordsFault::Refused(text) => tell_text(text.as_str(), faults),
+        WordsFault::Mistaken(mistake) => tell_text(mistake.line(), faults),
         WordsFault::NoMemory => {
             tell(fault, faults);
-            4
+            return 4;
         }
     }
+    2
+}
+
+/// Tells a text. A fault of writing it is passed over: it could be told nowhere.
+fn tell_text<F: Sink>(text: &str, faults: &mut F)
+    requires { F.failed faults.old < 2 ^ 64 - 1 }
+    ensures { Tells (F.contents faults.old) (F.contents faults.new) (F.failed faults.old) (F.failed faults.new) text.now }
+{
+    let _ = write_out(faults, text.as_bytes());
 }
 
 /// Tells a fault, and answers the status.

@@ -37,5 +37,5 @@ module _ (N H : RattleType) (g : Ghosts N.Denot) where
   locked_send : IsSend H → IsSend (Locked.the_row N H g)
   locked_send h = search (sendable, shown_desk_send) depth 20
 
-  pub shared_sync : IsSend H → IsSync (Shared.the_row N H g)
+  pub shared_sync : IsSend H → IsSync (Shared.the_row N (Locked.the_row N H g) g)
   shared_sync h = search (sendable, crosses, board.the_sync, locked_send) depth 20

@@ -10,3 +10,4 @@ mod Numbering
 mod Prefixes
 mod Publishing
 mod Rising
+mod Tying

@@ -4,7 +4,7 @@ ghost use Rattle.pf_board.specs.Passes.{AreOf, IsFront};
 ghost use Rattle.pf_desk.specs.declared.command.Command.TheVariants.{Edit, Step};
 ghost use Rattle.pf_desk.specs.Desk.{AnswersCaller, IsAsBefore};
 ghost use Rattle.pf_share.specs.Histories.{IsHistory, entries_of};
-ghost use Rattle.pf_share.specs.Ended.{EndsDesk};
+ghost use Rattle.pf_share.specs.Ended.{EndsDesk, KeepsDesk};
 ghost use Rattle.pf_share.specs.Entered.{Enters, RefusesStep, found_empty};
 ghost use Rattle.pf_share.specs.Locked.{IsLocked, origin_of};
 
@@ -148,6 +148,7 @@ impl<N: Naming, H: Wait + Drop> Locked<N, H> {
         ensures desk { IfOk result (λ c. c.desk ≡ self) }
         ensures closed { IfOk result (λ c. EndsDesk N.board passes.items c) }
         ensures refused { IfErr result (λ u. (u.board ≡ board) × (u.locked ≡ self) × (u.passes.items ≡ passes.items)) }
+        ensures goes_on { IfErr result (λ _. KeepsDesk N.board passes.items) }
     {
         let Locked { shown } = self;
         match shown.close(rt, board, passes) {

@@ -6,7 +6,7 @@ ghost use Rattle.pf_board.specs.Quanta.{AreApartQuanta};
 ghost use Rattle.pf_board.specs.Takes.{Takes};
 ghost use Rattle.pf_desk.specs.declared.command.Command.TheVariants.{Edit, Step};
 ghost use Rattle.pf_desk.specs.Desk.{StandsForHistory};
-ghost use Rattle.pf_share.specs.Ended.{EndsDesk};
+ghost use Rattle.pf_share.specs.Ended.{EndsDesk, KeepsDesk};
 ghost use Rattle.pf_share.specs.Entered.{Enters, RefusesStep, found_empty};
 ghost use Rattle.pf_share.specs.Histories.{IsHistory, entries_of, quanta_of};
 ghost use Rattle.pf_share.specs.Locked.{origin_of};
@@ -25,27 +25,97 @@ use pf_board::take::Take;
 use pf_desk::snapshot::Snapshot;
 use pf_scenario::change::Change;
 use std::alloc::AllocError;
+use std::marker::{Model, PhantomData};
 use std::sync::{Arc, Mutex, Wait};
 
-/// One desk for many callers, in any threads. `N` names it.
+/// One desk for many callers, in any threads. `N` names it, and `L`, a `Locked`, is what lies under its lock. The calls that
+/// wait for nobody are there whatever `L` is, and so hold nothing to wait with. Contracts see its board.
 #[derive(Drop)]
-pub struct Shared<N: Naming, H: Wait + Drop> {
+pub struct Shared<N: Naming, L: Drop> {
     board: DeskBoard,
-    locked: Mutex<Locked<N, H>>,
-    ghost board_is: { board ≡ N.board },
+    locked: Mutex<L>,
+    of: PhantomData<N>,
 }
 
-impl<N: Naming, H: Wait + Drop> Shared<N, H> {
+impl<N: Naming, L: Drop> Model for Shared<N, L> {
+    ghost use Rattle.std.specs.Prelude.{◌≡◌};
+    ghost use Rattle.pf_scenario.specs.System.{System};
+    ghost use Rattle.pf_board.specs.Passes.{Boarding};
+
+    ghost Value = { Boarding System };
+
+    ghost view = { λ s. s.board };
+
+    ghost invariant = { λ s. s.board ≡ N.board };
+}
+
+impl<N: Naming, L: Drop> Shared<N, L> {
     /// A desk whose lock is free.
-    pub(crate) fn new(board: DeskBoard, locked: Locked<N, H>) -> Self
+    pub(crate) fn new(board: DeskBoard, locked: L) -> Self
         requires { board ≡ N.board }
+        ensures { result ≡ board }
     {
         Shared {
             board,
             locked: Mutex::new(locked),
+            of: PhantomData,
         }
     }
 
+    /// The number of entries. It waits for nobody. The pass then has seen them all.
+    pub fn look(&self, pass: &mut DeskPass) -> u64
+        requires { pass.old.board ≡ N.board.id }
+        ensures pass { pass.new ≡ record pass.old { seen = pass.new.seen; loads = pass.old.loads ++ (0, result) ∷ [] } }
+        ensures found { result ≡ length pass.new.seen }
+        ensures grew { IsPrefix pass.old.seen pass.new.seen }
+        ensures front { IsFront IsHistory pass.new }
+    {
+        self.board.look(pass)
+    }
+
+    /// Afterwards what `into` has seen begins with what each of the two had seen. It waits for nobody. Nothing that the
+    /// one took was taken by the other.
+    pub fn meet(&self, from: &mut DeskPass, into: &mut DeskPass)
+        requires { (from.old.board ≡ N.board.id) × (into.old.board ≡ N.board.id) }
+        ensures from { from.new ≡ from.old }
+        ensures into { into.new ≡ record into.old { seen = into.new.seen } }
+        ensures seen { IsPrefix from.old.seen into.new.seen × IsPrefix into.old.seen into.new.seen }
+        ensures front { IsFront IsHistory into.new }
+        ensures apart { AreApartQuanta from.old.taken into.old.taken }
+    {
+        self.board.meet(from, into);
+    }
+
+    /// Takes the quantum of a processor. It waits for nobody. A quantum that was got is the pass's alone, and stands in
+    /// the row that a step answered, in the history that the pass has then seen.
+    pub fn take(&self, pass: &mut DeskPass, processor: u32) -> Take
+        requires { pass.old.board ≡ N.board.id }
+        ensures taken { Takes IsHistory quanta_of N.board.processors processor pass.old result pass.new }
+        ensures grew { IsPrefix pass.old.seen pass.new.seen }
+    {
+        self.board.take(pass, processor)
+    }
+
+    /// The snapshot that is shown. It waits for nobody. It stands for a history that begins with all that this viewer
+    /// read before or was told.
+    ///
+    /// # Errors
+    ///
+    /// Where the readers' table gives no entry, or the snapshot takes no further owner.
+    pub fn read(&self, viewer: &mut Viewer) -> Result<Arc<Snapshot>, Unread>
+        requires { viewer.old.origin ≡ origin_of N.board N.book }
+        ensures stands { IfOk result (λ s. StandsForHistory viewer.new.read (arc_value s)) }
+        ensures settings { IfOk result (λ s. (arc_value s).state.plan.settings ≡ N.board.terms) }
+        ensures grew { IsPrefix viewer.old.read viewer.new.read }
+        ensures told { IfOk result (λ s. IsPrefix viewer.old.told viewer.new.read) }
+        ensures reads { IfOk result (λ s. viewer.new.reads ≡ viewer.old.reads ++ (arc_value s).version ∷ []) }
+        ensures same { (viewer.new.told ≡ viewer.old.told) × (viewer.new.origin ≡ viewer.old.origin) }
+    {
+        viewer.read()
+    }
+}
+
+impl<N: Naming, H: Wait + Drop> Shared<N, Locked<N, H>> {
     /// From now on each history that the viewer reads begins with the desk's, and so with what the pass has seen; what
     /// the viewer read before begins that history too. It waits for the lock.
     ///
@@ -113,58 +183,6 @@ impl<N: Naming, H: Wait + Drop> Shared<N, H> {
         self.locked.lock(rt).step(rt, &self.board, pass)
     }
 
-    /// The number of entries. It waits for nobody. The pass then has seen them all.
-    pub fn look(&self, pass: &mut DeskPass) -> u64
-        requires { pass.old.board ≡ N.board.id }
-        ensures pass { pass.new ≡ record pass.old { seen = pass.new.seen; loads = pass.old.loads ++ (0, result) ∷ [] } }
-        ensures found { result ≡ length pass.new.seen }
-        ensures grew { IsPrefix pass.old.seen pass.new.seen }
-        ensures front { IsFront IsHistory pass.new }
-    {
-        self.board.look(pass)
-    }
-
-    /// Afterwards what `into` has seen begins with what each of the two had seen. It waits for nobody. Nothing that the
-    /// one took was taken by the other.
-    pub fn meet(&self, from: &mut DeskPass, into: &mut DeskPass)
-        requires { (from.old.board ≡ N.board.id) × (into.old.board ≡ N.board.id) }
-        ensures from { from.new ≡ from.old }
-        ensures into { into.new ≡ record into.old { seen = into.new.seen } }
-        ensures seen { IsPrefix from.old.seen into.new.seen × IsPrefix into.old.seen into.new.seen }
-        ensures front { IsFront IsHistory into.new }
-        ensures apart { AreApartQuanta from.old.taken into.old.taken }
-    {
-        self.board.meet(from, into);
-    }
-
-    /// Takes the quantum of a processor. It waits for nobody. A quantum that was got is the pass's alone, and stands in
-    /// the row that a step answered, in the history that the pass has then seen.
-    pub fn take(&self, pass: &mut DeskPass, processor: u32) -> Take
-        requires { pass.old.board ≡ N.board.id }
-        ensures taken { Takes IsHistory quanta_of N.board.processors processor pass.old result pass.new }
-        ensures grew { IsPrefix pass.old.seen pass.new.seen }
-    {
-        self.board.take(pass, processor)
-    }
-
-    /// The snapshot that is shown. It waits for nobody. It stands for a history that begins with all that this viewer
-    /// read before or was told.
-    ///
-    /// # Errors
-    ///
-    /// Where the readers' table gives no entry, or the snapshot takes no further owner.
-    pub fn read(&self, viewer: &mut Viewer) -> Result<Arc<Snapshot>, Unread>
-        requires { viewer.old.origin ≡ origin_of N.board N.book }
-        ensures stands { IfOk result (λ s. StandsForHistory viewer.new.read (arc_value s)) }
-        ensures settings { IfOk result (λ s. (arc_value s).state.plan.settings ≡ N.board.terms) }
-        ensures grew { IsPrefix viewer.old.read viewer.new.read }
-        ensures told { IfOk result (λ s. IsPrefix viewer.old.told viewer.new.read) }
-        ensures reads { IfOk result (λ s. viewer.new.reads ≡ viewer.old.reads ++ (arc_value s).version ∷ []) }
-        ensures same { (viewer.new.told ≡ viewer.old.told) × (viewer.new.origin ≡ viewer.old.origin) }
-    {
-        viewer.read()
-    }
-
     /// Ends the desk: gives it with its whole history, and the quanta that nobody took, by processor. What each of these
     /// passes has seen begins that history, in which its own entries are those of its number; and where every pass is
     /// handed in, each quantum that a step issued is either left or was taken, by one pass alone. The viewers end too. It
@@ -172,7 +190,8 @@ impl<N: Naming, H: Wait + Drop> Shared<N, H> {
     ///
     /// # Errors
     ///
-    /// Where memory is refused: all comes back untouched.
+    /// Where memory is refused: all comes back untouched. The desk that comes back is that of the same board, and goes on
+    /// with its history, the one that these passes have seen beginnings of.
     pub fn close(
         self,
         rt: &impl Wait,
@@ -181,9 +200,14 @@ impl<N: Naming, H: Wait + Drop> Shared<N, H> {
     ) -> Result<Closed, Opened<N, H>>
         requires { AreOf N.board.id passes.items }
         ensures closed { IfOk result (λ c. EndsDesk N.board passes.items c) }
-        ensures refused { IfErr result (λ o. (o.passes.items ≡ passes.items) × (o.viewers.items ≡ viewers.items)) }
+        ensures refused { IfErr result (λ o. (o.shared ≡ self) × (o.passes.items ≡ passes.items) × (o.viewers.items ≡ viewers.items)) }
+        ensures goes_on { IfErr result (λ _. KeepsDesk N.board passes.items) }
     {
-        let Shared { board, locked } = self;
+        let Shared {
+            board,
+            locked,
+            of: _,
+        } = self;
         match locked.into_inner().close(rt, board, passes) {
             Ok(closed) => Ok(closed),
             Err(

@@ -5,7 +5,7 @@ ghost use Rattle.pf_desk.specs.Desk.{AnswersCaller, IsAsBefore, IsReadyFor, Stan
 ghost use Rattle.pf_desk.specs.Machine.{reply_to};
 ghost use Rattle.pf_share.specs.Histories.{IsHistory, entries_of, is_step_command, quanta_of_reply};
 ghost use Rattle.pf_desk.specs.declared.command.Command.TheVariants.{Step};
-ghost use Rattle.pf_share.specs.Ended.{EndsDesk};
+ghost use Rattle.pf_share.specs.Ended.{AreFronts, EndsDesk, KeepsDesk};
 ghost use Rattle.pf_share.specs.Entered.{Enters, FindsQuantum, RefusesStep, found_empty};
 ghost use Rattle.pf_share.specs.Issuing.{AwaitsIssue, AwaitsReply};
 ghost use Rattle.pf_share.specs.Locked.{IsShownDesk, origin_of};
@@ -232,6 +232,7 @@ impl<N: Naming, H: Wait + Drop> ShownDesk<N, H> {
         ensures desk { IfOk result (λ c. c.desk ≡ self.desk) }
         ensures closed { IfOk result (λ c. EndsDesk N.board passes.items c) }
         ensures refused { IfErr result (λ r. (r.0 ≡ board) × (r.1 ≡ self) × (r.2.items ≡ passes.items)) }
+        ensures goes_on { IfErr result (λ _. KeepsDesk N.board passes.items) }
     {
         let ShownDesk {
             desk,
@@ -250,10 +251,11 @@ impl<N: Naming, H: Wait + Drop> ShownDesk<N, H> {
             Err(
                 Handed {
                     board,
-                    keeper,
-                    passes,
+                    mut keeper,
+                    mut passes,
                 },
             ) => {
+                tie_all(&board, &mut keeper, &mut passes);
                 let shown = ShownDesk {
                     desk,
                     meter,
@@ -307,6 +309,19 @@ fn number(press: &mut Press, prepared: &Prepared) -> Result<Shown, AllocError>
         .ok_or(AllocError)?;
     let snapshot = Arc::try_clone(prepared.snapshot())?;
     Ok(Shown::new(snapshot, stamp))
+}
+
+/// What each pass has seen begins what the keeper has. All are as before.
+fn tie_all(board: &DeskBoard, keeper: &mut DeskKeeper, passes: &mut [DeskPass])
+    requires board { (keeper.old.board ≡ board.now.id) × AreOf board.now.id passes.old }
+    requires here { keeper.old.has_turn ≡ true }
+    ensures keeper { keeper.new ≡ keeper.old }
+    ensures passes { passes.new ≡ passes.old }
+    ensures tied { AreFronts keeper.old.seen passes.old }
+{
+    for pass in passes.iter_mut() {
+        board.tie(keeper, pass);
+    }
 }
 
 /// Issues the quanta of a slot's row, each to its processor.

@@ -1,19 +1,19 @@
 -- What clap's answer says of the words.
 use Rattle.std.proofs.Common.{◌≡◌, ◌⊎◌, ◌∙◌, refl, sym, ap, subst, inl, inr, Bool, true, false, option_map, List, [], Option, Some, None, Result, Ok, Err, codes}
-use Rattle.std.specs.Prelude.{◌↔◌}
+use Rattle.std.specs.Prelude.{◌↔◌, string_bytes}
 use Rattle.std.specs.Bool.{Decides}
 use Rattle.std.specs.Result.{result_ok}
 use Rattle.std.specs.Str.{bytes_eq}
 use Rattle.std.proofs.lemmas.Slice.Eq.{bytes_eq-Decides}
 use Rattle.clap.specs.Words.{IsAmong, Row, Text, fault_of, first_of, is_simple, is_simple_and_free, subcommand_of}
 use Rattle.clap.specs.declared.error.kind.ErrorKind.{ErrorKind}
-use Rattle.clap.specs.declared.error.kind.ErrorKind.TheVariants.{OutOfMemory}
+use Rattle.clap.specs.declared.error.kind.ErrorKind.TheVariants.{DisplayHelp, DisplayVersion, OutOfMemory}
 use Rattle.pf_words.specs.declared.request.Request.{Request}
 use Rattle.pf_words.specs.declared.request.Request.TheVariants.{Run, Check, Diff, Drill, Show}
 use Rattle.pf_words.specs.declared.request.WordsFault.{WordsFault}
 use Rattle.pf_words.specs.declared.request.WordsFault.TheVariants.{Refused, Mistaken, NoMemory}
 use Rattle.pf_words.specs.CommandLine.{file_behind, is_named, kinds_of, program, text_behind}
-use Rattle.pf_words.specs.Asked.{IsAsked, IsRequest, IsShown, ShowsError, file_asked, file_found, task_asked, task_of}
+use Rattle.pf_words.specs.Asked.{IsAsked, IsRequest, IsShown, IsTextOf, ShowsError, file_asked, file_found, task_asked, task_of}
 
 -- one function after another over what may be there
 pub option_map-option_map : {X Y Z : Type 0} (f : Y → Z) (g : X → Y) (o : Option X) → option_map f (option_map g o) ≡ option_map (λ x. f (g x)) o
@@ -92,6 +92,11 @@ not_shown : (kind : ErrorKind) → kind ≡ OutOfMemory → ¬ IsShown kind
 not_shown kind memory (inl help) = cc
 not_shown kind memory (inr version) = cc
 
+-- who is shown a text asked for help or the version
+kind_shown : (kind : ErrorKind) (text : Text) → IsTextOf (kind ≡ DisplayHelp) (kind ≡ DisplayVersion) text → IsShown kind
+kind_shown kind text (inl help) = inl help.0
+kind_shown kind text (inr version) = inr version.0
+
 -- words that it does not take, by the kind of its error
 pub untaken_words : (words : List Text) (kind : ErrorKind) (answer : Result Request WordsFault)
     → (kind ≡ OutOfMemory) ⊎ IsAmong kind (kinds_of words) → ShowsError kind answer → IsAsked words answer
@@ -100,15 +105,15 @@ untaken_words words kind (Ok (Check file)) among shows = absurd shows
 untaken_words words kind (Ok (Diff since file)) among shows = absurd shows
 untaken_words words kind (Ok Drill) among shows = absurd shows
 untaken_words words kind (Ok (Show text)) among shows = elim among [
-  | inl memory ↦ absurd (not_shown kind memory shows)
+  | inl memory ↦ absurd (not_shown kind memory (kind_shown kind (string_bytes text) shows))
   | inr here ↦ elim shows [
-    | inl help ↦ inl (subst (λ (k : ErrorKind). IsAmong k (kinds_of words)) help here)
-    | inr version ↦ inr (subst (λ (k : ErrorKind). IsAmong k (kinds_of words)) version here)
+    | inl help ↦ inl (subst (λ (k : ErrorKind). IsAmong k (kinds_of words)) help.0 here, help.1)
+    | inr version ↦ inr (subst (λ (k : ErrorKind). IsAmong k (kinds_of words)) version.0 here, version.1)
   ]
 ]
 untaken_words words kind (Err (Refused text)) among shows = elim among [
   | inl memory ↦ absurd (shows.0 memory)
-  | inr here ↦ (kind, shows.1, here)
+  | inr here ↦ ((kind, shows.1, here), shows.2)
 ]
 untaken_words words kind (Err (Mistaken mistake)) among shows = absurd shows
 untaken_words words kind (Err NoMemory) among shows = tt

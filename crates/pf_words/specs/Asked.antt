@@ -20,6 +20,7 @@ use Rattle.pf_words.specs.declared.slot_range.SlotRange.{SlotRange}
 use Rattle.pf_words.specs.Cells.{cell_of}
 use Rattle.pf_words.specs.FailLists.{fail_on_named, on_nothing}
 use Rattle.pf_words.specs.Formats.{format_named, format_with_cell, format_within}
+use Rattle.pf_words.specs.Texts.{EndsWithLesson, version_line}
 use Rattle.pf_words.specs.CommandLine.{file_behind, is_check, is_diff, is_drill, kinds_of, program, text_behind, text_behind_run}
 use Rattle.pf_script.specs.Fields.{number_of}
 
@@ -174,6 +175,14 @@ AsksHelp words = IsAmong DisplayHelp (kinds_of words)
 abbrev pub AsksVersion : List Text → Type 0
 AsksVersion words = IsAmong DisplayVersion (kinds_of words)
 
+-- the text of help ends with the lesson, and that of the version is its line
+abbrev pub IsTextOf : (help version : Type 0) → Text → Type 0
+IsTextOf help version text = (help × EndsWithLesson text) ⊎ (version × (text ≡ version_line))
+
+-- the text is what the words may ask to be shown
+abbrev pub IsShownTo : List Text → Text → Type 0
+IsShownTo words text = IsTextOf (AsksHelp words) (AsksVersion words) text
+
 -- an error of this kind shows a text that was asked for: help, or the version
 abbrev pub IsShown : ErrorKind → Type 0
 IsShown kind = (kind ≡ DisplayHelp) ⊎ (kind ≡ DisplayVersion)
@@ -192,8 +201,8 @@ IsAsked words (Ok (Run format fail_on file)) = (task_asked words ≡ Some (RunsI
 IsAsked words (Ok (Check file)) = (task_asked words ≡ Some Checks) × (name_of file ≡ file_asked words)
 IsAsked words (Ok (Diff since file)) = (task_asked words ≡ Some (Diffs since)) × (name_of file ≡ file_asked words)
 IsAsked words (Ok Drill) = (task_asked words ≡ Some Drills) × (file_asked words ≡ None)
-IsAsked words (Ok (Show text)) = AsksHelp words ⊎ AsksVersion words
-IsAsked words (Err (Refused text)) = IsRefused words
+IsAsked words (Ok (Show text)) = IsShownTo words (string_bytes text)
+IsAsked words (Err (Refused text)) = IsRefused words × (string_bytes text ≢ [])
 IsAsked words (Err (Mistaken mistake)) = AreMistaken words mistake
 IsAsked words (Err NoMemory) = Unit {0}
 
@@ -214,7 +223,7 @@ ShowsError kind (Ok (Run format fail_on file)) = ⊥
 ShowsError kind (Ok (Check file)) = ⊥
 ShowsError kind (Ok (Diff since file)) = ⊥
 ShowsError kind (Ok Drill) = ⊥
-ShowsError kind (Ok (Show text)) = IsShown kind
-ShowsError kind (Err (Refused text)) = (kind ≢ OutOfMemory) × ¬ IsShown kind
+ShowsError kind (Ok (Show text)) = IsTextOf (kind ≡ DisplayHelp) (kind ≡ DisplayVersion) (string_bytes text)
+ShowsError kind (Err (Refused text)) = (kind ≢ OutOfMemory) × ¬ IsShown kind × (string_bytes text ≢ [])
 ShowsError kind (Err (Mistaken mistake)) = ⊥
 ShowsError kind (Err NoMemory) = Unit {0}

@@ -5,3 +5,4 @@ pub mod Examples
 pub mod FailLists
 pub mod Formats
 pub mod Ranges
+pub mod Texts

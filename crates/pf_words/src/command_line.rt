@@ -3,65 +3,14 @@ ghost use Rattle.clap.specs.Words.{app_of, new_app, with_rule, with_subcommand};
 ghost use Rattle.clap.specs.declared.builder.command.Command.TheViews.{out-Command};
 ghost use Rattle.pf_words.specs.CommandLine.{program, as_program, cell_option, check_command, diff_command, drill_command, fail_on_option, file_argument, format_option, from_option, run_command, since_option, to_option};
 
+use crate::texts::VERSION;
 use clap::{Arg, ArgAction, Command};
 use std::alloc::{AllocError, Global};
-
-// What `--version` tells behind the program's name.
-const VERSION: &str = "0.2.0";
 
 // What `--help` says of the program.
 const ABOUT: &str =
     "Schedules periodic tasks on processors slot by slot (Pfair, the order PD2), as a script says. \
 The script is read from FILE or standard input, and the answer is written to standard output.";
-
-// What `--help` teaches behind the words.
-const LESSON: &str = "A script is a list of comma-separated records, one a line:
-  settings,M,BASE,CAP,EVERY           first: M processors, the base that each period divides, the most
-                                      load in 1/BASE (M * BASE fills the processors), and the distance of
-                                      checkpoints in slots, 1 to 4096, which changes no answer
-  join,SLOT,TASK,COST,PERIOD,EARLY    a task of weight COST/PERIOD joins, each quantum up to EARLY slots early
-  leave,SLOT,TASK                     it leaves
-  delay,SLOT,TASK,BY                  its next quanta come BY slots later
-  alter,ID,..                         event ID becomes this join, leave, delay or limit
-  strike,ID                           event ID never was
-  strict,..                           any of these changes, refused where it would leave a denial
-  step                                one slot passes; step,N: N slots
-Events are numbered from 1 and may lie in any slot, also in the past. A script that begins with the record pfair,2
-may hold limit,SLOT,COUNT (so many processors are in use from that slot on), and may step 4194304 slots, else 1048576.
-
-Example, three tasks of weight 2/3 on two processors:
-  settings,2,3,6,2
-  join,0,1,2,3,0
-  join,0,2,2,3,0
-  join,0,3,2,3,0
-  step,3
-
-Formats:
-  schedule    the schedule: for each slot the task/subtask on each processor
-  tables      a reply to each record, then the schedule, the lags, the misses and the denials
-  json        a reply to each record, then one JSON object of these
-  report      the JSON object alone
-  replies     the replies alone
-  lags        the lags alone: how far each task is from its fair share
-  misses      the missed windows alone
-  denials     the denied events alone
-  events      the events held, each with its number
-  script      a script of the desk as it stands: its settings, the events held, the steps
-  processors  how many quanta each processor gave, how long it was idle, how often its task changed
-  stats       the figures of each task: how often it ran, moved and was put off, how soon, how late, its lag
-  chart       a picture in characters: who runs where, each task's windows, its lag, what is late or denied
-  svg         the same as SVG, for a browser; --cell W (6 to 40) tells how wide each slot is
-
-`check` tells of each record that the format does not allow, and where and why, and carries nothing out.
-`diff` tells what the records from RECORD on changed, or the last one where --since is left out: the desk before it beside
-the desk at the end, as the tables schedule, lags, misses and denials of what differs. Records are counted from 1.
-`drill` carries out the script of standard input with a thread for each processor, which takes its quanta, and writes the
-schedule and what was taken.
-
-Status: 0 done, 1 a bad record or a script that is too long, 2 words that are not understood or a range of slots that
-were not stepped, 3 a fault of reading or writing, 4 out of memory, or no place for the reader of a drill, 6 done, and
-what --fail-on names was met: a command was refused, an event is denied at the end, or a window is missed.
-What is wrong is told on standard error.";
 
 /// The words that the program knows.
 pub(crate) fn program<'a>(alloc: Global) -> Result<Command<'a>, AllocError>
@@ -89,8 +38,7 @@ fn bare_program<'a>(alloc: Global) -> Result<Command<'a>, AllocError>
     let program = Command::new(alloc, "pfair")
         .no_binary_name(true)
         .version(VERSION)
-        .about(ABOUT)
-        .after_help(LESSON);
+        .about(ABOUT);
     program.bin_name("pfair")
 }
 
@@ -131,7 +79,6 @@ fn bare_run<'a>(alloc: Global) -> Result<Command<'a>, AllocError>
         .action(ArgAction::Set);
     Command::new(alloc, "run")
         .about("Runs the script; also without any words")
-        .after_help(LESSON)
         .arg(format)
 }
 
@@ -208,9 +155,9 @@ fn check_command<'a>(alloc: Global) -> Result<Command<'a>, AllocError>
     ensures shape { IfOk result (λ c. app_of c ≡ check_command) }
     ensures globals { IfOk result (λ c. (out-Command c).has_globals ≡ false) }
 {
-    let check = Command::new(alloc, "check")
-        .about("Checks the script: a line for each record that is none, and where and why")
-        .after_help(LESSON);
+    let check = Command::new(alloc, "check").about(
+        "Checks the script: a line for each record that is none, and where and why",
+    );
     with_file(alloc, check)
 }
 
@@ -235,7 +182,6 @@ fn bare_diff<'a>(alloc: Global) -> Result<Command<'a>, AllocError>
         .action(ArgAction::Set);
     Command::new(alloc, "diff")
         .about("Tells what the script's last records changed")
-        .after_help(LESSON)
         .arg(since)
 }
 
@@ -244,7 +190,7 @@ fn drill_command<'a>(alloc: Global) -> Command<'a>
     ensures shape { app_of result ≡ drill_command }
     ensures globals { (out-Command result).has_globals ≡ false }
 {
-    Command::new(alloc, "drill")
-        .about("Carries the script of standard input out with a thread for each processor")
-        .after_help(LESSON)
+    Command::new(alloc, "drill").about(
+        "Carries the script of standard input out with a thread for each processor",
+    )
 }

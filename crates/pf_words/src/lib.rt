@@ -12,4 +12,5 @@ pub mod mistake;
 pub mod range_fault;
 pub mod request;
 pub mod slot_range;
+pub mod texts;
 pub mod words;

@@ -1,27 +1,50 @@
-use thiserror::Error;
+use std::error::Error;
+use std::fmt;
+use std::fmt::Display;
 
 /// Why words that the grammar takes ask for nothing.
-#[derive(Clone, Copy, Debug, PartialEq, Eq, Error)]
+#[derive(Clone, Copy, Debug, PartialEq, Eq)]
 pub enum Mistake {
     /// The text of `--format` names no format.
-    #[error("unknown format")]
     UnknownFormat,
     /// The text of `--from` or `--to` is no number of 1 to 15 digits.
-    #[error("--from and --to take a number of 1 to 15 digits")]
     BadNumber,
     /// `--from` or `--to` stands beside a format that has no range.
-    #[error("--from and --to are for the formats schedule, chart and svg")]
     NoRange,
     /// The text of `--cell` is no number of 6 to 40.
-    #[error("--cell takes a number of 6 to 40")]
     BadCell,
     /// `--cell` stands beside a format other than `svg`.
-    #[error("--cell is for the format svg")]
     NoCell,
     /// The text of `--fail-on` is no list of what a run may fail on.
-    #[error("--fail-on takes refused, denied and missed, joined by commas")]
     BadFailOn,
     /// The text of `--since` is no number of a record.
-    #[error("--since takes a number of 1 to 15 digits, from 1 on")]
     BadSince,
 }
+
+impl Mistake {
+    ghost use Rattle.std.specs.Prelude.{◌≡◌};
+    ghost use Rattle.pf_words.specs.Texts.{mistake_line};
+
+    /// What is told of it, as a line.
+    pub fn line(self) -> &'static str
+        ensures { result.now ≡ mistake_line self }
+    {
+        match self {
+            Mistake::UnknownFormat => "unknown format\n",
+            Mistake::BadNumber => "--from and --to take a number of 1 to 15 digits\n",
+            Mistake::NoRange => "--from and --to are for the formats schedule, chart and svg\n",
+            Mistake::BadCell => "--cell takes a number of 6 to 40\n",
+            Mistake::NoCell => "--cell is for the format svg\n",
+            Mistake::BadFailOn => "--fail-on takes refused, denied and missed, joined by commas\n",
+            Mistake::BadSince => "--since takes a number of 1 to 15 digits, from 1 on\n",
+        }
+    }
+}
+
+impl Display for Mistake {
+    fn fmt<W: fmt::Write>(&self, f: &mut fmt::Formatter<W>) -> fmt::Result {
+        f.write_str(self.line())
+    }
+}
+
+impl Error for Mistake {}

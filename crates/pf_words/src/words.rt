@@ -10,6 +10,7 @@ use crate::format::Format;
 use crate::mistake::Mistake;
 use crate::request::{Request, WordsFault};
 use crate::slot_range::SlotRange;
+use crate::texts::{help_text, refusal_text, version_text};
 use clap::ArgMatches;
 use clap::error::ErrorKind;
 use pf_script::fields::parse_number;
@@ -196,9 +197,11 @@ fn read_error(alloc: Global, error: &clap::Error) -> Result<Request, WordsFault>
     if kind == ErrorKind::OutOfMemory {
         return Err(WordsFault::NoMemory);
     }
-    let text = format!(in alloc; "{error}")?;
-    if kind == ErrorKind::DisplayHelp || kind == ErrorKind::DisplayVersion {
-        return Ok(Request::Show(text));
+    if kind == ErrorKind::DisplayHelp {
+        return Ok(Request::Show(help_text(alloc, error)?));
     }
-    Err(WordsFault::Refused(text))
+    if kind == ErrorKind::DisplayVersion {
+        return Ok(Request::Show(version_text(alloc)?));
+    }
+    Err(WordsFault::Refused(refusal_text(alloc, error)?))
 }

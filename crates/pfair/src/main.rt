@@ -8,7 +8,7 @@ use std::process::ExitCode;
 use std::{env, io};
 
 fn main(rt: HostRuntime) -> ExitCode {
-    let mut faults = rt.stderr();
+    let mut faults = CountedWriter::new(rt.stderr());
     let words = match read_words(&rt) {
         Ok(words) => words,
         Err(fault) => return ExitCode::from(tell_unread(&fault, &mut faults)),

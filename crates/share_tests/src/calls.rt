@@ -6,6 +6,7 @@ use crate::answers::{Edited, Taken};
 use pf_board::take::Take;
 use pf_scenario::change::Change;
 use pf_share::calls::DeskPass;
+use pf_share::locked::Locked;
 use pf_share::naming::Naming;
 use pf_share::shared::Shared;
 use pf_share::step_refusal::StepRefusal;
@@ -15,7 +16,7 @@ use std::sync::Wait;
 /// Makes a change that is not strict. The answer is the number of the event and the number of entries.
 pub(crate) fn edit<N: Naming, H: Wait + Drop>(
     rt: &impl Wait,
-    shared: &Shared<N, H>,
+    shared: &Shared<N, Locked<N, H>>,
     pass: &mut DeskPass,
     change: Change,
 ) -> Result<Option<Edited>, AllocError>
@@ -31,7 +32,7 @@ pub(crate) fn edit<N: Naming, H: Wait + Drop>(
 /// Takes the next slot.
 pub(crate) fn step<N: Naming, H: Wait + Drop>(
     rt: &impl Wait,
-    shared: &Shared<N, H>,
+    shared: &Shared<N, Locked<N, H>>,
     pass: &mut DeskPass,
 ) -> Result<Option<Taken>, StepRefusal>
     requires { pass.old.board ≡ N.board.id }
@@ -44,8 +45,8 @@ pub(crate) fn step<N: Naming, H: Wait + Drop>(
 }
 
 /// Takes the quantum of a processor.
-pub(crate) fn take<N: Naming, H: Wait + Drop>(
-    shared: &Shared<N, H>,
+pub(crate) fn take<N: Naming, L: Drop>(
+    shared: &Shared<N, L>,
     pass: &mut DeskPass,
     processor: u32,
 ) -> Take

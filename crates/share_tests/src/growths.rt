@@ -16,6 +16,7 @@ use pf_share::blank::Blank;
 use pf_share::calls::DeskPass;
 use pf_share::closed::Closed;
 use pf_share::fault::OpenFault;
+use pf_share::locked::Locked;
 use pf_share::naming::Naming;
 use pf_share::opened::Opened;
 use pf_share::shared::Shared;
@@ -47,9 +48,9 @@ fn open_again<R: Wait + Abort + Print>(
 }
 
 /// Fails the test where there are not so many entries.
-fn expect_entries<N: Naming, H: Wait + Drop>(
+fn expect_entries<N: Naming, L: Drop>(
     rt: &impl Abort,
-    shared: &Shared<N, H>,
+    shared: &Shared<N, L>,
     pass: &mut DeskPass,
     wanted: u64,
 )
@@ -63,7 +64,7 @@ fn expect_entries<N: Naming, H: Wait + Drop>(
 /// Makes a change. Where that is refused, no entry was made.
 fn edit_again<N: Naming, H: Wait + Drop>(
     rt: &(impl Wait + Abort + Print),
-    shared: &Shared<N, H>,
+    shared: &Shared<N, Locked<N, H>>,
     pass: &mut DeskPass,
     change: Change,
 ) -> Result<Option<Edited>, AllocError>
@@ -84,7 +85,7 @@ fn edit_again<N: Naming, H: Wait + Drop>(
 /// Takes the next slot. Where that is refused, no entry was made.
 fn step_again<N: Naming, H: Wait + Drop>(
     rt: &(impl Wait + Abort + Print),
-    shared: &Shared<N, H>,
+    shared: &Shared<N, Locked<N, H>>,
     pass: &mut DeskPass,
 ) -> Result<Option<Taken>, StepRefusal>
     requires { pass.old.board ≡ N.board.id }
@@ -104,7 +105,7 @@ fn step_again<N: Naming, H: Wait + Drop>(
 /// Three tasks join, each of weight 2/3, and slot 0 is taken.
 fn plan<N: Naming, H: Wait + Drop>(
     rt: &(impl Wait + Abort + Print),
-    shared: &Shared<N, H>,
+    shared: &Shared<N, Locked<N, H>>,
     pass: &mut DeskPass,
 )
     requires { pass.old.board ≡ N.board.id }
@@ -121,7 +122,7 @@ fn plan<N: Naming, H: Wait + Drop>(
 /// What the one plans is seen by the other, also where they meet. One of the two quanta is taken.
 fn use_both<N: Naming, H: Wait + Drop>(
     rt: &(impl Wait + Abort + Print),
-    shared: &Shared<N, H>,
+    shared: &Shared<N, Locked<N, H>>,
     first: &mut DeskPass,
     second: &mut DeskPass,
 )
@@ -181,10 +182,7 @@ fn an_untaken_quantum_is_left(rt: HostRuntime) -> Result<(), Fail> {
 }
 
 /// How many entries the history has that the viewer reads.
-fn read<N: Naming, H: Wait + Drop>(
-    shared: &Shared<N, H>,
-    viewer: &mut Viewer,
-) -> Result<u64, Unread>
+fn read<N: Naming, L: Drop>(shared: &Shared<N, L>, viewer: &mut Viewer) -> Result<u64, Unread>
     requires { viewer.old.origin ≡ origin_of N.board N.book }
     ensures { viewer.new.origin ≡ viewer.old.origin }
 {
@@ -202,7 +200,7 @@ fn expect_read(rt: &impl Abort, read: Result<u64, Unread>, wanted: u64) {
 /// An event is inserted, and the viewer, who had read nothing yet, is told.
 fn insert_and_tell<N: Naming, H: Wait + Drop>(
     rt: &(impl Wait + Abort + Print),
-    shared: &Shared<N, H>,
+    shared: &Shared<N, Locked<N, H>>,
     pass: &mut DeskPass,
     viewer: &mut Viewer,
 )

@@ -7,15 +7,14 @@ use pf_board::take::Take;
 use pf_share::calls::DeskPass;
 use pf_share::naming::Naming;
 use pf_share::shared::Shared;
-use std::sync::Wait;
 use std::thread::yield_now;
 
 /// A dispatcher's pass, and the quanta that it handed out.
 pub(crate) type Dispatched = (DeskPass, Vec<Quantum>);
 
 /// Takes the quantum of a processor, if one is there, and lists it. False where memory is refused.
-fn take<N: Naming, H: Wait + Drop>(
-    shared: &Shared<N, H>,
+fn take<N: Naming, L: Drop>(
+    shared: &Shared<N, L>,
     pass: &mut DeskPass,
     processor: u32,
     quanta: &mut Vec<Quantum>,
@@ -33,9 +32,9 @@ fn take<N: Naming, H: Wait + Drop>(
 }
 
 /// Hands out so many quanta of a processor as they come, and lists them. None where memory is refused.
-pub(crate) fn dispatch<N: Naming, H: Wait + Drop>(
+pub(crate) fn dispatch<N: Naming, L: Drop>(
     rt: &impl AllocGlobal,
-    shared: &Shared<N, H>,
+    shared: &Shared<N, L>,
     mut pass: DeskPass,
     processor: u32,
     wanted: usize,

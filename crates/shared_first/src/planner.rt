@@ -5,6 +5,7 @@ use crate::turns::TURNS;
 use pf_scenario::change::Change;
 use pf_scenario::event::Event;
 use pf_share::calls::DeskPass;
+use pf_share::locked::Locked;
 use pf_share::naming::Naming;
 use pf_share::shared::Shared;
 use pf_share::step_refusal::StepRefusal;
@@ -25,7 +26,7 @@ fn join(task: u64) -> Change {
 /// Has so many tasks join, numbered from 1, or fewer where memory is refused.
 pub(crate) fn insert<N: Naming, H: Wait + Drop>(
     rt: &impl Wait,
-    shared: &Shared<N, H>,
+    shared: &Shared<N, Locked<N, H>>,
     mut pass: DeskPass,
     tasks: u64,
 ) -> DeskPass
@@ -43,7 +44,7 @@ pub(crate) fn insert<N: Naming, H: Wait + Drop>(
 /// Takes the next slot, once each quantum of the last one was taken. False where memory is refused, or the quanta stay.
 fn step<N: Naming, H: Wait + Drop>(
     rt: &impl Wait,
-    shared: &Shared<N, H>,
+    shared: &Shared<N, Locked<N, H>>,
     pass: &mut DeskPass,
 ) -> bool
     requires { Took N.board.id [] pass.old }
@@ -62,7 +63,7 @@ fn step<N: Naming, H: Wait + Drop>(
 /// Takes so many slots, or fewer where memory is refused.
 pub(crate) fn plan<N: Naming, H: Wait + Drop>(
     rt: &impl Wait,
-    shared: &Shared<N, H>,
+    shared: &Shared<N, Locked<N, H>>,
     mut pass: DeskPass,
     slots: u64,
 ) -> DeskPass

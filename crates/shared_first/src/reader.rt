@@ -4,6 +4,7 @@ ghost use Rattle.shared_first.specs.Handed.{Took};
 
 use crate::turns::TURNS;
 use pf_share::calls::DeskPass;
+use pf_share::locked::Locked;
 use pf_share::naming::Naming;
 use pf_share::shared::Shared;
 use pf_share::viewer::Viewer;
@@ -23,7 +24,7 @@ pub(crate) struct Followed {
 /// Finds how many entries there are, and then reads. The answer has both numbers of entries. None where memory is refused.
 fn look_and_read<N: Naming, H: Wait + Drop>(
     rt: &impl Wait,
-    shared: &Shared<N, H>,
+    shared: &Shared<N, Locked<N, H>>,
     pass: &mut DeskPass,
     viewer: &mut Viewer,
 ) -> Option<(u64, u64)>
@@ -46,7 +47,7 @@ fn look_and_read<N: Naming, H: Wait + Drop>(
 /// Reads until it read so many entries. None where memory is refused.
 pub(crate) fn follow<N: Naming, H: Wait + Drop>(
     rt: &impl Wait,
-    shared: &Shared<N, H>,
+    shared: &Shared<N, Locked<N, H>>,
     mut pass: DeskPass,
     mut viewer: Viewer,
     wanted: u64,

@@ -8,6 +8,7 @@ use crate::planner::plan;
 use crate::reader::{Followed, follow};
 use crate::seats::Seats;
 use pf_share::calls::DeskPass;
+use pf_share::locked::Locked;
 use pf_share::naming::Naming;
 use pf_share::shared::Shared;
 use pf_share::viewer::Viewer;
@@ -17,7 +18,7 @@ use std::thread::{Threads, join};
 /// Each planner takes so many slots, in a thread of its own.
 fn plan_both<N: Naming + Send + Sync, H: Wait + Drop + Send, R: Threads + Wait + Sync>(
     rt: &R,
-    shared: &Shared<N, H>,
+    shared: &Shared<N, Locked<N, H>>,
     first: DeskPass,
     second: DeskPass,
 ) -> (DeskPass, DeskPass)
@@ -40,7 +41,7 @@ fn plan_both<N: Naming + Send + Sync, H: Wait + Drop + Send, R: Threads + Wait +
 /// Each dispatcher hands out the quanta of a processor, in a thread of its own.
 fn dispatch_both<N: Naming + Send + Sync, H: Wait + Drop + Send, R: Threads + AllocGlobal + Sync>(
     rt: &R,
-    shared: &Shared<N, H>,
+    shared: &Shared<N, Locked<N, H>>,
     first: DeskPass,
     second: DeskPass,
 ) -> Option<(Dispatched, Dispatched)>
@@ -64,7 +65,7 @@ fn dispatch_both<N: Naming + Send + Sync, H: Wait + Drop + Send, R: Threads + Al
 /// The dispatchers hand out, and the reader reads until it read all entries.
 fn attend<N: Naming + Send + Sync, H: Wait + Drop + Send, R: Threads + Wait + AllocGlobal + Sync>(
     rt: &R,
-    shared: &Shared<N, H>,
+    shared: &Shared<N, Locked<N, H>>,
     first: DeskPass,
     second: DeskPass,
     reader: DeskPass,
@@ -105,7 +106,7 @@ pub(crate) fn work_at_once<
     N: Naming + Send + Sync,
     H: Wait + Drop + Send,
     R: Threads + Wait + AllocGlobal + Sync,
->(rt: &R, shared: &Shared<N, H>, seats: Seats) -> Option<Left>
+>(rt: &R, shared: &Shared<N, Locked<N, H>>, seats: Seats) -> Option<Left>
     requires planners { Took N.board.id [] seats.planners.0 × Took N.board.id [] seats.planners.1 }
     requires dispatchers { Took N.board.id [] seats.dispatchers.0 × Took N.board.id [] seats.dispatchers.1 }
     requires reader { Took N.board.id [] seats.reader × (seats.viewer.origin ≡ origin_of N.board N.book) }

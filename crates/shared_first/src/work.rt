@@ -10,6 +10,7 @@ use crate::team::{Left, work_at_once};
 use pf_board::quantum::Quantum;
 use pf_share::blank::Blank;
 use pf_share::closed::Closed;
+use pf_share::locked::Locked;
 use pf_share::naming::Naming;
 use pf_share::opened::Opened;
 use pf_share::shared::Shared;
@@ -30,7 +31,7 @@ pub struct Work {
 /// Ends the desk. None where memory is refused.
 fn finish<N: Naming, H: Wait + Drop>(
     rt: &(impl Wait + AllocGlobal),
-    shared: Shared<N, H>,
+    shared: Shared<N, Locked<N, H>>,
     left: Left,
 ) -> Option<Work>
     requires five { N.board.passes ≡ 5 }

@@ -5,6 +5,7 @@ ghost use Rattle.pf_share.specs.Locked.{origin_of};
 use pf_board::take::Take;
 use pf_scenario::change::Change;
 use pf_share::calls::DeskPass;
+use pf_share::locked::Locked;
 use pf_share::naming::Naming;
 use pf_share::shared::Shared;
 use pf_share::step_refusal::StepRefusal;
@@ -15,7 +16,7 @@ use std::sync::Wait;
 /// Makes a change. The answer is the number of entries.
 pub(crate) fn edit<N: Naming, H: Wait + Drop>(
     rt: &impl Wait,
-    shared: &Shared<N, H>,
+    shared: &Shared<N, Locked<N, H>>,
     pass: &mut DeskPass,
     change: Change,
     strict: bool,
@@ -32,7 +33,7 @@ pub(crate) fn edit<N: Naming, H: Wait + Drop>(
 /// Takes the next slot. The answer is the number of entries.
 pub(crate) fn step<N: Naming, H: Wait + Drop>(
     rt: &impl Wait,
-    shared: &Shared<N, H>,
+    shared: &Shared<N, Locked<N, H>>,
     pass: &mut DeskPass,
 ) -> Result<u64, StepRefusal>
     requires { pass.old.board ≡ N.board.id }
@@ -45,8 +46,8 @@ pub(crate) fn step<N: Naming, H: Wait + Drop>(
 }
 
 /// Takes the quantum of a processor.
-pub(crate) fn take<N: Naming, H: Wait + Drop>(
-    shared: &Shared<N, H>,
+pub(crate) fn take<N: Naming, L: Drop>(
+    shared: &Shared<N, L>,
     pass: &mut DeskPass,
     processor: u32,
 ) -> Take
@@ -57,8 +58,8 @@ pub(crate) fn take<N: Naming, H: Wait + Drop>(
 }
 
 /// Reads the snapshot that is shown: its number of entries and its now. None where there is no memory.
-pub(crate) fn read<N: Naming, H: Wait + Drop>(
-    shared: &Shared<N, H>,
+pub(crate) fn read<N: Naming, L: Drop>(
+    shared: &Shared<N, L>,
     viewer: &mut Viewer,
 ) -> Option<(u64, u64)>
     requires { viewer.old.origin ≡ origin_of N.board N.book }
@@ -73,7 +74,7 @@ pub(crate) fn read<N: Naming, H: Wait + Drop>(
 /// The same, once the viewer was told what the pass has seen.
 pub(crate) fn read_told<N: Naming, H: Wait + Drop>(
     rt: &impl Wait,
-    shared: &Shared<N, H>,
+    shared: &Shared<N, Locked<N, H>>,
     pass: &mut DeskPass,
     viewer: &mut Viewer,
 ) -> Option<(u64, u64)>

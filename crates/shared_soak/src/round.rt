@@ -12,6 +12,7 @@ use pf_board::quantum::Quantum;
 use pf_scenario::settings::Settings;
 use pf_share::blank::Blank;
 use pf_share::closed::Closed;
+use pf_share::locked::Locked;
 use pf_share::naming::Naming;
 use pf_share::opened::Opened;
 use pf_share::shared::Shared;
@@ -31,7 +32,7 @@ struct Used {
 /// Lets each worker work, in a thread of its own.
 fn work_at_once<N: Naming + Send + Sync, H: Wait + Drop + Send, R: Threads + Wait + Sync>(
     rt: &R,
-    shared: &Shared<N, H>,
+    shared: &Shared<N, Locked<N, H>>,
     workers: &mut [Worker],
 )
     requires { All (IsSeated N.board N.book) workers.old }
@@ -51,7 +52,7 @@ fn work_at_once<N: Naming + Send + Sync, H: Wait + Drop + Send, R: Threads + Wai
 /// Ends the desk. None where memory is refused.
 fn finish<N: Naming, H: Wait + Drop>(
     rt: &impl Wait,
-    shared: Shared<N, H>,
+    shared: Shared<N, Locked<N, H>>,
     back: Back,
 ) -> Option<Used>
     requires { AreOf N.board.id back.passes.items }

@@ -7,6 +7,7 @@ use crate::fault::Fault;
 use pf_board::quantum::Quantum;
 use pf_board::take::Take;
 use pf_share::calls::DeskPass;
+use pf_share::locked::Locked;
 use pf_share::naming::Naming;
 use pf_share::shared::Shared;
 use pf_share::step_refusal::StepRefusal;
@@ -58,7 +59,11 @@ pub(crate) struct Worker {
 
 impl Worker {
     /// Does all that is to be done in its role.
-    pub(crate) fn work<N: Naming, H: Wait + Drop>(&mut self, rt: &impl Wait, shared: &Shared<N, H>)
+    pub(crate) fn work<N: Naming, H: Wait + Drop>(
+        &mut self,
+        rt: &impl Wait,
+        shared: &Shared<N, Locked<N, H>>,
+    )
         requires { IsSeated N.board N.book self.old }
         ensures { IsSeated N.board N.book self.new }
     {
@@ -70,7 +75,7 @@ impl Worker {
     }
 
     /// Makes changes, and reads before each.
-    fn plan<N: Naming, H: Wait + Drop>(&mut self, rt: &impl Wait, shared: &Shared<N, H>)
+    fn plan<N: Naming, H: Wait + Drop>(&mut self, rt: &impl Wait, shared: &Shared<N, Locked<N, H>>)
         requires { IsSeated N.board N.book self.old }
         ensures { IsSeated N.board N.book self.new }
     {
@@ -86,7 +91,11 @@ impl Worker {
     }
 
     /// Takes slots, and quanta before each.
-    fn dispatch<N: Naming, H: Wait + Drop>(&mut self, rt: &impl Wait, shared: &Shared<N, H>)
+    fn dispatch<N: Naming, H: Wait + Drop>(
+        &mut self,
+        rt: &impl Wait,
+        shared: &Shared<N, Locked<N, H>>,
+    )
         requires { IsSeated N.board N.book self.old }
         ensures { IsSeated N.board N.book self.new }
     {
@@ -109,7 +118,7 @@ impl Worker {
     }
 
     /// Takes the quanta of processors that are drawn, some of which the desk does not have.
-    fn take_some<N: Naming, H: Wait + Drop>(&mut self, shared: &Shared<N, H>)
+    fn take_some<N: Naming, L: Drop>(&mut self, shared: &Shared<N, L>)
         requires { IsSeated N.board N.book self.old }
         ensures { IsSeated N.board N.book self.new }
     {
@@ -124,7 +133,11 @@ impl Worker {
     }
 
     /// Reads until it read all entries.
-    fn follow<N: Naming, H: Wait + Drop>(&mut self, rt: &impl Wait, shared: &Shared<N, H>)
+    fn follow<N: Naming, H: Wait + Drop>(
+        &mut self,
+        rt: &impl Wait,
+        shared: &Shared<N, Locked<N, H>>,
+    )
         requires { IsSeated N.board N.book self.old }
         ensures { IsSeated N.board N.book self.new }
     {
@@ -139,7 +152,7 @@ impl Worker {
     }
 
     /// Reads a snapshot; one time in two it is to have all that the pass has seen.
-    fn read<N: Naming, H: Wait + Drop>(&mut self, rt: &impl Wait, shared: &Shared<N, H>)
+    fn read<N: Naming, H: Wait + Drop>(&mut self, rt: &impl Wait, shared: &Shared<N, Locked<N, H>>)
         requires { IsSeated N.board N.book self.old }
         ensures { IsSeated N.board N.book self.new }
     {

@@ -6,6 +6,7 @@ use Rattle.pf_board.specs.Passes.{new_passes}
 use Rattle.csv.specs.Records.{fields_of}
 use Rattle.pf_script.specs.Grammar.{opening_of}
 use Rattle.pf_drill.specs.Asked.{lines_asked, settings_asked, system_opened_by}
+use Rattle.pf_drill.specs.Gates.{SomeArrived}
 use Rattle.pf_drill.proofs.Scripts.{drills_same, stops_same}
 use Rattle.pf_drill.proofs.drill.drill_from.Goals as goal
 
@@ -37,7 +38,7 @@ returns-clause-drilled g c =
     let asked : lines_asked c.args.version c.in-Ok.blank.board.terms (c.args.number + 1) [] c.args.script
     ≡ settings_asked c.args.version c.args.number c.args.script (system_opened_by c.args.version (opening_of (fields_of c.args.row))) =
     ap (λ (s : System). lines_asked c.args.version s (c.args.number + 1) [] c.args.script) e.settings ∙ ap (settings_asked c.args.version c.args.number c.args.script) (sym is) in
-    drills_same (λ v. v.items) _ _ c.drill_lines.result asked c.drill_lines.ensures.drilled
+    drills_same (g.G.Gate.lets_in c.args.gate.now) (λ v. v.items) _ _ c.drill_lines.result asked c.drill_lines.ensures.drilled
 
 pub returns-clause-stopped : goal.returns-clause-stopped
 returns-clause-stopped g c =
@@ -46,4 +47,4 @@ returns-clause-stopped g c =
     let asked : lines_asked c.args.version c.in-Ok.blank.board.terms (c.args.number + 1) [] c.args.script
     ≡ settings_asked c.args.version c.args.number c.args.script (system_opened_by c.args.version (opening_of (fields_of c.args.row))) =
     ap (λ (s : System). lines_asked c.args.version s (c.args.number + 1) [] c.args.script) e.settings ∙ ap (settings_asked c.args.version c.args.number c.args.script) (sym is) in
-    stops_same _ _ c.drill_lines.result asked c.drill_lines.ensures.stopped
+    stops_same (SomeArrived (g.G.Gate.shuts_out c.args.gate.now)) _ _ c.drill_lines.result asked c.drill_lines.ensures.stopped

@@ -2,6 +2,7 @@ use Rattle.std.proofs.Common.{length, ap, ◌∙◌, sym, arith}
 use Rattle.std.proofs.lemmas.Result.{err_from_is_err_and}
 use Rattle.pf_script.specs.Grammar.{is_heading}
 use Rattle.pf_script.proofs.Counting.{few_records}
+use Rattle.pf_drill.specs.Gates.{SomeArrived}
 use Rattle.pf_drill.proofs.Scripts.{drills_same, heading_alone, heading_first, is_first, is_none, no_heading, no_record, stops_same}
 use Rattle.pf_drill.proofs.drill.drill_script.Goals as goal
 
@@ -23,13 +24,13 @@ pub returns-then-not-read_heading-clause-drilled : goal.returns-then-not-read_he
 returns-then-not-read_heading-clause-drilled g c =
     let first = is_first c.in_ok-next.field-0 _ _ c.next.new.self (sym c.new-script.ensures ∙ c.in_ok-next.ensures.record) c.if-not-branch.false in
     let plain = sym (ap is_heading c.new.ensures) ∙ sym c.read_heading.ensures ∙ c.if-not-read_heading.true in
-    drills_same (λ v. v.items) _ _ c.drill_from.result (sym (no_heading c.args.bytes.now _ _ first plain)) c.drill_from.ensures.drilled
+    drills_same (g.G.Gate.lets_in c.args.gate.now) (λ v. v.items) _ _ c.drill_from.result (sym (no_heading c.args.bytes.now _ _ first plain)) c.drill_from.ensures.drilled
 
 pub returns-then-not-read_heading-clause-stopped : goal.returns-then-not-read_heading-clause-stopped
 returns-then-not-read_heading-clause-stopped g c =
     let first = is_first c.in_ok-next.field-0 _ _ c.next.new.self (sym c.new-script.ensures ∙ c.in_ok-next.ensures.record) c.if-not-branch.false in
     let plain = sym (ap is_heading c.new.ensures) ∙ sym c.read_heading.ensures ∙ c.if-not-read_heading.true in
-    stops_same _ _ c.drill_from.result (sym (no_heading c.args.bytes.now _ _ first plain)) c.drill_from.ensures.stopped
+    stops_same (SomeArrived (g.G.Gate.shuts_out c.args.gate.now)) _ _ c.drill_from.result (sym (no_heading c.args.bytes.now _ _ first plain)) c.drill_from.ensures.stopped
 
 pub returns-in_err-next-2-clause-stopped : goal.returns-in_err-next-2-clause-stopped
 returns-in_err-next-2-clause-stopped g c =
@@ -53,11 +54,11 @@ returns-clause-drilled g c =
     let first = is_first c.in_ok-next.field-0 _ _ c.next.new.self (sym c.new-script.ensures ∙ c.in_ok-next.ensures.record) c.if-not-branch.false in
     let heading = sym (ap is_heading c.new.ensures) ∙ sym c.read_heading.ensures ∙ c.if-not-read_heading.false in
     let second = is_first c.in_ok-next-2.field-0 c.next.new.self _ c.next-2.new.self c.in_ok-next-2.ensures.record c.if-not-branch-2.false in
-    drills_same (λ v. v.items) _ _ c.drill_from-2.result (sym (heading_first c.args.bytes.now _ _ _ _ first heading second)) c.drill_from-2.ensures.drilled
+    drills_same (g.G.Gate.lets_in c.args.gate.now) (λ v. v.items) _ _ c.drill_from-2.result (sym (heading_first c.args.bytes.now _ _ _ _ first heading second)) c.drill_from-2.ensures.drilled
 
 pub returns-clause-stopped : goal.returns-clause-stopped
 returns-clause-stopped g c =
     let first = is_first c.in_ok-next.field-0 _ _ c.next.new.self (sym c.new-script.ensures ∙ c.in_ok-next.ensures.record) c.if-not-branch.false in
     let heading = sym (ap is_heading c.new.ensures) ∙ sym c.read_heading.ensures ∙ c.if-not-read_heading.false in
     let second = is_first c.in_ok-next-2.field-0 c.next.new.self _ c.next-2.new.self c.in_ok-next-2.ensures.record c.if-not-branch-2.false in
-    stops_same _ _ c.drill_from-2.result (sym (heading_first c.args.bytes.now _ _ _ _ first heading second)) c.drill_from-2.ensures.stopped
+    stops_same (SomeArrived (g.G.Gate.shuts_out c.args.gate.now)) _ _ c.drill_from-2.result (sym (heading_first c.args.bytes.now _ _ _ _ first heading second)) c.drill_from-2.ensures.stopped

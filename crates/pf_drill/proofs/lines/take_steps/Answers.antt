@@ -7,6 +7,7 @@ use Rattle.pf_drill.proofs.lines.take_steps.Goals as goal
 pub loop-turn-preserved : goal.loop-turn-preserved
 loop-turn-preserved g c = record {
   crew = c.in-Ok.ensures.crew;
+  arrived = c.in-Ok.ensures.arrived;
   commands = c.in-Ok.ensures.commands
       ∙ (ap (λ l. l ++ Step ∷ []) c.loop-turn.invariant.commands
       ∙ (append_assoc (commands_given c.args.crew.now) (replicate c.loop-turn._turn Step) (Step ∷ [])

@@ -1,0 +1,98 @@
+//! What is told of words that ask for no task.
+ghost use Rattle.std.specs.Prelude.{◌≡◌, ◌≢◌, [], IfOk, string_bytes};
+ghost use Rattle.pf_words.specs.Texts.{EndsWithLesson, version_line};
+
+use std::alloc::{AllocError, Global};
+use std::fmt::Display;
+
+/// What the version is told by, behind the program's name.
+pub const VERSION: &str = "0.2.0";
+
+/// What help teaches behind the words.
+pub const LESSON: &str = "A script is a list of comma-separated records, one a line:
+  settings,M,BASE,CAP,EVERY           first: M processors, the base that each period divides, the most
+                                      load in 1/BASE (M * BASE fills the processors), and the distance of
+                                      checkpoints in slots, 1 to 4096, which changes no answer
+  join,SLOT,TASK,COST,PERIOD,EARLY    a task of weight COST/PERIOD joins, each quantum up to EARLY slots early
+  leave,SLOT,TASK                     it leaves
+  delay,SLOT,TASK,BY                  its next quanta come BY slots later
+  alter,ID,..                         event ID becomes this join, leave, delay or limit
+  strike,ID                           event ID never was
+  strict,..                           any of these changes, refused where it would leave a denial
+  step                                one slot passes; step,N: N slots
+Events are numbered from 1 and may lie in any slot, also in the past. A script that begins with the record pfair,2
+may hold limit,SLOT,COUNT (so many processors are in use from that slot on), and may step 4194304 slots, else 1048576.
+
+Example, three tasks of weight 2/3 on two processors:
+  settings,2,3,6,2
+  join,0,1,2,3,0
+  join,0,2,2,3,0
+  join,0,3,2,3,0
+  step,3
+
+Formats:
+  schedule    the schedule: for each slot the task/subtask on each processor
+  tables      a reply to each record, then the schedule, the lags, the misses and the denials
+  json        a reply to each record, then one JSON object of these
+  report      the JSON object alone
+  replies     the replies alone
+  lags        the lags alone: how far each task is from its fair share
+  misses      the missed windows alone
+  denials     the denied events alone
+  events      the events held, each with its number
+  script      a script of the desk as it stands: its settings, the events held, the steps
+  processors  how many quanta each processor gave, how long it was idle, how often its task changed
+  stats       the figures of each task: how often it ran, moved and was put off, how soon, how late, its lag
+  chart       a picture in characters: who runs where, each task's windows, its lag, what is late or denied
+  svg         the same as SVG, for a browser; --cell W (6 to 40) tells how wide each slot is
+
+`check` tells of each record that the format does not allow, and where and why, and carries nothing out.
+`diff` tells what the records from RECORD on changed, or the last one where --since is left out: the desk before it beside
+the desk at the end, as the tables schedule, lags, misses and denials of what differs. Records are counted from 1.
+`drill` carries out the script of standard input with a thread for each processor, which takes its quanta, and writes the
+schedule and what was taken.
+
+Status: 0 done, 1 a bad record or a script that is too long, 2 words that are not understood or a range of slots that
+were not stepped, 3 a fault of reading or writing, 4 out of memory, or no place for the reader of a drill, 6 done, and
+what --fail-on names was met: a command was refused, an event is denied at the end, or a window is missed.
+What is wrong is told on standard error.";
+
+/// Help: the words as the grammar tells of them, and then the lesson.
+///
+/// # Errors
+///
+/// Where memory is refused.
+pub(crate) fn help_text<E: Display>(alloc: Global, words: &E) -> Result<String, AllocError>
+    ensures { IfOk result (λ text. EndsWithLesson (string_bytes text)) }
+{
+    let mut text = format!(in alloc; "{words}\n")?;
+    text.push_str(LESSON)?;
+    text.push_str("\n")?;
+    Ok(text)
+}
+
+/// The version, as a line.
+///
+/// # Errors
+///
+/// Where memory is refused.
+pub(crate) fn version_text(alloc: Global) -> Result<String, AllocError>
+    ensures { IfOk result (λ text. string_bytes text ≡ version_line) }
+{
+    format!(in alloc; "pfair {VERSION}\n")
+}
+
+/// Why the grammar does not take the words, which is some text: where there is none, memory was refused for it.
+///
+/// # Errors
+///
+/// Where memory is refused.
+pub(crate) fn refusal_text<E: Display>(alloc: Global, error: &E) -> Result<String, AllocError>
+    ensures { IfOk result (λ text. string_bytes text ≢ []) }
+{
+    let text = format!(in alloc; "{error}")?;
+    if text.is_empty() {
+        return Err(AllocError);
+    }
+    Ok(text)
+}
