@@ -187,6 +187,13 @@ typedef struct pfair_task_figures {
     int64_t lag_greatest;      /* the greatest */
 } pfair_task_figures;
 
+/* Whether the loads of the slots stepped were within the processors in use. */
+typedef struct pfair_fit {
+    uint64_t first;         /* the first slot whose load was above the processors in use, or PFAIR_NEVER */
+    uint64_t overload_high; /* the loads above them of all slots together, in 1/base: times 2^64 */
+    uint64_t overload_low;  /* and times 1 */
+} pfair_fit;
+
 /* ---- Opening and closing ---- */
 
 /*
@@ -262,6 +269,18 @@ uint32_t pfair_figures(pfair_desk *desk, pfair_task_figures *room, size_t length
 
 /* The events held, by number. PFAIR_TOO_SHORT, PFAIR_NO_MEMORY, PFAIR_NOT_OPEN. */
 uint32_t pfair_events(pfair_desk *desk, pfair_numbered *room, size_t length, size_t *count);
+
+/*
+ * Whether no window can ever be missed, whatever joins, leaves, is delayed and runs early: the processors carry the cap, and
+ * with each limit held those that it leaves in use do. So it stays until a limit comes that leaves fewer. PFAIR_NOT_OPEN.
+ */
+uint32_t pfair_never_misses(pfair_desk *desk, bool *never);
+
+/*
+ * Whether the loads of the slots stepped were within the processors in use. Where first is PFAIR_NEVER they were, and no
+ * window was missed; and base times the tardiness of each task is at most the overload. PFAIR_NO_MEMORY, PFAIR_NOT_OPEN.
+ */
+uint32_t pfair_fits(pfair_desk *desk, pfair_fit *fit);
 
 /*
  * A text of a kind, PFAIR_SCHEDULE to PFAIR_JSON: *count bytes, all of them ASCII, with no byte 0 after them. Each call

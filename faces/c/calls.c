@@ -31,6 +31,8 @@ static int closed(void) {
     pfair_denial denial;
     pfair_task_figures figures;
     pfair_numbered event;
+    pfair_fit fit = {7, 8, 9};
+    bool never = true;
     uint8_t text;
     uint64_t now = 9, taken = 9;
     size_t count = 9;
@@ -52,6 +54,8 @@ static int closed(void) {
     CHECK(pfair_denials(&desk, &denial, 1, &count) == PFAIR_NOT_OPEN);
     CHECK(pfair_figures(&desk, &figures, 1, &count) == PFAIR_NOT_OPEN);
     CHECK(pfair_events(&desk, &event, 1, &count) == PFAIR_NOT_OPEN);
+    CHECK(pfair_never_misses(&desk, &never) == PFAIR_NOT_OPEN && never);
+    CHECK(pfair_fits(&desk, &fit) == PFAIR_NOT_OPEN && fit.first == 7 && fit.overload_high == 8 && fit.overload_low == 9);
     CHECK(pfair_text(&desk, PFAIR_JSON, &text, 1, &count) == PFAIR_NOT_OPEN && text == 0);
     CHECK(pfair_schedule(&desk, 0, 0, &text, 1, &count) == PFAIR_NOT_OPEN && text == 0);
     pfair_close(&desk);
@@ -142,6 +146,16 @@ static int what_if(pfair_desk *desk) {
     CHECK(pfair_what_if(desk, 7, &change, false, &reply, PFAIR_JSON + 1, text, 256, &count) == PFAIR_UNKNOWN_KIND);
     memset(text, 0, sizeof text);
     CHECK(pfair_text(desk, PFAIR_SCHEDULE, text, sizeof text, &count) == PFAIR_OK && strcmp((const char *)text, now) == 0);
+    return 0;
+}
+
+/* Three tasks of 2 units in 3 fill two processors; with one in use each of the three slots asks for 3 units too many. */
+static int room(pfair_desk *desk, uint64_t first, uint64_t overload) {
+    pfair_fit fit = {7, 8, 9};
+    bool never = first != PFAIR_NEVER;
+    CHECK(pfair_never_misses(desk, &never) == PFAIR_OK && never == (first == PFAIR_NEVER));
+    CHECK(pfair_fits(desk, &fit) == PFAIR_OK);
+    CHECK(fit.first == first && fit.overload_high == 0 && fit.overload_low == overload);
     return 0;
 }
 
@@ -242,7 +256,9 @@ int main(void) {
     if (!failed) failed = what_if(&desk);
     if (!failed) failed = version();
     if (!failed) failed = refusals(&desk);
+    if (!failed) failed = room(&desk, PFAIR_NEVER, 0);
     if (!failed) failed = lists(&desk);
+    if (!failed) failed = room(&desk, 0, 9);
     pfair_close(&desk);
     return failed;
 }

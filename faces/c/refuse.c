@@ -82,6 +82,7 @@ static int plan(void) {
     for (uint64_t k = 0; k < 30; k++) {
         pfair_change change = change_of(k);
         pfair_reply reply = {77, 77};
+        pfair_fit fit = {77, 77, 77};
         pfair_lag lags[8];
         uint64_t taken = 0;
         size_t count = 0, bytes = report(&desk, before, sizeof before);
@@ -93,6 +94,10 @@ static int plan(void) {
         }
         told |= pfair_advance(&desk, 1, 2, &taken) == PFAIR_NO_MEMORY;
         told |= pfair_lags(&desk, lags, 8, &count) == PFAIR_NO_MEMORY;
+        if (pfair_fits(&desk, &fit) == PFAIR_NO_MEMORY) {
+            told = 1;
+            if (fit.first != 77 || fit.overload_high != 77 || fit.overload_low != 77) fail("a changed fit");
+        }
     }
     pfair_close(&desk);
     if (living != 0) fail("blocks are left");

@@ -2,6 +2,7 @@ pub mod Kept
 pub mod Asked
 pub mod Replied
 pub mod Told
+pub mod Fitting
 pub mod Texts
 pub mod Commanded
 pub mod Ranges

@@ -39,7 +39,7 @@ raw_lag l = record { task = l.task; cost = l.cost; period = l.period; received =
 abbrev pub raw_denial : Denied → RawDenial
 raw_denial d = record { slot = d.slot; event = d.id; reason = denial_code d.denial }
 
-abbrev slot_or_never : Option ℕ → ℕ
+abbrev pub slot_or_never : Option ℕ → ℕ
 slot_or_never None = NEVER
 slot_or_never (Some t) = t
 

@@ -5,6 +5,7 @@
 #![tactic(auto)]
 
 mod commands;
+mod fitting;
 mod for_c;
 mod handle;
 mod opening;
@@ -14,6 +15,7 @@ mod raw_change;
 mod raw_denial;
 mod raw_event;
 mod raw_figures;
+mod raw_fit;
 mod raw_lag;
 mod raw_miss;
 mod raw_numbered;

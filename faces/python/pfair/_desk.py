@@ -8,9 +8,9 @@ from typing import Any, Dict, Iterator, List, Optional, Type
 
 from pfair._errors import check, reason_name
 from pfair._events import Event, event_of, raw_event, unsigned
-from pfair._library import CALLS, NUMBERS, SIZE, U64, RawChange, RawDenial, RawDesk, RawEvent, RawFigures, RawLag, RawMiss
-from pfair._library import RawNumbered, RawPick, RawReply
-from pfair._told import Denial, Figures, Lag, Miss, Pick
+from pfair._library import CALLS, NUMBERS, SIZE, U64, RawChange, RawDenial, RawDesk, RawEvent, RawFigures, RawFit, RawLag
+from pfair._library import RawMiss, RawNumbered, RawPick, RawReply
+from pfair._told import Denial, Figures, Fit, Lag, Miss, Pick
 
 NEVER = (1 << 64) - 1
 
@@ -173,6 +173,21 @@ class Desk:
     def figures(self) -> List[Figures]:
         """The figures of each task admitted in a slot stepped, by task."""
         return [_figures_of(it) for it in self._all("figures", RawFigures)]
+
+    def never_misses(self) -> bool:
+        """Whether no window can ever be missed, whatever joins, leaves, is delayed and runs early.
+
+        So it stays until a limit comes that leaves too few processors in use.
+        """
+        never = ctypes.c_bool()
+        check(self._call("never_misses", never))
+        return never.value
+
+    def fits(self) -> Fit:
+        """Whether the loads of the slots stepped were within the processors in use, and if not, from which slot on."""
+        raw = RawFit()
+        check(self._call("fits", raw))
+        return Fit(None if raw.first == NEVER else raw.first, raw.overload_high << 64 | raw.overload_low)
 
     def events(self) -> Dict[int, Event]:
         """The events held, by number."""

@@ -71,6 +71,10 @@ class RawFigures(ctypes.Structure):
     ]
 
 
+class RawFit(ctypes.Structure):
+    _fields_ = [("first", U64), ("overload_high", U64), ("overload_low", U64)]
+
+
 class RawNumbered(ctypes.Structure):
     _fields_ = [("id", U64), ("event", RawEvent)]
 
@@ -98,6 +102,8 @@ _TAKES: Dict[str, list] = {
     "denials": _filling(RawDenial),
     "figures": _filling(RawFigures),
     "events": _filling(RawNumbered),
+    "never_misses": [ctypes.POINTER(ctypes.c_bool)],
+    "fits": [ctypes.POINTER(RawFit)],
     "text": [U64, *_filling(ctypes.c_char)],
 }
 

@@ -49,6 +49,17 @@ class Denial(NamedTuple):
     reason: str
 
 
+class Fit(NamedTuple):
+    """Whether the loads of the slots stepped were within the processors in use.
+
+    first is the first slot whose load was above them, None where there was none: then no window was missed. overload is the
+    loads above them of all slots together, in 1/base; the base times a task's tardiness is at most that.
+    """
+
+    first: Optional[int]
+    overload: int
+
+
 class Figures(NamedTuple):
     """What every simulator tells of a task: cost and quanta in quanta, the period, responses and tardiness in slots.
 

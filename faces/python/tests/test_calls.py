@@ -5,7 +5,7 @@ import threading
 import unittest
 
 import pfair
-from pfair import BadSettings, ClosedDesk, Delay, Denial, Desk, Join, Lag, Leave, Limit, Miss, OutOfRange, Refused
+from pfair import BadSettings, ClosedDesk, Delay, Denial, Desk, Fit, Join, Lag, Leave, Limit, Miss, OutOfRange, Refused
 
 
 def three_of_two_thirds() -> Desk:
@@ -49,6 +49,14 @@ class Calls(unittest.TestCase):
             self.assertEqual(desk.misses(), [Miss(3, 2, 3, None)])
             desk.insert(Delay(slot=5, task=2, by=2))
             desk.insert(Leave(slot=9, task=2))
+
+    def test_whether_the_plan_fits(self) -> None:
+        with three_of_two_thirds() as desk:
+            desk.advance(2)
+            self.assertEqual((desk.never_misses(), desk.fits()), (True, Fit(None, 0)))
+            # In slot 1 three tasks of 2 units ask for 6, and one processor has 3.
+            desk.insert(Limit(slot=1, count=1))
+            self.assertEqual((desk.never_misses(), desk.fits()), (False, Fit(1, 3)))
 
     def test_what_would_be(self) -> None:
         with three_of_two_thirds() as desk:

@@ -1,8 +1,8 @@
 use crate::raw::{
     pfair_advance, pfair_change, pfair_close, pfair_denial, pfair_denials, pfair_desk, pfair_edit, pfair_events,
-    pfair_figures, pfair_lag, pfair_lags, pfair_miss, pfair_misses, pfair_now, pfair_numbered, pfair_open,
-    pfair_open_wide, pfair_pick, pfair_reply, pfair_row, pfair_schedule, pfair_step, pfair_task_figures, pfair_text,
-    pfair_version, pfair_what_if,
+    pfair_figures, pfair_fit, pfair_fits, pfair_lag, pfair_lags, pfair_miss, pfair_misses, pfair_never_misses,
+    pfair_now, pfair_numbered, pfair_open, pfair_open_wide, pfair_pick, pfair_reply, pfair_row, pfair_schedule,
+    pfair_step, pfair_task_figures, pfair_text, pfair_version, pfair_what_if,
 };
 use core::cell::UnsafeCell;
 use core::ptr;
@@ -113,6 +113,18 @@ impl Handle {
     /// `pfair_events`.
     pub fn events(&self, room: &mut [pfair_numbered], count: &mut usize) -> u32 {
         self.fill(pfair_events, room, count)
+    }
+
+    /// `pfair_never_misses`.
+    pub fn never_misses(&self, never: &mut bool) -> u32 {
+        // SAFETY: as in `now`.
+        unsafe { pfair_never_misses(self.raw.get(), never) }
+    }
+
+    /// `pfair_fits`.
+    pub fn fits(&self, fit: &mut pfair_fit) -> u32 {
+        // SAFETY: as in `now`.
+        unsafe { pfair_fits(self.raw.get(), fit) }
     }
 
     /// `pfair_text`.

@@ -95,6 +95,14 @@ pub struct pfair_numbered {
     pub event: pfair_event,
 }
 
+#[repr(C)]
+#[derive(Clone, Copy, Debug, Default, PartialEq, Eq)]
+pub struct pfair_fit {
+    pub first: u64,
+    pub overload_high: u64,
+    pub overload_low: u64,
+}
+
 unsafe extern "C" {
     pub fn pfair_open(desk: *mut pfair_desk, processors: u64, base: u64, cap: u64, every: u64) -> u32;
     pub fn pfair_open_wide(desk: *mut pfair_desk, processors: u64, base: u64, cap: u64, every: u64) -> u32;
@@ -127,6 +135,8 @@ unsafe extern "C" {
     pub fn pfair_figures(desk: *mut pfair_desk, room: *mut pfair_task_figures, length: usize, count: *mut usize)
         -> u32;
     pub fn pfair_events(desk: *mut pfair_desk, room: *mut pfair_numbered, length: usize, count: *mut usize) -> u32;
+    pub fn pfair_never_misses(desk: *mut pfair_desk, never: *mut bool) -> u32;
+    pub fn pfair_fits(desk: *mut pfair_desk, fit: *mut pfair_fit) -> u32;
     pub fn pfair_text(desk: *mut pfair_desk, kind: u64, room: *mut u8, length: usize, count: *mut usize) -> u32;
     pub fn pfair_schedule(
         desk: *mut pfair_desk,

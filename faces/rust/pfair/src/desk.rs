@@ -1,7 +1,7 @@
 use crate::error::answer;
-use crate::{Change, Denial, Error, Event, Figures, Lag, Miss, Row, Settings, Text};
+use crate::{Change, Denial, Error, Event, Figures, Fit, Lag, Miss, Row, Settings, Text};
 use pfair_sys as sys;
-use pfair_sys::raw::{pfair_pick, pfair_reply};
+use pfair_sys::raw::{pfair_fit, pfair_pick, pfair_reply};
 use pfair_sys::Handle;
 use std::ops::Range;
 
@@ -201,6 +201,27 @@ impl Desk {
     /// `NoMemory`.
     pub fn figures(&self) -> Result<Vec<Figures>, Error> {
         Ok(all(|room, count| self.handle.figures(room, count))?.into_iter().map(Figures::from).collect())
+    }
+
+    /// Whether no window can ever be missed, whatever joins, leaves, is delayed and runs early, until a limit comes that
+    /// leaves too few processors in use.
+    pub fn never_misses(&self) -> bool {
+        let mut never = false;
+        let status = self.handle.never_misses(&mut never);
+        debug_assert_eq!(status, sys::PFAIR_OK, "an open desk tells");
+        never
+    }
+
+    /// Whether the loads of the slots stepped were within the processors in use, and if not, from which slot on and by how
+    /// much.
+    ///
+    /// # Errors
+    ///
+    /// `NoMemory`.
+    pub fn fits(&self) -> Result<Fit, Error> {
+        let mut fit = pfair_fit::default();
+        answer(self.handle.fits(&mut fit), NOTHING)?;
+        Ok(Fit::from(fit))
     }
 
     /// The events held, by number.

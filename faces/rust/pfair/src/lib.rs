@@ -36,4 +36,4 @@ pub use error::{DenialReason, Error, Refusal, WeightFault};
 pub use row::{Pick, Row};
 pub use settings::Settings;
 pub use text::Text;
-pub use told::{Denial, Figures, Lag, Miss};
+pub use told::{Denial, Figures, Fit, Lag, Miss};

@@ -1,5 +1,5 @@
 use crate::DenialReason;
-use pfair_sys::raw::{pfair_denial, pfair_lag, pfair_miss, pfair_task_figures};
+use pfair_sys::raw::{pfair_denial, pfair_fit, pfair_lag, pfair_miss, pfair_task_figures};
 
 /// How far a task is from its fair share.
 #[derive(Clone, Copy, Debug, PartialEq, Eq)]
@@ -65,6 +65,22 @@ pub struct Figures {
     pub tardiness: u64,
     /// The least and the greatest lag times the period, while the task was inside.
     pub lag: (i64, i64),
+}
+
+/// Whether the loads of the slots stepped were within the processors in use.
+#[derive(Clone, Copy, Debug, PartialEq, Eq)]
+pub struct Fit {
+    /// The first slot whose load was above the processors in use. `None` where there was none: then no window was missed.
+    pub first: Option<u64>,
+    /// The loads above them of all slots together, in 1/base. The base times a task's tardiness is at most that.
+    pub overload: u128,
+}
+
+impl From<pfair_fit> for Fit {
+    fn from(raw: pfair_fit) -> Self {
+        let first = (raw.first != u64::MAX).then_some(raw.first);
+        Fit { first, overload: u128::from(raw.overload_high) << 64 | u128::from(raw.overload_low) }
+    }
 }
 
 impl From<pfair_task_figures> for Figures {

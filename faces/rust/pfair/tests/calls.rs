@@ -1,5 +1,5 @@
 //! Each call once, with values worked out by hand from docs/RULES.md.
-use pfair::{Change, DenialReason, Desk, Error, Event, Lag, Miss, Refusal, Settings, Text, WeightFault};
+use pfair::{Change, DenialReason, Desk, Error, Event, Fit, Lag, Miss, Refusal, Settings, Text, WeightFault};
 
 /// Three tasks of 2/3 on two processors: each gets two quanta in three slots.
 fn three_of_two_thirds() -> Desk {
@@ -70,8 +70,13 @@ fn refusals_tell_why() {
 #[test]
 fn a_window_is_missed_where_a_processor_goes_out_of_use() {
     let mut desk = three_of_two_thirds();
+    assert!(desk.never_misses());
     desk.insert(Event::Limit { slot: 0, count: 1 }).unwrap();
+    assert!(!desk.never_misses());
+    assert_eq!(desk.fits(), Ok(Fit { first: None, overload: 0 }));
     desk.advance(2).unwrap();
+    // Three tasks of 2 units ask for 6 in each slot, and one processor has 3.
+    assert_eq!(desk.fits(), Ok(Fit { first: Some(0), overload: 6 }));
     // Of the three first windows, slots 0 and 1, one processor serves two.
     assert_eq!(desk.misses().unwrap(), [Miss { task: 3, sub: 1, deadline: 2, ran: None }]);
 }
