@@ -65,6 +65,10 @@ fn change(random: &mut Random, processors: u64, now: u64, given: u64) -> Change 
     }
 }
 
+fn brings_a_limit(change: &Change) -> bool {
+    matches!(change, Change::Insert(Event::Limit { .. }) | Change::Alter(_, Event::Limit { .. }))
+}
+
 fn compare(desk: &Desk, plain: &PlainDesk) {
     assert_eq!(desk.now(), plain.now());
     for (row, there) in desk.rows().zip(&plain.run().rows) {
@@ -78,8 +82,40 @@ fn compare(desk: &Desk, plain: &PlainDesk) {
     assert_eq!(desk.text(Text::Json).unwrap(), plain.json());
 }
 
-/// A desk of each kind and so many commands: how many of them were not refused.
-fn round(seed: u64, commands: u64) -> u64 {
+/// The loads are those of the plain desk, and the laws hold of its own count: without a slot whose load is above the
+/// processors in use no window is missed, and the base times the tardiness of each task is at most the overload.
+fn compare_fit(desk: &Desk, plain: &PlainDesk) {
+    let fit = plain.fit();
+    assert_eq!(desk.fits(), Ok(fit));
+    assert!(fit.first.is_some() || plain.misses().is_empty());
+    let tardiness = plain.tardiness();
+    let told: Vec<_> = desk.figures().unwrap().iter().map(|it| (it.task, it.tardiness)).collect();
+    assert_eq!(told, tardiness);
+    for (task, late) in tardiness {
+        assert!(u128::from(BASE) * u128::from(late) <= fit.overload, "task {task} is {late} slots late, {fit:?}");
+    }
+}
+
+/// Whether no window can be missed, as both tell; and if so before, it stays so until a limit comes.
+fn compare_promise(desk: &Desk, plain: &PlainDesk, promised: bool) -> bool {
+    let never = desk.never_misses();
+    assert_eq!(never, plain.carries_the_cap());
+    assert!(never || !promised);
+    assert!(!never || plain.misses().is_empty());
+    never
+}
+
+/// How often what the laws speak of came to pass.
+#[derive(Default)]
+struct Seen {
+    made: u64,
+    promised: u64,
+    above: u64,
+    missed: u64,
+}
+
+/// A desk of each kind and so many commands.
+fn round(seed: u64, commands: u64, seen: &mut Seen) {
     let mut random = Random(seed);
     let processors = 1 + random.below(4);
     let cap = (processors - 1) * BASE + 1 + random.below(2 * BASE);
@@ -87,13 +123,13 @@ fn round(seed: u64, commands: u64) -> u64 {
     let mut desk = Desk::open(Settings { cap, every, ..Settings::new(processors, BASE) }).expect("within the limits");
     let mut plain = PlainDesk::open(processors, BASE, cap);
     let mut given = 0;
-    let mut made = 0;
+    let mut promised = compare_promise(&desk, &plain, false);
     for number in 0..commands {
         if random.below(3) == 0 {
             let count = random.below(3);
             assert_eq!(desk.advance(count), Ok(count));
             (0..count).for_each(|_| plain.step());
-            made += 1;
+            seen.made += 1;
         } else {
             let change = change(&mut random, processors, plain.now(), given);
             let strict = random.one_in(4);
@@ -101,13 +137,18 @@ fn round(seed: u64, commands: u64) -> u64 {
             let there = plain.edit(&change, strict).map_err(Error::Refused);
             assert_eq!(here, there, "seed {seed}, command {number}: {change:?}, strict {strict}");
             given = here.map_or(given, |id| id.max(given));
-            made += u64::from(here.is_ok());
+            seen.made += u64::from(here.is_ok());
+            promised &= here.is_err() || !brings_a_limit(&change);
         }
+        promised = compare_promise(&desk, &plain, promised);
         if number % 8 == 7 || number + 1 == commands {
             compare(&desk, &plain);
+            compare_fit(&desk, &plain);
         }
     }
-    made
+    seen.promised += u64::from(promised);
+    seen.above += u64::from(plain.fit().first.is_some());
+    seen.missed += u64::from(!plain.misses().is_empty());
 }
 
 fn number(name: &str, usual: u64) -> u64 {
@@ -119,6 +160,10 @@ fn the_desk_and_a_plain_scheduler_answer_alike() {
     let commands = number("PFAIR_COMMANDS", 100_000);
     let first = number("PFAIR_SEED", 1);
     let rounds = commands.div_ceil(ROUND);
-    let made: u64 = (first..first + rounds).map(|seed| round(seed, ROUND)).sum();
+    let mut seen = Seen::default();
+    (first..first + rounds).for_each(|seed| round(seed, ROUND, &mut seen));
+    let Seen { made, promised, above, missed } = seen;
     println!("{} commands, {made} of them made: the same answers", rounds * ROUND);
+    println!("of {rounds} plans {promised} can miss nothing, {above} had too much load, {missed} missed a window");
+    assert!(rounds < 100 || (promised > 0 && missed > 0 && above > missed), "the plans are of each kind");
 }

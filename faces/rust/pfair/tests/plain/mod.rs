@@ -1,6 +1,7 @@
 //! A plain scheduler, written from docs/RULES.md alone: each change runs the whole plan anew from slot 0. It shares no code
 //! with the library.
 
+mod fit;
 mod report;
 mod task;
 
@@ -31,6 +32,8 @@ pub struct Run {
     pub rows: Vec<Places>,
     pub denials: Vec<Denied>,
     pub tasks: BTreeMap<u64, Task>,
+    /// What the tasks inside ask of each slot, and what its processors in use have, in units.
+    loads: Vec<(u64, u64)>,
     count: Option<u64>,
 }
 
@@ -105,6 +108,10 @@ impl Plan {
         }
     }
 
+    fn units(&self, cost: u64, period: u64) -> u64 {
+        cost * (self.base / period)
+    }
+
     fn weight_fault(&self, cost: u64, period: u64) -> Option<WeightFault> {
         if cost == 0 {
             Some(WeightFault::ZeroCost)
@@ -158,6 +165,7 @@ impl Run {
             }
         }
         let count = self.count.unwrap_or(plan.processors) as usize;
+        self.loads.push((self.load(plan), plan.base * count as u64));
         let mut ready: Vec<u64> =
             self.tasks.iter().filter(|(_, it)| it.is_ready(slot)).map(|(number, _)| *number).collect();
         ready.sort_by_key(|number| self.tasks[number].key(*number));
@@ -168,15 +176,17 @@ impl Run {
         }
     }
 
+    /// What the tasks inside ask of a slot.
+    fn load(&self, plan: &Plan) -> u64 {
+        self.tasks.values().filter(|it| it.is_inside()).map(|it| plan.units(it.cost, it.period)).sum()
+    }
+
     /// Takes an event, or tells why it is denied.
     fn take(&mut self, plan: &Plan, event: &Event) -> Result<(), DenialReason> {
         match *event {
             Event::Limit { count, .. } => self.count = Some(count),
             Event::Join { slot, task, cost, period, early } => {
-                let units = |cost: u64, period: u64| cost * (plan.base / period);
-                let load: u64 =
-                    self.tasks.values().filter(|it| it.is_inside()).map(|it| units(it.cost, it.period)).sum();
-                if load + units(cost, period) > plan.cap {
+                if self.load(plan) + plan.units(cost, period) > plan.cap {
                     return Err(DenialReason::OverCapacity);
                 }
                 self.tasks.insert(task, Task::new(slot, cost, period, early));
