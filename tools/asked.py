@@ -1,9 +1,9 @@
 """Words and what pfair must answer them, byte for byte: help, the version, and what it refuses.
 
 crates/pfair/cases/words has the expected bytes: WORD.help is the front of what help tells of that word, and of the program in
-pfair.help, and behind each stands the file lesson, but behind help.help; version is what is told of the version. The file
-refusals has the words that are refused: lines '$ pfair WORDS', as a shell reads them, then what is told of each on standard
-error, and the status in brackets.
+pfair.help, and behind each stands the file lesson; version is what is told of the version. The file refusals has the words
+that are refused: lines '$ pfair WORDS', as a shell reads them, then what is told of each on standard error, and the status in
+brackets.
 """
 import difflib
 import shlex
@@ -51,7 +51,7 @@ def helps():
     """Help of the program and of each word, in each way in which it may be asked for, and the version."""
     lesson = case_bytes("words/lesson")
     texts = [(words, case_bytes(f"words/{it}.help") + lesson) for it in TAUGHT for words in ways_to_help(it)]
-    texts += [(["help", "help"], case_bytes("words/help.help"))]
+    texts += [(["help", "help"], case_bytes("words/help.help") + lesson)]
     texts += [([word], case_bytes("words/version")) for word in ("--version", "-V")]
     for words, text in texts:
         yield Answer(words, BAD_SCRIPT, text, b"", 0)
