@@ -104,7 +104,9 @@ enum {
     PFAIR_DENIALS = 3,    /* CSV: the denials */
     PFAIR_EVENTS = 4,     /* CSV: the events held */
     PFAIR_SCRIPT = 5,     /* a script that opens a desk as this one stands, for the program pfair */
-    PFAIR_JSON = 6        /* the whole report as one JSON object, without an end of line */
+    PFAIR_JSON = 6,       /* the whole report as one JSON object, without an end of line */
+    PFAIR_PROCESSORS = 7, /* CSV: how the processors were used */
+    PFAIR_STATS = 8       /* CSV: the figures of each task */
 };
 
 /* An event. Only the slot and the fields that its kind has are read. */
@@ -222,7 +224,7 @@ uint32_t pfair_edit(pfair_desk *desk, uint32_t caller, const pfair_change *chang
 
 /*
  * Tells what a change would be answered, as pfair_edit does, but makes it not: the desk is as before. Where it would be
- * made, the room gets the text of this kind, PFAIR_SCHEDULE to PFAIR_JSON, of the desk as it would then be, with *count as
+ * made, the room gets the text of this kind, PFAIR_SCHEDULE to PFAIR_STATS, of the desk as it would then be, with *count as
  * for pfair_text. PFAIR_TOO_SHORT: *reply is told. PFAIR_NOT_OPEN, PFAIR_NO_MEMORY, PFAIR_UNKNOWN_KIND: *reply is as
  * before. The room is as before at every status but PFAIR_OK.
  */
@@ -283,16 +285,24 @@ uint32_t pfair_never_misses(pfair_desk *desk, bool *never);
 uint32_t pfair_fits(pfair_desk *desk, pfair_fit *fit);
 
 /*
- * A text of a kind, PFAIR_SCHEDULE to PFAIR_JSON: *count bytes, all of them ASCII, with no byte 0 after them. Each call
+ * A text of a kind, PFAIR_SCHEDULE to PFAIR_STATS: *count bytes, all of them ASCII, with no byte 0 after them. Each call
  * makes the whole text, a call with length 0 too. PFAIR_UNKNOWN_KIND, PFAIR_TOO_SHORT, PFAIR_NO_MEMORY, PFAIR_NOT_OPEN.
  */
 uint32_t pfair_text(pfair_desk *desk, uint64_t kind, uint8_t *room, size_t length, size_t *count);
 
 /*
- * The schedule of the slots from `from` on and below `to` as CSV. PFAIR_OUT_OF_RANGE where from is above to, or to above
- * the slots stepped; PFAIR_TOO_SHORT, PFAIR_NO_MEMORY, PFAIR_NOT_OPEN.
+ * The schedule as CSV, and a chart in characters, at most 80 wide, of the slots from `from` on and below `to`.
+ * PFAIR_OUT_OF_RANGE where from is above to, or to above the slots stepped; PFAIR_TOO_SHORT, PFAIR_NO_MEMORY,
+ * PFAIR_NOT_OPEN.
  */
 uint32_t pfair_schedule(pfair_desk *desk, uint64_t from, uint64_t to, uint8_t *room, size_t length, size_t *count);
+uint32_t pfair_chart(pfair_desk *desk, uint64_t from, uint64_t to, uint8_t *room, size_t length, size_t *count);
+
+/*
+ * A picture of these slots as SVG, each `cell` wide. There are at most 4,096 slots, and a cell is 6 to 40 wide (20 does for
+ * most): else PFAIR_OUT_OF_RANGE too.
+ */
+uint32_t pfair_svg(pfair_desk *desk, uint64_t from, uint64_t to, uint64_t cell, uint8_t *room, size_t length, size_t *count);
 
 /* ---- The library ---- */
 

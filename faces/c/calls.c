@@ -58,6 +58,8 @@ static int closed(void) {
     CHECK(pfair_fits(&desk, &fit) == PFAIR_NOT_OPEN && fit.first == 7 && fit.overload_high == 8 && fit.overload_low == 9);
     CHECK(pfair_text(&desk, PFAIR_JSON, &text, 1, &count) == PFAIR_NOT_OPEN && text == 0);
     CHECK(pfair_schedule(&desk, 0, 0, &text, 1, &count) == PFAIR_NOT_OPEN && text == 0);
+    CHECK(pfair_chart(&desk, 0, 0, &text, 1, &count) == PFAIR_NOT_OPEN && text == 0);
+    CHECK(pfair_svg(&desk, 0, 0, 20, &text, 1, &count) == PFAIR_NOT_OPEN && text == 0);
     pfair_close(&desk);
     CHECK(desk.inner == NULL);
     return 0;
@@ -143,7 +145,7 @@ static int what_if(pfair_desk *desk) {
     CHECK(pfair_what_if(desk, 7, &change, false, &reply, PFAIR_SCHEDULE, text, 4, &count) == PFAIR_TOO_SHORT);
     change.id = 9;
     CHECK(pfair_what_if(desk, 7, &change, false, &reply, PFAIR_SCHEDULE, text, 256, &count) == PFAIR_EVENT_NOT_FOUND);
-    CHECK(pfair_what_if(desk, 7, &change, false, &reply, PFAIR_JSON + 1, text, 256, &count) == PFAIR_UNKNOWN_KIND);
+    CHECK(pfair_what_if(desk, 7, &change, false, &reply, PFAIR_STATS + 1, text, 256, &count) == PFAIR_UNKNOWN_KIND);
     memset(text, 0, sizeof text);
     CHECK(pfair_text(desk, PFAIR_SCHEDULE, text, sizeof text, &count) == PFAIR_OK && strcmp((const char *)text, now) == 0);
     return 0;
@@ -210,7 +212,7 @@ static int texts(pfair_desk *desk) {
     uint8_t text[1024];
     uint64_t kind;
     size_t count = 0, again = 0;
-    for (kind = PFAIR_SCHEDULE; kind <= PFAIR_JSON; kind++) {
+    for (kind = PFAIR_SCHEDULE; kind <= PFAIR_STATS; kind++) {
         memset(text, 0, sizeof text);
         CHECK(pfair_text(desk, kind, text, 0, &count) == PFAIR_TOO_SHORT && count < sizeof text && text[0] == 0);
         CHECK(pfair_text(desk, kind, text, count, &again) == PFAIR_OK && again == count && text[count] == 0);
@@ -219,19 +221,24 @@ static int texts(pfair_desk *desk) {
         if (kind == PFAIR_JSON) CHECK(memcmp(text, begin, sizeof begin - 1) == 0 && text[count - 1] == '}');
     }
     count = 9;
-    CHECK(pfair_text(desk, PFAIR_JSON + 1, text, sizeof text, &count) == PFAIR_UNKNOWN_KIND && count == 9);
+    CHECK(pfair_text(desk, PFAIR_STATS + 1, text, sizeof text, &count) == PFAIR_UNKNOWN_KIND && count == 9);
     return 0;
 }
 
-static int ranges(pfair_desk *desk) {
-    static const char part[] = "slot,p0,p1\n1,1/2,3/1\n";
-    uint8_t text[256];
+static int pictures(pfair_desk *desk) {
+    static const char part[] = "slot,p0,p1\n1,1/2,3/1\n", chart[] = "slots 1 to 3 of 3; processors 2; base 3; cap 6\n";
+    uint8_t text[16384];
     size_t count = 0;
     memset(text, 0, sizeof text);
     CHECK(pfair_schedule(desk, 1, 2, text, 4, &count) == PFAIR_TOO_SHORT && count == sizeof part - 1 && text[0] == 0);
     CHECK(pfair_schedule(desk, 1, 2, text, sizeof text, &count) == PFAIR_OK && strcmp((const char *)text, part) == 0);
     CHECK(pfair_schedule(desk, 2, 1, text, sizeof text, &count) == PFAIR_OUT_OF_RANGE);
-    CHECK(pfair_schedule(desk, 0, 4, text, sizeof text, &count) == PFAIR_OUT_OF_RANGE);
+    CHECK(pfair_chart(desk, 1, 3, text, sizeof text, &count) == PFAIR_OK && memcmp(text, chart, sizeof chart - 1) == 0);
+    CHECK(pfair_chart(desk, 0, 4, text, sizeof text, &count) == PFAIR_OUT_OF_RANGE);
+    CHECK(pfair_svg(desk, 0, 3, 20, text, sizeof text, &count) == PFAIR_OK && memcmp(text, "<svg ", 5) == 0);
+    CHECK(pfair_svg(desk, 0, 3, 5, text, sizeof text, &count) == PFAIR_OUT_OF_RANGE);
+    CHECK(pfair_svg(desk, 0, 3, 41, text, sizeof text, &count) == PFAIR_OUT_OF_RANGE);
+    CHECK(pfair_svg(desk, 0, 4, 20, text, sizeof text, &count) == PFAIR_OUT_OF_RANGE);
     return 0;
 }
 
@@ -252,7 +259,7 @@ int main(void) {
     if (!failed) failed = rows(&desk);
     if (!failed) failed = tasks_and_events(&desk);
     if (!failed) failed = texts(&desk);
-    if (!failed) failed = ranges(&desk);
+    if (!failed) failed = pictures(&desk);
     if (!failed) failed = what_if(&desk);
     if (!failed) failed = version();
     if (!failed) failed = refusals(&desk);

@@ -6,4 +6,5 @@ pub mod Fitting
 pub mod Texts
 pub mod Commanded
 pub mod Ranges
+pub mod Pictures
 pub mod Supposed

@@ -5,10 +5,12 @@ use Rattle.pf_report.specs.Events.{events_text}
 use Rattle.pf_report.specs.Json.{json_text}
 use Rattle.pf_report.specs.Script.{script_text_of}
 use Rattle.pf_report.specs.Tables.{schedule_text, lags_text, misses_text, denials_text}
+use Rattle.pf_stats.specs.Processors.{processors_text}
+use Rattle.pf_stats.specs.Stats.{stats_text}
 use Rattle.pf_face.specs.declared.status.TheConstants.{UNKNOWN_KIND}
 use Rattle.pf_face.specs.declared.text_kind.TextKind.{TextKind}
-use Rattle.pf_face.specs.declared.text_kind.TextKind.TheVariants.{Schedule, Lags, Misses, Denials, Events, Script, Json}
-use Rattle.pf_face.specs.declared.text_kind.TheConstants.{SCHEDULE, LAGS, MISSES, DENIALS, EVENTS, SCRIPT, JSON}
+use Rattle.pf_face.specs.declared.text_kind.TextKind.TheVariants.{Schedule, Lags, Misses, Denials, Events, Script, Json, Processors, Stats}
+use Rattle.pf_face.specs.declared.text_kind.TheConstants.{SCHEDULE, LAGS, MISSES, DENIALS, EVENTS, SCRIPT, JSON, PROCESSORS, STATS}
 use Rattle.pf_face.specs.Told.{MayFillRoom}
 
 -- the kind of this number
@@ -20,7 +22,9 @@ kind_numbered number =
     if number == DENIALS then Some Denials else
     if number == EVENTS then Some Events else
     if number == SCRIPT then Some Script else
-    if number == JSON then Some Json else None
+    if number == JSON then Some Json else
+    if number == PROCESSORS then Some Processors else
+    if number == STATS then Some Stats else None
 
 -- the text of what is seen of a desk with such a distance of checkpoints
 abbrev pub text_seen : TextKind → ℕ → Seen → List ℕ
@@ -31,6 +35,8 @@ text_seen Denials every seen = denials_text seen
 text_seen Events every seen = events_text seen
 text_seen Script every seen = script_text_of every seen
 text_seen Json every seen = json_text seen
+text_seen Processors every seen = processors_text seen
+text_seen Stats every seen = stats_text seen
 
 -- the text of a desk
 abbrev pub text_of : TextKind → Shown → List ℕ

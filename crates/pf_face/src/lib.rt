@@ -9,6 +9,7 @@ mod fitting;
 mod for_c;
 mod handle;
 mod opening;
+mod pictures;
 mod ranges;
 mod raw_box;
 mod raw_change;

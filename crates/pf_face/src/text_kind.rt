@@ -18,6 +18,10 @@ pub enum TextKind {
     Script,
     /// The report as a JSON object.
     Json,
+    /// How the processors were used, as a table.
+    Processors,
+    /// The figures of each task as a table.
+    Stats,
 }
 
 /// The number of `TextKind::Schedule`.
@@ -41,6 +45,12 @@ pub const SCRIPT: u64 = 5;
 /// The number of `TextKind::Json`.
 pub const JSON: u64 = 6;
 
+/// The number of `TextKind::Processors`.
+pub const PROCESSORS: u64 = 7;
+
+/// The number of `TextKind::Stats`.
+pub const STATS: u64 = 8;
+
 impl TextKind {
     /// The kind of this number.
     pub fn numbered(number: u64) -> Option<TextKind>
@@ -54,6 +64,8 @@ impl TextKind {
             EVENTS => Some(TextKind::Events),
             SCRIPT => Some(TextKind::Script),
             JSON => Some(TextKind::Json),
+            PROCESSORS => Some(TextKind::Processors),
+            STATS => Some(TextKind::Stats),
             _ => None,
         }
     }

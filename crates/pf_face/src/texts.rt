@@ -16,9 +16,11 @@ use pf_report::lags::lags_csv;
 use pf_report::misses::misses_csv;
 use pf_report::schedule::schedule_csv;
 use pf_report::script::script_text;
+use pf_stats::processors::processors_csv;
+use pf_stats::stats::stats_csv;
 use std::alloc::{AllocError, Global};
 
-/// Writes a text of a desk, of the kind of this number: `SCHEDULE` to `JSON`. `count` is how many bytes it has, where the
+/// Writes a text of a desk, of the kind of this number: `SCHEDULE` to `STATS`. `count` is how many bytes it has, where the
 /// room is too short too.
 ///
 /// # Errors
@@ -91,5 +93,7 @@ pub(crate) fn text_of_snapshot(
         TextKind::Events => events_csv(alloc, snapshot),
         TextKind::Script => script_text(alloc, snapshot, every),
         TextKind::Json => report_json(alloc, snapshot),
+        TextKind::Processors => processors_csv(alloc, snapshot),
+        TextKind::Stats => stats_csv(alloc, snapshot),
     }
 }

@@ -14,7 +14,7 @@ from pfair._told import Denial, Figures, Fit, Lag, Miss, Pick
 
 NEVER = (1 << 64) - 1
 
-TEXTS = ("schedule", "lags", "misses", "denials", "events", "script", "json")
+TEXTS = ("schedule", "lags", "misses", "denials", "events", "script", "json", "processors", "stats")
 
 # Who runs on each processor, or None where it is idle or out of use.
 Row = List[Optional[Pick]]
@@ -196,11 +196,29 @@ class Desk:
     def text(self, kind: str) -> str:
         """A text of the desk as docs/FORMATS.md has it.
 
-        The tables "schedule", "lags", "misses", "denials" and "events" are CSV; "script" is for the program pfair; "json" is the
-        whole report.
+        The tables "schedule", "lags", "misses", "denials", "events", "processors" and "stats" are CSV; "script" is for the
+        program pfair; "json" is the whole report.
         """
         text: bytes = self._all("text", ctypes.c_char, text_number(kind))
         return text.decode("ascii")
+
+    def chart(self, first: int = 0, end: Optional[int] = None) -> str:
+        """A chart in characters of the slots from first on and below end, or all. Raises OutOfRange."""
+        return self._shown("chart", first, end)
+
+    def svg(self, first: int = 0, end: Optional[int] = None, cell: int = 20) -> str:
+        """A picture as SVG of these slots, at most 4,096, each `cell` wide, 6 to 40. Raises OutOfRange."""
+        return self._shown("svg", first, end, cell)
+
+    def _repr_svg_(self) -> str:
+        """What a notebook shows of a desk: its last slots, at most 200."""
+        return self.svg(max(0, self.now - 200))
+
+    def _shown(self, name: str, first: int, end: Optional[int], *more: int) -> str:
+        with self._turn:
+            slots = (first, self.now if end is None else end, *more)
+            text: bytes = self._all(name, ctypes.c_char, *map(unsigned, slots))
+            return text.decode("ascii")
 
     def report(self) -> Dict[str, Any]:
         """The report, read from its JSON: the keys are denials, entries, lags, misses, now and schedule."""

@@ -105,6 +105,8 @@ _TAKES: Dict[str, list] = {
     "never_misses": [ctypes.POINTER(ctypes.c_bool)],
     "fits": [ctypes.POINTER(RawFit)],
     "text": [U64, *_filling(ctypes.c_char)],
+    "chart": [U64, U64, *_filling(ctypes.c_char)],
+    "svg": [U64, U64, U64, *_filling(ctypes.c_char)],
 }
 
 

@@ -31,6 +31,13 @@ class Calls(unittest.TestCase):
             self.assertEqual(desk.text("schedule"), "slot,p0,p1\n0,1/1,2/1\n1,1/2,3/1\n2,2/2,3/2\n")
             with self.assertRaises(ValueError):
                 desk.text("tables")
+            self.assertTrue(desk.chart().startswith("slots 0 to 3 of 3; processors 2; base 3; cap 6\n"))
+            self.assertTrue(desk.chart(1, 2).startswith("slots 1 to 2 of 3;"))
+            self.assertTrue(desk.svg(cell=6).endswith("</svg>\n"))
+            self.assertTrue(desk._repr_svg_().startswith("<svg "))
+            self.assertTrue(desk.text("stats").startswith("task,cost,period,quanta,"))
+            with self.assertRaises(OutOfRange):
+                desk.svg(0, 4)
             report = desk.report()
             self.assertEqual((report["now"], report["entries"]), (3, 6))
             self.assertEqual(report["schedule"], [[list(pick) for pick in row] for row in rows])

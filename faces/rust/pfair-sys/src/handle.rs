@@ -1,8 +1,8 @@
 use crate::raw::{
-    pfair_advance, pfair_change, pfair_close, pfair_denial, pfair_denials, pfair_desk, pfair_edit, pfair_events,
-    pfair_figures, pfair_fit, pfair_fits, pfair_lag, pfair_lags, pfair_miss, pfair_misses, pfair_never_misses,
-    pfair_now, pfair_numbered, pfair_open, pfair_open_wide, pfair_pick, pfair_reply, pfair_row, pfair_schedule,
-    pfair_step, pfair_task_figures, pfair_text, pfair_version, pfair_what_if,
+    pfair_advance, pfair_change, pfair_chart, pfair_close, pfair_denial, pfair_denials, pfair_desk, pfair_edit,
+    pfair_events, pfair_figures, pfair_fit, pfair_fits, pfair_lag, pfair_lags, pfair_miss, pfair_misses,
+    pfair_never_misses, pfair_now, pfair_numbered, pfair_open, pfair_open_wide, pfair_pick, pfair_reply, pfair_row,
+    pfair_schedule, pfair_step, pfair_svg, pfair_task_figures, pfair_text, pfair_version, pfair_what_if,
 };
 use core::cell::UnsafeCell;
 use core::ptr;
@@ -137,6 +137,18 @@ impl Handle {
     pub fn schedule(&self, from: u64, to: u64, room: &mut [u8], count: &mut usize) -> u32 {
         // SAFETY: as in `row`.
         unsafe { pfair_schedule(self.raw.get(), from, to, room.as_mut_ptr(), room.len(), count) }
+    }
+
+    /// `pfair_chart`.
+    pub fn chart(&self, from: u64, to: u64, room: &mut [u8], count: &mut usize) -> u32 {
+        // SAFETY: as in `row`.
+        unsafe { pfair_chart(self.raw.get(), from, to, room.as_mut_ptr(), room.len(), count) }
+    }
+
+    /// `pfair_svg`.
+    pub fn svg(&self, from: u64, to: u64, cell: u64, room: &mut [u8], count: &mut usize) -> u32 {
+        // SAFETY: as in `row`.
+        unsafe { pfair_svg(self.raw.get(), from, to, cell, room.as_mut_ptr(), room.len(), count) }
     }
 
     fn fill<T>(&self, call: Filling<T>, room: &mut [T], count: &mut usize) -> u32 {

@@ -146,5 +146,22 @@ unsafe extern "C" {
         length: usize,
         count: *mut usize,
     ) -> u32;
+    pub fn pfair_chart(
+        desk: *mut pfair_desk,
+        from: u64,
+        to: u64,
+        room: *mut u8,
+        length: usize,
+        count: *mut usize,
+    ) -> u32;
+    pub fn pfair_svg(
+        desk: *mut pfair_desk,
+        from: u64,
+        to: u64,
+        cell: u64,
+        room: *mut u8,
+        length: usize,
+        count: *mut usize,
+    ) -> u32;
     pub fn pfair_version(room: *mut u8, length: usize, count: *mut usize) -> u32;
 }

@@ -253,6 +253,7 @@ impl Desk {
     }
 }
 
+/// Texts of a range of the slots stepped.
 impl Desk {
     /// The schedule of these slots as CSV.
     ///
@@ -261,6 +262,24 @@ impl Desk {
     /// `OutOfRange` where they were not all stepped, `NoMemory`.
     pub fn schedule(&self, slots: Range<u64>) -> Result<String, Error> {
         text(|room, count| self.handle.schedule(slots.start, slots.end, room, count))
+    }
+
+    /// A chart of these slots in characters, at most 80 wide.
+    ///
+    /// # Errors
+    ///
+    /// As `schedule`.
+    pub fn chart(&self, slots: Range<u64>) -> Result<String, Error> {
+        text(|room, count| self.handle.chart(slots.start, slots.end, room, count))
+    }
+
+    /// A picture of these slots, at most 4,096, as SVG, each `cell` wide, 6 to 40; 20 does for most.
+    ///
+    /// # Errors
+    ///
+    /// As `schedule`; `OutOfRange` for more slots or another width too.
+    pub fn svg(&self, slots: Range<u64>, cell: u64) -> Result<String, Error> {
+        text(|room, count| self.handle.svg(slots.start, slots.end, cell, room, count))
     }
 }
 

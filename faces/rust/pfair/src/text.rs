@@ -17,6 +17,10 @@ pub enum Text {
     Script,
     /// The whole report as one JSON object, without an end of line.
     Json,
+    /// CSV: how the processors were used.
+    Processors,
+    /// CSV: the figures of each task.
+    Stats,
 }
 
 impl Text {
@@ -29,6 +33,8 @@ impl Text {
             Text::Events => sys::PFAIR_EVENTS,
             Text::Script => sys::PFAIR_SCRIPT,
             Text::Json => sys::PFAIR_JSON,
+            Text::Processors => sys::PFAIR_PROCESSORS,
+            Text::Stats => sys::PFAIR_STATS,
         };
         number.into()
     }

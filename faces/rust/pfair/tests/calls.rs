@@ -47,7 +47,12 @@ fn ranges_of_slots_are_shown() {
     let mut desk = three_of_two_thirds();
     desk.advance(3).unwrap();
     assert_eq!(desk.schedule(1..2).unwrap(), "slot,p0,p1\n1,1/2,3/1\n");
-    assert_eq!(desk.schedule(0..4), Err(Error::OutOfRange));
+    assert!(desk.chart(0..3).unwrap().starts_with("slots 0 to 3 of 3; processors 2; base 3; cap 6\n"));
+    assert!(desk.svg(0..3, 20).unwrap().ends_with("</svg>\n"));
+    assert_eq!(desk.chart(0..4), Err(Error::OutOfRange));
+    assert_eq!(desk.svg(0..3, 41), Err(Error::OutOfRange));
+    assert!(desk.text(Text::Processors).unwrap().starts_with("processor,quanta,idle,changes\n0,3,0,"));
+    assert!(desk.text(Text::Stats).unwrap().starts_with("task,cost,period,quanta,"));
     assert_eq!(pfair::version(), "0.1.0");
 }
 
