@@ -1,7 +1,7 @@
-//! The desk for callers in other languages: each call is one of pf_desk, pf_tally or pf_report at a handle that the caller
-//! keeps, and its status tells what was answered. The one contract of this crate: whatever a caller passes within the types
-//! of C, the desk behind its handle stays a desk, each command is answered as the desk machine answers it, and what is read
-//! is the desk's own. `include/pfair.h` is its header.
+//! The desk for callers in other languages: each call is one of pf_desk, or a text of pf_report, pf_stats, pf_chart or
+//! pf_picture, at a handle that the caller keeps, and its status tells what was answered. The one contract of this crate:
+//! whatever a caller passes within the types of C, the desk behind its handle stays a desk, each command is answered as the
+//! desk machine answers it, and what is read is the desk's own. `include/pfair.h` is its header.
 #![tactic(auto)]
 
 mod commands;
