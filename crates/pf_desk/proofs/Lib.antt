@@ -12,3 +12,4 @@ pub mod Settling
 pub mod Laying
 mod Uncounted
 pub mod Rooms
+mod Fits

@@ -29,3 +29,4 @@ pub mod Small
 pub mod Settled
 pub mod Settlements
 pub mod Room
+pub mod Fitting

@@ -8,6 +8,7 @@ ghost use Rattle.pf_tally.specs.Misses.{misses_of};
 ghost use Rattle.pf_tally.specs.Figures.{figures_of};
 ghost use Rattle.pf_promise.specs.Load.{overload_of};
 ghost use Rattle.pf_fit.specs.Fit.{IsFirstAbove};
+ghost use Rattle.pf_desk.specs.Fitting.{LagsAreWithinQuantum};
 
 use pf_fit::fit::Fit;
 use pf_fit::fits;
@@ -201,7 +202,8 @@ impl Snapshot {
     }
 
     /// Whether the loads of the slots below now were within the processors in use, and if not, from which slot on and by how
-    /// much. Where they were, no window was missed; and no task was tardy by more slots than the overload has quanta.
+    /// much. Where they were, no window was missed, and the lag of a task that never runs early stayed within a quantum; and no
+    /// task was tardy by more slots than the overload has quanta.
     ///
     /// # Errors
     ///
@@ -210,6 +212,7 @@ impl Snapshot {
         ensures first { IfOk result (λ fit. IsFirstAbove self.now.state.plan (run_of self.now.state.plan self.now.state.now) self.now.state.now fit.first) }
         ensures overload { IfOk result (λ fit. fit.overload ≡ overload_of self.now.state.plan (run_of self.now.state.plan self.now.state.now) self.now.state.now) }
         ensures none { IfOk result (λ fit. fit.first ≡ None → misses_of self.now.state.plan (run_of self.now.state.plan self.now.state.now) ≡ []) }
+        ensures lags { IfOk result (λ fit. fit.first ≡ None → LagsAreWithinQuantum self.now.state.plan (run_of self.now.state.plan self.now.state.now)) }
         ensures late { IfOk result (λ fit. All (λ f. self.now.state.plan.settings.base * f.tardiness ≤ fit.overload)
             (figures_of self.now.state.plan (run_of self.now.state.plan self.now.state.now) self.now.rows)) }
     {
