@@ -53,8 +53,13 @@ def owner_of(line):
         return None
     parameters, rest = bracketed(line[begins.end() :])
     trait, _, kind = rest.rpartition(" for ")
-    words = [re.search(r"[\w:]+", kind)[0], *re.findall(r"\(\)|[\w:]+", trait)]
+    named = re.search(r"[\w:]+", kind)
+    words = [named[0], *re.findall(r"\(\)|[\w:]+", trait)]
     first, *others = ("Unit" if it == "()" else it.split("::")[-1] for it in words)
+    # An impl for some arguments of its type alone has these in its name.
+    given = re.findall(r"(?<!')\b\w+", bracketed(kind[named.end() :])[0])
+    if not trait and any(not re.search(rf"\b{it}\b", parameters) for it in given):
+        return "+".join([first, *given])
     # A destructor has the name of its type alone. No name has the impl's own parameters, nor the type for its trait's.
     left_out = {"Drop", first, *re.findall(r"(?:^|,)\s*(\w+)", without_brackets(parameters))}
     return first + "".join(it for it in others if it not in left_out)
