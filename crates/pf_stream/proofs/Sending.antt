@@ -107,3 +107,17 @@ stopped_on_the_way start mid new was more rest whole h k = (k.0 ++ rest, on_the_
 pub anyway : {A E : Type 0} (r : Result A E) (P : Type 0) → P → OnErr r P
 anyway (Ok x) P h = tt
 anyway (Err e) P h = h
+
+-- Of a whole text some was taken, and a piece is written next.
+pub piece_written : (start mid new : Option (List ℕ)) (left piece rest whole : List ℕ) → left ≡ piece ++ rest → TookAllBut left start mid whole
+    → Appends mid new piece → TookAllBut rest start new whole
+piece_written start mid new left piece rest whole is h k =
+    on_the_way start mid new [] [] piece rest whole (rw is at h) (piece, k, append-nil piece)
+
+pub piece_stopped : (start mid new : Option (List ℕ)) (left piece rest whole : List ℕ) → left ≡ piece ++ rest → TookAllBut left start mid whole
+    → TookFront mid new piece → TookFront start new whole
+piece_stopped start mid new left piece rest whole is h k = stopped_on_the_way start mid new [] piece rest whole (rw is at h) k
+
+-- nothing is left
+pub all_written : (start new : Option (List ℕ)) (left whole : List ℕ) → left ≡ [] → TookAllBut left start new whole → Appends start new whole
+all_written start new left whole none h = so-far-finished start new new left whole h (rw none (Appends-nil new))

@@ -1,8 +1,9 @@
-//! Streams that count their failures. A whole script is read from a `Source`; a text is written to a `Sink` through a
-//! small buffer. The one contract of this crate: a script that was read is all of the reader's bytes, the writer has the
+//! Streams that count their failures. A whole script is read from a `Source`; a text is written to a `Sink`, piece by piece
+//! or through a small buffer. The one contract of this crate: a script that was read is all of the reader's bytes, the writer has the
 //! text put or a front of it, and a stream failed once where the answer says so, else not at all.
 #![tactic(auto)]
 
+pub mod output_fault;
 pub mod reading;
 pub mod sink;
 pub mod source;

@@ -1,0 +1,30 @@
+ghost use Rattle.std.specs.Prelude.{◌≡◌};
+ghost use Rattle.pf_stream.specs.declared.output_fault.OutputFault.TheVariants as fault;
+
+use crate::writing::WriteFault;
+use std::alloc::AllocError;
+
+/// Why a text was not put or written.
+#[derive(Clone, Copy, Debug, PartialEq, Eq)]
+pub enum OutputFault {
+    /// The writer failed, or took none of the bytes offered.
+    Write,
+    /// Memory was refused.
+    Memory,
+}
+
+impl From<WriteFault> for OutputFault {
+    ghost from_gives = { λ _ f. f ≡ fault.Write };
+
+    fn from(_fault: WriteFault) -> Self {
+        OutputFault::Write
+    }
+}
+
+impl From<AllocError> for OutputFault {
+    ghost from_gives = { λ _ f. f ≡ fault.Memory };
+
+    fn from(_error: AllocError) -> Self {
+        OutputFault::Memory
+    }
+}
