@@ -1,0 +1,7 @@
+//! Why the program's tasks end early. The one contract of this crate: a fault ends the program with its status, and a status
+//! has its number.
+#![tactic(auto)]
+
+pub mod fault;
+pub mod range_fault;
+pub mod status;
