@@ -18,8 +18,8 @@ use Rattle.pf_script.specs.Told.{Reading, Good, Bad, Missing, reading, readings_
 use Rattle.pf_script.specs.Answers.{AreLines, IsAsking}
 use Rattle.pf_script.specs.Opened.{IsOpening}
 
--- after the settings each record is a line, or bad
-opened_lines : (version : Version) (number : ℕ) (lines : List ℕ) (records : List (List (List ℕ)))
+-- Use: after the settings each record is a line, or bad.
+pub opened_lines : (version : Version) (number : ℕ) (lines : List ℕ) (records : List (List (List ℕ)))
     → AreLines (readings_from (Opened version) number lines records)
 unfolding readings_from record_at
 opened_lines version number lines [] = tt

@@ -10,6 +10,7 @@ use Rattle.pf_script.specs.declared.record.RecordTold.{RecordTold}
 use Rattle.pf_script.specs.declared.record.ScriptSettings.{ScriptSettings}
 use Rattle.pf_script.specs.declared.stage.Stage.{Stage}
 use Rattle.pf_script.specs.declared.stage.Stage.TheVariants.{Beginning, Headed, Opened}
+use Rattle.pf_script.specs.declared.version.Version.{Version}
 use Rattle.pf_script.specs.Fields.{field}
 use Rattle.pf_script.specs.Parsing.{fault_at, record_at}
 use Rattle.pf_script.specs.Places.{record_lines, line_at, lines_behind}
@@ -67,6 +68,10 @@ readings_from stage number lines (fields ∷ records) =
 -- all records of a script of these bytes
 abbrev pub readings : List ℕ → List Reading
 readings bytes = readings_from Beginning 1 (record_lines bytes) (script_records bytes)
+
+-- the same of a text with which a script of this version goes on after its settings
+abbrev pub readings_after : Version → List ℕ → List Reading
+readings_after version bytes = readings_from (Opened version) 1 (record_lines bytes) (script_records bytes)
 
 -- the faults of a reading that goes on after each of them
 abbrev pub faults_in : List Reading → List FaultTold

@@ -8,6 +8,7 @@ use crate::record::{Record, RecordTold};
 use crate::record_lines::RecordLines;
 use crate::script::Script;
 use crate::state::ScriptState;
+use crate::version::Version;
 use csv::ByteRecord;
 use std::alloc::Global;
 use std::marker::Model;
@@ -40,16 +41,33 @@ impl<'a> ScriptReader<'a> {
     ghost use Rattle.std.specs.Prelude.{◌≡◌, ◌+◌, ◌<◌, ◌-◌, ◌^◌, length};
     ghost use Rattle.csv.specs.Records.{fields_of};
     ghost use Rattle.pf_script.specs.Answers.{ReadsNext};
-    ghost use Rattle.pf_script.specs.Told.{readings};
+    ghost use Rattle.pf_script.specs.Places.{record_lines};
+    ghost use Rattle.pf_script.specs.Script.{script_records};
+    ghost use Rattle.pf_script.specs.Told.{readings, readings_after, readings_from};
 
     /// All records of a script. A byte order mark before the first one is passed over.
     pub fn new(alloc: Global, bytes: &'a [u8]) -> Self
         ensures { result ≡ readings bytes.now }
     {
+        ScriptReader::at(alloc, ScriptState::new(), bytes)
+    }
+
+    /// All records of a text with which a script of this version goes on after its settings. A byte order mark before the
+    /// first one is passed over.
+    pub fn after_settings(alloc: Global, version: Version, bytes: &'a [u8]) -> Self
+        ensures { result ≡ readings_after version bytes.now }
+    {
+        ScriptReader::at(alloc, ScriptState::opened(version), bytes)
+    }
+
+    /// The records of a text with which a script goes on that has come to this state.
+    fn at(alloc: Global, state: ScriptState, bytes: &'a [u8]) -> Self
+        ensures { result ≡ readings_from state 1 (record_lines bytes.now) (script_records bytes.now) }
+    {
         ScriptReader {
             records: Script::new(alloc, bytes),
             places: RecordLines::new(bytes),
-            state: ScriptState::new(),
+            state,
             number: 0,
             ended: false,
         }

@@ -3,6 +3,7 @@ use crate::fields::Fields;
 use crate::parse::parse_record;
 use crate::record::Record;
 use crate::stage::Stage;
+use crate::version::Version;
 use std::marker::Model;
 
 /// How far a script is: what its next record may be.
@@ -23,7 +24,7 @@ impl Model for ScriptState {
 
 impl ScriptState {
     ghost use Rattle.std.specs.Prelude.{◌≡◌};
-    ghost use Rattle.pf_script.specs.declared.stage.Stage.TheVariants.{Beginning};
+    ghost use Rattle.pf_script.specs.declared.stage.Stage.TheVariants.{Beginning, Opened};
     ghost use Rattle.pf_script.specs.Parsing.{record_at};
     ghost use Rattle.pf_script.specs.Told.{end_fault, stage_after};
 
@@ -33,6 +34,15 @@ impl ScriptState {
     {
         ScriptState {
             stage: Stage::Beginning,
+        }
+    }
+
+    /// After the settings, in a script of this version.
+    pub fn opened(version: Version) -> Self
+        ensures { result ≡ Opened version }
+    {
+        ScriptState {
+            stage: Stage::Opened(version),
         }
     }
 
