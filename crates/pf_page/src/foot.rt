@@ -31,10 +31,10 @@ function countBelow(numbers, x) {
 
 /** A task: its join, what it received, and its windows (Baruah et al. 1996), shifted by its delays. */
 class Task {
-  constructor(number) {
-    Object.assign(this, { number, name: nameOf(number), join: Infinity, leave: Infinity, end: -1 });
-    Object.assign(this, { delays: [], denied: [], slots: [], processors: [], windows: [], stops: [], missed: 0 });
-  }
+  join = Infinity; leave = Infinity; end = -1; missed = 0;
+  delays = []; denied = []; slots = []; processors = []; windows = []; stops = [];
+
+  constructor(number, rank) { Object.assign(this, { number, rank, name: nameOf(number) }); }
 
   /** Quanta in slots before this one. */
   received(slot) { return countBelow(this.slots, slot); }
@@ -83,9 +83,8 @@ const KINDS = ['limit', 'leave', 'join', 'delay'];
 const denialOf = new Map(denials.map(d => [d.event, d]));
 const events = data.events.filter(e => e.slot < now)
   .sort((a, b) => a.slot - b.slot || KINDS.indexOf(a.kind) - KINDS.indexOf(b.kind) || a.task - b.task || a.event - b.event);
-const tasks = [...new Set(events.filter(e => e.task).map(e => e.task))].sort((a, b) => a - b).map(n => new Task(n));
+const tasks = [...new Set(events.filter(e => e.task).map(e => e.task))].sort((a, b) => a - b).map((number, rank) => new Task(number, rank));
 const taskOf = new Map(tasks.map(task => [task.number, task]));
-tasks.forEach((task, rank) => { task.rank = rank; });
 
 schedule.forEach((row, slot) => row.forEach((quantum, processor) => {
   if (!quantum) return;
@@ -97,7 +96,7 @@ schedule.forEach((row, slot) => row.forEach((quantum, processor) => {
 // the load and the processors in use, from each slot on in which one of them changes
 const states = [{ slot: 0, load: 0, inUse: processors }];
 for (const e of events) {
-  const task = taskOf.get(e.task), last = states[states.length - 1];
+  const task = taskOf.get(e.task), last = states.at(-1);
   if (e.kind === 'join') Object.assign(task, { cost: e.cost, period: e.period, early: e.early });
   if (denialOf.has(e.event)) { task.denied.push(e); continue; }
   if (e.kind === 'delay') { task.delay(e); continue; }
@@ -137,6 +136,7 @@ byId('facts').textContent = `slots ${now}${data.slot ? ` of ${data.slot.length} 
 const picture = byId('picture'), plane = byId('plane'), canvas = plane.firstElementChild, pen = canvas.getContext('2d');
 const TASK_COLOURS = '#fdb #755 #3b3 #00d #b99 #035 #b9f #570 #ddf #37b #bf0 #330'.split(' ');
 const colourOf = task => TASK_COLOURS[task.rank % TASK_COLOURS.length];
+const INKS = 'back text soft rule grid window missed fine lag stopped unused chosen'.split(' ');
 const RULER = 24, ROW = 20, LETTER = 6.7, LAG = 34;
 const weightOf = task => task.cost ? `${task.cost}/${task.period}` : '-';
 const longest = Math.max(12, ...tasks.flatMap(task => [task.name.length, weightOf(task).length]));
@@ -152,7 +152,7 @@ const x = slot => GUTTER + cell * slot - left;
 
 function readColours() {
   const style = getComputedStyle(document.documentElement);
-  for (const name of 'back text soft rule grid window missed fine lag stopped unused chosen'.split(' ')) ink[name] = style.getPropertyValue('--' + name);
+  for (const name of INKS) ink[name] = style.getPropertyValue('--' + name);
 }
 
 function fill(colour, ...box) {
@@ -176,6 +176,7 @@ function trace(colour, points, width = 1, dashes = []) {
   if (width) pen.stroke(); else pen.fill();
 }
 
+const frame = (isMissed, points) => isMissed ? trace(ink.missed, points, 2) : trace(ink.window, points);
 const drawMark = (colour, x, y, corners) => trace(colour, corners.map(([a, b]) => [x + a, y + b]), 0);
 
 function within(drawing, ...box) {
@@ -242,13 +243,11 @@ function drawNames(rows, top) {
   within(() => {
     for (let p = 0; p < processors; p++) write(ink.text, 'p' + p, 8, RULER + 11 + ROW * p - top);
     for (const { task, y } of rows) {
+      trace(ink.rule, [[0, y - 1.5], [width, y - 1.5]]);
       write(task.missed ? ink.missed : ink.text, task.name, 8, y + 10);
       if (taskHeight() > 30) write(ink.soft, weightOf(task), 8, y + 24);
       if (taskHeight() > 50 && task.missed) write(ink.missed, task.missed + ' missed', 8, y + 38);
     }
-  }, 0, RULER, GUTTER, height);
-  within(() => {
-    for (const { y } of rows) trace(ink.rule, [[0, y - 1.5], [width, y - 1.5]]);
   }, 0, RULER, width, height);
 }
 
@@ -270,10 +269,8 @@ function drawQuantum({ task, isMissed }, left, y, tall, number) {
     if (isMissed) fill(ink.missed, left, y + tall - 3, cell, 3);
     return;
   }
-  pen.strokeStyle = isMissed ? ink.missed : ink.window;
-  pen.lineWidth = isMissed ? 2 : 1;
-  pen.setLineDash([]);
-  pen.strokeRect(left + gap + .5, y + .5, cell - 2 * gap - 1, tall - 1);
+  const [a, b, c, d] = [left + gap + .5, y + .5, left + cell - gap - .5, y + tall - .5];
+  frame(isMissed, [[a, b], [c, b], [c, d], [a, d], [a, b]]);
   if (String(number).length * LETTER + 2 <= cell) write(task.rank % 2 ? '#fff' : '#000', number, left + cell / 2, y + tall / 2 + 1, 'center');
 }
 
@@ -282,10 +279,11 @@ function drawTask(task, y) {
   if (task.join < now) {
     const inside = { from: Math.max(task.join, from), to: Math.min(task.end, to) };
     for (const s of task.stops) {
-      const a = Math.max(s.from, inside.from), b = Math.min(s.to, inside.to);
-      if (a < b) fill(ink.stopped, x(a), y, cell * (b - a), taskHeight() - 4);
+      const a = Math.max(s.from, inside.from), slots = Math.max(0, Math.min(s.to, inside.to) - a);
+      fill(ink.stopped, x(a), y, cell * slots, taskHeight() - 4);
     }
-    for (let k = countBelow(task.untils, from + 1); k < task.windows.length && task.froms[k] < to; k++) drawWindow(task.windows[k], y + 2, marks, inside);
+    const first = countBelow(task.untils, from + 1), end = countBelow(task.froms, to);
+    for (const w of task.windows.slice(first, end)) drawWindow(w, y + 2, marks, inside);
     if (isOn('show-lag') && inside.from < inside.to) drawLag(task, y + taskHeight() - LAG / 2 - 1.5, inside);
     if (task.join >= from && task.join < to) drawMark(ink.fine, x(task.join), marks, [[0, -3], [6, 0], [0, 3]]);
     if (task.leave > from && task.leave <= to) drawMark(ink.fine, x(task.leave), marks, [[0, -3], [-6, 0], [0, 3]]);
@@ -304,7 +302,7 @@ function drawWindow(w, top, marks, inside) {
     if (w.from < w.release) trace(ink.window, [[x(w.from), foot], [x(w.release), foot]], 1, [2, 2]);
     if (w.isMissed && w.deadline < to) trace(ink.missed, [[x(Math.max(w.deadline, from)), y + 6.5], [x(Math.min(w.ran, inside.to)), y + 6.5]], 1, [1, 2]);
     const a = x(w.release) + gap, b = x(end) - gap;
-    if (w.release < end) trace(w.isMissed ? ink.missed : ink.window, [[a, y], [a, foot], [b, foot], [b, end === w.deadline ? y : foot]], w.isMissed ? 2 : 1);
+    if (w.release < end) frame(w.isMissed, [[a, y], [a, foot], [b, foot], [b, end === w.deadline ? y : foot]]);
   }
   if (w.ran >= from && w.ran < to) drawQuantum(w, x(w.ran), y, brackets ? 11 : 14, w.processor);
   if (isOn('show-groups') && w.bit && w.group > inside.from && w.group <= inside.to) {
@@ -316,7 +314,7 @@ function drawLag(task, middle, inside) {
   const points = [];
   for (let t = inside.from; t <= inside.to; t++) {
     const value = middle - 14 * task.lag(t) / (task.period * lagQuanta);
-    points.push([x(t), points.length ? points[points.length - 1][1] : value], [x(t), value]);
+    points.push([x(t), points.length ? points.at(-1)[1] : value], [x(t), value]);
   }
   trace(ink.soft, [[x(inside.from), middle], [x(inside.to), middle]], 1, [1, 3]);
   trace(ink.lag, points);
@@ -349,8 +347,9 @@ function tellSlot(panel) {
   panel.dataset.slot = chosen;
   add(panel, 'h2', `Slot ${chosen}${data.slot ? `, ${timeOf(chosen)} ${data.slot.unit}` : ''}`);
   add(panel, 'p', `processors in use ${state.inUse} of ${processors}; load ${loadText(state)}; may run ${ranked.length}`);
-  for (const e of events) if (e.slot === chosen) {
-    add(panel, 'p', `event ${e.event}: ${e.kind}${e.task ? ' of ' + nameOf(e.task) : ''}${denialOf.has(e.event) ? ', denied: ' + denialOf.get(e.event).reason : ''}`);
+  for (const { event, kind, task } of events.filter(e => e.slot === chosen)) {
+    const denial = denialOf.get(event);
+    add(panel, 'p', `event ${event}: ${kind}${task ? ' of ' + nameOf(task) : ''}${denial ? ', denied: ' + denial.reason : ''}`);
   }
   const rows = ranked.map((w, k) => [k + 1, w.task.number, w.i, `${w.release} to ${w.deadline}`, w.bit, w.group, places[k] < 0 ? 'waits' : 'p' + places[k]]);
   addTable(panel, ['rank', 'task', 'sub', 'window', 'bit', 'group', 'runs'], rows,
@@ -431,8 +430,10 @@ function filter() {
   layOut();
 }
 
+const isPlain = e => !e.ctrlKey && !e.metaKey && !e.altKey;
+
 function press(e) {
-  if (e.ctrlKey || e.metaKey || e.altKey) return;
+  if (!isPlain(e)) return;
   const far = e.shiftKey ? 10 : 1, slot = chosen ?? Math.ceil(picture.scrollLeft / cell) - far;
   const goal = { ArrowRight: slot + far, ArrowLeft: slot - far, Home: 0, End: now - 1 }[e.key];
   if (goal !== undefined) {
@@ -473,7 +474,7 @@ listen(document, 'click', e => {
   picture.scrollIntoView({ block: 'nearest' });
 });
 listen(document, 'keydown', e => {
-  if (e.key !== '/' || e.target.tagName === 'INPUT' || e.ctrlKey || e.metaKey || e.altKey) return;
+  if (e.key !== '/' || e.target.tagName === 'INPUT' || !isPlain(e)) return;
   e.preventDefault();
   byId('filter').focus();
 });

@@ -3,7 +3,7 @@ pub const HEAD: &str = r#"<!doctype html>
 <html lang="en">
 <head>
 <meta charset="utf-8">
-<meta http-equiv="Content-Security-Policy" content="default-src 'none'; style-src 'sha256-uOvrgWGIXdIhdbmYHmPuAcFEV7CvgjqQTLzrlBeq2Eg='; script-src 'sha256-R2LvKgxBxvdIeigc2XTdTVA0KSRQTqSQBu6zxYklI/k='; base-uri 'none'; form-action 'none'">
+<meta http-equiv="Content-Security-Policy" content="default-src 'none'; style-src 'sha256-uOvrgWGIXdIhdbmYHmPuAcFEV7CvgjqQTLzrlBeq2Eg='; script-src 'sha256-7aJbpzjtLe/ykHdmD2Hgk2gqxIMafyGPrzrXa/9emKM='; base-uri 'none'; form-action 'none'">
 <meta name="viewport" content="width=device-width, initial-scale=1">
 <title>pfair: a schedule</title>
 <style>
