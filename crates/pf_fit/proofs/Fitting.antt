@@ -21,14 +21,14 @@ use Rattle.pf_tally.specs.Figures.{figures_of}
 use Rattle.pf_tally.specs.Ledger.{IsLedger}
 use Rattle.pf_tally.specs.Log.{RiseFrom}
 use Rattle.pf_tally.specs.Misses.{misses_of}
-use Rattle.pf_promise.specs.Load.{overload_of}
+use Rattle.pf_promise.specs.Load.{load_in, room_in, overload_of}
 use Rattle.pf_promise.proofs.Promises.{no_window_is_missed}
 use Rattle.pf_promise.proofs.Tardiness.{tardiness_is_bounded}
 use Rattle.pf_fit.specs.declared.asking.Asking.{Asking}
 use Rattle.pf_fit.specs.declared.fit.Fit.{Fit}
 use Rattle.pf_fit.specs.Asking.{asking_after}
 use Rattle.pf_fit.specs.Fit.{IsFirstAbove, fit_with}
-use Rattle.pf_fit.proofs.Walked.{IsAt, units_of, at_start, units_few, overload_few, at_slot, at_event}
+use Rattle.pf_fit.proofs.Walked.{IsAt, units_of, at_start, units_few, overload_few, level_is, at_slot, at_event}
 
 rise_from : (u : ℕ) (xs : List Numbered) → RiseFrom u xs → (i : ℕ) (d : Numbered) → i < length xs →
     u ≤ slot_of (get_or xs i d).event
@@ -109,6 +109,19 @@ module _ (s : Plan) (n : ℕ) (ledger : Ledger) (known : IsLedger s n ledger) wh
       pub limits : IsEvent s.settings x.event
       limits = subst (λ (y : Numbered). IsEvent s.settings y.event) is (known.log.limits k x lt)
 
+      after : (i : ℕ) (d : Numbered) → k ≤ i → i < length (events_in_force s r (length r)) →
+          slot_of x.event ≤ slot_of (get_or (events_in_force s r (length r)) i d).event
+      after i d le less =
+          let later =
+          rise_between 0 (events_in_force s r (length r)) (subst (λ zs. RiseFrom 0 zs) events_are known.log.rise) k i x d le less in
+          omega (arith, later, ap (λ (y : Numbered). slot_of y.event) is_next)
+
+      -- load and room of the slots before it
+      pub before_next : (u : ℕ) → from ≤ u → u < slot_of x.event →
+          (load_in s r u ≡ units_of asking) × (room_in s r u ≡ s.settings.base * count)
+      before_next =
+          level_is s known.scenario r run k from count asking fit at (slot_of x.event) order (omega (arith, within, known.slots)) after
+
       pub at_next : IsAt s r (k + 1) (slot_of x.event) (count_after count x.event) (asking_after s.settings.base x.event asking)
           (fit_with fit from (slot_of x.event) (units_of asking) (s.settings.base * count))
       at_next =
@@ -121,13 +134,6 @@ module _ (s : Plan) (n : ℕ) (ledger : Ledger) (known : IsLedger s n ledger) wh
         where
           one_more : (i : ℕ) → suc i ≡ i + 1
           one_more i = omega arith
-
-          after : (i : ℕ) (d : Numbered) → k ≤ i → i < length (events_in_force s r (length r)) →
-              slot_of x.event ≤ slot_of (get_or (events_in_force s r (length r)) i d).event
-          after i d le less =
-              let later =
-              rise_between 0 (events_in_force s r (length r)) (subst (λ zs. RiseFrom 0 zs) events_are known.log.rise) k i x d le less in
-              omega (arith, later, ap (λ (y : Numbered). slot_of y.event) is_next)
 
     -- the same, as a loop over a slice of the events has it
     module _ (xs : List Numbered) (same : xs ≡ ledger.events.items) (d : Numbered) (lt : k < length xs) where
@@ -146,6 +152,16 @@ module _ (s : Plan) (n : ℕ) (ledger : Ledger) (known : IsLedger s n ledger) wh
       pub next_limits : (settings : System) → settings ≡ s.settings → IsEvent settings (get_or xs k d).event
       next_limits settings of_plan =
           subst (λ z. IsEvent z (get_or xs k d).event) (sym of_plan) (limits (get_or xs k d) inside_events here)
+
+      -- load and room of the slots before it
+      pub next_same : (base : ℕ) → base ≡ ledger.settings.base → (slot : ℕ) → slot ≡ slot_of (get_or xs k d).event →
+          (lent : List Asking) → lent ≡ asking → (u : ℕ) → from ≤ u → u < slot →
+          (load_in s r u ≡ units_of lent) × (room_in s r u ≡ base * count)
+      next_same base base_is slot now lent lent_is u lower upper =
+          let is = before_next (get_or xs k d) inside_events here u lower (omega (arith, upper, now)) in (
+            is.0 ∙ ap (λ zs. units_of zs) (sym lent_is),
+            is.1 ∙ ap (λ b. b * count) (sym (base_is ∙ ap (λ z. z.base) known.settings)),
+          )
 
       pub kept : (settings : System) → settings ≡ s.settings → (base : ℕ) → base ≡ settings.base → (slot : ℕ) →
           slot ≡ slot_of (get_or xs k d).event → (lent : List Asking) → lent ≡ asking → (fit' : Fit) →
@@ -173,6 +189,22 @@ module _ (s : Plan) (n : ℕ) (ledger : Ledger) (known : IsLedger s n ledger) wh
         at_slot s known.scenario r run k from count asking fit at n (omega (arith, at.short, known.slots))
         (omega (arith, known.slots))
         (λ i d le less. absurd (omega (arith, le, less, all, ap (λ zs. length zs) events_are)))
+
+    -- load and room of the slots behind all events
+    pub last_same : (xs : List Numbered) → xs ≡ ledger.events.items → length xs ≤ k → (base : ℕ) → base ≡ ledger.settings.base →
+        (lent : List Asking) → lent ≡ asking → (u : ℕ) → from ≤ u → u < n →
+        (load_in s r u ≡ units_of lent) × (room_in s r u ≡ base * count)
+    last_same xs is all base base_is lent lent_is u lower upper =
+        let here =
+        level_is s known.scenario r run k from count asking fit at (length r) at.short (omega arith)
+        (λ i d le less. absurd (omega (arith, le, less, all, ap (λ zs. length zs) is, ap (λ zs. length zs) events_are)))
+        u lower (omega (arith, upper, known.slots)) in (
+          here.0 ∙ ap (λ zs. units_of zs) (sym lent_is),
+          here.1 ∙ ap (λ b. b * count) (sym (base_is ∙ ap (λ z. z.base) known.settings)),
+        )
+
+    pub last_order : from ≤ n
+    last_order = omega (arith, at.short, known.slots)
 
     pub ended : (xs : List Numbered) → xs ≡ ledger.events.items → length xs ≤ k → (base : ℕ) → base ≡ ledger.settings.base →
         (lent : List Asking) → lent ≡ asking → (fit' : Fit) →

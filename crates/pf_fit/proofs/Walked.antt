@@ -125,8 +125,8 @@ module _ (s : Plan) (scenario : IsScenario s) (r : List Slot) (run : IsRun s (le
     -- the slots up to the next event
     module _ (to : ℕ) (order : from ≤ to) (within : to ≤ length r)
         (after : (i : ℕ) (d : Numbered) → k ≤ i → i < length end_now → to ≤ slot_of (get_or end_now i d).event) where
-      same : (u : ℕ) → from ≤ u → u < to → (load_in s r u ≡ units_of asking) × (room_in s r u ≡ base * count)
-      same u lower upper =
+      pub level_is : (u : ℕ) → from ≤ u → u < to → (load_in s r u ≡ units_of asking) × (room_in s r u ≡ base * count)
+      level_is u lower upper =
           let now : events_in_force s r (suc u) ≡ take k end_now =
           steady s scenario r run k u (omega (arith, upper, within)) at.few
           (λ i d lt. omega (arith, at.before i d lt, lower))
@@ -143,7 +143,7 @@ module _ (s : Plan) (scenario : IsScenario s) (r : List Slot) (run : IsRun s (le
             at.overload,
             ap (λ u. overload_of s r u) all,
             overload-steady s scenario r run (to - from) from (units_of asking) (base * count)
-                (λ u lower upper. same u lower (omega (arith, upper, all))),
+                (λ u lower upper. level_is u lower (omega (arith, upper, all))),
           )
 
       first_is : IsFirstAbove s r to
@@ -154,7 +154,7 @@ module _ (s : Plan) (scenario : IsScenario s) (r : List Slot) (run : IsRun s (le
         by true true some above (Some u) is = (omega (arith, is.0, order), is.1, is.2)
         by true true some above None is =
             let less : from < to = ltb-true from to some in
-            let here = same from (omega arith) less in (
+            let here = level_is from (omega arith) less in (
               less,
               omega (arith, here.0, here.1, ltb-true (base * count) (units_of asking) above),
               is,
@@ -162,7 +162,7 @@ module _ (s : Plan) (scenario : IsScenario s) (r : List Slot) (run : IsRun s (le
         by true false some above (Some u) is = (omega (arith, is.0, order), is.1, is.2)
         by true false some above None is = λ v lt. ⊎_elim (λ (old : v < from). is v old)
             (λ (ge : from ≤ v).
-            let here = same v ge lt in
+            let here = level_is v ge lt in
             omega (arith, here.0, here.1, none above))
             (cases_lt v from) where
               none : nat_lt (base * count) (units_of asking) ≡ false → units_of asking ≤ base * count

@@ -7,3 +7,4 @@ pub use Rattle.pf_tally.specs.Misses
 pub use Rattle.pf_promise.specs.Load
 pub mod Asking
 pub mod Fit
+pub mod Levels

@@ -18,7 +18,7 @@ use pf_tally::ledger::make_ledger;
 use std::alloc::{AllocError, Global};
 
 /// How many processors are in use after the event.
-fn count_after(count: u64, event: &Event) -> u64
+pub(crate) fn count_after(count: u64, event: &Event) -> u64
     ensures { result ≡ count_after count event.now }
 {
     match *event {
