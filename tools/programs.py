@@ -7,6 +7,12 @@ import sys
 TOP = pathlib.Path(__file__).resolve().parent.parent
 CASES = TOP / "crates" / "pfair" / "cases"
 
+# The formats of `run` whose answers stand beside a case, in a file of that ending; those that show a part of these, and have
+# no file; and of the first those that may show some of the slots.
+FORMATS = ("schedule", "tables", "json", "events", "script", "processors", "stats", "chart", "svg")
+PARTS = ("replies", "lags", "misses", "denials", "report")
+RANGED = ("schedule", "chart", "svg")
+
 # Seconds after which a run is stopped, and the tool with it.
 LONGEST_RUN = 120
 
