@@ -4,9 +4,11 @@ use Rattle.csv.specs.Machine.{next_record}
 use Rattle.csv.specs.Reading.{records_from, strip_bom}
 use Rattle.pf_scenario.specs.declared.event.Event.TheVariants.{Join}
 use Rattle.pf_scenario.specs.declared.change.Change.TheVariants.{Insert, Strike}
+use Rattle.pf_desk.specs.declared.command.Command.TheVariants as command
 use Rattle.pf_script.specs.declared.fault.Reason.TheVariants as why
 use Rattle.pf_script.specs.declared.line.Line.TheVariants.{Edit, Steps}
 use Rattle.pf_script.specs.declared.version.Version.TheVariants.{First, Second}
+use Rattle.pf_script.specs.Asked.{Whole, BadRecord, script_asked}
 use Rattle.pf_script.specs.Fields.{number_of, is_word}
 use Rattle.pf_script.specs.Parsing.{number_at, number_within, join_at, event_at, strike_at, alter_at, change_at, edit_at, steps_at, line_at, settings_at, names_line, opening_at, heading_at, record_at}
 use Rattle.pf_script.specs.Places.{lines_from}
@@ -16,7 +18,7 @@ use Rattle.pf_script.specs.Told.{told, faults, readings_from}
 pub up_to_a_fault : told (codes "pfair,2\nsettings,2,3,6,4096\n\njoin,0,1,2,3,0\nstrict,strike,1\nalter,1,strike\nstep\n") ≡ record {
   opening = Some (record { version = Second; settings = record { processors = 2; base = 3; cap = 6; horizon = 4194304 }; every = 4096 });
   rest = record {
-    lines = record { number = 3; line = 4; asks = Edit (Insert (Join 0 1 2 3 0)) false } ∷ record { number = 4; line = 5; asks = Edit (Strike 1) true } ∷ [];
+    lines = record { number = 3; asks = Edit (Insert (Join 0 1 2 3 0)) false } ∷ record { number = 4; asks = Edit (Strike 1) true } ∷ [];
     fault = Some (record { bad = record { number = 5; line = 6; fault = record { field = 3; reason = why.NoEvent Second } }; at = codes "strike" });
   };
 }
@@ -36,9 +38,19 @@ all_faults = refl
 pub steps : told (codes "settings,1,1,1,1\nstep,1048576\nstep,0\n") ≡ record {
   opening = Some (record { version = First; settings = record { processors = 1; base = 1; cap = 1; horizon = 1048576 }; every = 1 });
   rest = record {
-    lines = record { number = 2; line = 2; asks = Steps 1048576 } ∷ [];
+    lines = record { number = 2; asks = Steps 1048576 } ∷ [];
     fault = Some (record { bad = record { number = 3; line = 3; fault = record { field = 2; reason = why.Outside 0 1048576 } }; at = codes "0" });
   };
 }
 unfolding next_record records_from strip_bom number_of is_word number_at number_within steps_at line_at settings_at opening_at record_at lines_from readings_from
 steps = refl
+
+-- its settings and commands, and of a script with a fault the number of its record
+pub asked : script_asked (codes "settings,1,1,1,1\nstep,2\nstrict,strike,1\n")
+    ≡ Whole (record { processors = 1; base = 1; cap = 1; horizon = 1048576 }) (command.Step ∷ command.Step ∷ command.Edit (Strike 1) true ∷ [])
+unfolding next_record records_from strip_bom number_of is_word number_at number_within strike_at change_at edit_at steps_at line_at settings_at opening_at record_at lines_from readings_from
+asked = refl
+
+pub asked_of_a_bad_script : script_asked (codes "settings,1,1,1,1\nstep,0\n") ≡ BadRecord 2
+unfolding next_record records_from strip_bom number_of is_word number_at number_within steps_at line_at settings_at opening_at record_at lines_from readings_from
+asked_of_a_bad_script = refl

@@ -44,14 +44,14 @@ fault_told number line fields fault = record {
   at = field fields (fault.field - 1);
 }
 
--- what a record is read as; at its end a script without settings lacks one
+-- what a record is read as, on its line where it has a fault; at its end a script without settings lacks one
 pub data Reading : Type 0 where
   Good : RecordTold → Reading
   Bad : FaultTold → Reading
   Missing : FaultTold → Reading
 
 abbrev pub reading : ℕ → ℕ → List (List ℕ) → Result Record RecordFault → Reading
-reading number line fields (Ok said) = Good (record { number = number; line = line; says = said })
+reading number line fields (Ok said) = Good (record { number = number; says = said })
 reading number line fields (Err fault) = Bad (fault_told number line fields fault)
 
 abbrev pub end_reading : ℕ → ℕ → Option RecordFault → List Reading
@@ -99,7 +99,7 @@ settings_in (Missing fault ∷ rest) = None
 abbrev pub with_line : RecordTold → Record → List LineTold → List LineTold
 with_line told Heading rest = rest
 with_line told (Settings s) rest = rest
-with_line told (Asks asked) rest = record { number = told.number; line = told.line; asks = asked } ∷ rest
+with_line told (Asks asked) rest = record { number = told.number; asks = asked } ∷ rest
 
 abbrev pub lines_in : List Reading → List LineTold
 lines_in [] = []

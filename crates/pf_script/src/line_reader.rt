@@ -62,7 +62,6 @@ impl<'a> LineReader<'a> {
         };
         Ok(Some(LineTold {
             number: told.number,
-            line: told.line,
             asks,
         }))
     }

@@ -1,10 +1,6 @@
-ghost use Rattle.std.specs.Prelude.{ℕ, List, ◌∷◌};
-ghost use Rattle.pf_script.specs.Answers.{ReadsNext};
-ghost use Rattle.pf_script.specs.Told.{Reading, reading};
-
-use crate::fault::{BadRecord, RecordFault, ScriptFault};
+use crate::fault::{BadRecord, ScriptFault};
 use crate::fields::Fields;
-use crate::record::{Record, RecordTold};
+use crate::record::RecordTold;
 use crate::record_lines::RecordLines;
 use crate::script::Script;
 use crate::state::ScriptState;
@@ -26,7 +22,7 @@ pub struct ScriptReader<'a> {
 }
 
 impl<'a> Model for ScriptReader<'a> {
-    ghost use Rattle.std.specs.Prelude.{◌+◌, ◌<◌, ◌-◌, ◌^◌, List, [], length, if◌then◌else◌};
+    ghost use Rattle.std.specs.Prelude.{◌+◌, ◌≤◌, ◌<◌, ◌-◌, ◌^◌, List, [], length, if◌then◌else◌};
     ghost use Rattle.pf_script.specs.Left.{lines_left};
     ghost use Rattle.pf_script.specs.Told.{Reading, readings_from};
 
@@ -34,7 +30,7 @@ impl<'a> Model for ScriptReader<'a> {
 
     ghost view = { λ r. if r.ended then [] else readings_from r.state (r.number + 1) (lines_left r.places) r.records };
 
-    ghost invariant = { λ r. r.number + length r.records < 2 ^ 64 - 1 };
+    ghost invariant = { λ r. (r.number + length r.records < 2 ^ 64 - 1) × (r.places.passed ≤ r.number) };
 }
 
 impl<'a> ScriptReader<'a> {
@@ -89,39 +85,32 @@ impl<'a> ScriptReader<'a> {
             self.ended = true;
             return Err(ScriptFault::Memory);
         };
-        let line = self.places.next_line();
         if !found {
             self.ended = true;
             row.clear();
-            return match self.state.end_fault() {
-                Some(fault) => Err(ScriptFault::Missing(BadRecord {
-                    number: self.number + 1,
-                    line,
-                    fault,
-                })),
-                None => Ok(None),
+            let Some(fault) = self.state.end_fault() else {
+                return Ok(None);
             };
+            return Err(ScriptFault::Missing(BadRecord {
+                number: self.number + 1,
+                line: self.places.next_line(),
+                fault,
+            }));
         }
         self.number += 1;
-        let said = self.state.take(&Fields::new(row));
-        answer(self.number, line, said)
-    }
-}
-
-/// The answer to a record of this number, which begins on this line and says this.
-fn answer(
-    number: u64,
-    line: u64,
-    said: Result<Record, RecordFault>,
-) -> Result<Option<RecordTold>, ScriptFault>
-    ensures { (fields : List (List ℕ)) (rest : List Reading) → ReadsNext result fields (reading number line fields said ∷ rest) rest }
-{
-    match said {
-        Ok(says) => Ok(Some(RecordTold { number, line, says })),
-        Err(fault) => Err(ScriptFault::Bad(BadRecord {
-            number,
-            line,
-            fault,
-        })),
+        match self.state.take(&Fields::new(row)) {
+            Ok(says) => {
+                self.places.pass();
+                Ok(Some(RecordTold {
+                    number: self.number,
+                    says,
+                }))
+            }
+            Err(fault) => Err(ScriptFault::Bad(BadRecord {
+                number: self.number,
+                line: self.places.next_line(),
+                fault,
+            })),
+        }
     }
 }

@@ -24,24 +24,20 @@ pub enum Record {
     Asks(Line),
 }
 
-/// A record that was read, and where it stands.
+/// A record that was read.
 #[derive(Clone, Copy, Debug, PartialEq, Eq)]
 pub struct RecordTold {
     /// Its number, counted from 1.
     pub number: u64,
-    /// The line of the file on which it begins, counted from 1.
-    pub line: u64,
     /// What it says.
     pub says: Record,
 }
 
-/// A record after the settings, and where it stands.
+/// A record after the settings.
 #[derive(Clone, Copy, Debug, PartialEq, Eq)]
 pub struct LineTold {
     /// Its number, counted from 1.
     pub number: u64,
-    /// The line of the file on which it begins, counted from 1.
-    pub line: u64,
     /// What it asks for.
     pub asks: Line,
 }

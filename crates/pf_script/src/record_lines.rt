@@ -14,18 +14,21 @@ pub struct RecordLines<'a> {
     line: u64,
     before: u8,
     ended: bool,
+    // How many lines were passed that are not looked for yet.
+    passed: u64,
     ghost counted: { line ≤ at + 1 },
     ghost within: { at ≤ length bytes.now },
 }
 
 impl<'a> RecordLines<'a> {
-    ghost use Rattle.std.specs.Prelude.{◌≡◌, ◌+◌, ◌<◌, false, length};
+    ghost use Rattle.std.specs.Prelude.{◌≡◌, ◌+◌, ◌-◌, ◌<◌, ◌^◌, false, length};
     ghost use Rattle.pf_script.specs.Places.{record_lines, line_at, lines_behind, line_if};
-    ghost use Rattle.pf_script.specs.Left.{lines_left};
+    ghost use Rattle.pf_script.specs.Left.{lines_ahead, lines_left};
 
     /// The lines of all records of a script. A byte order mark before the first one is passed over.
     pub fn new(script: &'a [u8]) -> Self
-        ensures { lines_left result ≡ record_lines script.now }
+        ensures lines { lines_left result ≡ record_lines script.now }
+        ensures passed { result.passed ≡ 0 }
     {
         RecordLines {
             bytes: without_mark(script),
@@ -34,13 +37,38 @@ impl<'a> RecordLines<'a> {
             line: 1,
             before: 0,
             ended: false,
+            passed: 0,
         }
+    }
+
+    /// Passes the line of the next record. It is looked for once a later one is asked for, so that who asks for none pays for
+    /// none.
+    pub fn pass(&mut self)
+        requires { self.old.passed < 2 ^ 64 - 1 }
+        ensures rest { lines_left self.new ≡ lines_behind (lines_left self.old) }
+        ensures passed { self.new.passed ≡ self.old.passed + 1 }
+    {
+        self.passed += 1;
     }
 
     /// The line on which the next record begins, and behind the last one that of the end; 0 behind that.
     pub fn next_line(&mut self) -> u64
         ensures line { result ≡ line_at (lines_left self.old) }
         ensures rest { lines_left self.new ≡ lines_behind (lines_left self.old) }
+        ensures passed { self.new.passed ≡ 0 }
+    {
+        while self.passed > 0 {
+            self.find_line();
+            self.passed -= 1;
+        }
+        self.find_line()
+    }
+
+    /// The line on which a record next begins behind the byte where it stands, 0 behind that of the end.
+    fn find_line(&mut self) -> u64
+        ensures line { result ≡ line_at (lines_ahead self.old) }
+        ensures rest { lines_ahead self.new ≡ lines_behind (lines_ahead self.old) }
+        ensures passed { self.new.passed ≡ self.old.passed }
     {
         if self.ended {
             return 0;
@@ -59,10 +87,11 @@ impl<'a> RecordLines<'a> {
     fn begins_record(&mut self) -> bool
         requires some { self.old.at < length self.old.bytes.now }
         requires going { self.old.ended ≡ false }
-        ensures lines { lines_left self.old ≡ line_if result self.old.line (lines_left self.new) }
+        ensures lines { lines_ahead self.old ≡ line_if result self.old.line (lines_ahead self.new) }
         ensures one { self.new.at ≡ self.old.at + 1 }
         ensures bytes { self.new.bytes ≡ self.old.bytes }
         ensures going { self.new.ended ≡ false }
+        ensures passed { self.new.passed ≡ self.old.passed }
     {
         let byte = self.bytes[self.at];
         let was_between = self.place.is_between();
