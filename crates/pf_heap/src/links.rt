@@ -42,13 +42,12 @@ pub(crate) fn join(nodes: &mut [Node], meter: &mut Meter, x: u32, y: u32) -> u32
     ensures counted { Compares 1 meter.old meter.new }
 {
     let read = &nodes[..];
-    if meter.before(&read[y as usize].key, &read[x as usize].key) {
-        link(nodes, y, x);
-        y
-    } else {
-        link(nodes, x, y);
-        x
-    }
+    let turned = meter.before(&read[y as usize].key, &read[x as usize].key);
+    // both choices without a branch, which would be mispredicted in every second comparison
+    let above = if turned { y } else { x };
+    let below = if turned { x } else { y };
+    link(nodes, above, below);
+    above
 }
 
 /// The node whose key comes first, x in a tie. One comparison.

@@ -45,16 +45,11 @@ impl Meter {
         ensures rises { self.old.compared ≤ self.new.compared }
     {
         self.compared = self.compared.saturating_add(1);
-        if x.deadline != y.deadline {
-            return x.deadline < y.deadline;
-        }
-        if x.bit != y.bit {
-            return x.bit > y.bit;
-        }
-        if x.group != y.group {
-            return x.group > y.group;
-        }
-        x.task < y.task
+        // without a branch, since which part decides is seldom to be foretold
+        let lower_task = x.task < y.task;
+        let later_group = (x.group > y.group) | ((x.group == y.group) & lower_task);
+        let by_bit = (x.bit > y.bit) | ((x.bit == y.bit) & later_group);
+        (x.deadline < y.deadline) | ((x.deadline == y.deadline) & by_bit)
     }
 
     /// Counts one slot.
