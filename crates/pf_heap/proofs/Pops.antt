@@ -4,13 +4,13 @@ use Rattle.std.proofs.Math.ListN.{length-set}
 use Rattle.std.proofs.Math.Pow.{pow_mono}
 use Rattle.std.proofs.lemmas.Nat.{pow_pos}
 use Rattle.std.proofs.lemmas.Bool.{cases_lt}
-use Rattle.std.proofs.lemmas.List.{get_or_default}
+use Rattle.std.proofs.lemmas.List.{get_or_read}
 use Rattle.pf_order.specs.Priority.{Priority, precedes}
 use Rattle.pf_order.specs.Counts.{Counts, Compares}
 use Rattle.pf_heap.specs.declared.node.Node.{Node}
 use Rattle.pf_heap.specs.Forest.{Forest, none, tree, nowhere, head, forest_weight, same, one_each, at_place, size, IsBelow, AllBelow, Falls, Rises, Sinks, HasRoot}
 use Rattle.pf_heap.specs.Memory.{no_node, node_at, Stands, Part, root, Parts}
-use Rattle.pf_heap.specs.Steps.{CanTurn, IsTurned, HasTwoHeaps, IsMerged}
+use Rattle.pf_heap.specs.Steps.{HasRoots, CanTurn, IsTurned, HasTwoHeaps, IsMerged}
 use Rattle.pf_heap.specs.Pops.{roots, IsEarlier, IsSeeking, IsLeastRoot, HasHeapAndRoot, IsParted, nodes_with_free, CanPop, IsPopped}
 use Rattle.pf_order.proofs.Comparing.{compares_none, compares_both}
 use Rattle.pf_heap.proofs.Forests.{same-self, double, size_from_falls, size_from_rises, below-trans, below-itself, below_from_precedes, all_below-trans, all_below_from_falls}
@@ -66,6 +66,7 @@ pub record IsRootNode (nodes : List Node) (i : ℕ) (k : Priority) (r : ℕ) (g 
   pub within : i < length nodes
   pub key_is : (node_at nodes i).key ≡ k
   pub child_is : (node_at nodes i).child ≡ head g
+  pub rank_is : (node_at nodes i).rank ≡ r
 
 pub root_stands : (nodes : List Node) (up i : ℕ) (k : Priority) (r : ℕ) (g f : Forest) → Stands nodes up f → HasRoot i k r g f → IsRootNode nodes i k r g
 root_stands nodes up i k r g none s h = absurd h
@@ -75,6 +76,7 @@ root_stands nodes up i k r g (tree at key rank kids rest) s h =
       within = omega (arith, s.0, e.0);
       key_is = ap (λ x. (node_at nodes x).key) (sym e.0) ∙ ap (λ (n : Node). n.key) s.1 ∙ e.1;
       child_is = ap (λ x. (node_at nodes x).child) (sym e.0) ∙ ap (λ (n : Node). n.child) s.1 ∙ ap head e.3;
+      rank_is = ap (λ x. (node_at nodes x).rank) (sym e.0) ∙ ap (λ (n : Node). n.rank) s.1 ∙ e.2;
     })
     (λ m. root_stands nodes up i k r g rest s.3 m)
     h
@@ -200,7 +202,7 @@ root_falls r i k rk g (tree at key rank kids rest) rises h =
     (λ m. root_falls (rank + 1) i k rk g rest rises.2 m)
     h
 
-sinks_from_falls : (p : Priority) (r : ℕ) (f : Forest) → Falls p r f → Sinks r f
+pub sinks_from_falls : (p : Priority) (r : ℕ) (f : Forest) → Falls p r f → Sinks r f
 sinks_from_falls p r none h = tt
 sinks_from_falls p r (tree at key rank kids rest) h = (omega (arith, h.0), h.2, sinks_from_falls p rank rest h.3)
 
@@ -247,7 +249,7 @@ heap_and_root can = record {
 
 module _ {old mid : List Node} {link at free stay : ℕ} (can : CanPop old link at free)
     (parts_them : (c : HasHeapAndRoot old link at) → IsParted mid c.heap c.others at c.key c.rank c.kids stay) where
-  abbrev parted : IsParted mid can.heap (root can.spares ∷ can.others) at can.key can.rank can.kids stay
+  abbrev pub parted : IsParted mid can.heap (root can.spares ∷ can.others) at can.key can.rank can.kids stay
   parted = parts_them (heap_and_root can)
 
   pub alone_node : IsRootNode mid at can.key can.rank can.kids
@@ -255,13 +257,28 @@ module _ {old mid : List Node} {link at free stay : ℕ} (can : CanPop old link 
       let here : HasRoot at can.key can.rank can.kids (tree at can.key can.rank can.kids none) = inl (refl, refl, refl, refl) in
       root_stands mid nowhere at can.key can.rank can.kids (tree at can.key can.rank can.kids none) parted.parts.stand.1.0 here
 
-  kids_fall : Falls can.key can.rank can.kids
+  pub kids_fall : Falls can.key can.rank can.kids
   kids_fall = root_falls 0 at can.key can.rank can.kids can.heap can.rises can.has
 
   pub kids_sink : length mid < 2 ^ 32 → Sinks 32 can.kids
   kids_sink small =
       sinks_bounded can.rank can.kids (sinks_from_falls can.key can.rank can.kids kids_fall)
       (omega (arith, sizes-le-length mid _ parted.parts))
+
+  pub rank_low : length mid < 2 ^ 32 → can.rank ≤ 32
+  rank_low small =
+      ⊎_elim
+      (λ lt. omega (arith, lt))
+      (λ ge. absurd (omega (arith, pow_mono ge, size_from_falls can.key can.rank can.kids kids_fall, sizes-le-length mid _ parted.parts, small)))
+      (cases_lt can.rank 32)
+
+  -- what was read of the root
+  module _ (node : Node) (found : node ≡ get_or mid at node) where
+    pub read_child : node.child ≡ head can.kids
+    read_child = ap (λ (n : Node). n.child) (get_or_read mid at node alone_node.within found no_node) ∙ alone_node.child_is
+
+    pub read_rank : node.rank ≡ can.rank
+    read_rank = ap (λ (n : Node). n.rank) (get_or_read mid at node alone_node.within found no_node) ∙ alone_node.rank_is
 
   module _ {freed : List Node} (written : freed ≡ nodes_with_free mid at free) (mid_small : length mid < 2 ^ 32) (freed_small : length freed < 2 ^ 32) where
     pub freed_parts : Parts freed (root parted.stay ∷ (at, can.kids) ∷ root (tree at can.key 0 none can.spares) ∷ can.others)
@@ -270,11 +287,49 @@ module _ {old mid : List Node} {link at free stay : ℕ} (can : CanPop old link 
         (sym (written ∙ ap (λ z. nodes_with_free mid at z) can.free_is))
         (release_parts mid at can.key can.rank can.kids parted.stay can.spares can.others parted.parts)
 
-    module _ (node : Node) where
-      pub child_is : (get_or mid at node).child ≡ head can.kids
-      child_is = ap (λ (n : Node). n.child) (get_or_default mid at node no_node alone_node.within) ∙ alone_node.child_is
+    abbrev pub stay_roots : HasRoots freed stay
+    stay_roots = record {
+      list = parted.stay;
+      others = (at, can.kids) ∷ root (tree at can.key 0 none can.spares) ∷ can.others;
+      link_is = parted.stay_is;
+      small = freed_small;
+      parts = freed_parts;
+    }
 
-      abbrev pub kids_turn : CanTurn freed (get_or mid at node).child nowhere
+    module _ {child : ℕ} (child_is : child ≡ head can.kids) where
+      -- the children's ranks are all below those of the roots that stay
+
+      module _ (later : Rises can.rank parted.stay) where
+        abbrev pub kids_turn_in_front : CanTurn freed child stay
+        kids_turn_in_front = record {
+          up = at;
+          list = can.kids;
+          last = parted.stay;
+          others = root (tree at can.key 0 none can.spares) ∷ can.others;
+          link_is = child_is;
+          behind_is = parted.stay_is;
+          bound = can.rank;
+          low = rank_low mid_small;
+          sinks = sinks_from_falls can.key can.rank can.kids kids_fall;
+          rises = later;
+          small = freed_small;
+          parts = let s = freed_parts.stand in record { stand = (s.1.0, (s.0, s.1.1)); once = λ i. omega (arith, freed_parts.once i) };
+        }
+
+        pub popped_in_front : {new : List Node} {result : ℕ} {counts : Counts} →
+            ((c : CanTurn freed child stay) → IsTurned new c.list c.last c.others result) → IsPopped new can.heap can.spares can.others at can.key result counts counts
+        popped_in_front turns = let t = turns kids_turn_in_front in record {
+          heap = t.heap;
+          heap_is = t.heap_is;
+          rises = t.rises;
+          parts = t.parts;
+          kept = λ w. omega (arith, t.kept w, parted.kept w);
+          made = 0;
+          made_paid = inl refl;
+          counted = compares_none _;
+        }
+
+      abbrev pub kids_turn : CanTurn freed child nowhere
       kids_turn = record {
         up = at;
         list = can.kids;
@@ -290,7 +345,7 @@ module _ {old mid : List Node} {link at free stay : ℕ} (can : CanPop old link 
         parts = let s = freed_parts.stand in record { stand = (s.1.0, (tt, (s.0, s.1.1))); once = λ i. omega (arith, freed_parts.once i) };
       }
 
-      module _ {last : List Node} {kids : ℕ} (turns_kids : (c : CanTurn freed (get_or mid at node).child nowhere) → IsTurned last c.list c.last c.others kids) (last_small : length last < 2 ^ 32) where
+      module _ {last : List Node} {kids : ℕ} (turns_kids : (c : CanTurn freed child nowhere) → IsTurned last c.list c.last c.others kids) (last_small : length last < 2 ^ 32) where
         abbrev kids_turned : IsTurned last can.kids none (root parted.stay ∷ root (tree at can.key 0 none can.spares) ∷ can.others) kids
         kids_turned = turns_kids kids_turn
 

@@ -1,4 +1,6 @@
-ghost use Rattle.std.specs.Prelude.{◌≡◌, ◌≢◌, ℕ, ◌+◌, ◌<◌, length};
+ghost use Rattle.std.specs.Prelude.{◌≡◌, ◌≢◌, ℕ, ◌+◌, ◌<◌, length, IsTrue};
+ghost use Rattle.pf_heap.specs.Forest.{Rises};
+ghost use Rattle.pf_heap.specs.Steps.{HasRoots};
 ghost use Rattle.pf_heap.specs.Pops.{HasHeap, IsLeastRoot, HasHeapAndRoot, IsRightBefore, IsParted, CanPop, IsPopped};
 
 use crate::adding::merge;
@@ -59,6 +61,14 @@ fn part(nodes: &mut [Node], link: u32, at: u32) -> u32
     link
 }
 
+/// Whether the heap has no rank below this one: trees of those ranks then go in front of it as they are.
+fn starts_at(nodes: &[Node], link: u32, rank: u32) -> bool
+    requires can { HasRoots nodes.now link }
+    ensures { (can : HasRoots nodes.now link) → Rises 0 can.list → IsTrue result → Rises rank can.list }
+{
+    link == NOWHERE || rank <= nodes[link as usize].rank
+}
+
 /// Takes this root out of its heap and makes its node free: its children are merged with the roots that stay.
 pub(crate) fn pop_root(nodes: &mut [Node], meter: &mut Meter, link: u32, at: u32, free: u32) -> u32
     requires can { CanPop nodes.old link at free }
@@ -66,8 +76,11 @@ pub(crate) fn pop_root(nodes: &mut [Node], meter: &mut Meter, link: u32, at: u32
         → IsPopped nodes.new can.heap can.spares can.others at can.key result meter.old meter.new }
 {
     let heap = part(nodes, link, at);
-    let child = nodes[at as usize].child;
+    let node = nodes[at as usize];
     release(nodes, at, free);
-    let kids = turn(nodes, child, NOWHERE);
+    if starts_at(nodes, heap, node.rank) {
+        return turn(nodes, node.child, heap);
+    }
+    let kids = turn(nodes, node.child, NOWHERE);
     merge(nodes, meter, heap, kids)
 }
