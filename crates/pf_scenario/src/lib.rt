@@ -13,7 +13,7 @@ pub mod fault;
 mod guide;
 mod held_event;
 pub mod laws;
-mod limits;
+pub mod limits;
 mod place;
 pub mod scenario;
 pub mod settings;
