@@ -1,0 +1,11 @@
+pub mod Counting
+pub mod Division
+pub mod Common
+pub mod Powers
+pub mod Dividing
+pub mod Rounding
+pub mod Planned
+pub mod Working
+pub mod Choosing
+pub mod Examples
+pub mod Arriving

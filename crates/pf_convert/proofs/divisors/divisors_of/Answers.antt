@@ -1,0 +1,13 @@
+use Rattle.std.proofs.Common.{◌+◌, sym, subst}
+use Rattle.pf_convert.proofs.Dividing.{AreDivisorsBelow, pair_looked_at, all_divisors}
+use Rattle.pf_convert.proofs.divisors.divisors_of.Goals as goal
+
+pub loop-low-preserved : goal.loop-low-preserved
+loop-low-preserved c =
+    subst (AreDivisorsBelow c.args.number (c.loop-low.low + 1)) (sym c.in_ok-push_pair.ensures)
+    (pair_looked_at c.args.number c.loop-low.low c.loop-low.divisors.items c.requires.some c.loop-low.auto.low c.loop-low.invariant)
+
+pub returns : goal.returns
+returns c =
+    all_divisors c.args.number c.isqrt-low-end.result c.loop-low.low c.loop-low.divisors.items c.requires.some c.isqrt-low-end.ensures.next_square_gt
+    c.loop-low-test.false c.loop-low.invariant

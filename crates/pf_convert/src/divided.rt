@@ -1,0 +1,7 @@
+/// A base with its divisors.
+#[derive(Debug, Drop)]
+pub struct Divided {
+    pub base: u64,
+    /// In no order.
+    pub divisors: Vec<u64>,
+}

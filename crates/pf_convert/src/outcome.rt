@@ -1,0 +1,8 @@
+/// How long a quantum is, and how many processors its plan needs.
+#[derive(Clone, Copy, Debug, PartialEq, Eq)]
+pub struct Outcome {
+    /// In nanoseconds.
+    pub quantum: u64,
+    /// None where there is no plan.
+    pub needed: Option<u64>,
+}

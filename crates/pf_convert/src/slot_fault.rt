@@ -1,0 +1,23 @@
+/// Why a task in time is none in slots of a quantum, in the order in which the tests are made.
+#[derive(Clone, Copy, Debug, PartialEq, Eq)]
+pub enum SlotFault {
+    /// The period would be 0 slots.
+    EveryBelowQuantum,
+    /// A job would take more quanta than its period has slots.
+    CostAbovePeriod {
+        /// The quanta of a job.
+        cost: u64,
+        /// The slots of a period.
+        period: u64,
+    },
+    /// The first job would come at the horizon of a wide desk or behind it.
+    JoinBeyondHorizon {
+        /// The slot of the join.
+        join: u64,
+    },
+    /// A quantum might run earlier than a desk allows.
+    TooEarly {
+        /// How many slots before its window.
+        early: u64,
+    },
+}
