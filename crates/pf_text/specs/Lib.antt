@@ -1,3 +1,4 @@
 pub mod Page
 pub mod Pieces
 pub mod Records
+pub mod Sheets

@@ -6,4 +6,5 @@
 pub mod pair_text;
 pub mod pieces;
 pub mod records;
+pub mod sheets;
 pub mod table;

@@ -1,0 +1,5 @@
+//! Tables of a run beside its schedule. The one contract of this crate: from a snapshot each call gives the bytes of the
+//! table.
+#![tactic(auto)]
+
+pub mod load;
