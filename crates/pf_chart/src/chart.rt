@@ -8,7 +8,7 @@ use crate::frame::{head, legend};
 use crate::listed::Listed;
 use crate::listings::listings;
 use pf_desk::snapshot::Snapshot;
-use pf_report::pieces::{Chain, Pieces, Whole, gathered};
+use pf_text::pieces::{Chain, Pieces, Whole, gathered};
 use std::alloc::{AllocError, Global};
 use std::marker::Model;
 
@@ -42,6 +42,8 @@ impl<'a> Model for Blocks<'a> {
 
 impl<'a> Pieces for Blocks<'a> {
     ghost left = { λ b. b };
+
+    ghost outcome = { λ _. tt };
 
     fn next_piece(&mut self, alloc: Global) -> Result<Option<Vec<u8>>, AllocError> {
         if self.from >= self.to {

@@ -13,12 +13,12 @@ use pf_admit::denial::Denial;
 use pf_desk::history::History;
 use pf_desk::reply::Fault;
 use pf_desk::reply_view::ReplyView;
-use pf_digits::pair_text::PairText;
 use pf_order::pick::Pick;
 use pf_place::row_view::RowView;
 use pf_scenario::fault::EditFault;
 use pf_stream::sink::Sink;
 use pf_stream::text_buffer::TextBuffer;
+use pf_text::pair_text::PairText;
 use std::alloc::AllocError;
 
 /// Adds a reply's line behind a text. Its row has at most 64 places.

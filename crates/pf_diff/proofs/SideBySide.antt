@@ -10,8 +10,8 @@ use Rattle.csv.specs.Writing.{row_text, default_writer}
 use Rattle.pf_order.specs.declared.pick.Pick.{Pick}
 use Rattle.pf_place.specs.Occupancy.{sitter}
 use Rattle.pf_tally.proofs.Noting.{got_at}
-use Rattle.pf_report.specs.Page.{Page}
-use Rattle.pf_report.specs.Tables.{table_text}
+use Rattle.pf_text.specs.Page.{Page}
+use Rattle.pf_text.specs.Page.{table_text}
 use Rattle.pf_diff.specs.Diff.{sitter_changes, row_changes, slot_changes}
 use Rattle.pf_diff.specs.Written.{with_records, AddsSlot}
 

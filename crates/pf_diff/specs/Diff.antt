@@ -11,7 +11,8 @@ use Rattle.pf_tally.specs.declared.miss.Miss.{Miss}
 use Rattle.pf_tally.specs.Lags.{lags_of}
 use Rattle.pf_tally.specs.Misses.{misses_of}
 use Rattle.pf_desk.specs.Desk.{Seen}
-use Rattle.pf_report.specs.Tables.{table_text, sitter_field}
+use Rattle.pf_report.specs.Tables.{sitter_field}
+use Rattle.pf_text.specs.Page.{table_text}
 use Rattle.pf_diff.specs.declared.finding.Finding.{Finding}
 use Rattle.pf_diff.specs.declared.finding.Finding.TheVariants as found
 use Rattle.pf_diff.specs.declared.cell.Cell.{Cell}

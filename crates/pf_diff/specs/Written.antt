@@ -1,8 +1,8 @@
 -- What differs between two schedules, on its way to text.
 use Rattle.std.specs.Prelude.{ℕ, ◌≡◌, ◌+◌, Option, List, [], ◌++◌, drop}
 use Rattle.pf_order.specs.declared.pick.Pick.{Pick}
-use Rattle.pf_report.specs.Page.{Page}
-use Rattle.pf_report.specs.Tables.{table_text}
+use Rattle.pf_text.specs.Page.{Page}
+use Rattle.pf_text.specs.Page.{table_text}
 use Rattle.pf_diff.specs.Diff.{slot_changes}
 
 -- the page with these records more

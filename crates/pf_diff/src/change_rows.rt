@@ -1,11 +1,11 @@
 ghost use Rattle.std.specs.Prelude.{◌≡◌, [], OnOk};
-ghost use Rattle.pf_report.specs.Page.{with_field, with_record};
+ghost use Rattle.pf_text.specs.Page.{with_field, with_record};
 ghost use Rattle.pf_diff.specs.Diff.{finding_field, change_record};
 
 use crate::change::Change;
 use crate::finding::Finding;
-use pf_report::records::Records;
-use pf_report::table::Table;
+use pf_text::records::Records;
+use pf_text::table::Table;
 use std::alloc::AllocError;
 use std::marker::Model;
 

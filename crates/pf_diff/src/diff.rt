@@ -1,5 +1,5 @@
 ghost use Rattle.std.specs.Prelude.{◌≡◌, ◌∷◌, [], map, true, false, IfOk};
-ghost use Rattle.pf_report.specs.Tables.{table_text};
+ghost use Rattle.pf_text.specs.Page.{table_text};
 ghost use Rattle.pf_diff.specs.Changes.{changes_of};
 ghost use Rattle.pf_diff.specs.Diff.{change_record, schedule_diff, lags_diff, misses_diff, denials_diff, diff_text_of};
 
@@ -9,9 +9,9 @@ use crate::change_rows::ChangeRows;
 use crate::changes::changes;
 use crate::slots::SlotPieces;
 use pf_desk::snapshot::Snapshot;
-use pf_report::pieces::{Chain, Whole, gathered};
-use pf_report::records::RecordPieces;
-use pf_report::table::Table;
+use pf_text::pieces::{Chain, Whole, gathered};
+use pf_text::records::RecordPieces;
+use pf_text::table::Table;
 use std::alloc::{AllocError, Global};
 
 /// A table behind its title and its heading.

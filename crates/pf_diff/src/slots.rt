@@ -1,6 +1,6 @@
 ghost use Rattle.std.specs.Prelude.{◌≡◌, ◌<◌, [], length, min, OnOk};
 ghost use Rattle.pf_place.specs.Lent.{lent_row};
-ghost use Rattle.pf_report.specs.Page.{with_field};
+ghost use Rattle.pf_text.specs.Page.{with_field};
 ghost use Rattle.pf_report.specs.Tables.{sitter_field};
 ghost use Rattle.pf_diff.specs.Diff.{same_sitter, sitter_changes, row_changes};
 ghost use Rattle.pf_diff.specs.Written.{with_records, AddsSlot};
@@ -8,9 +8,9 @@ ghost use Rattle.pf_diff.specs.Written.{with_records, AddsSlot};
 use pf_desk::snapshot::Snapshot;
 use pf_order::pick::Pick;
 use pf_place::row_view::RowView;
-use pf_report::pieces::Pieces;
 use pf_report::rows::{row_at, row_count};
-use pf_report::table::Table;
+use pf_text::pieces::Pieces;
+use pf_text::table::Table;
 use std::alloc::{AllocError, Global};
 use std::marker::Model;
 
@@ -92,7 +92,7 @@ pub struct SlotPieces<'a> {
 
 impl<'a> Model for SlotPieces<'a> {
     ghost use Rattle.std.specs.Prelude.{ℕ, List, ◌≤◌, length, drop};
-    ghost use Rattle.pf_report.specs.Tables.{table_text};
+    ghost use Rattle.pf_text.specs.Page.{table_text};
     ghost use Rattle.pf_diff.specs.Diff.{slot_changes};
 
     ghost Value = { List ℕ };
@@ -104,7 +104,7 @@ impl<'a> Model for SlotPieces<'a> {
 
 impl<'a> SlotPieces<'a> {
     ghost use Rattle.std.specs.Prelude.{◌≡◌};
-    ghost use Rattle.pf_report.specs.Tables.{table_text};
+    ghost use Rattle.pf_text.specs.Page.{table_text};
     ghost use Rattle.pf_diff.specs.Diff.{slot_changes};
 
     /// What differs in all slots.
@@ -140,6 +140,8 @@ fn push_seen(
 
 impl Pieces for SlotPieces<'_> {
     ghost left = { λ p. p };
+
+    ghost outcome = { λ _. tt };
 
     fn next_piece(&mut self, alloc: Global) -> Result<Option<Vec<u8>>, AllocError> {
         let count = row_count(self.before).min(row_count(self.after));

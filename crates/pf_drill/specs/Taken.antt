@@ -2,7 +2,7 @@
 use Rattle.std.specs.Prelude.{ℕ, List, [], ◌∷◌, codes, map}
 use Rattle.std.specs.Fmt.{decimal}
 use Rattle.pf_board.specs.declared.quantum.Quantum.{Quantum}
-use Rattle.pf_report.specs.Tables.{table_text}
+use Rattle.pf_text.specs.Page.{table_text}
 
 abbrev pub taken_record : Quantum → List (List ℕ)
 taken_record q = decimal q.slot ∷ decimal q.processor ∷ decimal q.task ∷ decimal q.sub ∷ []

@@ -4,8 +4,8 @@ ghost use Rattle.pf_drill.specs.Drilled.{drill_text};
 use crate::taken::taken_pieces;
 use pf_board::quantum::Quantum;
 use pf_desk::snapshot::Snapshot;
-use pf_report::pieces::{Chain, Whole, gathered};
 use pf_report::schedule::schedule_pieces;
+use pf_text::pieces::{Chain, Whole, gathered};
 use std::alloc::{AllocError, Global};
 
 /// The text of a drill: the schedule that a snapshot shows, and what was taken, each behind a line with its name.

@@ -1,11 +1,11 @@
 ghost use Rattle.std.specs.Prelude.{◌≡◌, [], IfOk, OnOk};
 ghost use Rattle.pf_drill.specs.Taken.{taken_record, taken_text_of};
-ghost use Rattle.pf_report.specs.Page.{with_record};
+ghost use Rattle.pf_text.specs.Page.{with_record};
 
 use pf_board::quantum::Quantum;
-use pf_report::pieces::{Chain, Whole};
-use pf_report::records::{RecordPieces, Records};
-use pf_report::table::Table;
+use pf_text::pieces::{Chain, Whole};
+use pf_text::records::{RecordPieces, Records};
+use pf_text::table::Table;
 use std::alloc::{AllocError, Global};
 use std::marker::Model;
 

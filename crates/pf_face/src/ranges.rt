@@ -7,8 +7,8 @@ use crate::handle::Handle;
 use crate::room::fill_text;
 use crate::status::{NO_MEMORY, NOT_OPEN, OUT_OF_RANGE};
 use pf_desk::desk::Desk;
-use pf_report::pieces::gathered;
 use pf_report::schedule_part::schedule_part_pieces;
+use pf_text::pieces::gathered;
 use std::alloc::{AllocError, Global};
 
 /// Writes the schedule of the slots from `from` on and below `to` as a table. `count` is how many bytes it has, where the

@@ -9,7 +9,7 @@ use crate::scale::Scale;
 use crate::strips::strips;
 use pf_chart::chart::counts;
 use pf_desk::snapshot::Snapshot;
-use pf_report::pieces::{Chain, Pieces, Whole, gathered};
+use pf_text::pieces::{Chain, Pieces, Whole, gathered};
 use std::alloc::{AllocError, Global};
 
 /// The narrowest that a slot may be.

@@ -3,7 +3,7 @@ use crate::processors::processor_text;
 use crate::scale::Scale;
 use crate::task::task_text;
 use pf_desk::snapshot::Snapshot;
-use pf_report::pieces::Pieces;
+use pf_text::pieces::Pieces;
 use std::alloc::{AllocError, Global};
 use std::marker::Model;
 
@@ -64,6 +64,8 @@ impl<'a> Rows<'a> {
 
 impl<'a> Pieces for Rows<'a> {
     ghost left = { λ r. r };
+
+    ghost outcome = { λ _. tt };
 
     fn next_piece(&mut self, alloc: Global) -> Result<Option<Vec<u8>>, AllocError> {
         if u64::from(self.processor) < self.scale.processors() {

@@ -23,7 +23,7 @@ use Rattle.pf_script.specs.declared.version.Version.{Version}
 use Rattle.pf_script.specs.declared.version.Version.TheVariants.{First, Second}
 use Rattle.pf_script.specs.declared.line.Line.{Line}
 use Rattle.pf_script.specs.declared.line.Line.TheVariants.{Edit, Steps}
-use Rattle.pf_report.specs.Tables.{table_text}
+use Rattle.pf_text.specs.Page.{table_text}
 use Rattle.pf_report.specs.Script.{settings_record, insert_record, insert_records, step_records, script_rows, script_text_of}
 use Rattle.pf_reopen.specs.Reopen.{version_of, CanBeWritten, insert_lines, step_lines, IsReadAgain, ScriptsAreReadAgain}
 use Rattle.pf_reopen.proofs.Lines.{AreShort, IsAllowed, short_from, insert_again, steps_again, settings_again}

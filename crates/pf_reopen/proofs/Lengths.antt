@@ -12,7 +12,7 @@ use Rattle.pf_scenario.specs.declared.event.Event.TheVariants.{Join, Leave, Dela
 use Rattle.pf_scenario.specs.declared.event.Numbered.{Numbered}
 use Rattle.pf_desk.specs.Desk.{Seen}
 use Rattle.pf_stream.specs.Reading.{longest_script}
-use Rattle.pf_report.specs.Tables.{table_text}
+use Rattle.pf_text.specs.Page.{table_text}
 use Rattle.pf_report.specs.Script.{heading_records, settings_record, insert_record, insert_records, step_records, script_rows, script_text_of}
 use Rattle.pf_reopen.specs.Reopen.{CanBeWritten}
 use Rattle.pf_reopen.proofs.Lines.{AreShort}

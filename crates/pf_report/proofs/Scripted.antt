@@ -4,7 +4,7 @@ use Rattle.std.proofs.lemmas.Grind.{flat_map-append}
 use Rattle.csv.specs.Writing.{row_text, default_writer}
 use Rattle.pf_desk.specs.Desk.{Seen}
 use Rattle.pf_report.specs.Script.{heading_records, settings_record, insert_records, step_records, script_text_of}
-use Rattle.pf_report.specs.Tables.{table_text}
+use Rattle.pf_text.specs.Page.{table_text}
 
 -- the opening, the events and the steps, one behind another
 pub script_parts : (every : ℕ) (seen : Seen)

@@ -6,7 +6,7 @@ use Rattle.pf_scenario.specs.declared.event.Event.{Event}
 use Rattle.pf_scenario.specs.declared.event.Event.TheVariants.{Join, Leave, Delay, Limit}
 use Rattle.pf_scenario.specs.declared.event.Numbered.{Numbered}
 use Rattle.pf_desk.specs.Desk.{Seen}
-use Rattle.pf_report.specs.Tables.{table_text}
+use Rattle.pf_text.specs.Page.{table_text}
 
 -- a number, or nothing where the kind of event has none
 abbrev pub number_field : Option ℕ → List ℕ

@@ -1,7 +1,8 @@
 -- A part of the schedule: the slots of a range.
 use Rattle.std.specs.Prelude.{ℕ, ◌+◌, List, ◌∷◌, drop, take}
 use Rattle.pf_desk.specs.Desk.{Seen}
-use Rattle.pf_report.specs.Tables.{schedule_heading, schedule_records, table_text}
+use Rattle.pf_report.specs.Tables.{schedule_heading, schedule_records}
+use Rattle.pf_text.specs.Page.{table_text}
 
 -- the slots from `from` on and below `to` of what was seen
 pub record Part : Type 0 where

@@ -1,13 +1,8 @@
--- Tables and arrays by their parts.
-use Rattle.std.specs.Prelude.{ℕ, ◌≡◌, ◌==◌, List, [], ◌∷◌, ◌++◌, Bool, not, if◌then◌else◌}
+-- Arrays by their parts.
+use Rattle.std.specs.Prelude.{ℕ, ◌==◌, List, [], ◌∷◌, ◌++◌, Bool, not, if◌then◌else◌}
 use Rattle.serde_json.specs.Data.{Data}
 use Rattle.serde_json.specs.View.{items_of}
 use Rattle.serde_json.specs.Written.{items_text}
-use Rattle.pf_report.specs.Page.{Page, with_record}
-
--- the first of the records that were left was added to a page, and these are left behind it
-abbrev pub AddsRecord : List (List (List ℕ)) → List (List (List ℕ)) → Page → Page → Type 0
-AddsRecord was left old new = (fields : List (List ℕ)) × (was ≡ fields ∷ left) × (new ≡ with_record old fields)
 
 -- the text of an array from a place on, of which these elements are left: a comma stands before each but the first
 abbrev pub elements_text : ℕ → List Data → List ℕ

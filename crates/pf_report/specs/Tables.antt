@@ -1,9 +1,9 @@
--- The tables of a report, as csv writes them: commas, line feeds, quotes only where they are needed.
+-- The tables of a report.
 use Rattle.std.specs.Prelude.{ℕ, ◌+◌, Option, None, Some, List, [], ◌∷◌, ◌++◌, codes, map}
-use Rattle.std.specs.List.{flat_map, range_with_len}
+use Rattle.std.specs.List.{range_with_len}
 use Rattle.std.specs.Option.{option_map_or}
 use Rattle.std.specs.Fmt.{decimal, signed_decimal}
-use Rattle.csv.specs.Writing.{row_text, default_writer}
+use Rattle.pf_text.specs.Page.{table_text}
 use Rattle.pf_order.specs.declared.pick.Pick.{Pick}
 use Rattle.pf_admit.specs.Refusals.{denial_code, denial_name}
 use Rattle.pf_run.specs.declared.denied.Denied.{Denied}
@@ -13,10 +13,6 @@ use Rattle.pf_tally.specs.declared.miss.Miss.{Miss}
 use Rattle.pf_tally.specs.Lags.{lags_of}
 use Rattle.pf_tally.specs.Misses.{misses_of}
 use Rattle.pf_desk.specs.Desk.{Seen}
-
--- a table: its records, each a list of fields, the heading first
-abbrev pub table_text : List (List (List ℕ)) → List ℕ
-table_text records = flat_map (row_text default_writer) records
 
 -- `task/sub`
 abbrev pub pick_text : Pick → List ℕ

@@ -4,7 +4,7 @@ ghost use Rattle.serde_json.specs.View.{items_of, view};
 ghost use Rattle.serde_json.specs.Written.{compact_text, has_float};
 ghost use Rattle.pf_report.specs.Parts.{elements_text};
 
-use crate::pieces::{LONG_PIECE, Pieces};
+use pf_text::pieces::{LONG_PIECE, Pieces};
 use serde_json::Value;
 use std::alloc::{AllocError, Global};
 use std::marker::Model;
@@ -89,6 +89,8 @@ impl<E: Elements> ArrayPieces<E> {
 
 impl<E: Elements> Pieces for ArrayPieces<E> {
     ghost left = { λ p. p };
+
+    ghost outcome = { λ _. tt };
 
     fn next_piece(&mut self, alloc: Global) -> Result<Option<Vec<u8>>, AllocError> {
         if self.closed {

@@ -1,10 +1,10 @@
 ghost use Rattle.std.specs.Prelude.{◌≡◌, [], IfOk, OnOk};
-ghost use Rattle.pf_report.specs.Page.{with_field, with_record};
+ghost use Rattle.pf_text.specs.Page.{with_field, with_record};
 ghost use Rattle.pf_report.specs.Events.{event_fields, event_record, events_text, number_field};
 
-use crate::table::Table;
 use pf_desk::snapshot::Snapshot;
 use pf_scenario::event::{Event, Numbered};
+use pf_text::table::Table;
 use std::alloc::{AllocError, Global};
 
 /// Adds the field of a number, which is empty where there is none.

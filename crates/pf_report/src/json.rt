@@ -9,7 +9,6 @@ use crate::denials::DenialRows;
 use crate::elements::{ArrayPieces, Elements};
 use crate::lags::LagRows;
 use crate::misses::MissRows;
-use crate::pieces::{Chain, Pieces, Whole, gathered};
 use crate::rows::{row_at, row_count};
 use crate::schedule::ScheduleRows;
 use pf_desk::snapshot::Snapshot;
@@ -19,6 +18,7 @@ use pf_run::denied::Denied;
 use pf_tally::lag::Lag;
 use pf_tally::miss::Miss;
 use pf_tally::tally::Tally;
+use pf_text::pieces::{Chain, Pieces, Whole, gathered};
 use serde_json::{Value, json};
 use std::alloc::{AllocError, Global};
 

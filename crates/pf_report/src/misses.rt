@@ -1,12 +1,12 @@
 ghost use Rattle.std.specs.Prelude.{◌≡◌, [], IfOk, OnOk};
-ghost use Rattle.pf_report.specs.Page.{with_record};
+ghost use Rattle.pf_text.specs.Page.{with_record};
 ghost use Rattle.pf_report.specs.Tables.{miss_record, misses_text};
 
-use crate::pieces::{Chain, Whole, gathered};
-use crate::records::{RecordPieces, Records};
-use crate::table::Table;
 use pf_desk::snapshot::Snapshot;
 use pf_tally::miss::Miss;
+use pf_text::pieces::{Chain, Whole, gathered};
+use pf_text::records::{RecordPieces, Records};
+use pf_text::table::Table;
 use std::alloc::{AllocError, Global};
 use std::marker::Model;
 

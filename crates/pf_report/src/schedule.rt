@@ -1,16 +1,16 @@
 ghost use Rattle.std.specs.Prelude.{◌≡◌, ◌∷◌, [], length, map, IfOk, OnOk};
 ghost use Rattle.std.specs.Fmt.{decimal};
 ghost use Rattle.pf_place.specs.Lent.{lent_row};
-ghost use Rattle.pf_report.specs.Page.{with_field, with_record};
+ghost use Rattle.pf_text.specs.Page.{with_field, with_record};
 ghost use Rattle.pf_report.specs.Tables.{schedule_heading, schedule_text, sitter_field};
 
-use crate::pieces::{Chain, Whole, gathered};
-use crate::records::{RecordPieces, Records};
 use crate::rows::{row_at, row_count};
-use crate::table::Table;
 use pf_desk::snapshot::Snapshot;
 use pf_order::pick::Pick;
 use pf_place::row_view::RowView;
+use pf_text::pieces::{Chain, Whole, gathered};
+use pf_text::records::{RecordPieces, Records};
+use pf_text::table::Table;
 use std::alloc::{AllocError, Global};
 use std::marker::Model;
 

@@ -1,12 +1,12 @@
 ghost use Rattle.std.specs.Prelude.{◌≡◌, ◌≤◌, IfOk};
 ghost use Rattle.pf_report.specs.Part.{schedule_part_text};
 
-use crate::pieces::{Chain, Whole};
-use crate::records::{RecordPieces, Records};
 use crate::rows::row_at;
 use crate::schedule::{push_heading, push_row};
-use crate::table::Table;
 use pf_desk::snapshot::Snapshot;
+use pf_text::pieces::{Chain, Whole};
+use pf_text::records::{RecordPieces, Records};
+use pf_text::table::Table;
 use std::alloc::{AllocError, Global};
 use std::marker::Model;
 

@@ -1,15 +1,15 @@
 ghost use Rattle.std.specs.Prelude.{◌≡◌, ◌≤◌, ◌∷◌, ◌++◌, [], length, map, IfOk, OnOk};
 ghost use Rattle.std.specs.Fmt.{decimal};
-ghost use Rattle.pf_report.specs.Page.{with_record};
+ghost use Rattle.pf_text.specs.Page.{with_record};
 ghost use Rattle.pf_report.specs.Script.{heading_records, settings_record, insert_record, step_records, script_text_of};
-ghost use Rattle.pf_report.specs.Tables.{table_text};
+ghost use Rattle.pf_text.specs.Page.{table_text};
 
-use crate::pieces::{Chain, LONG_PIECE, Pieces, Whole, gathered};
-use crate::table::Table;
 use pf_desk::snapshot::Snapshot;
 use pf_scenario::event::Event;
 use pf_scenario::events::Events;
 use pf_scenario::settings::{NEAR_HORIZON, Settings};
+use pf_text::pieces::{Chain, LONG_PIECE, Pieces, Whole, gathered};
+use pf_text::table::Table;
 use std::alloc::{AllocError, Global};
 use std::marker::Model;
 
@@ -64,7 +64,7 @@ pub struct InsertPieces<'a> {
 impl<'a> Model for InsertPieces<'a> {
     ghost use Rattle.std.specs.Prelude.{ℕ, List};
     ghost use Rattle.pf_report.specs.Script.{insert_records};
-    ghost use Rattle.pf_report.specs.Tables.{table_text};
+    ghost use Rattle.pf_text.specs.Page.{table_text};
 
     ghost Value = { List ℕ };
 
@@ -73,6 +73,8 @@ impl<'a> Model for InsertPieces<'a> {
 
 impl Pieces for InsertPieces<'_> {
     ghost left = { λ p. p };
+
+    ghost outcome = { λ _. tt };
 
     fn next_piece(&mut self, alloc: Global) -> Result<Option<Vec<u8>>, AllocError> {
         let Some(first) = self.events.next() else {

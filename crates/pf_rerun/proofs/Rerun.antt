@@ -21,7 +21,8 @@ use Rattle.pf_stream.specs.Reading.{longest_script}
 use Rattle.pf_drill.specs.Asked.{system_opened_by}
 use Rattle.pf_report.specs.Script.{heading_records, settings_record, insert_record, insert_records, step_records, script_text_of}
 use Rattle.pf_report.specs.Part.{schedule_part_text}
-use Rattle.pf_report.specs.Tables.{table_text, lag_record, miss_record, lags_text, misses_text}
+use Rattle.pf_report.specs.Tables.{lag_record, miss_record, lags_text, misses_text}
+use Rattle.pf_text.specs.Page.{table_text}
 use Rattle.pf_words.specs.declared.format.Format.{Format}
 use Rattle.pf_words.specs.declared.format.Format.TheVariants.{Schedule, Lags, Misses, Script}
 use Rattle.pf_words.specs.Formats.{has_replies, range_fault}

@@ -6,7 +6,7 @@ use Rattle.std.specs.Fmt.{decimal}
 use Rattle.pf_order.specs.declared.pick.Pick.{Pick}
 use Rattle.pf_place.specs.Occupancy.{sitter}
 use Rattle.pf_desk.specs.Desk.{Seen}
-use Rattle.pf_report.specs.Tables.{table_text}
+use Rattle.pf_text.specs.Page.{table_text}
 
 -- the task on a processor in a row, if it isn't idle there
 abbrev pub task_on : ℕ → List (Option Pick) → Option ℕ

@@ -7,7 +7,7 @@ use Rattle.pf_tally.specs.declared.extremes.Extremes.{Extremes}
 use Rattle.pf_tally.specs.declared.figures.Figures.{Figures}
 use Rattle.pf_tally.specs.Figures.{figures_of}
 use Rattle.pf_desk.specs.Desk.{Seen}
-use Rattle.pf_report.specs.Tables.{table_text}
+use Rattle.pf_text.specs.Page.{table_text}
 
 -- the response of no job is empty
 abbrev pub least_field : Option Extremes → List ℕ

@@ -1,13 +1,13 @@
 ghost use Rattle.std.specs.Prelude.{◌≡◌, ◌≤◌, [], nat_eq, is_some, if◌then◌else◌, length, IfOk, OnOk};
 ghost use Rattle.std.specs.Option.{option_eq};
 ghost use Rattle.pf_place.specs.Lent.{lent_row};
-ghost use Rattle.pf_report.specs.Page.{with_record};
+ghost use Rattle.pf_text.specs.Page.{with_record};
 ghost use Rattle.pf_stats.specs.Processors.{changes_on, processor_record, processors_text, quanta_on, task_on};
 
 use pf_desk::snapshot::Snapshot;
 use pf_place::row_view::RowView;
 use pf_report::rows::{row_at, row_count};
-use pf_report::table::Table;
+use pf_text::table::Table;
 use std::alloc::{AllocError, Global};
 
 /// The task on a processor in a row.

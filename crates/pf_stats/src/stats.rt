@@ -1,11 +1,11 @@
 ghost use Rattle.std.specs.Prelude.{◌≡◌, [], IfOk, OnOk};
-ghost use Rattle.pf_report.specs.Page.{with_field, with_record};
+ghost use Rattle.pf_text.specs.Page.{with_field, with_record};
 ghost use Rattle.pf_stats.specs.Stats.{figures_record, greatest_field, least_field, stats_text, task_fields, time_fields, work_fields};
 
 use pf_desk::snapshot::Snapshot;
-use pf_report::table::Table;
 use pf_tally::extremes::Extremes;
 use pf_tally::figures::Figures;
+use pf_text::table::Table;
 use std::alloc::{AllocError, Global};
 
 /// Adds the field of the least, which is empty where there is none.

@@ -9,7 +9,7 @@ returns-in_err-put-clause-err g c =
     let mid = g.W.Write.contents c.pieces.writer in
     let rest = g.P.Pieces.left c.next_piece.new.self in
     let whole = c.args.text.now ++ g.P.Pieces.left c.args.pieces in
-    let took = rw c.in-Some.is at c.in_ok-piece.ensures in
+    let took = rw c.in-Some.is at c.in_ok-piece.ensures.text in
     let parts = took.0 ∙ ap (λ p. p ++ rest) (sym c.deref.ensures.value) in
     let way = subst (λ t. TookAllBut (c.pieces.text ++ t) start mid whole) parts c.pieces.invariant.way in
     anyway c.from_residual-in_err-put.result _
@@ -21,7 +21,7 @@ pieces-preserved g c =
     let mid = g.W.Write.contents c.pieces.writer in
     let rest = g.P.Pieces.left c.next_piece.new.self in
     let whole = c.args.text.now ++ g.P.Pieces.left c.args.pieces in
-    let took = rw c.in-Some.is at c.in_ok-piece.ensures in
+    let took = rw c.in-Some.is at c.in_ok-piece.ensures.text in
     let parts = took.0 ∙ ap (λ p. p ++ rest) (sym c.deref.ensures.value) in
     let way = subst (λ t. TookAllBut (c.pieces.text ++ t) start mid whole) parts c.pieces.invariant.way in
     record {

@@ -1,6 +1,6 @@
 use Rattle.std.proofs.Common.{◌≡◌, ◌++◌, [], drop}
 use Rattle.pf_place.specs.Lent.{lent_row}
-use Rattle.pf_report.specs.Tables.{table_text}
+use Rattle.pf_text.specs.Page.{table_text}
 use Rattle.pf_diff.specs.Diff.{row_changes}
 use Rattle.pf_diff.proofs.slots.push_slot.Given as goal
 

@@ -1,5 +1,5 @@
 use Rattle.std.proofs.Common.{◌≡◌, ◌++◌, [], map}
-use Rattle.pf_report.specs.Tables.{table_text}
+use Rattle.pf_text.specs.Page.{table_text}
 use Rattle.pf_report.specs.Events.{event_record, events_text}
 use Rattle.pf_report.proofs.events.events_csv.Given as goal
 

@@ -1,5 +1,5 @@
 use Rattle.std.proofs.Common.{◌≡◌, ◌-◌, refl, ap, arith}
-use Rattle.pf_report.proofs.Recorded.{record_written, table_written}
+use Rattle.pf_text.proofs.Recorded.{record_written, table_written}
 use Rattle.pf_stats.specs.Processors.{processor_record, processors_text}
 use Rattle.pf_stats.proofs.Using.{first_left, none_left}
 use Rattle.pf_stats.proofs.processors.processors_csv.Goals as goal

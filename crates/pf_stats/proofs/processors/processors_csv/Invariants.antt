@@ -1,6 +1,6 @@
 use Rattle.std.proofs.Common.{◌≡◌, ◌++◌, ◌-◌, [], map}
 use Rattle.std.specs.List.{range_with_len}
-use Rattle.pf_report.specs.Tables.{table_text}
+use Rattle.pf_text.specs.Page.{table_text}
 use Rattle.pf_stats.specs.Processors.{processor_record, processors_text}
 use Rattle.pf_stats.proofs.processors.processors_csv.Given as goal
 

@@ -1,6 +1,6 @@
 use Rattle.std.proofs.Common.{map, refl, rules}
 use Rattle.std.proofs.lemmas.List.{at_drop_more}
-use Rattle.pf_report.proofs.Recorded.{record_written}
+use Rattle.pf_text.proofs.Recorded.{record_written}
 use Rattle.pf_stats.specs.Stats.{figures_record, stats_text}
 use Rattle.pf_stats.proofs.stats.stats_csv.Goals as goal
 

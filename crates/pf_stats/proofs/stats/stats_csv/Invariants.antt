@@ -1,5 +1,5 @@
 use Rattle.std.proofs.Common.{◌≡◌, ◌++◌, [], map, drop}
-use Rattle.pf_report.specs.Tables.{table_text}
+use Rattle.pf_text.specs.Page.{table_text}
 use Rattle.pf_stats.specs.Stats.{figures_record, stats_text}
 use Rattle.pf_stats.proofs.stats.stats_csv.Given as goal
 

@@ -4,8 +4,8 @@ use Rattle.pf_chart.specs.Chart.{block_of, blocks_text}
 use Rattle.pf_chart.proofs.Blocks.{blocks_next, block_some}
 use Rattle.pf_chart.proofs.chart.BlocksPieces.next_piece.Goals as goal
 
-pub returns : goal.returns
-returns c =
+pub returns-clause-text : goal.returns-clause-text
+returns-clause-text c =
     let inside = c.self.inside in
     let seen = inside.snapshot.now in
     let listed = inside.listed.items in

@@ -1,13 +1,13 @@
 use Rattle.std.proofs.Common.{◌≡◌, ◌∙◌, ◌≤◌, ◌++◌, [], length, drop, min, ap, ap₂, sym, true, rules, arith}
 use Rattle.std.proofs.lemmas.List.{nil_from_length}
-use Rattle.pf_report.specs.Tables.{table_text}
+use Rattle.pf_text.specs.Page.{table_text}
 use Rattle.pf_diff.specs.Diff.{slot_changes}
 use Rattle.pf_diff.proofs.SideBySide.{slot_end}
 use Rattle.pf_diff.proofs.slots.SlotPiecesPieces.next_piece.Goals as goal
 use Rattle.pf_diff.proofs.slots.SlotPiecesPieces.next_piece.Goals.{then-loop-at-test+else-not-is_long, else-loop-at-test}
 
-pub returns-then-is_empty : goal.returns-then-is_empty
-returns-then-is_empty c =
+pub returns-then-is_empty-clause-text : goal.returns-then-is_empty-clause-text
+returns-then-is_empty-clause-text c =
     let before = c.self.inside.before.now.rows in
     let after = c.self.inside.after.now.rows in
     let at = c.loop-at.at in

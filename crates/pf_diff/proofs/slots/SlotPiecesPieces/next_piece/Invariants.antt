@@ -1,5 +1,5 @@
 use Rattle.std.proofs.Common.{◌-◌, ◌≡◌, ◌≤◌, ◌++◌, [], drop}
-use Rattle.pf_report.specs.Tables.{table_text}
+use Rattle.pf_text.specs.Page.{table_text}
 use Rattle.pf_diff.specs.Diff.{slot_changes}
 use Rattle.pf_diff.proofs.slots.SlotPiecesPieces.next_piece.Given as goal
 

@@ -8,8 +8,8 @@ use Rattle.pf_picture.specs.Task.{task_text_of}
 use Rattle.pf_picture.proofs.Parts.{processor_next, processor_some, task_next, task_some}
 use Rattle.pf_picture.proofs.rows.RowsPieces.next_piece.Goals as goal
 
-pub returns-then-from-processors : goal.returns-then-from-processors
-returns-then-from-processors c =
+pub returns-then-from-processors-clause-text : goal.returns-then-from-processors-clause-text
+returns-then-from-processors-clause-text c =
     let rows = c.self.inside in
     let seen = rows.snapshot.now in
     let drawings = rows.drawings.items in
@@ -20,8 +20,8 @@ returns-then-from-processors c =
       processor_some seen rows.scale drawings rows.processor c.in_ok-text.text.items is,
     )
 
-pub returns-then-self-len : goal.returns-then-self-len
-returns-then-self-len c =
+pub returns-then-self-len-clause-text : goal.returns-then-self-len-clause-text
+returns-then-self-len-clause-text c =
     let rows = c.self.inside in
     let seen = rows.snapshot.now in
     let drawings = rows.drawings.items in

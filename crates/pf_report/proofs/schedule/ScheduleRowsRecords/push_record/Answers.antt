@@ -1,7 +1,8 @@
 use Rattle.std.proofs.Common.{◌≡◌, Some, subst}
 use Rattle.std.specs.List.{slice_get}
 use Rattle.pf_place.specs.Lent.{lent_row}
-use Rattle.pf_report.proofs.Recorded.{first_added, row_first}
+use Rattle.pf_report.proofs.Recorded.{row_first}
+use Rattle.pf_text.proofs.Recorded.{first_added}
 use Rattle.pf_report.proofs.schedule.ScheduleRowsRecords.push_record.Goals as goal
 
 pub returns : goal.returns

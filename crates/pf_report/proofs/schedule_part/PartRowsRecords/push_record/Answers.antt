@@ -4,7 +4,7 @@ use Rattle.pf_place.specs.Lent.{lent_row}
 use Rattle.pf_report.specs.Part.{Part, part_records}
 use Rattle.pf_report.specs.Tables.{sitter_field}
 use Rattle.pf_report.proofs.Parted.{part_first}
-use Rattle.pf_report.proofs.Recorded.{first_added}
+use Rattle.pf_text.proofs.Recorded.{first_added}
 use Rattle.pf_report.proofs.schedule_part.PartRowsRecords.push_record.Goals as goal
 
 pub row_at-requires : goal.row_at-requires

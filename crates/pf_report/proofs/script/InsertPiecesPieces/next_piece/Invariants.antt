@@ -1,6 +1,6 @@
 use Rattle.std.proofs.Common.{◌≡◌, ◌<◌, ◌++◌, length}
 use Rattle.pf_report.specs.Script.{insert_records}
-use Rattle.pf_report.specs.Tables.{table_text}
+use Rattle.pf_text.specs.Page.{table_text}
 use Rattle.pf_report.proofs.script.InsertPiecesPieces.next_piece.Given as goal
 
 -- the records so far and those of the events left are the text that was left
