@@ -6,3 +6,4 @@ pub mod Floats
 pub mod JsonParts
 pub mod Parted
 pub mod Scripted
+pub mod Replying

@@ -1,4 +1,5 @@
 pub mod Tables
+pub mod Replies
 pub mod Events
 pub mod Json
 pub mod Examples
