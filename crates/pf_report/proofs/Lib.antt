@@ -5,5 +5,6 @@ pub mod Arrays
 pub mod Floats
 pub mod JsonParts
 pub mod Parted
+pub mod Lines
 pub mod Scripted
 pub mod Replying

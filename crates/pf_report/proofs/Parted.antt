@@ -20,7 +20,7 @@ none_behind p order within =
     ∙ ap (schedule_records p.to) (drop_of_length-le (take p.to p.seen.rows) (omega (arith, long)))
 
 -- a row below the end of the front of the rows is one of the front
-front_row : (rows : List (List (Option Pick))) (to t : ℕ) (row : List (Option Pick)) → to ≤ length rows → t < to → Some row ≡ slice_get rows t
+pub front_row : (rows : List (List (Option Pick))) (to t : ℕ) (row : List (Option Pick)) → to ≤ length rows → t < to → Some row ≡ slice_get rows t
     → Some row ≡ slice_get (take to rows) t
 front_row rows to t row within below is =
     let long = length-take-le to rows within in

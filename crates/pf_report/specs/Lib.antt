@@ -5,4 +5,5 @@ pub mod Json
 pub mod Examples
 pub mod Parts
 pub mod Part
+pub mod Quanta
 pub mod Script

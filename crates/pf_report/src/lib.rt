@@ -9,6 +9,7 @@ pub mod json;
 pub mod lags;
 pub mod laws;
 pub mod misses;
+pub mod quanta;
 pub mod reply;
 pub mod rows;
 pub mod schedule;
