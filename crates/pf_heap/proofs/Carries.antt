@@ -1,14 +1,14 @@
--- Adding one node to a heap: the carries.
-use Rattle.std.proofs.Common.{◌≡◌, ◌≢◌, ℕ, ◌+◌, ◌^◌, ◌<◌, inr, List, ◌∷◌, length, refl, sym, ap, ◌∙◌, subst, arith, ⊎_elim}
+-- Adding a tree to a list: the carries.
+use Rattle.std.proofs.Common.{◌≡◌, ◌≢◌, ℕ, ◌+◌, ◌^◌, ◌<◌, ◌≤◌, inr, List, ◌∷◌, length, refl, sym, ap, ◌∙◌, subst, arith, ⊎_elim}
 use Rattle.std.proofs.Math.Pow.{pow_mono}
 use Rattle.std.proofs.lemmas.Nat.{pow_pos}
 use Rattle.std.proofs.lemmas.Bool.{cases_lt}
 use Rattle.pf_order.specs.Priority.{Priority}
 use Rattle.pf_order.specs.Counts.{Counts, Compares}
 use Rattle.pf_heap.specs.declared.node.Node.{Node}
-use Rattle.pf_heap.specs.Forest.{Forest, none, tree, single, nowhere, head, forest_weight, one_each, size, Rises, IsTreeOrNone}
+use Rattle.pf_heap.specs.Forest.{Forest, none, tree, nowhere, head, forest_weight, one_each, size, Rises, IsTreeOrNone}
 use Rattle.pf_heap.specs.Memory.{node_at, Stands, Part, root, Parts, nodes_with_sibling, AreJoined}
-use Rattle.pf_heap.specs.Steps.{HasRoots, IsCut, IsAdded, IsMerged, HasNodeAndHeap, IsCarrying}
+use Rattle.pf_heap.specs.Steps.{HasRoots, IsCut, IsAdded, IsAddedTo, HasTreeAndList, IsCarrying}
 use Rattle.pf_order.proofs.Comparing.{compares_none, compares_within, compares_both}
 use Rattle.pf_heap.proofs.Forests.{double, size_from_tree}
 use Rattle.pf_heap.proofs.Standing.{head_somewhere, push_parts}
@@ -16,20 +16,20 @@ use Rattle.pf_heap.proofs.Steps.{two_joined}
 use Rattle.pf_heap.proofs.Sums.{none_from_link, some-le}
 use Rattle.pf_heap.proofs.Weights.{sizes-le-length}
 
-pub carry_begun : (nodes : List Node) (at link : ℕ) (counts : Counts) (can : HasNodeAndHeap nodes at link) →
-    IsCarrying nodes 0 (single at can.key) can.heap can.others at link counts counts
-carry_begun nodes at link counts can = record {
-  carry = single at can.key;
-  rest = can.heap;
-  carry_is = refl;
-  rest_is = can.heap_is;
-  carry_tree = (refl, refl);
-  full = omega arith;
+pub carry_begun : (nodes : List Node) (rank at link : ℕ) (counts : Counts) (can : HasTreeAndList nodes rank at link) →
+    IsCarrying nodes rank can.added can.list can.others at link counts counts
+carry_begun nodes rank at link counts can = record {
+  carry = can.added;
+  rest = can.list;
+  carry_is = can.added_is;
+  rest_is = can.list_is;
+  carry_tree = can.is_tree;
+  full = can.full;
   rises = can.rises;
   small = can.small;
   parts = can.parts;
   kept = λ w. refl;
-  counted = compares_none _;
+  counted = compares_within (omega arith) (compares_none _);
 }
 
 -- a tree's root and its rank
@@ -43,15 +43,15 @@ tree_node nodes rank x (tree a k r f none) is some t s = (
 )
 
 -- a tree in front of a list of higher ranks
-tree_laid : (old new : List Node) (rank x y : ℕ) (f rest : Forest) (others : List Part) → x ≡ head f → x ≢ nowhere → y ≡ head rest → IsTreeOrNone rank f → Rises (rank + 1) rest →
+tree_laid : (old new : List Node) (low rank x y : ℕ) (f rest : Forest) (others : List Part) → low ≤ rank → x ≡ head f → x ≢ nowhere → y ≡ head rest → IsTreeOrNone rank f → Rises (rank + 1) rest →
     Parts old (root f ∷ root rest ∷ others) → new ≡ nodes_with_sibling old x y →
-    (heap : Forest) × (x ≡ head heap) × Rises 0 heap × Parts new (root heap ∷ others) × ((w : ℕ → Priority → ℕ) → forest_weight w heap ≡ forest_weight w f + forest_weight w rest)
-tree_laid old new rank x y none rest others is some next_is t rises parts written = absurd (some is)
-tree_laid old new rank x y (tree a k r f (tree a' k' r' f' n')) rest others is some next_is t rises parts written = absurd t
-tree_laid old new rank x y (tree a k r f none) rest others is some next_is t rises parts written = (
+    (heap : Forest) × (x ≡ head heap) × Rises low heap × Parts new (root heap ∷ others) × ((w : ℕ → Priority → ℕ) → forest_weight w heap ≡ forest_weight w f + forest_weight w rest)
+tree_laid old new low rank x y none rest others le is some next_is t rises parts written = absurd (some is)
+tree_laid old new low rank x y (tree a k r f (tree a' k' r' f' n')) rest others le is some next_is t rises parts written = absurd t
+tree_laid old new low rank x y (tree a k r f none) rest others le is some next_is t rises parts written = (
   tree a k r f rest,
   is,
-  (omega arith, t.1, subst (λ n. Rises (n + 1) rest) (sym t.0) rises),
+  (omega (arith, le, t.0), t.1, subst (λ n. Rises (n + 1) rest) (sym t.0) rises),
   subst (λ ns. Parts ns (root (tree a k r f rest) ∷ others)) (sym (written ∙ (λ i. nodes_with_sibling old (is i) (next_is i))))
       (push_parts old nowhere a k r f rest others parts),
   λ w. omega arith,
@@ -94,11 +94,12 @@ module _ {nodes : List Node} {rank : ℕ} {x y : Forest} {others : List Part} {c
     cut_node some = tree_node mid rank tree_link carry_cut.first carry_cut.first_is some carry_cut.first_tree cut_parts.stand.1.0
 
     -- the heap has no tree of this rank
-    pub carried_out : {new : List Node} → tree_link ≡ nowhere → new ≡ nodes_with_sibling mid carry_link left → IsMerged new x y others carry_link before between
-    carried_out {new} missing written =
+    pub carried_out : {new : List Node} (low : ℕ) → low ≤ rank → tree_link ≡ nowhere → new ≡ nodes_with_sibling mid carry_link left →
+        IsAddedTo new low x y others carry_link before between
+    carried_out {new} low le missing written =
         let empty : carry_cut.first ≡ none = none_from_link mid nowhere tree_link carry_cut.first mid_small cut_parts.stand.1.0 carry_cut.first_is missing in
         let p : Parts mid (root m.carry ∷ root carry_cut.rest ∷ others) = record { stand = (cut_parts.stand.0, cut_parts.stand.1.1); once = λ i. omega (arith, cut_parts.once i) } in
-        let l = tree_laid mid new rank carry_link left m.carry carry_cut.rest others m.carry_is carry_somewhere carry_cut.rest_is m.carry_tree carry_cut.rises p written in
+        let l = tree_laid mid new low rank carry_link left m.carry carry_cut.rest others le m.carry_is carry_somewhere carry_cut.rest_is m.carry_tree carry_cut.rises p written in
         record {
           heap = l.0;
           heap_is = l.1;

@@ -9,7 +9,7 @@ use Rattle.pf_order.specs.Counts.{Counts}
 use Rattle.pf_heap.specs.declared.node.Node.{Node}
 use Rattle.pf_heap.specs.Forest.{Forest, none, tree, single, nowhere, head, forest_weight, same, one_each, at_place, of_task, size}
 use Rattle.pf_heap.specs.Memory.{no_node, node_at, Stands, Part, root, weigh_all, Parts}
-use Rattle.pf_heap.specs.Steps.{HasTwoHeaps, IsMerged, HasNodeAndHeap}
+use Rattle.pf_heap.specs.Steps.{HasTwoHeaps, IsMerged, HasTreeAndList, IsAddedTo}
 use Rattle.pf_heap.specs.Pops.{AreChildless}
 use Rattle.pf_heap.specs.Keys.{Heaps, list_of, with_list, IsHeld}
 use Rattle.pf_heap.specs.View.{keys, lists_at}
@@ -217,12 +217,15 @@ module _ {nodes : List Node} {heads places : List ℕ} {free room capacity : ℕ
       pub h_in : h < length a.heaps
       h_in = heap_in a seen is within read
 
-      abbrev pub insert_heaps : {lent : List Node} → lent ≡ mid → HasNodeAndHeap lent at link
+      abbrev pub insert_heaps : {lent : List Node} → lent ≡ mid → HasTreeAndList lent 0 at link
       insert_heaps {lent} e = record {
-        key = key;
-        heap = get_or a.heaps h none;
+        added = single at key;
+        list = get_or a.heaps h none;
         others = root s.left ∷ all_roots (set a.heaps h none);
-        heap_is = link_is a seen is within read;
+        added_is = refl;
+        list_is = link_is a seen is within read;
+        is_tree = (refl, refl);
+        full = omega arith;
         rises = rises_in a.heaps h a.rise;
         small = omega (arith, ap length e, s.small);
         parts = let p : Parts lent (root (single at key) ∷ root s.left ∷ all_roots a.heaps) = subst (λ ns. Parts ns (root (single at key) ∷ root s.left ∷ all_roots a.heaps)) (sym e) s.parts in record {
@@ -235,9 +238,9 @@ module _ {nodes : List Node} {heads places : List ℕ} {free room capacity : ℕ
       }
 
       module _ {lent new : List Node} {result : ℕ} {before after : Counts} (e : lent ≡ mid)
-          (merges : (can : HasNodeAndHeap lent at link) → IsMerged new (single at can.key) can.heap can.others result before after) (long : length new ≡ length mid) where
-        abbrev insert_merge : IsMerged new (single at key) (get_or a.heaps h none) (root s.left ∷ all_roots (set a.heaps h none)) result before after
-        insert_merge = merges (insert_heaps e)
+          (adds : (can : HasTreeAndList lent 0 at link) → IsAddedTo new 0 can.added can.list can.others result before after) (long : length new ≡ length mid) where
+        abbrev insert_merge : IsAddedTo new 0 (single at key) (get_or a.heaps h none) (root s.left ∷ all_roots (set a.heaps h none)) result before after
+        insert_merge = adds (insert_heaps e)
 
         inserted_weighs : (w : ℕ → Priority → ℕ) → weigh_all w (all_roots (set a.heaps h insert_merge.heap)) ≡ weigh_all w (all_roots a.heaps) + w at key
         inserted_weighs w = omega (arith, insert_merge.kept w, weigh_all-set w a.heaps h insert_merge.heap h_in)

@@ -6,6 +6,7 @@ pub mod Digits
 pub mod Sums
 pub mod Carries
 pub mod Pops
+pub mod Children
 pub mod Parting
 pub mod Views
 pub mod Sets

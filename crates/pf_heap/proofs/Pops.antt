@@ -10,8 +10,8 @@ use Rattle.pf_order.specs.Counts.{Counts, Compares}
 use Rattle.pf_heap.specs.declared.node.Node.{Node}
 use Rattle.pf_heap.specs.Forest.{Forest, none, tree, nowhere, head, forest_weight, same, one_each, at_place, size, IsBelow, AllBelow, Falls, Rises, Sinks, HasRoot}
 use Rattle.pf_heap.specs.Memory.{no_node, node_at, Stands, Part, root, Parts}
-use Rattle.pf_heap.specs.Steps.{HasRoots, CanTurn, IsTurned, HasTwoHeaps, IsMerged}
-use Rattle.pf_heap.specs.Pops.{roots, IsEarlier, IsSeeking, IsLeastRoot, HasHeapAndRoot, IsParted, nodes_with_free, CanPop, IsPopped}
+use Rattle.pf_heap.specs.Steps.{IsMerged}
+use Rattle.pf_heap.specs.Pops.{roots, IsEarlier, IsSeeking, IsLeastRoot, HasHeapAndRoot, IsParted, nodes_with_free, CanPop, IsPopped, HasChildren}
 use Rattle.pf_order.proofs.Comparing.{compares_none, compares_both}
 use Rattle.pf_heap.proofs.Forests.{same-self, double, size_from_falls, size_from_rises, below-trans, below-itself, below_from_precedes, all_below-trans, all_below_from_falls}
 use Rattle.pf_heap.proofs.Standing.{head_within, stands-set, stand_all-set}
@@ -187,12 +187,6 @@ module _ {nodes : List Node} {heap : Forest} {best rest_link steps : ℕ} {befor
 
 -- ---- a root is out of its heap and free
 
--- ranks are below 32
-sinks_bounded : (bound : ℕ) (f : Forest) → Sinks bound f → size f < 2 ^ 32 → Sinks 32 f
-sinks_bounded bound none h le = tt
-sinks_bounded bound (tree at key rank kids rest) h le =
-    (⊎_elim (λ lt. lt) (λ ge. absurd (omega (arith, pow_mono ge, le, size_from_falls key rank kids h.1))) (cases_lt rank 32), h.1, h.2)
-
 pub root_falls : (r i : ℕ) (k : Priority) (rk : ℕ) (g f : Forest) → Rises r f → HasRoot i k rk g f → Falls k rk g
 root_falls r i k rk g none rises h = absurd h
 root_falls r i k rk g (tree at key rank kids rest) rises h =
@@ -260,11 +254,6 @@ module _ {old mid : List Node} {link at free stay : ℕ} (can : CanPop old link 
   pub kids_fall : Falls can.key can.rank can.kids
   kids_fall = root_falls 0 at can.key can.rank can.kids can.heap can.rises can.has
 
-  pub kids_sink : length mid < 2 ^ 32 → Sinks 32 can.kids
-  kids_sink small =
-      sinks_bounded can.rank can.kids (sinks_from_falls can.key can.rank can.kids kids_fall)
-      (omega (arith, sizes-le-length mid _ parted.parts))
-
   pub rank_low : length mid < 2 ^ 32 → can.rank ≤ 32
   rank_low small =
       ⊎_elim
@@ -287,90 +276,31 @@ module _ {old mid : List Node} {link at free stay : ℕ} (can : CanPop old link 
         (sym (written ∙ ap (λ z. nodes_with_free mid at z) can.free_is))
         (release_parts mid at can.key can.rank can.kids parted.stay can.spares can.others parted.parts)
 
-    abbrev pub stay_roots : HasRoots freed stay
-    stay_roots = record {
-      list = parted.stay;
-      others = (at, can.kids) ∷ root (tree at can.key 0 none can.spares) ∷ can.others;
-      link_is = parted.stay_is;
-      small = freed_small;
-      parts = freed_parts;
-    }
-
-    module _ {child : ℕ} (child_is : child ≡ head can.kids) where
-      -- the children's ranks are all below those of the roots that stay
-
-      module _ (later : Rises can.rank parted.stay) where
-        abbrev pub kids_turn_in_front : CanTurn freed child stay
-        kids_turn_in_front = record {
-          up = at;
-          list = can.kids;
-          last = parted.stay;
-          others = root (tree at can.key 0 none can.spares) ∷ can.others;
-          link_is = child_is;
-          behind_is = parted.stay_is;
-          bound = can.rank;
-          low = rank_low mid_small;
-          sinks = sinks_from_falls can.key can.rank can.kids kids_fall;
-          rises = later;
-          small = freed_small;
-          parts = let s = freed_parts.stand in record { stand = (s.1.0, (s.0, s.1.1)); once = λ i. omega (arith, freed_parts.once i) };
-        }
-
-        pub popped_in_front : {new : List Node} {result : ℕ} {counts : Counts} →
-            ((c : CanTurn freed child stay) → IsTurned new c.list c.last c.others result) → IsPopped new can.heap can.spares can.others at can.key result counts counts
-        popped_in_front turns = let t = turns kids_turn_in_front in record {
-          heap = t.heap;
-          heap_is = t.heap_is;
-          rises = t.rises;
-          parts = t.parts;
-          kept = λ w. omega (arith, t.kept w, parted.kept w);
-          made = 0;
-          made_paid = inl refl;
-          counted = compares_none _;
-        }
-
-      abbrev pub kids_turn : CanTurn freed child nowhere
-      kids_turn = record {
+    module _ {rank child : ℕ} (rank_is : rank ≡ can.rank) (child_is : child ≡ head can.kids) where
+      abbrev pub children : HasChildren freed rank child stay
+      children = record {
         up = at;
-        list = can.kids;
-        last = none;
-        others = root parted.stay ∷ root (tree at can.key 0 none can.spares) ∷ can.others;
-        link_is = child_is;
-        behind_is = refl;
-        bound = 32;
-        low = omega arith;
-        sinks = kids_sink mid_small;
-        rises = tt;
+        kids = can.kids;
+        heap = parted.stay;
+        others = root (tree at can.key 0 none can.spares) ∷ can.others;
+        child_is = child_is;
+        heap_is = parted.stay_is;
+        low = omega (arith, rank_is, rank_low mid_small);
+        sinks = subst (λ r. Sinks r can.kids) (sym rank_is) (sinks_from_falls can.key can.rank can.kids kids_fall);
+        rises = parted.rises;
         small = freed_small;
-        parts = let s = freed_parts.stand in record { stand = (s.1.0, (tt, (s.0, s.1.1))); once = λ i. omega (arith, freed_parts.once i) };
+        parts = let s = freed_parts.stand in record { stand = (s.1.0, (s.0, s.1.1)); once = λ i. omega (arith, freed_parts.once i) };
       }
 
-      module _ {last : List Node} {kids : ℕ} (turns_kids : (c : CanTurn freed child nowhere) → IsTurned last c.list c.last c.others kids) (last_small : length last < 2 ^ 32) where
-        abbrev kids_turned : IsTurned last can.kids none (root parted.stay ∷ root (tree at can.key 0 none can.spares) ∷ can.others) kids
-        kids_turned = turns_kids kids_turn
-
-        abbrev pub two_heaps : HasTwoHeaps last stay kids
-        two_heaps = record {
-          first = parted.stay;
-          second = kids_turned.heap;
-          others = root (tree at can.key 0 none can.spares) ∷ can.others;
-          first_is = parted.stay_is;
-          second_is = kids_turned.heap_is;
-          first_rises = parted.rises;
-          second_rises = kids_turned.rises;
-          small = last_small;
-          parts = let s = kids_turned.parts.stand in record { stand = (s.1.0, (s.0, s.1.1)); once = λ i. omega (arith, kids_turned.parts.once i) };
-        }
-
-        pub popped : {new : List Node} {result : ℕ} {before after : Counts} →
-            ((c : HasTwoHeaps last stay kids) → IsMerged new c.first c.second c.others result before after) → IsPopped new can.heap can.spares can.others at can.key result before after
-        popped merges = let m = merges two_heaps in record {
-          heap = m.heap;
-          heap_is = m.heap_is;
-          rises = m.rises;
-          parts = m.parts;
-          kept = λ w. omega (arith, m.kept w, kids_turned.kept w, parted.kept w);
-          made = m.made;
-          made_paid = ⊎_elim (λ h. inl h) (λ h. inr (omega (arith, kids_turned.kept one_each, parted.kept one_each))) m.made_paid;
-          counted = m.counted;
-        }
+      pub popped : {new : List Node} {result : ℕ} {before after : Counts} →
+          ((c : HasChildren freed rank child stay) → IsMerged new c.kids c.heap c.others result before after) → IsPopped new can.heap can.spares can.others at can.key result before after
+      popped merges = let m = merges children in record {
+        heap = m.heap;
+        heap_is = m.heap_is;
+        rises = m.rises;
+        parts = m.parts;
+        kept = λ w. omega (arith, m.kept w, parted.kept w);
+        made = m.made;
+        made_paid = ⊎_elim (λ h. inl h) (λ h. inr (omega (arith, h, parted.kept one_each))) m.made_paid;
+        counted = m.counted;
+      }

@@ -8,7 +8,7 @@ use Rattle.pf_heap.specs.declared.node.Node.{Node}
 use Rattle.pf_heap.specs.declared.adding.Sum.{Sum}
 use Rattle.pf_heap.specs.Forest.{Forest, none, tree, nowhere, head, forest_weight, one_each, size, some, Rises, Sinks, IsTreeOrNone}
 use Rattle.pf_heap.specs.Memory.{node_at, Stands, Part, root, Parts, nodes_with_sibling}
-use Rattle.pf_heap.specs.Steps.{HasRoots, HasTwo, HasTwoTrees, HasThreeTrees, IsCut, IsAdded, IsPushed, IsMerging, CanAddRank, IsRest, HasTwoHeaps, IsMerged, CanTurn, IsTurning, IsTurned}
+use Rattle.pf_heap.specs.Steps.{HasRoots, HasTwo, HasTwoTrees, HasThreeTrees, IsCut, IsAdded, IsPushed, IsMerging, CanAddRank, IsRest, HasTwoHeaps, IsMerged, CanTurn, IsTurning, IsTurned, IsTurnedFrom}
 use Rattle.pf_order.proofs.Comparing.{compares_none, compares_within, compares_both}
 use Rattle.pf_heap.proofs.Forests.{double, size_from_tree, size_from_rises}
 use Rattle.pf_heap.proofs.Standing.{turn_parts, head_within}
@@ -224,7 +224,7 @@ pub rises_less : (r s : ℕ) (f : Forest) → s ≤ r → Rises r f → Rises s 
 rises_less r s none le h = tt
 rises_less r s (tree at key rank kids rest) le h = (omega (arith, h.0), h.1, h.2)
 
-pub turn_begun : (nodes : List Node) (link behind : ℕ) (can : CanTurn nodes link behind) → IsTurning nodes can.up can.list can.last can.others link behind 0
+abbrev pub turn_begun : (nodes : List Node) (link behind : ℕ) (can : CanTurn nodes link behind) → IsTurning nodes can.up can.list can.last can.others link behind 0
 turn_begun nodes link behind can = record {
   rest = can.list;
   turned = can.last;
@@ -261,9 +261,29 @@ module _ (old new : List Node) (up : ℕ) (list last : Forest) (others : List Pa
   pub turn_step : IsTurning old up list last others link turned_link steps → IsTurning new up list last others next link (steps + 1)
   turn_step t = turn_by t.rest t.turned t.bound t.rest_is t.turned_is t.low t.sinks t.rises t.parts t.kept
 
+  -- ranks from `low` on are moved
+  turn_by_from : (low : ℕ) → low ≤ (node_at old link).rank → (rest turned : Forest) (bound : ℕ) → link ≡ head rest → turned_link ≡ head turned → bound + steps ≤ 32 →
+      Sinks bound rest → Rises bound turned → Parts old ((up, rest) ∷ root turned ∷ others) →
+      ((w : ℕ → Priority → ℕ) → forest_weight w rest + forest_weight w turned ≡ forest_weight w list + forest_weight w last) →
+      (t : IsTurning new up list last others next link (steps + 1)) × (low ≤ t.bound)
+  unfolding turn_by
+  turn_by_from l high none turned bound rest_is turned_is low sinks rises parts kept = absurd (somewhere rest_is)
+  turn_by_from l high (tree at key rank kids rest) turned bound rest_is turned_is low sinks rises parts kept =
+      let e : l ≤ rank = omega (arith, high, ap (λ z. (node_at old z).rank) rest_is, ap (λ (n : Node). n.rank) parts.stand.0.1) in
+      (turn_by (tree at key rank kids rest) turned bound rest_is turned_is low sinks rises parts kept, e)
+
+  pub turn_step_from : (low : ℕ) → low ≤ (node_at old link).rank → IsTurning old up list last others link turned_link steps →
+      (t : IsTurning new up list last others next link (steps + 1)) × (low ≤ t.bound)
+  turn_step_from low high t = turn_by_from low high t.rest t.turned t.bound t.rest_is t.turned_is t.low t.sinks t.rises t.parts t.kept
+
 pub sunk : (f : Forest) → Sinks 0 f → f ≡ none
 sunk none h = refl
 sunk (tree at key rank kids rest) h = absurd (omega (arith, h.0))
+
+sinks_from_head : (nodes : List Node) (up bound link rank : ℕ) (f : Forest) → Stands nodes up f → link ≡ head f → (node_at nodes link).rank < rank → Sinks bound f → Sinks rank f
+sinks_from_head nodes up bound link rank none s is below h = tt
+sinks_from_head nodes up bound link rank (tree at key r kids rest) s is below h =
+    (omega (arith, below, ap (λ z. (node_at nodes z).rank) is, ap (λ (n : Node). n.rank) s.1), h.1, h.2)
 
 module _ {nodes : List Node} {up : ℕ} {list last : Forest} {others : List Part} {rest_link turned_link steps : ℕ} (t : IsTurning nodes up list last others rest_link turned_link steps) where
   pub turning_within : rest_link ≢ nowhere → rest_link < length nodes
@@ -286,6 +306,31 @@ module _ {nodes : List Node} {up : ℕ} {list last : Forest} {others : List Part
   turned_all all =
       let zero_bound : t.bound ≡ 0 = omega (arith, t.low, all) in
       turned_by (sunk t.rest (subst (λ b. Sinks b t.rest) zero_bound t.sinks))
+
+  -- what is left has ranks below `rank`
+  turned_from_by : (rank : ℕ) → rank ≤ t.bound → Sinks rank t.rest → IsTurnedFrom nodes rank up list last others turned_link rest_link
+  turned_from_by rank high sinks = record {
+    turned = t.turned;
+    rest = t.rest;
+    turned_is = t.turned_is;
+    rest_is = t.rest_is;
+    rises = rises_less t.bound rank t.turned high t.rises;
+    sinks = sinks;
+    parts = t.parts;
+    kept = t.kept;
+  }
+
+  pub turned_from_out : (rank : ℕ) → rank ≤ t.bound → length nodes < 2 ^ 32 → rest_link ≡ nowhere → IsTurnedFrom nodes rank up list last others turned_link rest_link
+  turned_from_out rank high small out =
+      turned_from_by rank high (subst (λ f. Sinks rank f) (sym (none_from_link nodes up rest_link t.rest small t.parts.stand.0 t.rest_is out)) tt)
+
+  pub turned_from_low : (rank : ℕ) → rank ≤ t.bound → rest_link ≢ nowhere → (node_at nodes rest_link).rank < rank → IsTurnedFrom nodes rank up list last others turned_link rest_link
+  turned_from_low rank high some below = turned_from_by rank high (sinks_from_head nodes up t.bound rest_link rank t.rest t.parts.stand.0 t.rest_is below t.sinks)
+
+  pub turned_from_all : (rank : ℕ) → rank ≤ t.bound → 32 ≤ steps → IsTurnedFrom nodes rank up list last others turned_link rest_link
+  turned_from_all rank high all =
+      let zero_bound : t.bound ≡ 0 = omega (arith, t.low, all) in
+      turned_from_by rank high (subst (λ f. Sinks rank f) (sym (sunk t.rest (subst (λ b. Sinks b t.rest) zero_bound t.sinks))) tt)
 
 -- ---- the whole merge
 

@@ -3,7 +3,7 @@ use Rattle.std.specs.Prelude.{◌≡◌, ◌≢◌, ℕ, ◌+◌, ◌<◌, ◌�
 use Rattle.pf_order.specs.Priority.{Priority, precedes}
 use Rattle.pf_order.specs.Counts.{Counts, Compares}
 use Rattle.pf_heap.specs.declared.node.Node.{Node}
-use Rattle.pf_heap.specs.Forest.{Forest, none, tree, nowhere, head, forest_weight, size, AllBelow, IsBelow, Rises, HasRoot}
+use Rattle.pf_heap.specs.Forest.{Forest, none, tree, nowhere, head, forest_weight, size, AllBelow, IsBelow, Falls, Rises, Sinks, HasRoot}
 use Rattle.pf_heap.specs.Memory.{node_at, Stands, Part, root, Parts}
 
 -- the number of roots
@@ -126,3 +126,36 @@ pub record IsPopped (nodes : List Node) (old spares : Forest) (others : List Par
   pub made : ℕ
   pub made_paid : (made ≡ 0) ⊎ (2 ^ made ≤ size old)
   pub counted : Compares made before after
+
+-- children of the node `up`, all of ranks below this one, and a heap
+pub record HasChildren (nodes : List Node) (rank child link : ℕ) : Type 0 where
+  pub up : ℕ
+  pub kids : Forest
+  pub heap : Forest
+  pub others : List Part
+  pub child_is : child ≡ head kids
+  pub heap_is : link ≡ head heap
+  pub low : rank ≤ 32
+  pub sinks : Sinks rank kids
+  pub rises : Rises 0 heap
+  pub small : length nodes < 2 ^ 32
+  pub parts : Parts nodes ((up, kids) ∷ root heap ∷ others)
+
+-- the same, where only the heap's first root has a rank below that bound
+pub record HasOneBelow (nodes : List Node) (child link : ℕ) : Type 0 where
+  pub up : ℕ
+  pub kids : Forest
+  pub key : Priority
+  pub rank : ℕ
+  pub below : Forest
+  pub rest : Forest
+  pub others : List Part
+  pub child_is : child ≡ head kids
+  pub bound : ℕ
+  pub high : rank ≤ bound
+  pub low : bound ≤ 32
+  pub sinks : Sinks bound kids
+  pub falls : Falls key rank below
+  pub rises : Rises bound rest
+  pub small : length nodes < 2 ^ 32
+  pub parts : Parts nodes ((up, kids) ∷ root (tree link key rank below rest) ∷ others)

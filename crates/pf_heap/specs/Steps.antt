@@ -4,7 +4,7 @@ use Rattle.pf_order.specs.Priority.{Priority}
 use Rattle.pf_order.specs.Counts.{Counts, Compares}
 use Rattle.pf_heap.specs.declared.node.Node.{Node}
 use Rattle.pf_heap.specs.declared.adding.Sum.{Sum}
-use Rattle.pf_heap.specs.Forest.{Forest, single, nowhere, head, forest_weight, size, some, Rises, Sinks, IsTreeOrNone}
+use Rattle.pf_heap.specs.Forest.{Forest, nowhere, head, forest_weight, size, some, Rises, Sinks, IsTreeOrNone}
 use Rattle.pf_heap.specs.Memory.{Part, root, weigh_all, Parts}
 
 -- the link is a list's, under the parent `up`
@@ -150,17 +150,31 @@ pub record IsMerged (nodes : List Node) (first second : Forest) (others : List P
   pub made_paid : (made ≡ 0) ⊎ (2 ^ made ≤ size first + size second)
   pub counted : Compares made before after
 
--- a node with no children, and a heap
-pub record HasNodeAndHeap (nodes : List Node) (at link : ℕ) : Type 0 where
-  pub key : Priority
-  pub heap : Forest
+-- a tree of this rank, and a list of ranks from this one on
+pub record HasTreeAndList (nodes : List Node) (rank at link : ℕ) : Type 0 where
+  pub added : Forest
+  pub list : Forest
   pub others : List Part
-  pub heap_is : link ≡ head heap
-  pub rises : Rises 0 heap
+  pub added_is : at ≡ head added
+  pub list_is : link ≡ head list
+  pub is_tree : IsTreeOrNone rank added
+  pub full : size added ≡ 2 ^ rank
+  pub rises : Rises rank list
   pub small : length nodes < 2 ^ 32
-  pub parts : Parts nodes (root (single at key) ∷ root heap ∷ others)
+  pub parts : Parts nodes (root added ∷ root list ∷ others)
 
--- x is carried into y: each rank so far has cost a comparison, and y is left from this rank on
+-- the tree is added to the list, by `made` comparisons
+pub record IsAddedTo (nodes : List Node) (rank : ℕ) (added list : Forest) (others : List Part) (link : ℕ) (before after : Counts) : Type 0 where
+  pub heap : Forest
+  pub heap_is : link ≡ head heap
+  pub rises : Rises rank heap
+  pub parts : Parts nodes (root heap ∷ others)
+  pub kept : (w : ℕ → Priority → ℕ) → forest_weight w heap ≡ forest_weight w added + forest_weight w list
+  pub made : ℕ
+  pub made_paid : (made ≡ 0) ⊎ (2 ^ made ≤ size added + size list)
+  pub counted : Compares made before after
+
+-- x is carried into y: no more comparisons were made than there are lower ranks, and y is left from this rank on
 pub record IsCarrying (nodes : List Node) (rank : ℕ) (x y : Forest) (others : List Part) (carry_link rest_link : ℕ) (before after : Counts) : Type 0 where
   pub carry : Forest
   pub rest : Forest
@@ -209,3 +223,14 @@ pub record IsTurned (nodes : List Node) (list last : Forest) (others : List Part
   pub rises : Rises 0 heap
   pub parts : Parts nodes (root heap ∷ others)
   pub kept : (w : ℕ → Priority → ℕ) → forest_weight w heap ≡ forest_weight w list + forest_weight w last
+
+-- of a list the ranks from this one on are turned round in front of the last list, and the others are left
+pub record IsTurnedFrom (nodes : List Node) (rank up : ℕ) (list last : Forest) (others : List Part) (turned_link rest_link : ℕ) : Type 0 where
+  pub turned : Forest
+  pub rest : Forest
+  pub turned_is : turned_link ≡ head turned
+  pub rest_is : rest_link ≡ head rest
+  pub rises : Rises rank turned
+  pub sinks : Sinks rank rest
+  pub parts : Parts nodes ((up, rest) ∷ root turned ∷ others)
+  pub kept : (w : ℕ → Priority → ℕ) → forest_weight w rest + forest_weight w turned ≡ forest_weight w list + forest_weight w last

@@ -1,8 +1,8 @@
 ghost use Rattle.std.specs.Prelude.{◌≡◌, ℕ, ◌+◌, ◌<◌, List, [], ◌∷◌, IfSome};
 ghost use Rattle.pf_order.specs.Counts.{Counts};
-ghost use Rattle.pf_heap.specs.Forest.{Forest, single};
+ghost use Rattle.pf_heap.specs.Forest.{Forest};
 ghost use Rattle.pf_heap.specs.Memory.{Part, root};
-ghost use Rattle.pf_heap.specs.Steps.{HasTwoTrees, HasThreeTrees, IsAdded, IsMerging, CanAddRank, IsRest, HasTwoHeaps, IsMerged, HasNodeAndHeap};
+ghost use Rattle.pf_heap.specs.Steps.{HasTwoTrees, HasThreeTrees, IsAdded, IsMerging, CanAddRank, IsRest, HasTwoHeaps, IsMerged, HasTreeAndList, IsAddedTo};
 
 use crate::links::{join, relink};
 use crate::node::{NOWHERE, Node};
@@ -110,15 +110,16 @@ pub(crate) fn merge(nodes: &mut [Node], meter: &mut Meter, x: u32, y: u32) -> u3
     turn(nodes, links.done, NOWHERE)
 }
 
-/// Adds a node with no children to a heap: it is carried through the ranks that the heap has without a gap.
-pub(crate) fn add(nodes: &mut [Node], meter: &mut Meter, at: u32, link: u32) -> u32
-    requires can { HasNodeAndHeap nodes.old at link }
-    ensures { (can : HasNodeAndHeap nodes.old at link)
-        → IsMerged nodes.new (single at can.key) can.heap can.others result meter.old meter.new }
+/// Adds a tree of the rank `from` to a list of ranks from that one on: it is carried through the ranks that the list has
+/// without a gap.
+pub(crate) fn add(nodes: &mut [Node], meter: &mut Meter, from: u32, at: u32, link: u32) -> u32
+    requires can { HasTreeAndList nodes.old from at link }
+    ensures { (can : HasTreeAndList nodes.old from at link)
+        → IsAddedTo nodes.new from can.added can.list can.others result meter.old meter.new }
 {
     let mut carry = at;
     let mut rest = link;
-    for rank in 0..RANKS {
+    for rank in from..RANKS {
         let (tree, left) = cut(nodes, rest, rank);
         if tree == NOWHERE {
             relink(nodes, carry, left);

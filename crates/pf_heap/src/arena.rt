@@ -201,7 +201,7 @@ impl Arena {
         let index = h.index as usize;
         let (at, free) = settle(&mut self.nodes, self.free, key);
         self.free = free;
-        let heap = add(&mut self.nodes, meter, at, self.heads[index]);
+        let heap = add(&mut self.nodes, meter, 0, at, self.heads[index]);
         self.heads[index] = heap;
         self.places.set(task, at);
         self.room -= 1;

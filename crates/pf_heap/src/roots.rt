@@ -1,6 +1,6 @@
-ghost use Rattle.std.specs.Prelude.{◌≡◌, ℕ, ◌+◌, ◌<◌};
+ghost use Rattle.std.specs.Prelude.{◌≡◌, ℕ, ◌+◌, ◌<◌, ◌≤◌};
 ghost use Rattle.pf_heap.specs.Forest.{Rises, Sinks, IsTreeOrNone};
-ghost use Rattle.pf_heap.specs.Steps.{HasRoots, HasTwo, IsCut, IsPushed, CanTurn, IsTurned};
+ghost use Rattle.pf_heap.specs.Steps.{HasRoots, HasTwo, IsCut, IsPushed, CanTurn, IsTurned, IsTurnedFrom};
 
 use crate::links::relink;
 use crate::node::{NOWHERE, Node};
@@ -55,4 +55,28 @@ pub(crate) fn turn(nodes: &mut [Node], link: u32, behind: u32) -> u32
         rest = next;
     }
     turned
+}
+
+/// Turns the ranks from this one on, of a list of falling ranks, round in front of a list of roots: that list, and the
+/// trees that are left.
+pub(crate) fn turn_from(nodes: &mut [Node], link: u32, rank: u32, behind: u32) -> (u32, u32)
+    requires can { CanTurn nodes.old link behind }
+    ensures { (can : CanTurn nodes.old link behind) → rank ≤ can.bound
+        → IsTurnedFrom nodes.new rank can.up can.list can.last can.others result.0 result.1 }
+{
+    let mut rest = link;
+    let mut turned = behind;
+    for step in 0..RANKS {
+        if rest == NOWHERE {
+            return (turned, rest);
+        }
+        let node = nodes[rest as usize];
+        if node.rank < rank {
+            return (turned, rest);
+        }
+        relink(nodes, rest, turned);
+        turned = rest;
+        rest = node.sibling;
+    }
+    (turned, rest)
 }
