@@ -1,0 +1,16 @@
+-- The text that pieces of a report have left.
+use Rattle.std.specs.Prelude.{ℕ, List}
+use Rattle.pf_formats.specs.declared.report_pieces.ReportPieces.{ReportPieces}
+use Rattle.pf_formats.specs.declared.report_pieces.ReportPieces.TheVariants.{Whole, Part, Tables, Json, Lags, Misses, Denials, Script, Chart, Picture}
+
+abbrev pub text_left : ReportPieces → List ℕ
+text_left (Whole pieces) = pieces
+text_left (Part pieces) = pieces
+text_left (Tables pieces) = pieces
+text_left (Json pieces) = pieces
+text_left (Lags pieces) = pieces
+text_left (Misses pieces) = pieces
+text_left (Denials pieces) = pieces
+text_left (Script pieces) = pieces
+text_left (Chart pieces) = pieces
+text_left (Picture pieces) = pieces

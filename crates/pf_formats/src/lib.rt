@@ -1,0 +1,7 @@
+//! The formats of a report: one table that tells the text of each, and one call that gives it in pieces. The one contract of
+//! this crate: of what a snapshot shows, the pieces of a format are its text.
+#![tactic(auto)]
+
+pub mod report;
+pub mod report_pieces;
+mod tables;

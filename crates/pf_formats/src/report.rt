@@ -1,0 +1,117 @@
+ghost use Rattle.std.specs.Prelude.{◌≡◌, ◌≤◌, ◌++◌, true, None, IfOk};
+ghost use Rattle.pf_chart.specs.Chart.{chart_text_of};
+ghost use Rattle.pf_picture.specs.Picture.{picture_text_of};
+ghost use Rattle.pf_report.specs.Json.{json_text};
+ghost use Rattle.pf_report.specs.Part.{schedule_part_text};
+ghost use Rattle.pf_report.specs.Replies.{line_end};
+ghost use Rattle.pf_words.specs.declared.format.TheConstants.{MOST_SLOTS};
+ghost use Rattle.pf_words.specs.Formats.{range_fault};
+ghost use Rattle.pf_words.specs.Ranges.{end_of, first_of, is_within, slots_of};
+ghost use Rattle.pf_formats.specs.Left.{text_left};
+ghost use Rattle.pf_formats.specs.Report.{report_text};
+
+use crate::report_pieces::ReportPieces;
+use crate::tables::tables_pieces;
+use pf_chart::chart::{ChartPieces, chart_pieces};
+use pf_desk::snapshot::Snapshot;
+use pf_picture::picture::{PicturePieces, picture_pieces};
+use pf_report::denials::denial_pieces;
+use pf_report::events::events_csv;
+use pf_report::json::{JsonPieces, json_pieces};
+use pf_report::lags::lag_pieces;
+use pf_report::misses::miss_pieces;
+use pf_report::schedule_part::{PartPieces, schedule_part_pieces};
+use pf_report::script::script_pieces;
+use pf_stats::processors::processors_csv;
+use pf_stats::stats::stats_csv;
+use pf_text::pieces::{Chain, Whole};
+use pf_words::cell::Cell;
+use pf_words::format::Format;
+use pf_words::slot_range::SlotRange;
+use std::alloc::{AllocError, Global};
+
+/// What stands behind all replies in a format, in pieces. The format can be shown of the slots stepped, and `every` is the
+/// distance of checkpoints in slots.
+///
+/// # Errors
+///
+/// Where memory is refused.
+#[tactic(auto, unfolding(crate::specs::Report::report_text))]
+pub fn report_pieces(
+    alloc: Global,
+    snapshot: &Snapshot,
+    every: u64,
+    format: Format,
+) -> Result<ReportPieces<'_>, AllocError>
+    requires { range_fault format snapshot.now.state.now ≡ None }
+    ensures { IfOk result (λ pieces. text_left pieces ≡ report_text format every snapshot.now) }
+{
+    let pieces = match format {
+        Format::Schedule(range) => ReportPieces::Part(schedule_of(alloc, snapshot, range)?),
+        Format::Tables => ReportPieces::Tables(tables_pieces(alloc, snapshot)?),
+        Format::Json | Format::Report => ReportPieces::Json(json_line(alloc, snapshot)?),
+        Format::Replies => ReportPieces::Whole(Whole::new(Vec::new(alloc))),
+        Format::Lags => ReportPieces::Lags(lag_pieces(alloc, snapshot)?),
+        Format::Misses => ReportPieces::Misses(miss_pieces(alloc, snapshot)?),
+        Format::Denials => ReportPieces::Denials(denial_pieces(alloc, snapshot)?),
+        Format::Events => ReportPieces::Whole(Whole::new(events_csv(alloc, snapshot)?)),
+        Format::Script => ReportPieces::Script(script_pieces(alloc, snapshot, every)?),
+        Format::Processors => ReportPieces::Whole(Whole::new(processors_csv(alloc, snapshot)?)),
+        Format::Stats => ReportPieces::Whole(Whole::new(stats_csv(alloc, snapshot)?)),
+        Format::Chart(range) => ReportPieces::Chart(chart_of(alloc, snapshot, range)?),
+        Format::Svg(range, cell) => {
+            ReportPieces::Picture(picture_of(alloc, snapshot, range, cell)?)
+        }
+    };
+    Ok(pieces)
+}
+
+/// The schedule of a range of slots, in pieces.
+fn schedule_of(
+    alloc: Global,
+    snapshot: &Snapshot,
+    range: SlotRange,
+) -> Result<PartPieces<'_>, AllocError>
+    requires { is_within range snapshot.now.state.now ≡ true }
+    ensures { IfOk result
+        (λ pieces. pieces ≡ schedule_part_text snapshot.now (first_of range) (end_of range snapshot.now.state.now)) }
+{
+    schedule_part_pieces(alloc, snapshot, range.first(), range.end(snapshot.now()))
+}
+
+/// The chart of a range of slots, in pieces.
+fn chart_of(
+    alloc: Global,
+    snapshot: &Snapshot,
+    range: SlotRange,
+) -> Result<ChartPieces<'_>, AllocError>
+    requires { is_within range snapshot.now.state.now ≡ true }
+    ensures { IfOk result
+        (λ pieces. pieces ≡ chart_text_of snapshot.now (first_of range) (end_of range snapshot.now.state.now)) }
+{
+    chart_pieces(alloc, snapshot, range.first(), range.end(snapshot.now()))
+}
+
+/// The picture of a range of slots, in pieces.
+fn picture_of(
+    alloc: Global,
+    snapshot: &Snapshot,
+    range: SlotRange,
+    cell: Cell,
+) -> Result<PicturePieces<'_>, AllocError>
+    requires within { is_within range snapshot.now.state.now ≡ true }
+    requires short { slots_of range snapshot.now.state.now ≤ MOST_SLOTS }
+    ensures { IfOk result
+        (λ pieces. pieces ≡ picture_text_of snapshot.now (first_of range) (end_of range snapshot.now.state.now) cell) }
+{
+    let to = range.end(snapshot.now());
+    picture_pieces(alloc, snapshot, range.first(), to, cell.get())
+}
+
+/// The JSON object, as a line, in pieces.
+fn json_line(alloc: Global, snapshot: &Snapshot) -> Result<Chain<JsonPieces<'_>, Whole>, AllocError>
+    ensures { IfOk result (λ pieces. pieces ≡ json_text snapshot.now ++ line_end) }
+{
+    let end = Whole::new(Vec::from_slice(alloc, b"\n")?);
+    Ok(Chain::new(json_pieces(alloc, snapshot)?, end))
+}

@@ -1,0 +1,59 @@
+use crate::tables::TablesPieces;
+use pf_chart::chart::ChartPieces;
+use pf_picture::picture::PicturePieces;
+use pf_report::denials::DenialPieces;
+use pf_report::json::JsonPieces;
+use pf_report::lags::LagPieces;
+use pf_report::misses::MissPieces;
+use pf_report::schedule_part::PartPieces;
+use pf_report::script::ScriptPieces;
+use pf_text::pieces::{Chain, Pieces, Whole};
+use std::alloc::{AllocError, Global};
+
+/// The pieces of a report: an arm for each kind that a format has.
+#[derive(Drop)]
+pub enum ReportPieces<'a> {
+    /// A text that is made at once, or none.
+    Whole(Whole),
+    /// The schedule of a range.
+    Part(PartPieces<'a>),
+    /// The four tables, each behind a line with its name.
+    Tables(TablesPieces<'a>),
+    /// The JSON object, as a line.
+    Json(Chain<JsonPieces<'a>, Whole>),
+    /// The lags.
+    Lags(LagPieces),
+    /// The missed windows.
+    Misses(MissPieces),
+    /// The denials.
+    Denials(DenialPieces<'a>),
+    /// A script of the desk.
+    Script(ScriptPieces<'a>),
+    /// The chart of a range.
+    Chart(ChartPieces<'a>),
+    /// The picture of a range.
+    Picture(PicturePieces<'a>),
+}
+
+impl Pieces for ReportPieces<'_> {
+    ghost use Rattle.pf_formats.specs.Left.{text_left};
+
+    ghost left = { text_left };
+
+    ghost outcome = { λ _. tt };
+
+    fn next_piece(&mut self, alloc: Global) -> Result<Option<Vec<u8>>, AllocError> {
+        match self {
+            ReportPieces::Whole(pieces) => pieces.next_piece(alloc),
+            ReportPieces::Part(pieces) => pieces.next_piece(alloc),
+            ReportPieces::Tables(pieces) => pieces.next_piece(alloc),
+            ReportPieces::Json(pieces) => pieces.next_piece(alloc),
+            ReportPieces::Lags(pieces) => pieces.next_piece(alloc),
+            ReportPieces::Misses(pieces) => pieces.next_piece(alloc),
+            ReportPieces::Denials(pieces) => pieces.next_piece(alloc),
+            ReportPieces::Script(pieces) => pieces.next_piece(alloc),
+            ReportPieces::Chart(pieces) => pieces.next_piece(alloc),
+            ReportPieces::Picture(pieces) => pieces.next_piece(alloc),
+        }
+    }
+}

@@ -1,0 +1,42 @@
+ghost use Rattle.std.specs.Prelude.{◌≡◌, ◌++◌, IfOk};
+ghost use Rattle.pf_formats.specs.Report.{tables_text};
+
+use pf_desk::snapshot::Snapshot;
+use pf_report::denials::{DenialPieces, denial_pieces};
+use pf_report::lags::{LagPieces, lag_pieces};
+use pf_report::misses::{MissPieces, miss_pieces};
+use pf_report::schedule::{SchedulePieces, schedule_pieces};
+use pf_text::pieces::{Chain, Pieces, Whole};
+use std::alloc::{AllocError, Global};
+
+/// A line with a name, and a table.
+type Titled<T> = Chain<Whole, T>;
+
+/// The four tables, each behind a line with its name, in pieces.
+pub type TablesPieces<'a> = Chain<
+    Chain<Chain<Titled<SchedulePieces<'a>>, Titled<LagPieces>>, Titled<MissPieces>>,
+    Titled<DenialPieces<'a>>,
+>;
+
+/// A table behind a line.
+fn titled<T: Pieces + Drop>(alloc: Global, line: &[u8], table: T) -> Result<Titled<T>, AllocError>
+    ensures { IfOk result (λ pieces. pieces ≡ line.now ++ T.left table) }
+{
+    let line = Whole::new(Vec::from_slice(alloc, line)?);
+    Ok(Chain::new(line, table))
+}
+
+/// The four tables, each behind a line with its name, in pieces. The lags and the missed windows are in memory until they
+/// are written.
+pub(crate) fn tables_pieces(
+    alloc: Global,
+    snapshot: &Snapshot,
+) -> Result<TablesPieces<'_>, AllocError>
+    ensures { IfOk result (λ pieces. pieces ≡ tables_text snapshot.now) }
+{
+    let schedule = titled(alloc, b"schedule\n", schedule_pieces(alloc, snapshot)?)?;
+    let lags = titled(alloc, b"lags\n", lag_pieces(alloc, snapshot)?)?;
+    let misses = titled(alloc, b"misses\n", miss_pieces(alloc, snapshot)?)?;
+    let denials = titled(alloc, b"denials\n", denial_pieces(alloc, snapshot)?)?;
+    Ok(Chain::new(Chain::new(Chain::new(schedule, lags), misses), denials))
+}
