@@ -4,6 +4,7 @@ use Rattle.std.specs.Prelude.{Ok, Err, IfSome, Vec}
 use Rattle.std.specs.declared.alloc.Global.{Global}
 use Rattle.std.specs.Io.KnownBytes.{Appends}
 use Rattle.std.proofs.KnownBytes.{Keeps-refl}
+use Rattle.pf_script.specs.Asked.{Asked, script_asked}
 use Rattle.pf_stream.specs.declared.reading.ReadingFault.{ReadingFault}
 use Rattle.pf_stream.specs.declared.reading.ReadingFault.TheVariants.{Read, TooLong, Memory}
 use Rattle.pf_stream.specs.Reading.{ReadsScript}
@@ -12,7 +13,6 @@ use Rattle.pf_board.specs.declared.quantum.Quantum.{Quantum}
 use Rattle.pf_drill.specs.declared.worker.Worker.{Worker}
 use Rattle.pf_drill.specs.declared.fault.DrillFault.{DrillFault}
 use Rattle.pf_drill.specs.declared.fault.DrillFault.TheVariants.{BadLine, ReadFault, WriteFault, ScriptTooLong, GateShut, NoViewer, Unread, NoMemory}
-use Rattle.pf_drill.specs.Asked.{Asked, script_asked}
 use Rattle.pf_drill.specs.Drilled.{AnswersDrill, CountsReads, CountsWrites, Drills, Stops, fault_of_reading}
 use Rattle.pf_drill.specs.Gates.{SomeArrived}
 

@@ -1,69 +1,63 @@
--- What the first records of a script ask for.
-use Rattle.std.proofs.Common.{◌≡◌, ℕ, ◌+◌, Bool, true, false, Some, None, List, [], ◌∷◌, ◌++◌, ◌≤◌, ◌∙◌, refl, ap, subst, arith, inl, inr}
-use Rattle.std.specs.Prelude.{if◌then◌else◌, All, Result, Ok, Err, IfOk, IfErr}
+-- What a script asks for, and how a drill of it is stopped.
+use Rattle.std.proofs.Common.{◌≡◌, ℕ, ◌+◌, Option, Some, None, List, [], ◌∷◌, ◌++◌, ◌≤◌, ◌∙◌, refl, sym, ap, append_assoc, subst, arith, inl, inr}
+use Rattle.std.specs.Prelude.{All, Result, Ok, Err, IfOk, IfErr}
 use Rattle.pf_timeline.specs.Checkpoints.{largest_distance}
 use Rattle.pf_share.specs.Opening.{IsBadOpening}
 use Rattle.pf_scenario.specs.System.{System}
 use Rattle.pf_desk.specs.declared.command.Command.{Command}
 use Rattle.pf_board.specs.declared.quantum.Quantum.{Quantum}
-use Rattle.pf_script.specs.declared.line.Line.{Line}
-use Rattle.pf_script.specs.declared.version.Version.{Version}
-use Rattle.pf_script.specs.declared.version.Version.TheVariants.{First, Second}
-use Rattle.pf_script.specs.Grammar.{is_heading, line_of, opening_of}
-use Rattle.pf_script.specs.Script.{script_records}
+use Rattle.pf_script.specs.declared.fault.ScriptFault.{ScriptFault}
+use Rattle.pf_script.specs.declared.fault.ScriptFault.TheVariants as script
+use Rattle.pf_script.specs.declared.opened.OpenedScript.{OpenedScript}
+use Rattle.pf_script.specs.declared.record.LineTold.{LineTold}
+use Rattle.pf_script.specs.Answers.{ReadsLine}
+use Rattle.pf_script.specs.Asked.{Asked, BadRecord, Whole, asked_by, asked_up_to, commands_in, commands_of, lines_asked}
+use Rattle.pf_script.specs.Opened.{Opens}
+use Rattle.pf_script.specs.Told.{FaultTold, LinesTold, Told}
 use Rattle.pf_drill.specs.declared.fault.DrillFault.{DrillFault}
 use Rattle.pf_drill.specs.declared.fault.DrillFault.TheVariants.{BadLine, ReadFault, WriteFault, ScriptTooLong, GateShut, NoViewer, Unread, NoMemory}
-use Rattle.pf_drill.specs.Asked.{Asked, BadRecord, Whole, lines_asked, records_asked, script_asked, settings_asked, system_opened_by}
-use Rattle.pf_opening.specs.Commands.{commands_of}
 use Rattle.pf_drill.specs.declared.worker.Worker.{Worker}
-use Rattle.pf_drill.specs.Drilled.{Drills, IsDrill, IsDrilled, IsHalt, Stops}
+use Rattle.pf_drill.specs.Drilled.{Drills, IsDrill, IsDrilled, IsHalt, Stops, fault_of_script}
 use Rattle.pf_drill.specs.Gates.{Arrived}
 
-asked_is : (bytes : List ℕ) → script_asked bytes ≡ records_asked (script_records bytes)
-unfolding script_asked
-asked_is bytes = refl
+-- Use: a script that was read up to no settings is bad.
+pub opening_stops : (shut : Type 0) (t : Told) (fields : List (List ℕ)) (fault : ScriptFault) → Opens (Err fault) fields t
+    → Stops shut (asked_by t) (fault_of_script fault)
+opening_stops shut t fields (script.Bad bad) h = rw (h.0, h.1) refl
+opening_stops shut t fields (script.Missing bad) h = rw (h.0, h.1) refl
+opening_stops shut t fields script.Memory h = tt
 
--- the records of a script, where one more is there or none
-pub is_first : (found : Bool) (script : List (List (List ℕ))) (fields : List (List ℕ)) (rest : List (List (List ℕ)))
-    → script ≡ (if found then fields ∷ rest else []) → found ≡ true → script ≡ fields ∷ rest
-is_first true script fields rest e yes_found = e
-is_first false script fields rest e yes_found = cc
+-- Use: with its settings it asks for what its lines do.
+pub opening_asks : (t : Told) (opened : OpenedScript) → t ≡ record { opening = Some opened.opening; rest = opened.lines }
+    → lines_asked opened.opening.settings opened.lines ≡ asked_by t
+opening_asks t opened is = rw is refl
 
-pub is_none : (found : Bool) (script : List (List (List ℕ))) (fields : List (List ℕ)) (rest : List (List (List ℕ)))
-    → script ≡ (if found then fields ∷ rest else []) → found ≡ false → script ≡ []
-is_none true script fields rest e none_found = cc
-is_none false script fields rest e none_found = e
+-- a line with a fault, which all lines have
+bad_line : (settings : System) (all left : LinesTold) (fault : FaultTold) → left.fault ≡ all.fault → left ≡ record { lines = []; fault = Some fault }
+    → lines_asked settings all ≡ BadRecord fault.bad.number
+bad_line settings all left fault same is =
+    ap (λ (f : Option FaultTold). asked_up_to f (Whole settings (commands_in all.lines))) (sym same ∙ ap (λ (rest : LinesTold). rest.fault) is)
 
--- Use: what a script asks for, by its first records.
-pub no_record : (bytes : List ℕ) → script_records bytes ≡ [] → script_asked bytes ≡ BadRecord 1
-no_record bytes none = asked_is bytes ∙ ap records_asked none
+-- Use: a line that was not read stops the drill.
+pub line_stops : (shut : Type 0) (settings : System) (all left behind : LinesTold) (fields : List (List ℕ)) (fault : ScriptFault) → left.fault ≡ all.fault
+    → ReadsLine (Err fault) fields left behind → Stops shut (lines_asked settings all) (fault_of_script fault)
+line_stops shut settings all left behind fields (script.Bad bad) same h = bad_line settings all left _ same h
+line_stops shut settings all left behind fields (script.Missing bad) same h = bad_line settings all left _ same h
+line_stops shut settings all left behind fields script.Memory same h = tt
 
-pub no_heading : (bytes : List ℕ) (fields : List (List ℕ)) (rest : List (List (List ℕ))) → script_records bytes ≡ fields ∷ rest → is_heading fields ≡ false
-    → script_asked bytes ≡ settings_asked First 1 rest (system_opened_by First (opening_of fields))
-no_heading bytes fields rest first plain = rw (asked_is bytes, first, plain) refl
+-- Use: one line further the commands given and those left are the same together.
+pub commands_on : (given more all : List Command) (left behind : LinesTold) (line : LineTold) → left ≡ record behind { lines = line ∷ behind.lines }
+    → more ≡ given ++ commands_of line.asks → given ++ commands_in left.lines ≡ all → more ++ commands_in behind.lines ≡ all
+commands_on given more all left behind line read on same =
+    ap (λ (cs : List Command). cs ++ commands_in behind.lines) on
+    ∙ append_assoc given (commands_of line.asks) (commands_in behind.lines)
+    ∙ ap (λ (rest : LinesTold). given ++ commands_in rest.lines) (sym read)
+    ∙ same
 
-pub heading_alone : (bytes : List ℕ) (fields : List (List ℕ)) (rest : List (List (List ℕ))) → script_records bytes ≡ fields ∷ rest → is_heading fields ≡ true
-    → rest ≡ [] → script_asked bytes ≡ BadRecord 2
-heading_alone bytes fields rest first heading none = rw (asked_is bytes, first, heading, none) refl
-
-pub heading_first : (bytes : List ℕ) (fields opening : List (List ℕ)) (rest records : List (List (List ℕ))) → script_records bytes ≡ fields ∷ rest
-    → is_heading fields ≡ true → rest ≡ opening ∷ records
-    → script_asked bytes ≡ settings_asked Second 2 records (system_opened_by Second (opening_of opening))
-heading_first bytes fields opening rest records first heading second = rw (asked_is bytes, first, heading, second) refl
-
--- Use: of the records left the first is a line, or a bad one, or there is none.
-pub asked_next : (version : Version) (settings : System) (number : ℕ) (commands given : List Command) (records : List (List (List ℕ))) (fields : List (List ℕ))
-    (rest : List (List (List ℕ))) (line : Line) → records ≡ fields ∷ rest → line_of version fields ≡ Some line → given ≡ commands ++ commands_of line
-    → lines_asked version settings (number + 1) given rest ≡ lines_asked version settings number commands records
-asked_next version settings number commands given records fields rest line first is more = rw (first, is, more) refl
-
-pub asked_bad : (version : Version) (settings : System) (number : ℕ) (commands : List Command) (records : List (List (List ℕ))) (fields : List (List ℕ))
-    (rest : List (List (List ℕ))) → records ≡ fields ∷ rest → line_of version fields ≡ None → lines_asked version settings number commands records ≡ BadRecord number
-asked_bad version settings number commands records fields rest first is = rw (first, is) refl
-
-pub asked_whole : (version : Version) (settings : System) (number : ℕ) (commands : List Command) (records : List (List (List ℕ))) → records ≡ []
-    → lines_asked version settings number commands records ≡ Whole settings commands
-asked_whole version settings number commands records none = rw none refl
+-- Use: where no line has a fault the script is whole.
+pub whole : (settings : System) (rest : LinesTold) (commands : List Command) → rest.fault ≡ None → commands ≡ commands_in rest.lines
+    → lines_asked settings rest ≡ Whole settings commands
+whole settings rest commands none are = rw (none, are) refl
 
 -- Use: a halt stops whatever was asked for.
 pub stopped : (shut : Type 0) (asked : Asked) (fault : DrillFault) → IsHalt shut fault → Stops shut asked fault

@@ -12,13 +12,15 @@ use Rattle.pf_report.specs.Tables.{schedule_text}
 use Rattle.pf_board.specs.declared.quantum.Quantum.{Quantum}
 use Rattle.pf_board.specs.Quanta.{issues}
 use Rattle.pf_share.specs.Histories.{numbered, quanta_of}
+use Rattle.pf_script.specs.declared.fault.ScriptFault.{ScriptFault}
+use Rattle.pf_script.specs.declared.fault.ScriptFault.TheVariants as script
+use Rattle.pf_script.specs.Asked.{Asked, Whole, BadRecord, script_asked}
 use Rattle.pf_stream.specs.declared.reading.ReadingFault.{ReadingFault}
 use Rattle.pf_stream.specs.declared.reading.ReadingFault.TheVariants as reading
 use Rattle.pf_stream.specs.Reading.{longest_script}
 use Rattle.pf_stream.specs.Written.{TookFront}
 use Rattle.pf_drill.specs.declared.fault.DrillFault.{DrillFault}
 use Rattle.pf_drill.specs.declared.fault.DrillFault.TheVariants.{BadLine, ReadFault, WriteFault, ScriptTooLong, GateShut, NoViewer, Unread, NoMemory}
-use Rattle.pf_drill.specs.Asked.{Asked, Whole, BadRecord, script_asked}
 use Rattle.pf_drill.specs.declared.worker.Worker.{Worker}
 use Rattle.pf_drill.specs.Gates.{Arrived, SomeArrived}
 use Rattle.pf_drill.specs.Taken.{taken_text_of}
@@ -86,6 +88,12 @@ abbrev pub fault_of_reading : ReadingFault → DrillFault
 fault_of_reading reading.Read = ReadFault
 fault_of_reading reading.TooLong = ScriptTooLong
 fault_of_reading reading.Memory = NoMemory
+
+-- and where it tells no more
+abbrev pub fault_of_script : ScriptFault → DrillFault
+fault_of_script (script.Bad bad) = BadLine bad.number
+fault_of_script (script.Missing bad) = BadLine bad.number
+fault_of_script script.Memory = NoMemory
 
 -- a fault that comes before anything is written
 abbrev pub IsUnwritten : DrillFault → Type 0

@@ -1,4 +1,3 @@
-pub use Rattle.pf_opening.specs.Opened
 pub mod Asked
 pub mod Drilled
 pub mod Gates

@@ -1,22 +1,16 @@
-ghost use Rattle.std.specs.Prelude.{◌≡◌, ◌+◌, ◌-◌, ◌^◌, ◌<◌, ◌≤◌, length, IfOk, IfErr, IfSome};
+ghost use Rattle.std.specs.Prelude.{◌≡◌, ◌+◌, ◌-◌, ◌^◌, ◌<◌, IfOk, IfErr, IfSome};
 ghost use Rattle.std.specs.Io.KnownBytes.{Keeps};
-ghost use Rattle.csv.specs.Records.{fields_of};
-ghost use Rattle.pf_drill.specs.Asked.{script_asked, settings_asked, system_opened_by};
 ghost use Rattle.pf_drill.specs.Drilled.{AnswersDrill, CountsReads, CountsWrites, Drills, IsUnwritten, Stops};
 ghost use Rattle.pf_drill.specs.Gates.{SomeArrived};
 ghost use Rattle.pf_drill.specs.declared.fault.DrillFault.TheVariants.{GateShut};
-ghost use Rattle.pf_script.specs.Grammar.{opening_of};
+ghost use Rattle.pf_script.specs.Asked.{script_asked};
 ghost use Rattle.pf_stream.specs.Reading.{longest_script, TakesAtMost};
 
 use crate::fault::DrillFault;
 use crate::gate::Gate;
 use crate::lines::drill_lines;
 use csv::ByteRecord;
-use pf_opening::settings;
-use pf_script::fields::Fields;
-use pf_script::grammar::{read_heading, read_opening};
-use pf_script::script::Script;
-use pf_script::version::Version;
+use pf_script::opened::OpenedScript;
 use pf_share::blank::Blank;
 use pf_share::fault::OpenFault;
 use pf_stream::reading::read_script;
@@ -76,52 +70,18 @@ fn drill_script<R: Threads + Wait + Sync, G: Gate + Sync>(
     bytes: &[u8],
     gate: &G,
 ) -> Result<Vec<u8>, DrillFault>
-    requires short { length bytes.now ≤ longest_script }
     ensures drilled { IfOk result (λ text. Drills (G.lets_in gate.now) (script_asked bytes.now) text.items) }
     ensures stopped { IfErr result (Stops (SomeArrived (G.shuts_out gate.now)) (script_asked bytes.now)) }
 {
-    let mut script = Script::new(alloc, bytes);
     let mut row = ByteRecord::new(alloc);
-    if !script.next(&mut row)? {
-        return Err(DrillFault::BadLine(1));
-    }
-    if !read_heading(&Fields::new(&row)) {
-        return drill_from(rt, alloc, script, row, gate, Version::First, 1);
-    }
-    if !script.next(&mut row)? {
-        return Err(DrillFault::BadLine(2));
-    }
-    drill_from(rt, alloc, script, row, gate, Version::Second, 2)
-}
-
-/// The text of the drill of a script from the record in `row` on, which has this number and is to be the settings.
-fn drill_from<R: Threads + Wait + Sync, G: Gate + Sync>(
-    rt: &R,
-    alloc: Global,
-    script: Script,
-    row: ByteRecord,
-    gate: &G,
-    version: Version,
-    number: u64,
-) -> Result<Vec<u8>, DrillFault>
-    requires counted { number + length script < 2 ^ 64 - 1 }
-    ensures drilled { IfOk result
-        (λ text. Drills (G.lets_in gate.now) (settings_asked version number script.entry (system_opened_by version (opening_of (fields_of row)))) text.items) }
-    ensures stopped { IfErr result
-        (Stops (SomeArrived (G.shuts_out gate.now)) (settings_asked version number script.entry (system_opened_by version (opening_of (fields_of row))))) }
-{
-    let Some(opening) = read_opening(&Fields::new(&row)) else {
-        return Err(DrillFault::BadLine(number));
-    };
-    let Some(settings) = settings(version, opening) else {
-        return Err(DrillFault::BadLine(number));
-    };
-    let passes = u64::from(settings.processors()) + 1;
-    let blank = match Blank::open(rt, alloc, settings, opening.every, passes, 1) {
+    let script = OpenedScript::open(alloc, bytes, &mut row)?;
+    let opening = script.opening;
+    let passes = u64::from(opening.settings.processors()) + 1;
+    let blank = match Blank::open(rt, alloc, opening.settings, opening.every, passes, 1) {
         Ok(blank) => blank,
         Err(OpenFault::BadSettings) => unreachable!(),
         Err(OpenFault::NoViewer) => return Err(DrillFault::NoViewer),
         Err(OpenFault::NoMemory) => return Err(DrillFault::NoMemory),
     };
-    drill_lines::<Brand, _, _, _>(rt, alloc, blank, script, row, gate, version, number + 1)
+    drill_lines::<Brand, _, _, _>(rt, alloc, blank, script.lines, row, gate)
 }

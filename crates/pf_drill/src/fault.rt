@@ -1,7 +1,8 @@
 ghost use Rattle.std.specs.Prelude.{◌≡◌};
 ghost use Rattle.pf_drill.specs.declared.fault.DrillFault.TheVariants.{NoMemory};
-ghost use Rattle.pf_drill.specs.Drilled.{fault_of_reading};
+ghost use Rattle.pf_drill.specs.Drilled.{fault_of_reading, fault_of_script};
 
+use pf_script::fault::ScriptFault;
 use pf_stream::reading::ReadingFault;
 use std::alloc::AllocError;
 use thiserror::Error;
@@ -44,6 +45,17 @@ impl From<ReadingFault> for DrillFault {
             ReadingFault::Read => DrillFault::ReadFault,
             ReadingFault::TooLong => DrillFault::ScriptTooLong,
             ReadingFault::Memory => DrillFault::NoMemory,
+        }
+    }
+}
+
+impl From<ScriptFault> for DrillFault {
+    ghost from_gives = { λ script f. f ≡ fault_of_script script };
+
+    fn from(fault: ScriptFault) -> Self {
+        match fault {
+            ScriptFault::Bad(bad) | ScriptFault::Missing(bad) => DrillFault::BadLine(bad.number),
+            ScriptFault::Memory => DrillFault::NoMemory,
         }
     }
 }

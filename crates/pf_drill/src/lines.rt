@@ -1,14 +1,13 @@
-ghost use Rattle.std.specs.Prelude.{◌≡◌, ◌+◌, ◌^◌, ◌<◌, ◌++◌, ◌∷◌, [], length, replicate, All, IfOk, IfErr, OnOk};
+ghost use Rattle.std.specs.Prelude.{◌≡◌, ◌+◌, ◌++◌, ◌∷◌, None, replicate, All, IfOk, IfErr, OnOk};
 ghost use Rattle.std.specs.Arc.{arc_value};
 ghost use Rattle.pf_board.specs.Passes.{new_passes};
 ghost use Rattle.pf_desk.specs.declared.command.Command.TheVariants.{Step};
-ghost use Rattle.pf_drill.specs.Asked.{Whole, lines_asked};
-ghost use Rattle.pf_opening.specs.Commands.{commands_of};
 ghost use Rattle.pf_drill.specs.Drilled.{Drills, IsDrill, IsHalt, Stops, seen_in};
 ghost use Rattle.pf_drill.specs.Gates.{Arrived, SomeArrived};
 ghost use Rattle.pf_drill.specs.Rounds.{IsInStep, ShowsPlan, commands_given};
 ghost use Rattle.pf_scenario.specs.Edit.{IsScenario};
 ghost use Rattle.pf_scenario.specs.Scenario.{opening_plan};
+ghost use Rattle.pf_script.specs.Asked.{commands_in, commands_of, lines_asked};
 ghost use Rattle.pf_share.specs.Locked.{origin_of};
 ghost use Rattle.pf_share.specs.Opening.{new_viewers};
 
@@ -19,11 +18,8 @@ use crate::output::drill_text;
 use csv::ByteRecord;
 use pf_desk::command::Command;
 use pf_desk::snapshot::Snapshot;
-use pf_script::fields::Fields;
-use pf_script::grammar::read_line;
 use pf_script::line::Line;
-use pf_script::script::Script;
-use pf_script::version::Version;
+use pf_script::line_reader::LineReader;
 use pf_share::blank::Blank;
 use pf_share::locked::Locked;
 use pf_share::naming::Naming;
@@ -34,8 +30,8 @@ use std::alloc::Global;
 use std::sync::{Arc, Wait};
 use std::thread::Threads;
 
-/// Carries out the records behind the settings, the first of which has this number, on a desk that was just opened, and
-/// gives the text of the drill. Each record is read into `row`.
+/// Carries out the records behind the settings on a desk that was just opened, and gives the text of the drill. Each record
+/// is read into `row`.
 pub(crate) fn drill_lines<
     N: Naming + Send + Sync,
     H: Wait + Drop + Send,
@@ -45,19 +41,16 @@ pub(crate) fn drill_lines<
     rt: &R,
     alloc: Global,
     blank: Blank<H>,
-    script: Script,
+    lines: LineReader,
     row: ByteRecord,
     gate: &G,
-    version: Version,
-    first: u64,
 ) -> Result<Vec<u8>, DrillFault>
     requires name { (blank.board ≡ N.board) × (blank.book ≡ N.book) }
     requires passes { blank.passes ≡ new_passes N.board.id N.board.terms (N.board.terms.processors + 1) }
     requires viewers { blank.viewers ≡ new_viewers (origin_of N.board N.book) 1 }
     requires scenario { IsScenario (opening_plan N.board.terms) }
-    requires counted { first + length script < 2 ^ 64 }
-    ensures drilled { IfOk result (λ text. Drills (G.lets_in gate.now) (lines_asked version N.board.terms first [] script.entry) text.items) }
-    ensures stopped { IfErr result (Stops (SomeArrived (G.shuts_out gate.now)) (lines_asked version N.board.terms first [] script.entry)) }
+    ensures drilled { IfOk result (λ text. Drills (G.lets_in gate.now) (lines_asked N.board.terms lines.entry) text.items) }
+    ensures stopped { IfErr result (Stops (SomeArrived (G.shuts_out gate.now)) (lines_asked N.board.terms lines.entry)) }
 {
     let Opened {
         shared,
@@ -70,7 +63,7 @@ pub(crate) fn drill_lines<
     let Ok(mut crew) = crew_of::<N>(alloc, passes) else {
         return Err(DrillFault::NoMemory);
     };
-    match take_lines(rt, &shared, gate, &mut crew, script, row, version, first) {
+    match take_lines(rt, &shared, gate, &mut crew, lines, row) {
         Ok(()) => (),
         Err(fault) => return Err(fault),
     }
@@ -115,31 +108,23 @@ fn take_lines<
     shared: &Shared<N, Locked<N, H>>,
     gate: &G,
     crew: &mut Crew,
-    mut script: Script,
+    mut lines: LineReader,
     mut row: ByteRecord,
-    version: Version,
-    first: u64,
 ) -> Result<(), DrillFault>
     requires scenario { IsScenario (opening_plan N.board.terms) }
     requires crew { IsInStep N.board.id N.board.terms crew.old }
     requires arrived { All (Arrived (G.lets_in gate.now)) crew.old.taken.items }
-    requires counted { first + length script < 2 ^ 64 }
     ensures crew { OnOk result (IsInStep N.board.id N.board.terms crew.new) }
     ensures arrived { OnOk result (All (Arrived (G.lets_in gate.now)) crew.new.taken.items) }
-    ensures whole { OnOk result
-        (lines_asked version N.board.terms first (commands_given crew.old) script.entry ≡ Whole N.board.terms (commands_given crew.new)) }
-    ensures stopped { IfErr result (Stops (SomeArrived (G.shuts_out gate.now)) (lines_asked version N.board.terms first (commands_given crew.old) script.entry)) }
+    ensures whole { OnOk result (lines.entry.fault ≡ None) }
+    ensures commands { OnOk result (commands_given crew.new ≡ commands_given crew.old ++ commands_in lines.entry.lines) }
+    ensures stopped { IfErr result (Stops (SomeArrived (G.shuts_out gate.now)) (lines_asked N.board.terms lines.entry)) }
 {
-    let mut number = first;
-    'records: while script.next(&mut row)? {
-        let Some(line) = read_line(&Fields::new(&row), version) else {
-            return Err(DrillFault::BadLine(number));
-        };
-        match take_line(rt, shared, gate, crew, line) {
+    'records: while let Some(line) = lines.next(&mut row)? {
+        match take_line(rt, shared, gate, crew, line.asks) {
             Ok(()) => (),
             Err(fault) => return Err(fault),
         }
-        number += 1;
     }
     Ok(())
 }

@@ -1,7 +1,7 @@
 use Rattle.std.proofs.Common.{List, ℕ, subst, refl}
 use Rattle.std.proofs.lemmas.Result.{err_from_is_err_and}
 use Rattle.std.specs.Io.KnownBytes.{Appends}
-use Rattle.pf_drill.specs.Asked.{script_asked}
+use Rattle.pf_script.specs.Asked.{script_asked}
 use Rattle.pf_drill.specs.Drilled.{Drills, Stops}
 use Rattle.pf_drill.specs.Gates.{SomeArrived}
 use Rattle.pf_drill.proofs.Ends.{no_reads, no_writes, shut_only, stopped_if_read, unread_if, written_if}

@@ -1,4 +1,4 @@
-use Rattle.pf_drill.proofs.drill.drill_from.Given as goal
+use Rattle.pf_drill.proofs.drill.drill_script.Given as goal
 
 -- the desk that was just opened
 abbrev pub ghosts-drill_lines : goal.ghosts-drill_lines
