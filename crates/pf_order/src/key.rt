@@ -12,22 +12,31 @@ use std::marker::Model;
 #[derive(Clone, Copy)]
 pub struct Key {
     pub(crate) deadline: u64,
-    pub(crate) group: u64,
+    /// The bit and the group deadline together: the greater one comes first.
+    pub(crate) urgency: u64,
     pub(crate) task: u32,
     pub(crate) sub: u32,
-    pub(crate) bit: u8,
 }
 
 impl Model for Key {
+    ghost use Rattle.std.specs.Prelude.{◌≡◌, ◌+◌, ◌-◌, min};
+    ghost use Rattle.std.proofs.Common.{arith};
     ghost use Rattle.pf_order.specs.Priority.{Priority, IsPriority};
 
     ghost Value = { Priority };
 
-    ghost view = { λ k. record { deadline = k.deadline; bit = k.bit; group = k.group; task = k.task; sub = k.sub } };
+    ghost view = { λ k. record { deadline = k.deadline; bit = min k.urgency 1; group = k.urgency - 1; task = k.task; sub = k.sub } };
 
-    ghost invariant = { λ k. IsPriority (record { deadline = k.deadline; bit = k.bit; group = k.group; task = k.task; sub = k.sub }) };
+    ghost invariant = { λ k. IsPriority (record { deadline = k.deadline; bit = min k.urgency 1; group = k.urgency - 1; task = k.task; sub = k.sub }) };
 
-    ghost inverse = { λ p. record { deadline = p.deadline; bit = p.bit; group = p.group; task = p.task; sub = p.sub } };
+    ghost inverse = { λ p. record { deadline = p.deadline; urgency = p.bit + p.group; task = p.task; sub = p.sub } };
+
+    ghost inverse_ok = { λ k h i. record {
+      deadline = k.deadline;
+      urgency = let whole : min k.urgency 1 + (k.urgency - 1) ≡ k.urgency = omega arith in whole i;
+      task = k.task;
+      sub = k.sub;
+    } };
 }
 
 impl Key {
@@ -49,10 +58,9 @@ impl Key {
         };
         Key {
             deadline: deadline(weight, i) + shift,
-            group,
+            urgency: bit + group,
             task,
             sub: i,
-            bit: bit as u8,
         }
     }
 

@@ -47,9 +47,8 @@ impl Meter {
         self.compared = self.compared.saturating_add(1);
         // without a branch, since which part decides is seldom to be foretold
         let lower_task = x.task < y.task;
-        let later_group = (x.group > y.group) | ((x.group == y.group) & lower_task);
-        let by_bit = (x.bit > y.bit) | ((x.bit == y.bit) & later_group);
-        (x.deadline < y.deadline) | ((x.deadline == y.deadline) & by_bit)
+        let by_urgency = (x.urgency > y.urgency) | ((x.urgency == y.urgency) & lower_task);
+        (x.deadline < y.deadline) | ((x.deadline == y.deadline) & by_urgency)
     }
 
     /// Counts one slot.
