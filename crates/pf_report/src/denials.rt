@@ -15,9 +15,9 @@ fn push_denied(table: &mut Table, denied: Denied) -> Result<(), AllocError>
     requires { table.old.fields ≡ [] }
     ensures { OnOk result (table.new ≡ with_record table.old (denial_record denied)) }
 {
-    table.show(denied.slot)?;
-    table.show(denied.id)?;
-    table.show(denied.denial.code())?;
+    table.show_number(denied.slot)?;
+    table.show_number(denied.id)?;
+    table.show_number(denied.denial.code())?;
     table.show(denied.denial.name())?;
     table.end_record()
 }

@@ -12,8 +12,8 @@ fn show_number(table: &mut Table, number: Option<u64>) -> Result<(), AllocError>
     ensures { OnOk result (table.new ≡ with_field table.old (number_field number)) }
 {
     match number {
-        Some(number) => table.show(number),
-        None => table.show(""),
+        Some(number) => table.show_number(number),
+        None => table.show_nothing(),
     }
 }
 
@@ -28,8 +28,8 @@ fn push_fields(
     requires { table.old.fields ≡ [] }
     ensures { OnOk result (table.new ≡ with_record table.old (event_fields id slot kind.now numbers.now)) }
 {
-    table.show(id)?;
-    table.show(slot)?;
+    table.show_number(id)?;
+    table.show_number(slot)?;
     table.show(kind)?;
     for number in numbers {
         show_number(table, *number)?;

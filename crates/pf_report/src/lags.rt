@@ -15,10 +15,10 @@ fn push_lag(table: &mut Table, lag: Lag) -> Result<(), AllocError>
     requires { table.old.fields ≡ [] }
     ensures { OnOk result (table.new ≡ with_record table.old (lag_record lag)) }
 {
-    table.show(lag.task)?;
-    table.show(lag.cost)?;
-    table.show(lag.period)?;
-    table.show(lag.received)?;
+    table.show_number(u64::from(lag.task))?;
+    table.show_number(lag.cost)?;
+    table.show_number(lag.period)?;
+    table.show_number(lag.received)?;
     table.show(lag.scaled)?;
     table.end_record()
 }

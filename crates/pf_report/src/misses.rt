@@ -15,12 +15,12 @@ fn push_miss(table: &mut Table, miss: Miss) -> Result<(), AllocError>
     requires { table.old.fields ≡ [] }
     ensures { OnOk result (table.new ≡ with_record table.old (miss_record miss)) }
 {
-    table.show(miss.task)?;
-    table.show(miss.sub)?;
-    table.show(miss.deadline)?;
+    table.show_number(u64::from(miss.task))?;
+    table.show_number(u64::from(miss.sub))?;
+    table.show_number(miss.deadline)?;
     match miss.ran {
-        Some(slot) => table.show(slot)?,
-        None => table.show("")?,
+        Some(slot) => table.show_number(slot)?,
+        None => table.show_nothing()?,
     }
     table.end_record()
 }
