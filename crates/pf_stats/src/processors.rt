@@ -76,10 +76,10 @@ fn push_processor(table: &mut Table, snapshot: &Snapshot, processor: u32) -> Res
     ensures { OnOk result (table.new ≡ with_record table.old (processor_record snapshot.now.rows processor)) }
 {
     let quanta = quanta_on(snapshot, processor);
-    table.show(processor)?;
-    table.show(quanta)?;
-    table.show(row_count(snapshot) - quanta)?;
-    table.show(changes_on(snapshot, processor))?;
+    table.show_number(u64::from(processor))?;
+    table.show_number(quanta)?;
+    table.show_number(row_count(snapshot) - quanta)?;
+    table.show_number(changes_on(snapshot, processor))?;
     table.end_record()
 }
 

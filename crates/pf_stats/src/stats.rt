@@ -14,7 +14,7 @@ fn show_least(table: &mut Table, extremes: Option<Extremes>) -> Result<(), Alloc
 {
     match extremes {
         Some(extremes) => table.show(extremes.least),
-        None => table.show(""),
+        None => table.show_nothing(),
     }
 }
 
@@ -24,7 +24,7 @@ fn show_greatest(table: &mut Table, extremes: Option<Extremes>) -> Result<(), Al
 {
     match extremes {
         Some(extremes) => table.show(extremes.greatest),
-        None => table.show(""),
+        None => table.show_nothing(),
     }
 }
 
@@ -33,10 +33,10 @@ fn show_task(table: &mut Table, figures: Figures) -> Result<(), AllocError>
     requires { table.old.fields ≡ [] }
     ensures { OnOk result (table.new ≡ record { text = table.old.text; fields = task_fields figures }) }
 {
-    table.show(figures.task)?;
-    table.show(figures.cost)?;
-    table.show(figures.period)?;
-    table.show(figures.quanta)
+    table.show_number(u64::from(figures.task))?;
+    table.show_number(figures.cost)?;
+    table.show_number(figures.period)?;
+    table.show_number(figures.quanta)
 }
 
 /// Adds the fields of how it moved, and of its jobs.
@@ -44,9 +44,9 @@ fn show_work(table: &mut Table, figures: Figures) -> Result<(), AllocError>
     requires { table.old.fields ≡ task_fields figures }
     ensures { OnOk result (table.new ≡ record { text = table.old.text; fields = work_fields figures }) }
 {
-    table.show(figures.migrations)?;
-    table.show(figures.preemptions)?;
-    table.show(figures.jobs)
+    table.show_number(figures.migrations)?;
+    table.show_number(figures.preemptions)?;
+    table.show_number(figures.jobs)
 }
 
 /// Adds the fields of how soon its jobs were done, and how late it was.
@@ -56,8 +56,8 @@ fn show_time(table: &mut Table, figures: Figures) -> Result<(), AllocError>
 {
     show_least(table, figures.response)?;
     show_greatest(table, figures.response)?;
-    table.show(figures.missed)?;
-    table.show(figures.tardiness)
+    table.show_number(figures.missed)?;
+    table.show_number(figures.tardiness)
 }
 
 /// Adds the fields of its lag.
