@@ -2,38 +2,24 @@
  * Memory that is refused: one plan is made again and again, each time with another of its allocations refused. A call that
  * tells so has left the desk as it was, and no block of memory is lost. It takes the place of heap.c.
  */
+#include "heap.h"
 #include "pfair.h"
 
 #include <stdio.h>
 #include <stdlib.h>
 #include <string.h>
 
-struct rattle_tried {
-    bool ok;
-    void *at;
-};
-
-struct rattle_tried rattle_alloc(size_t size, size_t align);
-struct rattle_tried rattle_realloc(void *at, size_t kept, size_t size, size_t align);
-void rattle_dealloc(void *at);
-
-static char nothing;
 static long asked, refused, living;
-
-static struct rattle_tried tried(void *at) {
-    struct rattle_tried answer = {at != NULL, at != NULL ? at : &nothing};
-    return answer;
-}
 
 struct rattle_tried rattle_alloc(size_t size, size_t align) {
     void *at = ++asked == refused ? NULL : malloc(size != 0 ? size : align);
     living += at != NULL;
-    return tried(at);
+    return rattle_tried_at(at);
 }
 
 struct rattle_tried rattle_realloc(void *at, size_t kept, size_t size, size_t align) {
     (void)kept;
-    return tried(++asked == refused ? NULL : realloc(at, size != 0 ? size : align));
+    return rattle_tried_at(++asked == refused ? NULL : realloc(at, size != 0 ? size : align));
 }
 
 void rattle_dealloc(void *at) {
