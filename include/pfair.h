@@ -9,7 +9,7 @@
  * Units: a slot is one quantum of time; slots, periods and deadlines are counted in slots from 0, costs in quanta. A weight
  * cost/period is a part of one processor. The base h is a number that each period divides, and loads are counted in 1/h.
  *
- * Link with libpfair.a or libpfair.so. They take memory by malloc, realloc and free; faces/c/heap.c tells how another
+ * Link with libpfair.a or libpfair.so. They take memory by malloc, realloc and free; faces/c/heap.h tells how another
  * allocator takes their place.
  */
 #ifndef PFAIR_H
@@ -26,9 +26,9 @@ extern "C" {
 /* Semantic versioning of this header: a caller that was compiled against one major version, or before 1.0 one minor
  * version, works with each library of that version. */
 #define PFAIR_VERSION_MAJOR 0
-#define PFAIR_VERSION_MINOR 1
+#define PFAIR_VERSION_MINOR 2
 #define PFAIR_VERSION_PATCH 0
-#define PFAIR_VERSION "0.1.0"
+#define PFAIR_VERSION "0.2.0"
 
 /*
  * A desk, or none. All zero bits are none, as PFAIR_NO_DESK is. It owns memory, which pfair_close gives back. It may be
@@ -65,7 +65,7 @@ enum {
     PFAIR_NOT_OPEN = 64,           /* the handle has no desk */
     PFAIR_ALREADY_OPEN = 65,       /* the handle has a desk already */
     PFAIR_NO_MEMORY = 66,          /* memory was refused: the desk is as before the call */
-    PFAIR_UNKNOWN_KIND = 67,       /* a kind that is none of those below */
+    PFAIR_UNKNOWN_KIND = 67,       /* a kind that is none of those below, or a number that tells nothing */
     PFAIR_OUT_OF_RANGE = 68,       /* a slot that was not stepped, or a range that cannot be shown */
     PFAIR_TOO_SHORT = 69           /* the caller's room is too short: *count tells how long it must be */
 };
@@ -196,6 +196,15 @@ typedef struct pfair_fit {
     uint64_t overload_low;  /* and times 1 */
 } pfair_fit;
 
+/* What a desk was opened with. */
+typedef struct pfair_setup {
+    uint64_t processors;
+    uint64_t base;
+    uint64_t cap;     /* in 1/base */
+    uint64_t every;   /* a checkpoint is kept each so many slots */
+    uint64_t horizon; /* 2^20, or 2^22 of a wide desk */
+} pfair_setup;
+
 /* ---- Opening and closing ---- */
 
 /*
@@ -247,6 +256,18 @@ uint32_t pfair_advance(pfair_desk *desk, uint32_t caller, uint64_t count, uint64
  * *count is how many there are, with PFAIR_OK and with PFAIR_TOO_SHORT; so a first call with length 0 tells how much room a
  * second one takes.
  */
+
+/* What the desk was opened with. PFAIR_NOT_OPEN. */
+uint32_t pfair_settings(pfair_desk *desk, pfair_setup *setup);
+
+/* How many commands the desk has answered: changes and steps, refused ones too. PFAIR_NOT_OPEN. */
+uint32_t pfair_entries(pfair_desk *desk, size_t *count);
+
+/*
+ * The reply lines (docs/FORMATS.md) of the commands that the desk has answered, from the `first` on, counted from 0: *count
+ * bytes. PFAIR_TOO_SHORT, PFAIR_NO_MEMORY, PFAIR_NOT_OPEN.
+ */
+uint32_t pfair_replies(pfair_desk *desk, size_t first, uint8_t *room, size_t length, size_t *count);
 
 /* How many slots were stepped. PFAIR_NOT_OPEN. */
 uint32_t pfair_now(pfair_desk *desk, uint64_t *now);
@@ -308,6 +329,14 @@ uint32_t pfair_svg(pfair_desk *desk, uint64_t from, uint64_t to, uint64_t cell, 
 
 /* The version of the header that the library was made with, as PFAIR_VERSION: *count bytes. PFAIR_TOO_SHORT. */
 uint32_t pfair_version(uint8_t *room, size_t length, size_t *count);
+
+/*
+ * The name of a status or a reason, as the table of refusals has it, and what it says, for people to read: of 16 "JoinTwice"
+ * and "another event joins the task". *count bytes, all of them ASCII, with no byte 0 after them. PFAIR_UNKNOWN_KIND where
+ * neither a status nor a reason has this number: *count is as before; PFAIR_TOO_SHORT.
+ */
+uint32_t pfair_name(uint32_t number, uint8_t *room, size_t length, size_t *count);
+uint32_t pfair_sentence(uint32_t number, uint8_t *room, size_t length, size_t *count);
 
 /*
  * ---- The four duties of a caller, which no call can check ----

@@ -242,6 +242,26 @@ static int pictures(pfair_desk *desk) {
     return 0;
 }
 
+/* Each status and reason has a name and a sentence, and no other number below 100 has. */
+static int names(void) {
+    static const char twice[] = "another event joins the task";
+    uint8_t text[64];
+    uint32_t number, known = 0;
+    size_t count = 9;
+    for (number = 0; number < 100; number++) {
+        uint32_t status = pfair_name(number, text, sizeof text, &count);
+        CHECK(status == PFAIR_OK || status == PFAIR_UNKNOWN_KIND);
+        CHECK(pfair_sentence(number, text, sizeof text, &count) == status);
+        known += status == PFAIR_OK;
+    }
+    CHECK(known == 28);
+    memset(text, 0, sizeof text);
+    CHECK(pfair_name(PFAIR_JOIN_TWICE, text, 3, &count) == PFAIR_TOO_SHORT && count == 9 && text[0] == 0);
+    CHECK(pfair_name(PFAIR_JOIN_TWICE, text, sizeof text, &count) == PFAIR_OK && strcmp((const char *)text, "JoinTwice") == 0);
+    CHECK(pfair_sentence(PFAIR_JOIN_TWICE, text, sizeof text, &count) == PFAIR_OK && strcmp((const char *)text, twice) == 0);
+    return 0;
+}
+
 static int version(void) {
     uint8_t text[sizeof PFAIR_VERSION];
     size_t count = 0;
@@ -262,6 +282,7 @@ int main(void) {
     if (!failed) failed = pictures(&desk);
     if (!failed) failed = what_if(&desk);
     if (!failed) failed = version();
+    if (!failed) failed = names();
     if (!failed) failed = refusals(&desk);
     if (!failed) failed = room(&desk, PFAIR_NEVER, 0);
     if (!failed) failed = lists(&desk);

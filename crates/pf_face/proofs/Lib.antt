@@ -4,3 +4,4 @@ pub mod Crossing
 pub mod Stepping
 pub mod Filling
 pub mod WhatIf
+pub mod Entries

@@ -2,9 +2,11 @@ pub mod Kept
 pub mod Asked
 pub mod Replied
 pub mod Told
+pub mod Notices
 pub mod Fitting
 pub mod Texts
 pub mod Commanded
+pub mod Entries
 pub mod Ranges
 pub mod Pictures
 pub mod Supposed

@@ -4,6 +4,7 @@ use Rattle.std.specs.List.{slice_index_or}
 use Rattle.pf_order.specs.declared.pick.Pick.{Pick}
 use Rattle.pf_place.specs.Occupancy.{sitter}
 use Rattle.pf_admit.specs.Refusals.{denial_code}
+use Rattle.pf_scenario.specs.System.{System}
 use Rattle.pf_scenario.specs.declared.event.Event.{Event}
 use Rattle.pf_scenario.specs.declared.event.Event.TheVariants.{Join, Leave, Delay, Limit}
 use Rattle.pf_scenario.specs.declared.event.Numbered.{Numbered}
@@ -25,6 +26,7 @@ use Rattle.pf_face.specs.declared.raw_miss.TheConstants.{NEVER}
 use Rattle.pf_face.specs.declared.raw_event.RawEvent.{RawEvent}
 use Rattle.pf_face.specs.declared.raw_event.TheConstants.{LIMIT, LEAVE, JOIN, DELAY}
 use Rattle.pf_face.specs.declared.raw_numbered.RawNumbered.{RawNumbered}
+use Rattle.pf_face.specs.declared.raw_settings.RawSettings.{RawSettings}
 use Rattle.pf_face.specs.declared.raw_figures.RawFigures.{RawFigures}
 use Rattle.pf_face.specs.declared.status.TheConstants.{OK, NOT_OPEN, NO_MEMORY, OUT_OF_RANGE, TOO_SHORT}
 
@@ -81,6 +83,9 @@ raw_figures f = record {
   lag_least = f.lag.least;
   lag_greatest = f.lag.greatest;
 }
+
+abbrev pub raw_settings : System → ℕ → RawSettings
+raw_settings s every = record { processors = s.processors; base = s.base; cap = s.cap; every = every; horizon = s.horizon }
 
 -- what a call answers of the desk at a handle: that there is none, or what it says of that desk
 abbrev pub Tells : Option Shown → ℕ → (Shown → Type 0) → Type 0

@@ -3,7 +3,7 @@ ghost use Rattle.pf_place.specs.Lent.{lent_row};
 ghost use Rattle.pf_run.specs.Computed.{run_of};
 ghost use Rattle.pf_tally.specs.Figures.{figures_of};
 ghost use Rattle.pf_face.specs.declared.status.TheConstants.{OK, TOO_SHORT};
-ghost use Rattle.pf_face.specs.Told.{FillsRoom, FillsRow, HasPicks, MayFillRoom, Tells, denials_now, events_now, figures_now, lags_now, misses_now};
+ghost use Rattle.pf_face.specs.Told.{FillsRoom, FillsRow, HasPicks, MayFillRoom, Tells, denials_now, events_now, figures_now, lags_now, misses_now, raw_settings};
 
 use crate::handle::Handle;
 use crate::raw_denial::RawDenial;
@@ -12,6 +12,7 @@ use crate::raw_lag::RawLag;
 use crate::raw_miss::RawMiss;
 use crate::raw_numbered::RawNumbered;
 use crate::raw_pick::RawPick;
+use crate::raw_settings::RawSettings;
 use crate::room::fill;
 use crate::status::{NO_MEMORY, NOT_OPEN, OK, OUT_OF_RANGE, TOO_SHORT};
 use pf_desk::desk::Desk;
@@ -35,6 +36,31 @@ pub extern "C" fn pfair_now(alloc: Global, desk: &mut Handle, now: &mut u64) -> 
         None => NOT_OPEN,
         Some(held) => {
             *now = held.now();
+            desk.put(alloc, held);
+            OK
+        }
+    }
+}
+
+/// Tells what the desk was opened with.
+///
+/// # Errors
+///
+/// `NOT_OPEN`: `settings` is as before.
+#[unsafe(no_mangle)]
+pub extern "C" fn pfair_settings(
+    alloc: Global,
+    desk: &mut Handle,
+    settings: &mut RawSettings,
+) -> u32
+    ensures same { desk.new.value ≡ desk.old.value }
+    ensures settings { Tells desk.old.value result (λ d. (result ≡ OK) × (settings.new ≡ raw_settings d.state.plan.settings d.every)) }
+    ensures rest { (result ≡ OK → ⊥) → settings.new ≡ settings.old }
+{
+    match desk.take(alloc) {
+        None => NOT_OPEN,
+        Some(held) => {
+            *settings = RawSettings::of(held.scenario().settings(), held.distance());
             desk.put(alloc, held);
             OK
         }

@@ -21,7 +21,7 @@ pub const ALREADY_OPEN: u32 = 65;
 /// Memory was refused.
 pub const NO_MEMORY: u32 = 66;
 
-/// A kind, of an event or a change or a text, that is none.
+/// A kind, of an event or a change or a text, that is none, or a number that tells nothing.
 pub const UNKNOWN_KIND: u32 = 67;
 
 /// A slot that was not stepped, or a range of slots that cannot be shown.

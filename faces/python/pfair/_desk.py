@@ -6,10 +6,10 @@ import threading
 from types import TracebackType
 from typing import Any, Dict, Iterator, List, Optional, Type
 
-from pfair._errors import check, reason_name
+from pfair._errors import check, name
 from pfair._events import Event, event_of, raw_event, unsigned
-from pfair._library import CALLS, NUMBERS, SIZE, U64, RawChange, RawDenial, RawDesk, RawEvent, RawFigures, RawFit, RawLag
-from pfair._library import RawMiss, RawNumbered, RawPick, RawReply
+from pfair._library import CALLS, NUMBERS, SIZE, U64, RawChange, RawDenial, RawDesk, RawEvent, RawFigures
+from pfair._library import RawFit, RawLag, RawMiss, RawNumbered, RawPick, RawReply, filled
 from pfair._told import Denial, Figures, Fit, Lag, Miss, Pick
 
 NEVER = (1 << 64) - 1
@@ -37,12 +37,15 @@ class Desk:
     def __init__(
         self, processors: int, base: int, cap: Optional[int] = None, every: int = 64, wide: bool = False, caller: int = 0
     ) -> None:
-        self._raw = RawDesk()
-        self._turn = threading.RLock()
-        self._caller = unsigned(caller, 32)
+        self._begin(caller)
         numbers = (processors, base, processors * base if cap is None else cap, every)
         check(self._call("open_wide" if wide else "open", *map(unsigned, numbers)))
         self._processors = processors
+
+    def _begin(self, caller: int) -> None:
+        self._raw = RawDesk()
+        self._turn = threading.RLock()
+        self._caller = unsigned(caller, 32)
 
     @property
     def processors(self) -> int:
@@ -76,24 +79,24 @@ class Desk:
         check(self._call("edit", self._caller, change, strict, reply), reply.event, reply.reason)
         return reply.event
 
-    def _what_if(self, text: str, kind: str, number: int, event: RawEvent) -> str:
+    def _what_if(self, text: str, kind: str, number: int, event: RawEvent, strict: bool) -> str:
         reply = RawReply()
         change = RawChange(NUMBERS[kind], unsigned(number), event)
-        words = (self._caller, change, False, reply, text_number(text))
+        words = (self._caller, change, strict, reply, text_number(text))
         told: bytes = self._all("what_if", ctypes.c_char, *words, reply=reply)
         return told.decode("ascii")
 
-    def if_inserted(self, event: Event, text: str = "schedule") -> str:
+    def if_inserted(self, event: Event, text: str = "schedule", strict: bool = False) -> str:
         """A text of the desk as it would be after an insert, which is not made; of the kinds of text. Raises Refused."""
-        return self._what_if(text, "INSERT", 0, raw_event(event))
+        return self._what_if(text, "INSERT", 0, raw_event(event), strict)
 
-    def if_altered(self, number: int, event: Event, text: str = "schedule") -> str:
+    def if_altered(self, number: int, event: Event, text: str = "schedule", strict: bool = False) -> str:
         """The same of an alter."""
-        return self._what_if(text, "ALTER", number, raw_event(event))
+        return self._what_if(text, "ALTER", number, raw_event(event), strict)
 
-    def if_struck(self, number: int, text: str = "schedule") -> str:
+    def if_struck(self, number: int, text: str = "schedule", strict: bool = False) -> str:
         """The same of a strike."""
-        return self._what_if(text, "STRIKE", number, RawEvent())
+        return self._what_if(text, "STRIKE", number, RawEvent(), strict)
 
     def insert(self, event: Event, strict: bool = False) -> int:
         """Puts an event into the plan and gives its number.
@@ -110,6 +113,18 @@ class Desk:
     def strike(self, number: int, strict: bool = False) -> int:
         """Takes the event of this number out of the plan. Else as insert."""
         return self._edit("STRIKE", number, RawEvent(), strict)
+
+    @property
+    def entries(self) -> int:
+        """How many commands the desk has answered: changes and steps, refused ones too."""
+        count = SIZE()
+        check(self._call("entries", count))
+        return count.value
+
+    def replies(self, first: int = 0) -> List[str]:
+        """The reply lines of the commands that the desk has answered, from the first on, counted from 0."""
+        text: bytes = self._all("replies", ctypes.c_char, unsigned(first))
+        return text.decode("ascii").splitlines()
 
     def step(self) -> None:
         """Takes the next slot. Raises Refused where none is left."""
@@ -148,14 +163,9 @@ class Desk:
     def _all(self, name: str, element: Any, *words: Any, reply: Optional[RawReply] = None) -> Any:
         """What a call fills, in a room that is made as long as the call asks for."""
         with self._turn:
-            count, length = SIZE(), 0
-            while True:
-                room = (element * max(length, 1))()
-                status = self._call(name, *words, room, length, count)
-                if status != NUMBERS["TOO_SHORT"]:
-                    check(status, *((reply.event, reply.reason) if reply else ()))
-                    return room[: count.value]
-                length = count.value
+            status, told = filled(name, element, self._raw, *words)
+        check(status, *((reply.event, reply.reason) if reply else ()))
+        return told
 
     def lags(self) -> List[Lag]:
         """How far each task inside is from its fair share, by task."""
@@ -168,7 +178,7 @@ class Desk:
 
     def denials(self) -> List[Denial]:
         """The denials of the slots stepped, in the order in which the events were taken."""
-        return [Denial(it.slot, it.event, reason_name(it.reason)) for it in self._all("denials", RawDenial)]
+        return [Denial(it.slot, it.event, name(it.reason)) for it in self._all("denials", RawDenial)]
 
     def figures(self) -> List[Figures]:
         """The figures of each task admitted in a slot stepped, by task."""

@@ -7,7 +7,7 @@ import ctypes
 import os
 import re
 from pathlib import Path
-from typing import Any, Callable, Dict
+from typing import Any, Callable, Dict, Tuple
 
 HERE = Path(__file__).resolve().parent
 
@@ -71,6 +71,10 @@ class RawFigures(ctypes.Structure):
     ]
 
 
+class RawSetup(ctypes.Structure):
+    _fields_ = [(name, U64) for name in ("processors", "base", "cap", "every", "horizon")]
+
+
 class RawFit(ctypes.Structure):
     _fields_ = [("first", U64), ("overload_high", U64), ("overload_low", U64)]
 
@@ -93,6 +97,9 @@ _TAKES: Dict[str, list] = {
     "close": [],
     "edit": [U32, _REF_CHANGE, ctypes.c_bool, _REF_REPLY],
     "what_if": [U32, _REF_CHANGE, ctypes.c_bool, _REF_REPLY, U64, *_filling(ctypes.c_char)],
+    "settings": [ctypes.POINTER(RawSetup)],
+    "entries": [ctypes.POINTER(SIZE)],
+    "replies": [SIZE, *_filling(ctypes.c_char)],
     "step": [U32],
     "advance": [U32, U64, ctypes.POINTER(U64)],
     "now": [ctypes.POINTER(U64)],
@@ -110,15 +117,34 @@ _TAKES: Dict[str, list] = {
 }
 
 
+# What each call takes that has no handle.
+_TAKES_ALONE: Dict[str, list] = {
+    "name": [U32, *_filling(ctypes.c_char)],
+    "sentence": [U32, *_filling(ctypes.c_char)],
+}
+
+
 def _load() -> Dict[str, Callable[..., int]]:
     library = ctypes.CDLL(os.environ.get("PFAIR_LIBRARY") or str(HERE / "libpfair.so"))
+    with_handle = {name: [ctypes.POINTER(RawDesk), *takes] for name, takes in _TAKES.items()}
     calls: Dict[str, Callable[..., int]] = {}
-    for name, takes in _TAKES.items():
+    for name, takes in {**with_handle, **_TAKES_ALONE}.items():
         call = getattr(library, f"pfair_{name}")
         call.restype = None if name == "close" else U32
-        call.argtypes = [ctypes.POINTER(RawDesk), *takes]
+        call.argtypes = takes
         calls[name] = call
     return calls
 
 
 CALLS = _load()
+
+
+def filled(name: str, element: Any, *words: Any) -> Tuple[int, Any]:
+    """The status of a call, and what it fills: a room that is made as long as it asks for."""
+    count, length = SIZE(), 0
+    while True:
+        room = (element * max(length, 1))()
+        status = CALLS[name](*words, room, length, count)
+        if status != NUMBERS["TOO_SHORT"]:
+            return status, room[: count.value]
+        length = count.value

@@ -5,7 +5,8 @@ import threading
 import unittest
 
 import pfair
-from pfair import BadSettings, ClosedDesk, Delay, Denial, Desk, Fit, Join, Lag, Leave, Limit, Miss, OutOfRange, Refused
+from pfair import BadSettings, ClosedDesk, Delay, Denial, Desk, Fit, Join, Lag, Leave, Limit, Miss, OutOfRange
+from pfair import Refused
 
 
 def three_of_two_thirds() -> Desk:
@@ -82,6 +83,7 @@ class Calls(unittest.TestCase):
             with self.assertRaises(Refused) as twice:
                 desk.insert(Join(0, 3, 2, 3))
             self.assertEqual((twice.exception.number, twice.exception.name), (16, "JoinTwice"))
+            self.assertEqual(twice.exception.sentence, "another event joins the task")
             with self.assertRaises(Refused) as weight:
                 desk.insert(Join(0, 4, 2, 7))
             self.assertEqual(weight.exception.reason, "PeriodNotInBase")
@@ -90,7 +92,7 @@ class Calls(unittest.TestCase):
                 desk.insert(Join(0, 4, 1, 3), strict=True)
             told = strict.exception
             self.assertEqual((told.name, told.event, told.reason), ("WouldDeny", 4, "OverCapacity"))
-            self.assertEqual(str(told), "refused 31 WouldDeny 4 OverCapacity")
+            self.assertEqual(str(told), "refused 31 WouldDeny 4 OverCapacity: the load would be above the cap")
             desk.insert(Join(0, 4, 1, 3))
             self.assertEqual(desk.denials(), [Denial(0, 4, "OverCapacity")])
 
@@ -109,6 +111,12 @@ class Calls(unittest.TestCase):
             self.assertEqual(desk.insert(Join(1 << 20, 1, 1, 4)), 1)
         with self.assertRaises(ClosedDesk):
             desk.row(0)
+
+    def test_names_and_sentences(self) -> None:
+        self.assertEqual((pfair.name(16), pfair.sentence(16)), ("JoinTwice", "another event joins the task"))
+        for number in (5, -1, 1 << 32):
+            with self.assertRaises(ValueError):
+                pfair.name(number)
 
     def test_threads_share_a_desk(self) -> None:
         with three_of_two_thirds() as desk:

@@ -1,8 +1,9 @@
 use crate::raw::{
     pfair_advance, pfair_change, pfair_chart, pfair_close, pfair_denial, pfair_denials, pfair_desk, pfair_edit,
-    pfair_events, pfair_figures, pfair_fit, pfair_fits, pfair_lag, pfair_lags, pfair_miss, pfair_misses,
-    pfair_never_misses, pfair_now, pfair_numbered, pfair_open, pfair_open_wide, pfair_pick, pfair_reply, pfair_row,
-    pfair_schedule, pfair_step, pfair_svg, pfair_task_figures, pfair_text, pfair_version, pfair_what_if,
+    pfair_entries, pfair_events, pfair_figures, pfair_fit, pfair_fits, pfair_lag, pfair_lags, pfair_miss, pfair_misses,
+    pfair_name, pfair_never_misses, pfair_now, pfair_numbered, pfair_open, pfair_open_wide, pfair_pick, pfair_replies,
+    pfair_reply, pfair_row, pfair_schedule, pfair_sentence, pfair_settings, pfair_setup, pfair_step, pfair_svg,
+    pfair_task_figures, pfair_text, pfair_version, pfair_what_if,
 };
 use core::cell::UnsafeCell;
 use core::ptr;
@@ -76,6 +77,24 @@ impl Handle {
     pub fn advance(&mut self, caller: u32, count: u64, taken: &mut u64) -> u32 {
         // SAFETY: as in `edit`.
         unsafe { pfair_advance(self.raw.get(), caller, count, taken) }
+    }
+
+    /// `pfair_settings`.
+    pub fn settings(&self, setup: &mut pfair_setup) -> u32 {
+        // SAFETY: as in `now`.
+        unsafe { pfair_settings(self.raw.get(), setup) }
+    }
+
+    /// `pfair_entries`.
+    pub fn entries(&self, count: &mut usize) -> u32 {
+        // SAFETY: as in `now`.
+        unsafe { pfair_entries(self.raw.get(), count) }
+    }
+
+    /// `pfair_replies`.
+    pub fn replies(&self, first: usize, room: &mut [u8], count: &mut usize) -> u32 {
+        // SAFETY: as in `row`.
+        unsafe { pfair_replies(self.raw.get(), first, room.as_mut_ptr(), room.len(), count) }
     }
 
     /// `pfair_now`.
@@ -161,6 +180,18 @@ impl Handle {
 pub fn version(room: &mut [u8], count: &mut usize) -> u32 {
     // SAFETY: the slice has `len` initialized bytes, and the count is a reference.
     unsafe { pfair_version(room.as_mut_ptr(), room.len(), count) }
+}
+
+/// `pfair_name`.
+pub fn name(number: u32, room: &mut [u8], count: &mut usize) -> u32 {
+    // SAFETY: as in `version`.
+    unsafe { pfair_name(number, room.as_mut_ptr(), room.len(), count) }
+}
+
+/// `pfair_sentence`.
+pub fn sentence(number: u32, room: &mut [u8], count: &mut usize) -> u32 {
+    // SAFETY: as in `version`.
+    unsafe { pfair_sentence(number, room.as_mut_ptr(), room.len(), count) }
 }
 
 impl Drop for Handle {

@@ -5,6 +5,6 @@
 mod handle;
 pub mod raw;
 
-pub use handle::{version, Handle};
+pub use handle::{name, sentence, version, Handle};
 
 include!(concat!(env!("OUT_DIR"), "/numbers.rs"));

@@ -103,6 +103,16 @@ pub struct pfair_fit {
     pub overload_low: u64,
 }
 
+#[repr(C)]
+#[derive(Clone, Copy, Debug, Default, PartialEq, Eq)]
+pub struct pfair_setup {
+    pub processors: u64,
+    pub base: u64,
+    pub cap: u64,
+    pub every: u64,
+    pub horizon: u64,
+}
+
 unsafe extern "C" {
     pub fn pfair_open(desk: *mut pfair_desk, processors: u64, base: u64, cap: u64, every: u64) -> u32;
     pub fn pfair_open_wide(desk: *mut pfair_desk, processors: u64, base: u64, cap: u64, every: u64) -> u32;
@@ -127,6 +137,9 @@ unsafe extern "C" {
     ) -> u32;
     pub fn pfair_step(desk: *mut pfair_desk, caller: u32) -> u32;
     pub fn pfair_advance(desk: *mut pfair_desk, caller: u32, count: u64, taken: *mut u64) -> u32;
+    pub fn pfair_settings(desk: *mut pfair_desk, setup: *mut pfair_setup) -> u32;
+    pub fn pfair_entries(desk: *mut pfair_desk, count: *mut usize) -> u32;
+    pub fn pfair_replies(desk: *mut pfair_desk, first: usize, room: *mut u8, length: usize, count: *mut usize) -> u32;
     pub fn pfair_now(desk: *mut pfair_desk, now: *mut u64) -> u32;
     pub fn pfair_row(desk: *mut pfair_desk, slot: u64, room: *mut pfair_pick, length: usize) -> u32;
     pub fn pfair_lags(desk: *mut pfair_desk, room: *mut pfair_lag, length: usize, count: *mut usize) -> u32;
@@ -164,4 +177,6 @@ unsafe extern "C" {
         count: *mut usize,
     ) -> u32;
     pub fn pfair_version(room: *mut u8, length: usize, count: *mut usize) -> u32;
+    pub fn pfair_name(number: u32, room: *mut u8, length: usize, count: *mut usize) -> u32;
+    pub fn pfair_sentence(number: u32, room: *mut u8, length: usize, count: *mut usize) -> u32;
 }

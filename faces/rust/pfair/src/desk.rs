@@ -101,10 +101,23 @@ impl Desk {
     /// # Ok::<(), pfair::Error>(())
     /// ```
     pub fn what_if(&mut self, change: Change, kind: Text) -> Result<String, Error> {
+        self.suppose(change, false, kind)
+    }
+
+    /// The same of a change that would be made strictly.
+    ///
+    /// # Errors
+    ///
+    /// As `what_if`, with `WouldDeny` too.
+    pub fn what_if_strict(&mut self, change: Change, kind: Text) -> Result<String, Error> {
+        self.suppose(change, true, kind)
+    }
+
+    fn suppose(&mut self, change: Change, strict: bool, kind: Text) -> Result<String, Error> {
         let (change, kind, mut reply, mut room) = (change.to_raw(), kind.number(), NOTHING, Vec::new());
         loop {
             let mut count = 0;
-            match self.handle.what_if(self.caller, &change, false, &mut reply, kind, &mut room, &mut count) {
+            match self.handle.what_if(self.caller, &change, strict, &mut reply, kind, &mut room, &mut count) {
                 sys::PFAIR_TOO_SHORT => room.resize(count, 0),
                 status => {
                     answer(status, reply)?;
@@ -141,6 +154,23 @@ impl Desk {
             sys::PFAIR_AT_HORIZON => Ok(taken),
             status => answer(status, NOTHING).map(|()| taken),
         }
+    }
+
+    /// How many commands the desk has answered: changes and steps, refused ones too.
+    pub fn entries(&self) -> usize {
+        let mut count = 0;
+        let status = self.handle.entries(&mut count);
+        debug_assert_eq!(status, sys::PFAIR_OK, "an open desk tells");
+        count
+    }
+
+    /// The reply lines of the commands that the desk has answered, from the `first` on, counted from 0.
+    ///
+    /// # Errors
+    ///
+    /// `NoMemory`.
+    pub fn replies(&self, first: usize) -> Result<String, Error> {
+        text(|room, count| self.handle.replies(first, room, count))
     }
 
     /// How many slots were stepped.
@@ -283,13 +313,8 @@ impl Desk {
     }
 }
 
-/// The version of the library.
-pub fn version() -> String {
-    text(sys::version).expect("it takes no memory")
-}
-
 /// All that a call fills, in a room that is made as long as the call asks for.
-fn all<T: Clone + Default>(mut call: impl FnMut(&mut [T], &mut usize) -> u32) -> Result<Vec<T>, Error> {
+pub(crate) fn all<T: Clone + Default>(mut call: impl FnMut(&mut [T], &mut usize) -> u32) -> Result<Vec<T>, Error> {
     let mut room = Vec::new();
     loop {
         let mut count = 0;
@@ -305,7 +330,7 @@ fn all<T: Clone + Default>(mut call: impl FnMut(&mut [T], &mut usize) -> u32) ->
 }
 
 /// The same of a text.
-fn text(call: impl FnMut(&mut [u8], &mut usize) -> u32) -> Result<String, Error> {
+pub(crate) fn text(call: impl FnMut(&mut [u8], &mut usize) -> u32) -> Result<String, Error> {
     Ok(String::from_utf8(all(call)?).expect("the library's texts are ASCII"))
 }
 

@@ -1,3 +1,4 @@
+use crate::library::sentence;
 use pfair_sys as sys;
 use pfair_sys::raw::pfair_reply;
 use std::fmt;
@@ -51,28 +52,62 @@ pub enum Refusal {
     },
 }
 
-/// Why cost and period are no weight.
-#[derive(Clone, Copy, Debug, PartialEq, Eq)]
-pub enum WeightFault {
-    /// The cost is 0.
-    ZeroCost,
-    /// The cost is above the period.
-    CostAbovePeriod,
-    /// The period does not divide the base.
-    PeriodNotInBase,
+/// An enum whose values are numbers of the header.
+macro_rules! numbered {
+    ($(#[$about:meta])* $name:ident { $($(#[$meaning:meta])* $value:ident = $number:ident,)* }) => {
+        $(#[$about])*
+        #[derive(Clone, Copy, Debug, PartialEq, Eq)]
+        #[repr(u32)]
+        pub enum $name {
+            $($(#[$meaning])* $value = sys::$number,)*
+        }
+
+        impl $name {
+            /// Its number in the table of refusals.
+            pub const fn number(self) -> u32 {
+                self as u32
+            }
+
+            pub(crate) fn numbered(number: u64) -> Self {
+                match u32::try_from(number) {
+                    $(Ok(sys::$number) => $name::$value,)*
+                    _ => impossible(number),
+                }
+            }
+        }
+
+        impl fmt::Display for $name {
+            fn fmt(&self, f: &mut fmt::Formatter<'_>) -> fmt::Result {
+                f.write_str(&sentence(self.number()).expect("it has a number"))
+            }
+        }
+    };
 }
 
-/// Why an event of the plan is denied in a run.
-#[derive(Clone, Copy, Debug, PartialEq, Eq)]
-pub enum DenialReason {
-    /// The load would be above the cap.
-    OverCapacity,
-    /// The task is not inside.
-    NotInside,
-    /// The task leaves before its share is free.
-    TooEarly,
-    /// The subtask was released already.
-    Released,
+numbered! {
+    /// Why cost and period are no weight.
+    WeightFault {
+        /// The cost is 0.
+        ZeroCost = PFAIR_ZERO_COST,
+        /// The cost is above the period.
+        CostAbovePeriod = PFAIR_COST_ABOVE_PERIOD,
+        /// The period does not divide the base.
+        PeriodNotInBase = PFAIR_PERIOD_NOT_IN_BASE,
+    }
+}
+
+numbered! {
+    /// Why an event of the plan is denied in a run.
+    DenialReason {
+        /// The load would be above the cap.
+        OverCapacity = PFAIR_OVER_CAPACITY,
+        /// The task is not inside.
+        NotInside = PFAIR_NOT_INSIDE,
+        /// The task leaves before its share is free.
+        TooEarly = PFAIR_TOO_EARLY,
+        /// The subtask was released already.
+        Released = PFAIR_RELEASED,
+    }
 }
 
 /// A number that no call of the library gives here, as it is proved.
@@ -80,30 +115,26 @@ fn impossible(number: u64) -> ! {
     unreachable!("the library of another version gave {number}")
 }
 
-impl DenialReason {
-    pub(crate) fn numbered(number: u64) -> Self {
-        match u32::try_from(number) {
-            Ok(sys::PFAIR_OVER_CAPACITY) => DenialReason::OverCapacity,
-            Ok(sys::PFAIR_NOT_INSIDE) => DenialReason::NotInside,
-            Ok(sys::PFAIR_TOO_EARLY) => DenialReason::TooEarly,
-            Ok(sys::PFAIR_RELEASED) => DenialReason::Released,
-            _ => impossible(number),
-        }
-    }
-}
-
-impl WeightFault {
-    fn numbered(number: u64) -> Self {
-        match u32::try_from(number) {
-            Ok(sys::PFAIR_ZERO_COST) => WeightFault::ZeroCost,
-            Ok(sys::PFAIR_COST_ABOVE_PERIOD) => WeightFault::CostAbovePeriod,
-            Ok(sys::PFAIR_PERIOD_NOT_IN_BASE) => WeightFault::PeriodNotInBase,
-            _ => impossible(number),
-        }
-    }
-}
-
 impl Refusal {
+    /// Its number in the table of refusals.
+    pub const fn number(self) -> u32 {
+        match self {
+            Refusal::EventNotFound => sys::PFAIR_EVENT_NOT_FOUND,
+            Refusal::SlotOutOfRange => sys::PFAIR_SLOT_OUT_OF_RANGE,
+            Refusal::TaskOutOfRange => sys::PFAIR_TASK_OUT_OF_RANGE,
+            Refusal::EarlyOutOfRange => sys::PFAIR_EARLY_OUT_OF_RANGE,
+            Refusal::DelayOutOfRange => sys::PFAIR_DELAY_OUT_OF_RANGE,
+            Refusal::CountOutOfRange => sys::PFAIR_COUNT_OUT_OF_RANGE,
+            Refusal::BadWeight(_) => sys::PFAIR_BAD_WEIGHT,
+            Refusal::JoinTwice => sys::PFAIR_JOIN_TWICE,
+            Refusal::LeaveTwice => sys::PFAIR_LEAVE_TWICE,
+            Refusal::TooManyEvents => sys::PFAIR_TOO_MANY_EVENTS,
+            Refusal::NumbersSpent => sys::PFAIR_NUMBERS_SPENT,
+            Refusal::AtHorizon => sys::PFAIR_AT_HORIZON,
+            Refusal::WouldDeny { .. } => sys::PFAIR_WOULD_DENY,
+        }
+    }
+
     fn of(status: u32, reply: pfair_reply) -> Self {
         match status {
             sys::PFAIR_EVENT_NOT_FOUND => Refusal::EventNotFound,
@@ -139,53 +170,23 @@ pub(crate) fn answer(status: u32, reply: pfair_reply) -> Result<(), Error> {
 
 impl fmt::Display for Error {
     fn fmt(&self, f: &mut fmt::Formatter<'_>) -> fmt::Result {
-        match self {
-            Error::BadSettings => f.write_str("the settings are out of their limits"),
-            Error::NoMemory => f.write_str("out of memory"),
-            Error::OutOfRange => f.write_str("not within the slots stepped"),
-            Error::Refused(refusal) => write!(f, "refused: {refusal}"),
-        }
+        let status = match self {
+            Error::BadSettings => sys::PFAIR_BAD_SETTINGS,
+            Error::NoMemory => sys::PFAIR_NO_MEMORY,
+            Error::OutOfRange => sys::PFAIR_OUT_OF_RANGE,
+            Error::Refused(refusal) => return write!(f, "refused: {refusal}"),
+        };
+        f.write_str(&sentence(status).expect("it is a status"))
     }
 }
 
 impl fmt::Display for Refusal {
     fn fmt(&self, f: &mut fmt::Formatter<'_>) -> fmt::Result {
         match self {
-            Refusal::EventNotFound => f.write_str("no event has this number"),
-            Refusal::SlotOutOfRange => f.write_str("the slot is not below the horizon"),
-            Refusal::TaskOutOfRange => f.write_str("the task is not 1 to 4,095"),
-            Refusal::EarlyOutOfRange => f.write_str("early is above 2^20 slots"),
-            Refusal::DelayOutOfRange => f.write_str("the delay is not by 1 to 2^20 slots"),
-            Refusal::CountOutOfRange => f.write_str("the count is not 1 to the number of processors"),
             Refusal::BadWeight(fault) => write!(f, "{fault}"),
-            Refusal::JoinTwice => f.write_str("another event joins the task"),
-            Refusal::LeaveTwice => f.write_str("another event leaves the task"),
-            Refusal::TooManyEvents => f.write_str("65,535 events are held"),
-            Refusal::NumbersSpent => f.write_str("all event numbers were given"),
-            Refusal::AtHorizon => f.write_str("no slot is left"),
             Refusal::WouldDeny { event, reason } => write!(f, "event {event} would be denied: {reason}"),
+            refusal => f.write_str(&sentence(refusal.number()).expect("it has a number")),
         }
-    }
-}
-
-impl fmt::Display for WeightFault {
-    fn fmt(&self, f: &mut fmt::Formatter<'_>) -> fmt::Result {
-        f.write_str(match self {
-            WeightFault::ZeroCost => "the cost is 0",
-            WeightFault::CostAbovePeriod => "the cost is above the period",
-            WeightFault::PeriodNotInBase => "the period does not divide the base",
-        })
-    }
-}
-
-impl fmt::Display for DenialReason {
-    fn fmt(&self, f: &mut fmt::Formatter<'_>) -> fmt::Result {
-        f.write_str(match self {
-            DenialReason::OverCapacity => "the load would be above the cap",
-            DenialReason::NotInside => "the task is not inside",
-            DenialReason::TooEarly => "the task's share is not free yet",
-            DenialReason::Released => "the subtask was released already",
-        })
     }
 }
 

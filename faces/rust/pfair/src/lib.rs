@@ -25,14 +25,16 @@
 mod change;
 mod desk;
 mod error;
+mod library;
 mod row;
 mod settings;
 mod text;
 mod told;
 
 pub use change::{Change, Event};
-pub use desk::{version, Desk, Rows};
+pub use desk::{Desk, Rows};
 pub use error::{DenialReason, Error, Refusal, WeightFault};
+pub use library::{name, sentence, version};
 pub use row::{Pick, Row};
 pub use settings::Settings;
 pub use text::Text;

@@ -53,7 +53,7 @@ fn ranges_of_slots_are_shown() {
     assert_eq!(desk.svg(0..3, 41), Err(Error::OutOfRange));
     assert!(desk.text(Text::Processors).unwrap().starts_with("processor,quanta,idle,changes\n0,3,0,"));
     assert!(desk.text(Text::Stats).unwrap().starts_with("task,cost,period,quanta,"));
-    assert_eq!(pfair::version(), "0.1.0");
+    assert_eq!(pfair::version(), "0.2.0");
 }
 
 #[test]
