@@ -67,7 +67,8 @@ enum {
     PFAIR_NO_MEMORY = 66,          /* memory was refused: the desk is as before the call */
     PFAIR_UNKNOWN_KIND = 67,       /* a kind that is none of those below, or a number that tells nothing */
     PFAIR_OUT_OF_RANGE = 68,       /* a slot that was not stepped, or a range that cannot be shown */
-    PFAIR_TOO_SHORT = 69           /* the caller's room is too short: *count tells how long it must be */
+    PFAIR_TOO_SHORT = 69,          /* the caller's room is too short: *count tells how long it must be */
+    PFAIR_BAD_RECORD = 70          /* a record of a script is bad: pfair_bad_record tells where it is */
 };
 
 /* Why an event of the plan is denied in a run, and why a weight is refused: the values of a reason. */
@@ -205,6 +206,13 @@ typedef struct pfair_setup {
     uint64_t horizon; /* 2^20, or 2^22 of a wide desk */
 } pfair_setup;
 
+/* Where a record is that is none of a script's. All are counted from 1. */
+typedef struct pfair_bad_record {
+    uint64_t number; /* its number */
+    uint64_t line;   /* the line on which it begins */
+    uint64_t field;  /* its field at fault; the first one names the record */
+} pfair_bad_record;
+
 /* ---- Opening and closing ---- */
 
 /*
@@ -217,6 +225,14 @@ uint32_t pfair_open(pfair_desk *desk, uint64_t processors, uint64_t base, uint64
 
 /* The same with 2^22 slots. */
 uint32_t pfair_open_wide(pfair_desk *desk, uint64_t processors, uint64_t base, uint64_t cap, uint64_t every);
+
+/*
+ * Opens a desk with the settings of a whole script (docs/FORMATS.md) at a handle that has none, and asks it for what the
+ * records behind them say, as pfair_run does, with the same statuses. PFAIR_BAD_RECORD: *bad tells where it is; where the
+ * settings were read the desk is open, and the records before it were carried out, else the handle has no desk.
+ * PFAIR_NO_MEMORY: no desk, or one that answered the first commands. PFAIR_ALREADY_OPEN. With these two *bad is as before.
+ */
+uint32_t pfair_open_script(pfair_desk *desk, uint32_t caller, const uint8_t *script, size_t length, pfair_bad_record *bad);
 
 /* Closes the desk and gives its memory back. A handle without a desk stays as it is. */
 void pfair_close(pfair_desk *desk);
@@ -250,6 +266,15 @@ uint32_t pfair_step(pfair_desk *desk, uint32_t caller);
 uint32_t pfair_advance(pfair_desk *desk, uint32_t caller, uint64_t count, uint64_t *taken);
 
 /*
+ * Asks for what records say, one after another, as they stand behind the settings in a script of version 2
+ * (docs/FORMATS.md): "join,0,1,2,3,0\nstrict,alter,1,join,4,1,2,3,0\nstep,8\n". PFAIR_OK where each of them is a record:
+ * whether the desk refused what it asks for, pfair_replies tells. PFAIR_BAD_RECORD at the first one that is none: *bad tells
+ * where it is, and those before it were carried out. PFAIR_NO_MEMORY: it answered the
+ * first commands. PFAIR_NOT_OPEN. With these two *bad is as before.
+ */
+uint32_t pfair_run(pfair_desk *desk, uint32_t caller, const uint8_t *records, size_t length, pfair_bad_record *bad);
+
+/*
  * ---- What the desk tells: it stays as it is, and what is written to is as before at every status but PFAIR_OK ----
  *
  * Where a call takes room, length and *count, it writes all there is, *count values at the front of the room, or nothing.
@@ -265,7 +290,8 @@ uint32_t pfair_entries(pfair_desk *desk, size_t *count);
 
 /*
  * The reply lines (docs/FORMATS.md) of the commands that the desk has answered, from the `first` on, counted from 0: *count
- * bytes. PFAIR_TOO_SHORT, PFAIR_NO_MEMORY, PFAIR_NOT_OPEN.
+ * bytes. What pfair_entries tells before a pfair_run is the first of that run. PFAIR_TOO_SHORT, PFAIR_NO_MEMORY,
+ * PFAIR_NOT_OPEN.
  */
 uint32_t pfair_replies(pfair_desk *desk, size_t first, uint8_t *room, size_t length, size_t *count);
 

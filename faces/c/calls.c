@@ -254,11 +254,57 @@ static int names(void) {
         CHECK(pfair_sentence(number, text, sizeof text, &count) == status);
         known += status == PFAIR_OK;
     }
-    CHECK(known == 28);
+    CHECK(known == 29);
     memset(text, 0, sizeof text);
     CHECK(pfair_name(PFAIR_JOIN_TWICE, text, 3, &count) == PFAIR_TOO_SHORT && count == 9 && text[0] == 0);
     CHECK(pfair_name(PFAIR_JOIN_TWICE, text, sizeof text, &count) == PFAIR_OK && strcmp((const char *)text, "JoinTwice") == 0);
     CHECK(pfair_sentence(PFAIR_JOIN_TWICE, text, sizeof text, &count) == PFAIR_OK && strcmp((const char *)text, twice) == 0);
+    return 0;
+}
+
+/* Records are carried out up to the first bad one. */
+static int records(void) {
+    static const char good[] = "join,0,1,1,2,0\nstrike,9\nstep,2\n", bad_one[] = "step\nstep,2,3\nstep\n";
+    static const char replies[] = "refused 10 EventNotFound\nslot 0: 1/1\nslot 1: -\n";
+    const uint8_t *first = (const uint8_t *)good, *second = (const uint8_t *)bad_one;
+    pfair_desk desk = PFAIR_NO_DESK;
+    pfair_bad_record bad = {7, 8, 9};
+    pfair_pick row = {0, 0};
+    uint8_t text[128];
+    uint64_t now = 0;
+    size_t count = 0;
+    CHECK(pfair_run(&desk, 1, first, sizeof good - 1, &bad) == PFAIR_NOT_OPEN && bad.number == 7);
+    CHECK(pfair_open(&desk, 1, 2, 2, 64) == PFAIR_OK);
+    CHECK(pfair_run(&desk, 1, first, 0, &bad) == PFAIR_OK && pfair_now(&desk, &now) == PFAIR_OK && now == 0);
+    CHECK(pfair_run(&desk, 1, first, sizeof good - 1, &bad) == PFAIR_OK && bad.number == 7);
+    CHECK(pfair_entries(&desk, &count) == PFAIR_OK && count == 4);
+    memset(text, 0, sizeof text);
+    CHECK(pfair_replies(&desk, 1, text, 8, &count) == PFAIR_TOO_SHORT && count == sizeof replies - 1 && text[0] == 0);
+    CHECK(pfair_replies(&desk, 1, text, sizeof text, &count) == PFAIR_OK && strcmp((const char *)text, replies) == 0);
+    CHECK(pfair_replies(&desk, 5, text, sizeof text, &count) == PFAIR_OK && count == 0);
+    CHECK(pfair_row(&desk, 0, &row, 1) == PFAIR_OK && row.task == 1 && row.sub == 1);
+    CHECK(pfair_run(&desk, 1, second, sizeof bad_one - 1, &bad) == PFAIR_BAD_RECORD);
+    CHECK(bad.number == 2 && bad.line == 2 && bad.field == 3);
+    CHECK(pfair_now(&desk, &now) == PFAIR_OK && now == 3);
+    pfair_close(&desk);
+    return 0;
+}
+
+/* A whole script opens a desk, where it has settings. */
+static int script(void) {
+    static const char good[] = "settings,1,2,2,64\njoin,0,1,1,2,0\nstep,2\n", cut[] = "join,0,1,1,2,0\n";
+    pfair_desk desk = PFAIR_NO_DESK;
+    pfair_bad_record bad = {7, 8, 9};
+    pfair_setup setup = {9, 9, 9, 9, 9};
+    uint64_t now = 0;
+    CHECK(pfair_settings(&desk, &setup) == PFAIR_NOT_OPEN && setup.base == 9);
+    CHECK(pfair_open_script(&desk, 1, (const uint8_t *)cut, sizeof cut - 1, &bad) == PFAIR_BAD_RECORD);
+    CHECK(bad.number == 1 && bad.line == 1 && bad.field == 1 && desk.inner == NULL);
+    CHECK(pfair_open_script(&desk, 1, (const uint8_t *)good, sizeof good - 1, &bad) == PFAIR_OK);
+    CHECK(pfair_open_script(&desk, 1, (const uint8_t *)good, sizeof good - 1, &bad) == PFAIR_ALREADY_OPEN);
+    CHECK(pfair_now(&desk, &now) == PFAIR_OK && now == 2 && pfair_settings(&desk, &setup) == PFAIR_OK);
+    CHECK(setup.processors == 1 && setup.base == 2 && setup.cap == 2 && setup.every == 64 && setup.horizon == 1 << 20);
+    pfair_close(&desk);
     return 0;
 }
 
@@ -283,6 +329,8 @@ int main(void) {
     if (!failed) failed = what_if(&desk);
     if (!failed) failed = version();
     if (!failed) failed = names();
+    if (!failed) failed = records();
+    if (!failed) failed = script();
     if (!failed) failed = refusals(&desk);
     if (!failed) failed = room(&desk, PFAIR_NEVER, 0);
     if (!failed) failed = lists(&desk);

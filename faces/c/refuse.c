@@ -59,6 +59,7 @@ static pfair_change change_of(uint64_t k) {
 /* Makes the plan, and tells whether a call told of refused memory. */
 static int plan(void) {
     static uint8_t before[1 << 14], after[1 << 14];
+    static const char records[] = "delay,3,1,1\nstep\n";
     pfair_desk desk = PFAIR_NO_DESK;
     int told = 0;
     if (pfair_open(&desk, 2, 12, 30, 3) == PFAIR_NO_MEMORY) {
@@ -69,6 +70,7 @@ static int plan(void) {
         pfair_change change = change_of(k);
         pfair_reply reply = {77, 77};
         pfair_fit fit = {77, 77, 77};
+        pfair_bad_record bad = {77, 77, 77};
         pfair_lag lags[8];
         uint64_t taken = 0;
         size_t count = 0, bytes = report(&desk, before, sizeof before);
@@ -78,7 +80,11 @@ static int plan(void) {
             if (report(&desk, after, sizeof after) != bytes || memcmp(before, after, bytes) != 0) fail("a changed desk");
             if (reply.event != 77 || reply.reason != 77) fail("a changed reply");
         }
-        told |= pfair_advance(&desk, 1, 2, &taken) == PFAIR_NO_MEMORY;
+        told |= pfair_advance(&desk, 1, 1, &taken) == PFAIR_NO_MEMORY;
+        if (pfair_run(&desk, 1, (const uint8_t *)records, sizeof records - 1, &bad) == PFAIR_NO_MEMORY) {
+            told = 1;
+            if (bad.number != 77) fail("a changed place");
+        }
         told |= pfair_lags(&desk, lags, 8, &count) == PFAIR_NO_MEMORY;
         if (pfair_fits(&desk, &fit) == PFAIR_NO_MEMORY) {
             told = 1;

@@ -4,4 +4,5 @@ pub mod Crossing
 pub mod Stepping
 pub mod Filling
 pub mod WhatIf
+pub mod Records
 pub mod Entries

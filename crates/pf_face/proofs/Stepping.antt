@@ -41,15 +41,15 @@ answered_alone caller command reply before after one =
       every = one.every;
     }
 
--- one step more
-one_more : (caller taken : ℕ) (reply : Reply) (first before after : Shown) → AnswersAll caller (replicate taken Step) first before
+-- Use: one step more.
+pub one_more : (caller taken : ℕ) (reply : Reply) (first before after : Shown) → AnswersAll caller (replicate taken Step) first before
     → AnswersCaller caller Step before reply after → AnswersAll caller (replicate (taken + 1) Step) first after
 one_more caller taken reply first before after all one =
     subst (λ cs. AnswersAll caller cs first after) (replicate_more taken Step)
     (answers_append caller (replicate taken Step) (Step ∷ []) first before after all (answered_alone caller Step reply before after one))
 
--- room for entries is none of what was answered
-same_answers : (caller : ℕ) (commands : List Command) (first before after : Shown) → IsAsBefore before after
+-- Use: room for entries is none of what was answered.
+pub same_answers : (caller : ℕ) (commands : List Command) (first before after : Shown) → IsAsBefore before after
     → AnswersAll caller commands first before → AnswersAll caller commands first after
 same_answers caller commands first before after same all =
     subst (λ d. AnswersAll caller commands first d) (sym same.rest)

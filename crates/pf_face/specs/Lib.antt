@@ -6,6 +6,7 @@ pub mod Notices
 pub mod Fitting
 pub mod Texts
 pub mod Commanded
+pub mod Running
 pub mod Entries
 pub mod Ranges
 pub mod Pictures

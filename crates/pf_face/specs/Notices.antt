@@ -10,8 +10,8 @@ use Rattle.pf_scenario.specs.declared.fault.EditFault.{EditFault}
 use Rattle.pf_scenario.specs.declared.fault.EditFault.TheVariants.{EventNotFound, SlotOutOfRange, TaskOutOfRange, EarlyOutOfRange, DelayOutOfRange, CountOutOfRange, BadWeight, JoinTwice, LeaveTwice, TooManyEvents, NumbersSpent}
 use Rattle.pf_scenario.specs.Refusals.{edit_fault_code, edit_fault_name}
 use Rattle.pf_face.specs.declared.notice.Notice.{Notice}
-use Rattle.pf_face.specs.declared.notice.Notice.TheVariants.{Ok, Weight, Change, Denial, AtHorizon, WouldDeny, BadSettings, NotOpen, AlreadyOpen, NoMemory, UnknownKind, OutOfRange, TooShort}
-use Rattle.pf_face.specs.declared.status.TheConstants.{OK, AT_HORIZON, WOULD_DENY, BAD_SETTINGS, NOT_OPEN, ALREADY_OPEN, NO_MEMORY, UNKNOWN_KIND, OUT_OF_RANGE, TOO_SHORT}
+use Rattle.pf_face.specs.declared.notice.Notice.TheVariants.{Ok, Weight, Change, Denial, AtHorizon, WouldDeny, BadSettings, NotOpen, AlreadyOpen, NoMemory, UnknownKind, OutOfRange, TooShort, BadRecord}
+use Rattle.pf_face.specs.declared.status.TheConstants.{OK, AT_HORIZON, WOULD_DENY, BAD_SETTINGS, NOT_OPEN, ALREADY_OPEN, NO_MEMORY, UNKNOWN_KIND, OUT_OF_RANGE, TOO_SHORT, BAD_RECORD}
 use Rattle.pf_face.specs.Told.{FillsRoom}
 
 abbrev pub number_of : Notice → ℕ
@@ -28,6 +28,7 @@ number_of NoMemory = NO_MEMORY
 number_of UnknownKind = UNKNOWN_KIND
 number_of OutOfRange = OUT_OF_RANGE
 number_of TooShort = TOO_SHORT
+number_of BadRecord = BAD_RECORD
 
 abbrev pub name_of : Notice → List ℕ
 name_of Ok = codes "Ok"
@@ -43,6 +44,7 @@ name_of NoMemory = codes "NoMemory"
 name_of UnknownKind = codes "UnknownKind"
 name_of OutOfRange = codes "OutOfRange"
 name_of TooShort = codes "TooShort"
+name_of BadRecord = codes "BadRecord"
 
 abbrev pub weight_sentence : WeightFault → List ℕ
 weight_sentence ZeroCost = codes "the cost is 0"
@@ -82,6 +84,7 @@ sentence_of NoMemory = codes "out of memory"
 sentence_of UnknownKind = codes "the kind is unknown"
 sentence_of OutOfRange = codes "not within the slots stepped"
 sentence_of TooShort = codes "the room is too short"
+sentence_of BadRecord = codes "a record is none of a script's"
 
 -- the room has this text of what has the number; or nothing has it
 abbrev pub TellsNotice : (Notice → List ℕ) → ℕ → ℕ → ℕ → List ℕ → List ℕ → Type 0

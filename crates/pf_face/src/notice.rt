@@ -3,8 +3,8 @@ ghost use Rattle.pf_face.specs.declared.notice.Notice.{Notice};
 ghost use Rattle.pf_face.specs.Notices.{change_sentence, denial_sentence, name_of, number_of, sentence_of, weight_sentence};
 
 use crate::status::{
-    ALREADY_OPEN, AT_HORIZON, BAD_SETTINGS, NO_MEMORY, NOT_OPEN, OK, OUT_OF_RANGE, TOO_SHORT,
-    UNKNOWN_KIND, WOULD_DENY,
+    ALREADY_OPEN, AT_HORIZON, BAD_RECORD, BAD_SETTINGS, NO_MEMORY, NOT_OPEN, OK, OUT_OF_RANGE,
+    TOO_SHORT, UNKNOWN_KIND, WOULD_DENY,
 };
 use pf_admit::denial::Denial;
 use pf_scenario::fault::EditFault;
@@ -39,6 +39,8 @@ pub enum Notice {
     OutOfRange,
     /// The caller's room is too short.
     TooShort,
+    /// A record that is none of a script's.
+    BadRecord,
 }
 
 impl Notice {
@@ -76,6 +78,7 @@ impl Notice {
             UNKNOWN_KIND => Some(Notice::UnknownKind),
             OUT_OF_RANGE => Some(Notice::OutOfRange),
             TOO_SHORT => Some(Notice::TooShort),
+            BAD_RECORD => Some(Notice::BadRecord),
             _ => None,
         }
     }
@@ -98,6 +101,7 @@ impl Notice {
             Notice::UnknownKind => "UnknownKind",
             Notice::OutOfRange => "OutOfRange",
             Notice::TooShort => "TooShort",
+            Notice::BadRecord => "BadRecord",
         }
     }
 
@@ -119,6 +123,7 @@ impl Notice {
             Notice::UnknownKind => "the kind is unknown",
             Notice::OutOfRange => "not within the slots stepped",
             Notice::TooShort => "the room is too short",
+            Notice::BadRecord => "a record is none of a script's",
         }
     }
 }

@@ -104,7 +104,7 @@ fn wide_desk(alloc: Global, m: u64, h: u64, cap: u64, every: u64) -> Result<Box<
 }
 
 /// A desk of these settings.
-fn boxed_desk(alloc: Global, settings: Settings, every: u64) -> Result<Box<Desk>, u32>
+pub(crate) fn boxed_desk(alloc: Global, settings: Settings, every: u64) -> Result<Box<Desk>, u32>
     ensures ok { IfOk result (λ desk. IsNewDesk settings every desk.value) }
     ensures err { IfErr result (λ status. (status ≡ NO_MEMORY) ⊎ ((status ≡ BAD_SETTINGS) × IsBadDistance every)) }
 {

@@ -29,3 +29,6 @@ pub const OUT_OF_RANGE: u32 = 68;
 
 /// The caller's room is too short.
 pub const TOO_SHORT: u32 = 69;
+
+/// A record that is none of a script's.
+pub const BAD_RECORD: u32 = 70;

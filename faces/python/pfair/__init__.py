@@ -14,12 +14,12 @@ processor; each period divides the base. Only the standard library is needed.
 """
 
 from pfair._desk import Desk
-from pfair._errors import BadSettings, ClosedDesk, OutOfRange, PfairError, Refused, name, sentence
+from pfair._errors import BadRecord, BadSettings, ClosedDesk, OutOfRange, PfairError, Refused, name, sentence
 from pfair._events import Delay, Event, Join, Leave, Limit
 from pfair._library import VERSION as __version__
 from pfair._told import Denial, Figures, Fit, Lag, Miss, Pick
 
 __all__ = [
-    "BadSettings", "ClosedDesk", "Delay", "Denial", "Desk", "Event", "Figures", "Fit", "Join", "Lag", "Leave",
+    "BadRecord", "BadSettings", "ClosedDesk", "Delay", "Denial", "Desk", "Event", "Figures", "Fit", "Join", "Lag", "Leave",
     "Limit", "Miss", "OutOfRange", "PfairError", "Pick", "Refused", "__version__", "name", "sentence",
 ]

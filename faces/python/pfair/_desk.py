@@ -6,10 +6,10 @@ import threading
 from types import TracebackType
 from typing import Any, Dict, Iterator, List, Optional, Type
 
-from pfair._errors import check, name
+from pfair._errors import BadRecord, check, name
 from pfair._events import Event, event_of, raw_event, unsigned
-from pfair._library import CALLS, NUMBERS, SIZE, U64, RawChange, RawDenial, RawDesk, RawEvent, RawFigures
-from pfair._library import RawFit, RawLag, RawMiss, RawNumbered, RawPick, RawReply, filled
+from pfair._library import CALLS, NUMBERS, SIZE, U64, RawBadRecord, RawChange, RawDenial, RawDesk, RawEvent, RawFigures
+from pfair._library import RawFit, RawLag, RawMiss, RawNumbered, RawPick, RawReply, RawSetup, filled
 from pfair._told import Denial, Figures, Fit, Lag, Miss, Pick
 
 NEVER = (1 << 64) - 1
@@ -46,6 +46,17 @@ class Desk:
         self._raw = RawDesk()
         self._turn = threading.RLock()
         self._caller = unsigned(caller, 32)
+
+    @classmethod
+    def of_script(cls, script: str, caller: int = 0) -> "Desk":
+        """A desk with the settings of a whole script, which carried out the records behind them. Raises BadRecord."""
+        desk = cls.__new__(cls)
+        desk._begin(caller)
+        desk._carry_out("open_script", script)
+        setup = RawSetup()
+        check(desk._call("settings", setup))
+        desk._processors = setup.processors
+        return desk
 
     @property
     def processors(self) -> int:
@@ -113,6 +124,26 @@ class Desk:
     def strike(self, number: int, strict: bool = False) -> int:
         """Takes the event of this number out of the plan. Else as insert."""
         return self._edit("STRIKE", number, RawEvent(), strict)
+
+    def run(self, records: str) -> List[str]:
+        """Asks for what records say, one after another, as they stand behind the settings in a script of version 2.
+
+            desk.run("join,0,1,2,3,0\\nstep,3\\n")
+
+        Gives the reply lines. A command that is refused is no error here. Raises BadRecord at the first record that is
+        none; those before it were carried out, and replies has what they were answered.
+        """
+        with self._turn:
+            first = self.entries
+            self._carry_out("run", records)
+            return self.replies(first)
+
+    def _carry_out(self, call: str, records: str) -> None:
+        text, bad = records.encode(), RawBadRecord()
+        status = self._call(call, self._caller, text, len(text), bad)
+        if status == NUMBERS["BAD_RECORD"]:
+            raise BadRecord(bad.number, bad.line, bad.field)
+        check(status)
 
     @property
     def entries(self) -> int:

@@ -41,6 +41,14 @@ class Refused(PfairError):
         super().__init__(f"refused {number} {self.name}{more}: {self.sentence}")
 
 
+class BadRecord(PfairError):
+    """A record is none of a script's: its number, the line on which it begins, and its field at fault, from 1 on."""
+
+    def __init__(self, number: int, line: int, field: int) -> None:
+        self.number, self.line, self.field = number, line, field
+        super().__init__(f"line {line}, record {number}, field {field} is bad")
+
+
 def _told(call: str, number: int) -> str:
     status, text = filled(call, ctypes.c_char, unsigned(number, 32))
     if status != NUMBERS["OK"]:

@@ -75,6 +75,10 @@ class RawSetup(ctypes.Structure):
     _fields_ = [(name, U64) for name in ("processors", "base", "cap", "every", "horizon")]
 
 
+class RawBadRecord(ctypes.Structure):
+    _fields_ = [("number", U64), ("line", U64), ("field", U64)]
+
+
 class RawFit(ctypes.Structure):
     _fields_ = [("first", U64), ("overload_high", U64), ("overload_low", U64)]
 
@@ -88,6 +92,7 @@ def _filling(element: Any) -> list:
 
 
 _OPENING = [U64, U64, U64, U64]
+_SCRIPT = [U32, ctypes.c_char_p, SIZE, ctypes.POINTER(RawBadRecord)]
 _REF_CHANGE, _REF_REPLY = ctypes.POINTER(RawChange), ctypes.POINTER(RawReply)
 
 # What each call takes behind its handle.
@@ -97,6 +102,8 @@ _TAKES: Dict[str, list] = {
     "close": [],
     "edit": [U32, _REF_CHANGE, ctypes.c_bool, _REF_REPLY],
     "what_if": [U32, _REF_CHANGE, ctypes.c_bool, _REF_REPLY, U64, *_filling(ctypes.c_char)],
+    "open_script": _SCRIPT,
+    "run": _SCRIPT,
     "settings": [ctypes.POINTER(RawSetup)],
     "entries": [ctypes.POINTER(SIZE)],
     "replies": [SIZE, *_filling(ctypes.c_char)],

@@ -5,7 +5,7 @@ import threading
 import unittest
 
 import pfair
-from pfair import BadSettings, ClosedDesk, Delay, Denial, Desk, Fit, Join, Lag, Leave, Limit, Miss, OutOfRange
+from pfair import BadRecord, BadSettings, ClosedDesk, Delay, Denial, Desk, Fit, Join, Lag, Leave, Limit, Miss, OutOfRange
 from pfair import Refused
 
 
@@ -111,6 +111,25 @@ class Calls(unittest.TestCase):
             self.assertEqual(desk.insert(Join(1 << 20, 1, 1, 4)), 1)
         with self.assertRaises(ClosedDesk):
             desk.row(0)
+
+    def test_records_are_carried_out(self) -> None:
+        with Desk(processors=1, base=2) as desk:
+            lines = ["event 1", "refused 10 EventNotFound", "slot 0: 1/1", "slot 1: -"]
+            self.assertEqual(desk.run("join,0,1,1,2,0\nstrike,9\nstep,2\n"), lines)
+            self.assertEqual(desk.schedule(), [[(1, 1)], [None]])
+            with self.assertRaises(BadRecord) as bad:
+                desk.run("step\nstep,2,3\nstep\n")
+            told = bad.exception
+            self.assertEqual((told.number, told.line, told.field), (2, 2, 3))
+            self.assertEqual(desk.replies(4), ["slot 2: 1/2"])
+
+    def test_a_script_opens_a_desk(self) -> None:
+        with Desk.of_script("settings,1,2,2,64\njoin,0,1,1,2,0\nstep,2\n") as desk:
+            self.assertEqual((desk.processors, desk.schedule()), (1, [[(1, 1)], [None]]))
+            self.assertEqual((desk.entries, desk.text("script")), (3, "settings,1,2,2,64\njoin,0,1,1,2,0\nstep,2\n"))
+        with self.assertRaises(BadRecord) as bad:
+            Desk.of_script("settings,65,2,2,64\n")
+        self.assertEqual(str(bad.exception), "line 1, record 1, field 2 is bad")
 
     def test_names_and_sentences(self) -> None:
         self.assertEqual((pfair.name(16), pfair.sentence(16)), ("JoinTwice", "another event joins the task"))

@@ -1,9 +1,9 @@
 use crate::raw::{
-    pfair_advance, pfair_change, pfair_chart, pfair_close, pfair_denial, pfair_denials, pfair_desk, pfair_edit,
-    pfair_entries, pfair_events, pfair_figures, pfair_fit, pfair_fits, pfair_lag, pfair_lags, pfair_miss, pfair_misses,
-    pfair_name, pfair_never_misses, pfair_now, pfair_numbered, pfair_open, pfair_open_wide, pfair_pick, pfair_replies,
-    pfair_reply, pfair_row, pfair_schedule, pfair_sentence, pfair_settings, pfair_setup, pfair_step, pfair_svg,
-    pfair_task_figures, pfair_text, pfair_version, pfair_what_if,
+    pfair_advance, pfair_bad_record, pfair_change, pfair_chart, pfair_close, pfair_denial, pfair_denials, pfair_desk,
+    pfair_edit, pfair_entries, pfair_events, pfair_figures, pfair_fit, pfair_fits, pfair_lag, pfair_lags, pfair_miss,
+    pfair_misses, pfair_name, pfair_never_misses, pfair_now, pfair_numbered, pfair_open, pfair_open_script,
+    pfair_open_wide, pfair_pick, pfair_replies, pfair_reply, pfair_row, pfair_run, pfair_schedule, pfair_sentence,
+    pfair_settings, pfair_setup, pfair_step, pfair_svg, pfair_task_figures, pfair_text, pfair_version, pfair_what_if,
 };
 use core::cell::UnsafeCell;
 use core::ptr;
@@ -38,6 +38,12 @@ impl Handle {
         unsafe { call(self.raw.get(), processors, base, cap, every) }
     }
 
+    /// `pfair_open_script`.
+    pub fn open_script(&mut self, caller: u32, script: &[u8], bad: &mut pfair_bad_record) -> u32 {
+        // SAFETY: as in `run`.
+        unsafe { pfair_open_script(self.raw.get(), caller, script.as_ptr(), script.len(), bad) }
+    }
+
     /// `pfair_close`.
     pub fn close(&mut self) {
         // SAFETY: as in `open`.
@@ -65,6 +71,12 @@ impl Handle {
         let (at, length) = (room.as_mut_ptr(), room.len());
         // SAFETY: as in `edit`; the slice has `len` initialized bytes.
         unsafe { pfair_what_if(self.raw.get(), caller, change, strict, reply, kind, at, length, count) }
+    }
+
+    /// `pfair_run`.
+    pub fn run(&mut self, caller: u32, records: &[u8], bad: &mut pfair_bad_record) -> u32 {
+        // SAFETY: as in `edit`; the slice has `len` initialized bytes.
+        unsafe { pfair_run(self.raw.get(), caller, records.as_ptr(), records.len(), bad) }
     }
 
     /// `pfair_step`.

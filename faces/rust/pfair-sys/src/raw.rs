@@ -113,9 +113,24 @@ pub struct pfair_setup {
     pub horizon: u64,
 }
 
+#[repr(C)]
+#[derive(Clone, Copy, Debug, Default, PartialEq, Eq)]
+pub struct pfair_bad_record {
+    pub number: u64,
+    pub line: u64,
+    pub field: u64,
+}
+
 unsafe extern "C" {
     pub fn pfair_open(desk: *mut pfair_desk, processors: u64, base: u64, cap: u64, every: u64) -> u32;
     pub fn pfair_open_wide(desk: *mut pfair_desk, processors: u64, base: u64, cap: u64, every: u64) -> u32;
+    pub fn pfair_open_script(
+        desk: *mut pfair_desk,
+        caller: u32,
+        script: *const u8,
+        length: usize,
+        bad: *mut pfair_bad_record,
+    ) -> u32;
     pub fn pfair_close(desk: *mut pfair_desk);
     pub fn pfair_edit(
         desk: *mut pfair_desk,
@@ -134,6 +149,13 @@ unsafe extern "C" {
         room: *mut u8,
         length: usize,
         count: *mut usize,
+    ) -> u32;
+    pub fn pfair_run(
+        desk: *mut pfair_desk,
+        caller: u32,
+        records: *const u8,
+        length: usize,
+        bad: *mut pfair_bad_record,
     ) -> u32;
     pub fn pfair_step(desk: *mut pfair_desk, caller: u32) -> u32;
     pub fn pfair_advance(desk: *mut pfair_desk, caller: u32, count: u64, taken: *mut u64) -> u32;

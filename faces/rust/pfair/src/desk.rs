@@ -1,7 +1,7 @@
-use crate::error::answer;
+use crate::error::{answer, answer_records};
 use crate::{Change, Denial, Error, Event, Figures, Fit, Lag, Miss, Row, Settings, Text};
 use pfair_sys as sys;
-use pfair_sys::raw::{pfair_fit, pfair_pick, pfair_reply};
+use pfair_sys::raw::{pfair_bad_record, pfair_fit, pfair_pick, pfair_reply, pfair_setup};
 use pfair_sys::Handle;
 use std::ops::Range;
 
@@ -34,6 +34,28 @@ impl Desk {
         let mut handle = Handle::closed();
         answer(handle.open(wide, processors, base, cap, every), NOTHING)?;
         Ok(Desk { handle, settings, caller: 0 })
+    }
+
+    /// Opens a desk with the settings of a whole script, and carries out the records behind them.
+    ///
+    /// # Errors
+    ///
+    /// `BadRecord` at the first record that is bad, `NoMemory`.
+    ///
+    /// ```
+    /// # use pfair::{Desk, Error, Settings};
+    /// let desk = Desk::open_script("settings,1,4,4,64\njoin,0,1,3,4,0\nstep,2\n")?;
+    /// assert_eq!((desk.settings(), desk.now()), (Settings::new(1, 4), 2));
+    /// assert_eq!(desk.replies(1)?, "slot 0: 1/1\nslot 1: 1/2\n");
+    /// # Ok::<(), Error>(())
+    /// ```
+    pub fn open_script(script: &str) -> Result<Self, Error> {
+        let (mut handle, caller) = (Handle::closed(), 0);
+        let mut bad = pfair_bad_record::default();
+        answer_records(handle.open_script(caller, script.as_bytes(), &mut bad), bad)?;
+        let mut setup = pfair_setup::default();
+        answer(handle.settings(&mut setup), NOTHING)?;
+        Ok(Desk { handle, settings: setup.into(), caller })
     }
 
     /// What the desk was opened with.
@@ -132,6 +154,30 @@ impl Desk {
         let status = self.handle.edit(self.caller, &change.to_raw(), strict, &mut reply);
         answer(status, reply)?;
         Ok(reply.event)
+    }
+
+    /// Asks for what records say, one after another, as they stand behind the settings in a script of version 2: the reply
+    /// lines. A command that is refused is no error here.
+    ///
+    /// # Errors
+    ///
+    /// `BadRecord` at the first record that is none: those before it were carried out, and `replies` has what they were
+    /// answered. `NoMemory`: the desk answered the first commands.
+    ///
+    /// ```
+    /// # use pfair::{BadRecord, Desk, Error, Settings};
+    /// let mut desk = Desk::open(Settings::new(1, 4))?;
+    /// assert_eq!(desk.run("join,0,1,3,4,0\nstep,2\n")?, "event 1\nslot 0: 1/1\nslot 1: 1/2\n");
+    /// let records = "step\nstep,none\n";
+    /// assert_eq!(desk.run(records), Err(Error::BadRecord(BadRecord { number: 2, line: 2, field: 2 })));
+    /// assert_eq!(desk.replies(3)?, "slot 2: 1/3\n");
+    /// # Ok::<(), Error>(())
+    /// ```
+    pub fn run(&mut self, records: &str) -> Result<String, Error> {
+        let first = self.entries();
+        let mut bad = pfair_bad_record::default();
+        answer_records(self.handle.run(self.caller, records.as_bytes(), &mut bad), bad)?;
+        self.replies(first)
     }
 
     /// Takes the next slot.

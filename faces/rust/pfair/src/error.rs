@@ -1,6 +1,6 @@
 use crate::library::sentence;
 use pfair_sys as sys;
-use pfair_sys::raw::pfair_reply;
+use pfair_sys::raw::{pfair_bad_record, pfair_reply};
 use std::fmt;
 
 /// Why a call gave nothing.
@@ -14,6 +14,19 @@ pub enum Error {
     OutOfRange,
     /// The desk refused the command: nothing changed but its history.
     Refused(Refusal),
+    /// A record is none of a script's.
+    BadRecord(BadRecord),
+}
+
+/// Where a record is that is none of a script's. All are counted from 1.
+#[derive(Clone, Copy, Debug, PartialEq, Eq)]
+pub struct BadRecord {
+    /// Its number.
+    pub number: u64,
+    /// The line on which it begins.
+    pub line: u64,
+    /// Its field at fault; the first one names the record.
+    pub field: u64,
 }
 
 /// Why the desk refused a command.
@@ -168,6 +181,17 @@ pub(crate) fn answer(status: u32, reply: pfair_reply) -> Result<(), Error> {
     }
 }
 
+/// What a status says of records.
+pub(crate) fn answer_records(status: u32, bad: pfair_bad_record) -> Result<(), Error> {
+    match status {
+        sys::PFAIR_BAD_RECORD => {
+            let pfair_bad_record { number, line, field } = bad;
+            Err(Error::BadRecord(BadRecord { number, line, field }))
+        }
+        status => answer(status, pfair_reply::default()),
+    }
+}
+
 impl fmt::Display for Error {
     fn fmt(&self, f: &mut fmt::Formatter<'_>) -> fmt::Result {
         let status = match self {
@@ -175,6 +199,9 @@ impl fmt::Display for Error {
             Error::NoMemory => sys::PFAIR_NO_MEMORY,
             Error::OutOfRange => sys::PFAIR_OUT_OF_RANGE,
             Error::Refused(refusal) => return write!(f, "refused: {refusal}"),
+            Error::BadRecord(bad) => {
+                return write!(f, "line {}, record {}, field {} is bad", bad.line, bad.number, bad.field)
+            }
         };
         f.write_str(&sentence(status).expect("it is a status"))
     }

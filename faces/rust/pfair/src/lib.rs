@@ -33,7 +33,7 @@ mod told;
 
 pub use change::{Change, Event};
 pub use desk::{Desk, Rows};
-pub use error::{DenialReason, Error, Refusal, WeightFault};
+pub use error::{BadRecord, DenialReason, Error, Refusal, WeightFault};
 pub use library::{name, sentence, version};
 pub use row::{Pick, Row};
 pub use settings::Settings;

@@ -1,3 +1,5 @@
+use pfair_sys::raw::pfair_setup;
+
 /// What a desk is opened with.
 #[derive(Clone, Copy, Debug, PartialEq, Eq)]
 pub struct Settings {
@@ -22,5 +24,12 @@ impl Settings {
     /// ```
     pub const fn new(processors: u64, base: u64) -> Self {
         Settings { processors, base, cap: processors.saturating_mul(base), every: 64, wide: false }
+    }
+}
+
+impl From<pfair_setup> for Settings {
+    fn from(raw: pfair_setup) -> Self {
+        let pfair_setup { processors, base, cap, every, horizon } = raw;
+        Settings { processors, base, cap, every, wide: horizon > 1 << 20 }
     }
 }

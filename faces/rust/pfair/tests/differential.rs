@@ -3,9 +3,11 @@
 //! PFAIR_COMMANDS tells how many commands there are, 100,000 where it is not set, and PFAIR_SEED where they begin.
 
 mod plain;
+mod records;
 
 use pfair::{Change, Desk, Error, Event, Settings, Text};
 use plain::PlainDesk;
+use records::{record, reply_line, slot_line};
 use std::env;
 
 /// Each divides the base, so that weights are many and sums often fill the processors exactly.
@@ -114,7 +116,35 @@ struct Seen {
     missed: u64,
 }
 
-/// A desk of each kind and so many commands.
+/// Makes a change, by a call or by a record: the number of the event concerned, where it was made, is the same.
+fn edit(desk: &mut Desk, plain: &mut PlainDesk, change: Change, strict: bool, by_record: bool) -> Result<u64, Error> {
+    let there = plain.edit(&change, strict);
+    let here = match (by_record, strict) {
+        (true, _) => {
+            assert_eq!(desk.run(&record(&change, strict)), Ok(reply_line(there)), "{change:?}, strict {strict}");
+            there.map_err(Error::Refused)
+        }
+        (false, true) => desk.edit_strictly(change),
+        (false, false) => desk.edit(change),
+    };
+    assert_eq!(here, there.map_err(Error::Refused), "{change:?}, strict {strict}");
+    here
+}
+
+/// Takes slots, by a call or by records.
+fn advance(desk: &mut Desk, plain: &mut PlainDesk, count: u64, by_record: bool) {
+    let first = plain.now();
+    (0..count).for_each(|_| plain.step());
+    if by_record {
+        let lines: String =
+            (first..plain.now()).map(|slot| slot_line(slot, &plain.run().rows[slot as usize])).collect();
+        assert_eq!(desk.run(&"step\n".repeat(count as usize)), Ok(lines));
+    } else {
+        assert_eq!(desk.advance(count), Ok(count));
+    }
+}
+
+/// A desk of each kind and so many commands, some of which are records.
 fn round(seed: u64, commands: u64, seen: &mut Seen) {
     let mut random = Random(seed);
     let processors = 1 + random.below(4);
@@ -126,16 +156,12 @@ fn round(seed: u64, commands: u64, seen: &mut Seen) {
     let mut promised = compare_promise(&desk, &plain, false);
     for number in 0..commands {
         if random.below(3) == 0 {
-            let count = random.below(3);
-            assert_eq!(desk.advance(count), Ok(count));
-            (0..count).for_each(|_| plain.step());
+            advance(&mut desk, &mut plain, random.below(3), number % 3 == 0);
             seen.made += 1;
         } else {
             let change = change(&mut random, processors, plain.now(), given);
             let strict = random.one_in(4);
-            let here = if strict { desk.edit_strictly(change) } else { desk.edit(change) };
-            let there = plain.edit(&change, strict).map_err(Error::Refused);
-            assert_eq!(here, there, "seed {seed}, command {number}: {change:?}, strict {strict}");
+            let here = edit(&mut desk, &mut plain, change, strict, number % 3 == 0);
             given = here.map_or(given, |id| id.max(given));
             seen.made += u64::from(here.is_ok());
             promised &= here.is_err() || !brings_a_limit(&change);
