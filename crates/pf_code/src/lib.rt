@@ -3,4 +3,5 @@
 #![tactic(auto)]
 
 pub mod array;
+pub mod laws;
 pub mod lines;

@@ -2,4 +2,5 @@
 //! table.
 #![tactic(auto)]
 
+pub mod laws;
 pub mod load;
