@@ -2,7 +2,7 @@
 use Rattle.std.proofs.Common.{ℕ, ◌+◌, ◌<◌, ◌≤◌, inl, inr, List, take, length, Option, None, Some, MatchOption, refl, sym, subst, arith}
 use Rattle.std.specs.Prelude.{All}
 use Rattle.std.proofs.lemmas.List.{take_all}
-use Rattle.std.proofs.lemmas.List.Elements.{All-nil, All-more, All-weaker}
+use Rattle.std.proofs.lemmas.List.Elements.{All-more, All-weaker}
 use Rattle.pf_convert.specs.declared.outcome.Outcome.{Outcome}
 use Rattle.pf_convert.specs.Outcomes.{Fits, IsNoWorseQuantum, NoneFits, IsBestQuantum, IsBetterQuantum, outcome_at}
 
@@ -30,13 +30,6 @@ pub record IsBestOfFirst (processors : Option ℕ) (outcomes : List Outcome) (n 
 
 abbrev pub IsBestOrNone : Option ℕ → List Outcome → ℕ → Option ℕ → Type 0
 IsBestOrNone processors outcomes n best = MatchOption best (NoneFits processors (take n outcomes)) (IsBestOfFirst processors outcomes n)
-
-pub none_yet : (processors : Option ℕ) (outcomes : List Outcome) → IsBestOrNone processors outcomes 0 None
-none_yet processors outcomes = All-nil (λ o. Fits processors o → ⊥)
-
-pub none_beyond : (processors : Option ℕ) (outcomes : List Outcome) (n : ℕ) (best : Option ℕ) → IsBestOrNone processors outcomes n best → MatchOption best (Unit {0}) (λ i. i < length outcomes)
-none_beyond processors outcomes n None h = tt
-none_beyond processors outcomes n (Some i) h = h.within
 
 pub quantum_passed : (processors : Option ℕ) (outcomes : List Outcome) (n : ℕ) (best : Option ℕ) → n < length outcomes
     → (Fits processors (outcome_at outcomes n) → ⊥) → IsBestOrNone processors outcomes n best → IsBestOrNone processors outcomes (n + 1) best

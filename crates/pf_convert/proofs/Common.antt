@@ -1,10 +1,10 @@
 -- The least common multiple, number by number.
-use Rattle.std.proofs.Common.{◌≡◌, ℕ, ◌+◌, ◌-◌, ◌*◌, ◌/◌, ◌%◌, ◌<◌, ◌≤◌, inl, inr, List, [], lit≤, take, length, get_or, Option, None, Some, MatchOption, sym, subst, arith}
-use Rattle.std.proofs.Math.Nat.{mod-lt, mod-one, mul-mod_right, le-mul_of_pos_right, mul-le-mul_left, mul-div-le}
+use Rattle.std.proofs.Common.{◌≡◌, ℕ, ◌+◌, ◌-◌, ◌*◌, ◌/◌, ◌%◌, ◌<◌, ◌≤◌, inl, inr, List, take, length, get_or, Option, None, Some, MatchOption, sym, subst, arith}
+use Rattle.std.proofs.Math.Nat.{mod-lt, mul-mod_right, le-mul_of_pos_right, mul-le-mul_left, mul-div-le}
 use Rattle.std.proofs.lemmas.Bool.{cases_lt}
 use Rattle.std.proofs.lemmas.Nat.{le-div}
 use Rattle.std.proofs.lemmas.List.{take-take, get_or-take, take_all, length-take-le}
-use Rattle.std.proofs.lemmas.List.Elements.{All-nil, All-take, All-get_or, All-more, All-weaker}
+use Rattle.std.proofs.lemmas.List.Elements.{All-take, All-get_or, All-more, All-weaker}
 use Rattle.pf_weight.specs.declared.base.TheConstants.{LARGEST_BASE}
 use Rattle.pf_convert.specs.declared.slotted.Slotted.{Slotted}
 use Rattle.pf_convert.specs.Multiples.{IsLeastOfBoth, NoneOfBoth, IsCommon, IsLeastCommon, HasNoCommon}
@@ -59,14 +59,6 @@ pub record IsSoFar (tasks : List Slotted) (l : ℕ) : Type 0 where
   pub within : l ≤ LARGEST_BASE
   pub common : IsCommon tasks l
   pub divides : (n : ℕ) → IsCommon tasks n → n % l ≡ 0
-
-pub of_none : IsSoFar [] 1
-of_none = record {
-  some = omega arith;
-  within = lit≤ tt;
-  common = All-nil (λ (t : Slotted). 1 % t.period ≡ 0);
-  divides = λ n h. mod-one n;
-}
 
 -- where it divides all of one more, it divides all before
 before : (tasks : List Slotted) (i n : ℕ) → IsCommon (take (i + 1) tasks) n → IsCommon (take i tasks) n

@@ -4,7 +4,7 @@ use Rattle.std.specs.Prelude.{All, Contains, ◌==◌}
 use Rattle.std.proofs.Math.Nat.{mod-one, mul-mod_left, mul-div_cancel, mul-le-mul}
 use Rattle.std.proofs.lemmas.Bool.{cases_lt, cond_both, eqb-true, eqb-false}
 use Rattle.std.proofs.lemmas.List.{take_all}
-use Rattle.std.proofs.lemmas.List.Elements.{All-nil, All-push, All-more, All-weaker, All-contains, Contains-append_left, Contains-push}
+use Rattle.std.proofs.lemmas.List.Elements.{All-push, All-more, All-weaker, All-contains, Contains-append_left, Contains-push}
 use Rattle.pf_convert.specs.Smooth.{AreDivisors, with_pair}
 use Rattle.pf_convert.specs.Rounding.{rounded}
 use Rattle.pf_convert.proofs.Division.{quotient_of, some_factor}
@@ -15,14 +15,6 @@ pub record AreDivisorsBelow (n low : ℕ) (divisors : List ℕ) : Type 0 where
   pub sound : All (λ d. n % d ≡ 0) divisors
   pub lows : (d : ℕ) → 1 ≤ d → d < low → n % d ≡ 0 → Contains divisors d
   pub highs : (d : ℕ) → 1 ≤ d → d < low → n % d ≡ 0 → Contains divisors (n / d)
-
-pub no_divisors : (n : ℕ) → AreDivisorsBelow n 1 []
-no_divisors n = record {
-  some = All-nil (λ d. 1 ≤ d);
-  sound = All-nil (λ d. n % d ≡ 0);
-  lows = λ d some below e. absurd (omega (arith, some, below));
-  highs = λ d some below e. absurd (omega (arith, some, below));
-}
 
 -- the counterpart of a divisor is one
 counterpart : (n d : ℕ) → n % d ≡ 0 → n % (n / d) ≡ 0
@@ -102,14 +94,6 @@ pub record IsGreatestOf (base period : ℕ) (divisors : List ℕ) (g : ℕ) : Ty
   pub within : g ≤ period
   pub divides : base % g ≡ 0
   pub greatest : All (λ d. d ≤ period → d ≤ g) divisors
-
-pub one_is_first : (base period : ℕ) → 1 ≤ period → IsGreatestOf base period [] 1
-one_is_first base period some = record {
-  some = omega arith;
-  within = some;
-  divides = mod-one base;
-  greatest = All-nil (λ d. d ≤ period → d ≤ 1);
-}
 
 pub one_looked_at : (base period : ℕ) (ds : List ℕ) (i g k : ℕ) → i < length ds → AreDivisors base ds → IsGreatestOf base period (take i ds) g
     → g ≤ k → (get_or ds i 0 ≤ period → get_or ds i 0 ≤ k) → (k ≡ g) ⊎ ((k ≡ get_or ds i 0) × (get_or ds i 0 ≤ period))

@@ -1,19 +1,15 @@
--- A period that divides the base stays as it is; how many processors a load needs.
-use Rattle.std.proofs.Common.{◌≡◌, ℕ, ◌+◌, ◌*◌, ◌/◌, ◌%◌, ◌<◌, ◌≤◌, List, [], ◌∷◌, ◌++◌, map, take, length, get_or, max, true, false, refl, sym, ◌∙◌, ap, arith}
+-- A period that divides the base stays as it is; plans from their parts.
+use Rattle.std.proofs.Common.{◌≡◌, ℕ, ◌+◌, ◌*◌, ◌/◌, ◌%◌, ◌<◌, ◌≤◌, List, [], ◌∷◌, ◌++◌, map, take, length, get_or, true, refl, sym, ◌∙◌, ap, arith}
 use Rattle.std.specs.Prelude.{All}
-use Rattle.std.proofs.Math.Nat.{mul-le-mul}
 use Rattle.std.proofs.lemmas.List.{map_more}
 use Rattle.std.proofs.lemmas.List.Folds.{map_fixed}
-use Rattle.std.specs.Int.{div_ceil}
 use Rattle.pf_weight.specs.declared.base.TheConstants.{LARGEST_BASE}
 use Rattle.pf_convert.specs.declared.plan.Plan.{Plan}
 use Rattle.pf_convert.specs.declared.slotted.Slotted.{Slotted}
 use Rattle.pf_convert.specs.Slots.{IsSlotted}
-use Rattle.pf_convert.specs.Counting.{IsLeastCover}
-use Rattle.pf_convert.specs.Multiples.{IsCommon, IsLeastCommon, HasNoCommon}
-use Rattle.pf_convert.specs.Plans.{rounded_task, IsExact, IsRounded, IsNeeded}
-use Rattle.pf_convert.specs.Rounding.{rounded, load_over, IsBestBase}
-use Rattle.pf_convert.proofs.Counting.{cover_of}
+use Rattle.pf_convert.specs.Multiples.{IsCommon, IsLeastCommon}
+use Rattle.pf_convert.specs.Plans.{rounded_task, IsExact}
+use Rattle.pf_convert.specs.Rounding.{rounded, load_over}
 use Rattle.pf_convert.proofs.Dividing.{rounded_is}
 use Rattle.pf_convert.proofs.Rounding.{IsLoadSoFar, task_loaded}
 
@@ -29,20 +25,6 @@ pub tasks_stay : (base : ℕ) (tasks : List Slotted) → All IsSlotted tasks →
 tasks_stay base tasks slotted common =
     map_fixed (rounded_task base) tasks (λ k d lt. task_stays base (get_or tasks k d) (slotted k d lt) (common k d lt))
 
-enough_more : (base load n c : ℕ) → c ≤ n → load ≤ c * base → load ≤ n * base
-enough_more base load n c more enough =
-    let wide : c * base ≤ n * base = mul-le-mul {n₁ = c} {m₁ = base} {n₂ = n} {m₂ = base} more (omega arith) in
-    omega (arith, enough, wide)
-
-pub needed : (base load n c : ℕ) → 1 ≤ base → c ≡ div_ceil load base → n ≡ max c 1 → IsNeeded base load n
-needed base load n c some is most =
-    let cover : IsLeastCover load base c = cover_of load base c some is in
-    record {
-      some = omega (arith, most);
-      enough = enough_more base load n c (omega (arith, most)) cover.covers;
-      least = λ m one enough. omega (arith, most, one, cover.least m enough);
-    }
-
 pub exact_loaded : (base : ℕ) (tasks : List Slotted) (i l : ℕ) (d : Slotted) → i < length tasks → base ≤ LARGEST_BASE → IsCommon tasks base → All IsSlotted tasks
     → IsLoadSoFar base tasks i l → IsLoadSoFar base tasks (i + 1) (l + (get_or tasks i d).cost * (base / (get_or tasks i d).period))
 exact_loaded base tasks i l d lt within common slotted h =
@@ -57,15 +39,6 @@ exact_is tasks plan exact least asks items slotted = record {
   least = least;
   over = record { at = refl; asks = asks; rounds = items ∙ sym (tasks_stay plan.base tasks slotted least.common) };
   same = items;
-}
-
-pub rounded_plan_is : (tasks : List Slotted) (plan : Plan) → plan.exact ≡ false → HasNoCommon tasks → IsBestBase tasks (record { base = plan.base; load = plan.load })
-    → plan.tasks.items ≡ map (rounded_task plan.base) tasks → IsRounded tasks plan
-rounded_plan_is tasks plan exact none best items = record {
-  rounded = exact;
-  none = none;
-  best = best;
-  over = record { at = refl; asks = best.load; rounds = items };
 }
 
 -- a task with another period

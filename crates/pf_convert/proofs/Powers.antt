@@ -1,13 +1,13 @@
 -- Numbers without a prime factor above 7, from the powers of one factor after another.
 use Rattle.std.proofs.Common.{◌≡◌, ℕ, ◌+◌, ◌*◌, ◌^◌, ◌<◌, ◌≤◌, inl, inr, List, [], ◌∷◌, ◌++◌, map, take, length, get_or, refl, sym, ◌∙◌, ap, subst, arith, add-one}
 use Rattle.std.specs.Prelude.{All, Contains}
-use Rattle.std.proofs.Math.Nat.{pow-zero, pow-suc, mul-one, one-mul, mul_assoc, mul-pos, one-le-pow, le-mul_of_pos_right, mul-le-mul_left, pow-le-pow_right}
+use Rattle.std.proofs.Math.Nat.{pow-suc, one-mul, mul_assoc, mul-pos, one-le-pow, le-mul_of_pos_right, mul-le-mul_left, pow-le-pow_right}
 use Rattle.std.proofs.lemmas.Bool.{cases_lt}
-use Rattle.std.proofs.lemmas.List.{length_push, take_more, take_all, map_push}
+use Rattle.std.proofs.lemmas.List.{length_push, take_more, map_push}
 use Rattle.std.proofs.lemmas.List.Elements.{All-nil, All-cons, All-push, All-append, All-weaker, All-contains, Contains-append_left, Contains-append_right, Contains-push, Contains-push_cases}
 use Rattle.pf_weight.specs.declared.base.TheConstants.{LARGEST_BASE}
 use Rattle.pf_convert.specs.declared.divided.Divided.{Divided}
-use Rattle.pf_convert.specs.Smooth.{IsSevenSmooth, IsPowerOf, ArePowersOf, IsPowered, ArePowered, AreSevenSmooth, AreSmoothBases, IsDivided}
+use Rattle.pf_convert.specs.Smooth.{IsSevenSmooth, IsPowerOf, ArePowersOf, IsPowered, ArePowered, AreSevenSmooth, IsDivided}
 
 le_through : {a b c : ℕ} → a ≤ b → b ≤ c → a ≤ c
 le_through p q = omega (arith, p, q)
@@ -19,15 +19,6 @@ pub record ArePowersSoFar (number factor power : ℕ) (powers : List ℕ) : Type
   pub within : All (λ n. n ≤ LARGEST_BASE) powers
   pub sound : All (IsPowerOf number factor) powers
   pub complete : (k : ℕ) → k < length powers → Contains powers (number * factor ^ k)
-
-pub no_powers : (number factor : ℕ) → 1 ≤ number → ArePowersSoFar number factor number []
-no_powers number factor some = record {
-  some = some;
-  next = sym (ap (λ v. number * v) (pow-zero factor) ∙ mul-one number);
-  within = All-nil (λ n. n ≤ LARGEST_BASE);
-  sound = All-nil (IsPowerOf number factor);
-  complete = λ k below. absurd (omega (arith, below));
-}
 
 pub power_pushed : (number factor power : ℕ) (powers : List ℕ) → 2 ≤ factor → power ≤ LARGEST_BASE → ArePowersSoFar number factor power powers
     → ArePowersSoFar number factor (power * factor) (powers ++ power ∷ [])
@@ -64,13 +55,6 @@ all_powers number factor power powers two over h = record {
       ];
 }
 
-pub of_no_numbers : (factor : ℕ) → ArePowered [] factor []
-of_no_numbers factor = record {
-  within = All-nil (λ n. n ≤ LARGEST_BASE);
-  sound = All-nil (IsPowered [] factor);
-  complete = λ number k among fits. absurd (omega (arith, among.1));
-}
-
 among_more : (numbers : List ℕ) (i n : ℕ) → i < length numbers → Contains (take i numbers) n → Contains (take (i + 1) numbers) n
 among_more numbers i n lt h =
     subst (λ ns. Contains ns n) (sym (take_more numbers i 0 lt)) (Contains-append_left (take i numbers) (get_or numbers i 0 ∷ []) n h)
@@ -99,9 +83,6 @@ number_taken numbers i factor products powers lt h one = record {
             (subst (λ v. Contains powers v) (sym at) (one.complete k (subst (λ v. v ≤ LARGEST_BASE) at fits))))
       ];
 }
-
-pub all_taken : (numbers : List ℕ) (i factor : ℕ) (products : List ℕ) → length numbers ≤ i → ArePowered (take i numbers) factor products → ArePowered numbers factor products
-all_taken numbers i factor products le h = subst (λ ns. ArePowered ns factor products) (take_all i numbers le) h
 
 pub some_powered : (numbers : List ℕ) (factor : ℕ) (products : List ℕ) → 1 ≤ factor → All (λ n. 1 ≤ n) numbers → ArePowered numbers factor products → All (λ n. 1 ≤ n) products
 some_powered numbers factor products some all h =
@@ -186,12 +167,6 @@ one_divided numbers i bases d lt h same is = record {
   told =
       map_push (λ (d : Divided). d.base) bases d ∙ ap (λ ns. ns ++ d.base ∷ []) h.told
       ∙ ap (λ n. take i numbers ++ n ∷ []) same ∙ sym (take_more numbers i 0 lt);
-}
-
-pub all_divided : (numbers : List ℕ) (i : ℕ) (bases : List Divided) → length numbers ≤ i → AreSevenSmooth numbers → AreDividedSoFar (take i numbers) bases → AreSmoothBases bases
-all_divided numbers i bases le smooth h = record {
-  divided = h.divided;
-  smooth = subst AreSevenSmooth (sym (h.told ∙ take_all i numbers le)) smooth;
 }
 
 pub items_some : (numbers items : List ℕ) (i : ℕ) → items ≡ numbers → AreSevenSmooth numbers → i < length items → 1 ≤ get_or items i 0

@@ -3,16 +3,14 @@ use Rattle.std.proofs.Common.{◌≡◌, ℕ, ◌+◌, ◌*◌, ◌/◌, ◌<◌
 use Rattle.std.specs.Prelude.{All, Contains}
 use Rattle.std.proofs.Math.Nat.{mul-le-mul, le_of_mul-le-mul_right, lt_of_mul-lt-mul_right}
 use Rattle.std.proofs.lemmas.List.{take_all, map_more}
-use Rattle.std.proofs.lemmas.List.Elements.{All-nil, All-more, All-weaker, All-get_or, All-take, All-contains, All-map, Contains-append_left, Contains-push}
+use Rattle.std.proofs.lemmas.List.Elements.{All-more, All-weaker, All-get_or, All-take, All-contains, All-map, Contains-append_left, Contains-push}
 use Rattle.std.proofs.lemmas.List.Sums.{sum_by_more}
 use Rattle.pf_weight.specs.declared.base.TheConstants.{LARGEST_BASE}
 use Rattle.pf_convert.specs.declared.divided.Divided.{Divided}
 use Rattle.pf_convert.specs.declared.loaded.Loaded.{Loaded}
 use Rattle.pf_convert.specs.declared.slotted.Slotted.{Slotted}
-use Rattle.pf_convert.specs.Slots.{IsSlotted}
 use Rattle.pf_convert.specs.Smooth.{IsSevenSmooth, IsDivided, AreSmoothBases}
 use Rattle.pf_convert.specs.Rounding.{rounded, Holds, load_over, IsNoWorse, IsBestBase, HasNoBase}
-use Rattle.pf_convert.proofs.Dividing.{rounded_is}
 
 -- what one task asks for
 abbrev pub units_over : ℕ → Slotted → ℕ
@@ -23,16 +21,6 @@ pub record IsLoadSoFar (base : ℕ) (tasks : List Slotted) (i l : ℕ) : Type 0 
   pub holds : Holds base (take i tasks)
   pub load : l ≡ load_over base (take i tasks)
   pub small : l ≤ i * LARGEST_BASE
-
-pub no_load : (base : ℕ) (tasks : List Slotted) → IsLoadSoFar base tasks 0 0
-no_load base tasks = record {
-  holds = All-nil (λ (t : Slotted). t.cost ≤ rounded base t.period);
-  load = refl;
-  small = omega arith;
-}
-
-pub rounded_some : (base : ℕ) (t : Slotted) → IsSlotted t → 1 ≤ rounded base t.period
-rounded_some base t s = (rounded_is base t.period (omega (arith, s.some, s.within))).some
 
 -- a task that a base holds asks for no more than the base
 pub few_units : (base cost period : ℕ) → base ≤ LARGEST_BASE → cost ≤ period → cost * (base / period) ≤ LARGEST_BASE
@@ -53,18 +41,6 @@ task_loaded base tasks i l period d lt within h is fits =
           ∙ sym (sum_by_more (units_over base) tasks i d lt);
       small = omega (arith, h.small, few_units base t.cost period within fits);
     }
-
-pub task_too_dear : (base : ℕ) (tasks : List Slotted) (i period : ℕ) (d : Slotted) → i < length tasks → period ≡ rounded base (get_or tasks i d).period
-    → period < (get_or tasks i d).cost → Holds base tasks → ⊥
-task_too_dear base tasks i period d lt is dear all =
-    let fits : (get_or tasks i d).cost ≤ rounded base (get_or tasks i d).period = All-get_or (λ t. t.cost ≤ rounded base t.period) tasks i d lt all in
-    omega (arith, fits, is, dear)
-
-pub all_held : (base : ℕ) (tasks : List Slotted) (i l : ℕ) → length tasks ≤ i → IsLoadSoFar base tasks i l → Holds base tasks
-all_held base tasks i l le h = subst (λ ts. Holds base ts) (take_all i tasks le) h.holds
-
-pub all_loaded : (base : ℕ) (tasks : List Slotted) (i l : ℕ) → length tasks ≤ i → IsLoadSoFar base tasks i l → l ≡ load_over base tasks
-all_loaded base tasks i l le h = h.load ∙ ap (λ ts. load_over base ts) (take_all i tasks le)
 
 -- the order of loads as parts of their bases
 pub same_is_no_worse : (a : Loaded) → IsNoWorse a a
@@ -136,9 +112,6 @@ pub record IsBestOf (tasks : List Slotted) (bases : List Divided) (best : Loaded
 -- the best of these bases, or that none holds the tasks
 abbrev pub IsBestSoFar : List Slotted → List Divided → Option Loaded → Type 0
 IsBestSoFar tasks bases best = MatchOption best (All (λ d. Holds d.base tasks → ⊥) bases) (IsBestOf tasks bases)
-
-pub none_so_far : (tasks : List Slotted) → IsBestSoFar tasks [] None
-none_so_far tasks = All-nil (λ (d : Divided). Holds d.base tasks → ⊥)
 
 bases_more : (bases : List Divided) (i : ℕ) (d : Divided) → i < length bases
     → map (λ (d : Divided). d.base) (take (i + 1) bases) ≡ map (λ (d : Divided). d.base) (take i bases) ++ (get_or bases i d).base ∷ []
