@@ -1,2 +1,4 @@
 pub mod Load
+pub mod Ran
+pub mod Jobs
 pub mod Examples

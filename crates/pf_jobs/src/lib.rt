@@ -2,5 +2,8 @@
 //! table.
 #![tactic(auto)]
 
+pub mod job;
+pub mod jobs;
 pub mod laws;
 pub mod load;
+pub mod task_run;
