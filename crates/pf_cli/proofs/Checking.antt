@@ -13,7 +13,7 @@ use Rattle.pf_cli.specs.declared.fault.RunFault.TheVariants.{WriteFault, NoMemor
 use Rattle.pf_cli.specs.Answers.{fault_of_reading}
 use Rattle.pf_cli.specs.Checks.{check_meaning, ChecksBytes}
 use Rattle.pf_cli.specs.Meaning.{Done}
-use Rattle.pf_cli.proofs.Sessions.{none_written}
+use Rattle.pf_stream.proofs.Sending.{none_written}
 
 short_check : (bytes : List ℕ) → length bytes ≤ longest_script → check_meaning bytes ≡ record { text = check_text bytes; end = Done }
 unfolding check_meaning

@@ -1,66 +1,117 @@
--- How far a script is at its end.
-use Rattle.std.proofs.Common.{◌≡◌, ◌≤◌, ℕ, true, false, List, [], ◌∷◌, length, Option, Some, Result, Ok, Err, refl, sym, ap, ◌∙◌, rules, tests}
-use Rattle.std.specs.Prelude.{IfOk, nat_lt}
-use Rattle.std.specs.Option.{option_and_then}
-use Rattle.pf_desk.specs.Desk.{Shown}
-use Rattle.pf_script.specs.declared.line.Line.{Line}
-use Rattle.pf_script.specs.declared.version.Version.{Version}
-use Rattle.pf_script.specs.declared.version.Version.TheVariants.{First, Second}
-use Rattle.pf_script.specs.Grammar.{is_heading, line_of, opening_of}
-use Rattle.pf_script.specs.Script.{script_records}
-use Rattle.pf_cli.specs.declared.batching.BatchingSession.{BatchingSession}
-use Rattle.pf_cli.specs.declared.session.Session.{Session}
-use Rattle.pf_cli.specs.Batching.{IsUnbatched, course_to_be}
-use Rattle.pf_cli.specs.Ended.{course_among, course_through, script_course}
-use Rattle.pf_cli.specs.Meaning.{ScriptCourse, course_behind, course_opened_by}
-use Rattle.pf_opening.specs.Commands.{commands_of}
-use Rattle.pf_cli.specs.Session.{course_at}
-use Rattle.pf_cli.proofs.Batches.{none_awaited}
+-- How far a desk is behind commands, and the lines of its replies to them.
+use Rattle.std.proofs.Common.{◌≡◌, ◌≤◌, ℕ, ◌+◌, Bool, List, [], ◌∷◌, ◌++◌, All, length, map, drop, refl, sym, ap, ap₂, subst, ◌∙◌, arith, append_assoc}
+use Rattle.std.specs.Prelude.{◌||◌, false}
+use Rattle.std.specs.List.{list_any}
+use Rattle.std.proofs.Math.Bool.{or-false, or_assoc}
+use Rattle.std.proofs.lemmas.Grind.{flat_map-append}
+use Rattle.std.proofs.lemmas.List.{drop-append-le, length-append, length-map}
+use Rattle.std.proofs.lemmas.List.Elements.{All-nil, All-cons, All-append}
+use Rattle.std.proofs.lemmas.List.Folds.{list_any-append}
+use Rattle.pf_run.specs.RunRows.{rows_in, denials_in}
+use Rattle.pf_desk.specs.declared.command.Command.{Command}
+use Rattle.pf_desk.specs.declared.entry.Entry.{Entry}
+use Rattle.pf_desk.specs.declared.reply.Reply.{Reply}
+use Rattle.pf_desk.specs.Machine.{State, reply_to, state_after}
+use Rattle.pf_desk.specs.History.{IsLegalFrom, state_behind}
+use Rattle.pf_desk.specs.Desk.{Shown, AnswersAll, AnswersCaller, Seen, StandsForHistory, entry_of}
+use Rattle.pf_cli.specs.Batched.{entry_lines}
+use Rattle.pf_cli.specs.Meaning.{ScriptCourse, course_after, course_at, course_behind, reply_lines, seen_at}
+use Rattle.pf_report.specs.Replies.{HasFewPlaces, is_refusal, reply_line}
 
--- Use: no record is carried out yet, one was, and none is left.
-pub course_begun : (version : Version) (s : Session) (b : BatchingSession) (records : List (List (List ℕ))) → IsUnbatched s b
-    → course_through version records (course_to_be b) ≡ course_through version records (course_at s.desk)
-course_begun version s b records none =
-    ap (course_through version records) (none_awaited b none.none ∙ ap (λ t. course_at t.desk) none.session)
+-- some commands, and then others
+pub course_behind-append : (c : ScriptCourse) (xs ys : List Command) → course_behind c (xs ++ ys) ≡ course_behind (course_behind c xs) ys
+course_behind-append c [] ys = refl
+course_behind-append c (x ∷ xs) ys = course_behind-append (course_after c x) xs ys
 
-pub course_taken : (version : Version) (c d : ScriptCourse) (records : List (List (List ℕ))) (fields : List (List ℕ)) (rest : List (List (List ℕ))) (line : Line)
-    (whole : Option ScriptCourse) → records ≡ fields ∷ rest → line_of version fields ≡ Some line → d ≡ course_behind c (commands_of line)
-    → course_through version records c ≡ whole → course_through version rest d ≡ whole
-course_taken version c d records fields rest line whole first is_line taken way =
-    ap (course_through version rest) taken
-    ∙ sym (ap (option_and_then (λ l. course_through version rest (course_behind c (commands_of l)))) is_line)
-    ∙ sym (ap (λ rs. course_through version rs c) first) ∙ way
+pub reply_lines-append : (c : ScriptCourse) (xs ys : List Command) → reply_lines c (xs ++ ys) ≡ reply_lines c xs ++ reply_lines (course_behind c xs) ys
+reply_lines-append c [] ys = refl
+reply_lines-append c (x ∷ xs) ys =
+    ap (λ t. reply_line (reply_to c.state x) ++ t) (reply_lines-append (course_after c x) xs ys)
+    ∙ sym (append_assoc (reply_line (reply_to c.state x)) (reply_lines (course_after c x) xs) (reply_lines (course_behind c (x ∷ xs)) ys))
 
-pub course_ended : {E : Type 0} (r : Result Shown E) (version : Version) (records : List (List (List ℕ))) (c : ScriptCourse) (whole : Option ScriptCourse)
-    → records ≡ [] → course_through version records c ≡ whole → IfOk r (λ desk. course_at desk ≡ c)
-    → IfOk r (λ desk. whole ≡ Some (course_at desk))
-course_ended (Ok desk) version records c whole none way is = sym way ∙ ap (λ rs. course_through version rs c) none ∙ ap (λ d. Some d) (sym is)
-course_ended (Err e) version records c whole none way is = tt
+-- whether a command of these entries was refused
+abbrev pub has_refusal : List Entry → Bool
+has_refusal entries = list_any (λ e. is_refusal e.reply) entries
 
--- Use: the desk that is answered is the one at this course.
-pub course_reported : {E : Type 0} (r : Result Shown E) (d : Shown) (c : ScriptCourse) → course_at d ≡ c → IfOk r (λ desk. desk ≡ d)
-    → IfOk r (λ desk. course_at desk ≡ c)
-course_reported (Ok desk) d c is same = ap course_at same ∙ is
-course_reported (Err e) d c is same = tt
+-- a course of so many entries, one of them refused or not, where the checkpoints lie so far apart
+abbrev course_of : ℕ → ℕ → Bool → State → ScriptCourse
+course_of every n refused st = record { state = st; entries = n; refused = refused; every = every }
 
--- Use: the settings opened a desk, and the records behind them were carried out.
-pub course_opened : {E : Type 0} (r : Result Shown E) (version : Version) (records : List (List (List ℕ))) (opened : Option ScriptCourse) (c : ScriptCourse) (d : Shown)
-    → opened ≡ Some c → course_at d ≡ c → IfOk r (λ desk. course_through version records (course_at d) ≡ Some (course_at desk))
-    → IfOk r (λ desk. option_and_then (course_through version records) opened ≡ Some (course_at desk))
-course_opened (Ok desk) version records opened c d is there h =
-    ap (option_and_then (course_through version records)) is ∙ ap (course_through version records) (sym there) ∙ h
-course_opened (Err e) version records opened c d is there h = tt
+-- the course behind the entries of a legal history
+entered_course : (every : ℕ) (st : State) (n : ℕ) (refused : Bool) (es : List Entry) → IsLegalFrom st es
+    → course_of every (n + length es) (refused || has_refusal es) (state_behind st es) ≡ course_behind (course_of every n refused st) (map (λ e. e.command) es)
+entered_course every st n refused [] h =
+    let none : n + 0 ≡ n = omega arith in
+    ap₂ (λ k b. course_of every k b st) none (or-false refused)
+entered_course every st n refused (e ∷ es) h =
+    let more : n + length (e ∷ es) ≡ n + 1 + length es = omega arith in
+    ap₂ (λ k b. course_of every k b (state_behind (state_after st e.command e.reply) es)) more (sym (or_assoc refused (is_refusal e.reply) (has_refusal es)))
+    ∙ entered_course every (state_after st e.command e.reply) (n + 1) (refused || is_refusal e.reply) es h.1
+    ∙ ap (λ r. course_behind (course_of every (n + 1) (refused || is_refusal r) (state_after st e.command r)) (map (λ e. e.command) es)) h.0
 
--- Use: a script of these bytes, by its first records.
-short_course : (bytes : List ℕ) → length bytes ≤ 16777216 → script_course bytes ≡ course_among (script_records bytes)
-unfolding script_course
-short_course bytes short = let fits : nat_lt 16777216 (length bytes) ≡ false = search (rules, tests) in rw fits refl
+-- the lines of their replies
+entered_lines : (every : ℕ) (st : State) (n : ℕ) (refused : Bool) (es : List Entry) → IsLegalFrom st es
+    → entry_lines es ≡ reply_lines (course_of every n refused st) (map (λ e. e.command) es)
+entered_lines every st n refused [] h = refl
+entered_lines every st n refused (e ∷ es) h =
+    ap₂ (λ a b. a ++ b) (ap reply_line h.0)
+    (entered_lines every (state_after st e.command e.reply) (n + 1) (refused || is_refusal e.reply) es h.1
+    ∙ ap (λ r. reply_lines (course_of every (n + 1) (refused || is_refusal r) (state_after st e.command r)) (map (λ e. e.command) es)) h.0)
 
-pub course_unheaded : (bytes : List ℕ) (fields : List (List ℕ)) (rest : List (List (List ℕ))) → length bytes ≤ 16777216 → script_records bytes ≡ fields ∷ rest
-    → is_heading fields ≡ false → script_course bytes ≡ option_and_then (course_through First rest) (course_opened_by First (opening_of fields))
-course_unheaded bytes fields rest short first plain = rw (short_course bytes short, first, plain) refl
+-- Use: one command that was answered is a list of one.
+abbrev pub one_answered : (caller : ℕ) (command : Command) (a b : Shown) (reply : Reply) → AnswersCaller caller command a reply b
+    → AnswersAll caller (command ∷ []) a b
+one_answered caller command a b reply h = record {
+  entries = entry_of caller command reply ∷ [];
+  commands_in_order = refl;
+  callers = All-cons (λ e. e.caller ≡ caller) (entry_of caller command reply) [] refl (All-nil (λ e. e.caller ≡ caller));
+  answers = (h.answer, tt);
+  entered = h.entered;
+  state = h.state;
+  every = h.every;
+}
 
-pub course_headed : (bytes : List ℕ) (fields opening : List (List ℕ)) (rest records : List (List (List ℕ))) → length bytes ≤ 16777216
-    → script_records bytes ≡ fields ∷ rest → is_heading fields ≡ true → rest ≡ opening ∷ records
-    → script_course bytes ≡ option_and_then (course_through Second records) (course_opened_by Second (opening_of opening))
-course_headed bytes fields opening rest records short first heading second = rw (short_course bytes short, first, heading, second) refl
+-- Use: the course behind commands that a desk answered, their lines, and how many they are, where some of the lines before
+-- them were taken.
+module _ (caller : ℕ) (commands : List Command) (a b : Shown) (h : AnswersAll caller commands a b) where
+  pub answered_course : course_at b ≡ course_behind (course_at a) commands
+  answered_course =
+      let long : length b.history ≡ length a.history + length h.entries = ap length h.entered ∙ length-append a.history h.entries in
+      let refused : has_refusal b.history ≡ (has_refusal a.history || has_refusal h.entries) =
+      ap has_refusal h.entered ∙ list_any-append (λ e. is_refusal e.reply) a.history h.entries in
+      (λ i. course_of (h.every i) (long i) (refused i) (h.state i)) ∙ entered_course a.every a.state (length a.history) (has_refusal a.history) h.entries h.answers
+      ∙ ap (course_behind (course_at a)) h.commands_in_order
+
+  module _ (shown : ℕ) (within : shown ≤ length a.history) where
+    unshown_then : drop shown b.history ≡ drop shown a.history ++ h.entries
+    unshown_then = ap (drop shown) h.entered ∙ drop-append-le shown a.history h.entries within
+
+    pub lines_then : entry_lines (drop shown b.history) ≡ entry_lines (drop shown a.history) ++ reply_lines (course_at a) commands
+    lines_then =
+        ap entry_lines unshown_then ∙ flat_map-append (λ e. reply_line e.reply) (drop shown a.history) h.entries
+        ∙ ap (λ t. entry_lines (drop shown a.history) ++ t)
+        (entered_lines a.every a.state (length a.history) (has_refusal a.history) h.entries h.answers ∙ ap (reply_lines (course_at a)) h.commands_in_order)
+
+    pub entries_then : length (drop shown b.history) ≡ length (drop shown a.history) + length commands
+    entries_then =
+        ap length unshown_then ∙ length-append (drop shown a.history) h.entries
+        ∙ ap (λ n. length (drop shown a.history) + n) (sym (length-map h.entries (λ e. e.command)) ∙ ap length h.commands_in_order)
+
+    pub within_then : shown ≤ length b.history
+    within_then = omega (arith, within, ap length h.entered, length-append a.history h.entries)
+
+    pub places_then : All (λ e. HasFewPlaces e.reply) (drop shown a.history) → All (λ e. HasFewPlaces e.reply) h.entries
+        → All (λ e. HasFewPlaces e.reply) (drop shown b.history)
+    places_then before more =
+        subst (All (λ e. HasFewPlaces e.reply)) (sym unshown_then)
+        (All-append (λ e. HasFewPlaces e.reply) (drop shown a.history) h.entries before more)
+
+-- the snapshot of a desk is what is seen at its course
+pub seen_there : (d : Shown) (s : Seen) → StandsForHistory d.history s
+    → s ≡ record { version = length d.history; state = d.state; rows = d.rows; denials = d.denials } → s ≡ seen_at (course_at d)
+seen_there d s stands shows =
+    let rows : d.rows ≡ rows_in d.state.plan d.state.now =
+    ap (λ x. x.rows) (sym shows) ∙ stands.of_run.are_rows ∙ ap (λ x. rows_in x.state.plan x.state.now) shows in
+    let denials : d.denials ≡ denials_in d.state.plan d.state.now =
+    ap (λ x. x.denials) (sym shows) ∙ stands.of_run.are_denials ∙ ap (λ x. denials_in x.state.plan x.state.now) shows in
+    shows ∙ (λ i. record { version = length d.history; state = d.state; rows = rows i; denials = denials i })

@@ -1,29 +1,26 @@
--- How a script ends, by the number of its first bad record.
-use Rattle.std.proofs.Common.{◌≡◌, ◌+◌, ℕ, Bool, true, false, List, [], ◌∷◌, Option, Some, None, refl, sym, subst, inl, inr}
-use Rattle.std.specs.Prelude.{is_some, option_map, if◌then◌else◌}
-use Rattle.std.specs.Option.{option_map_or}
-use Rattle.pf_scenario.specs.System.{System}
-use Rattle.pf_script.specs.declared.line.Line.{Line}
-use Rattle.pf_script.specs.declared.line.Opening.{Opening}
-use Rattle.pf_script.specs.declared.version.Version.{Version}
-use Rattle.pf_script.specs.declared.version.Version.TheVariants.{First, Second}
-use Rattle.pf_script.specs.Grammar.{horizon_of, is_heading, line_of, opening_of}
+-- How a script ends, by its first fault.
+use Rattle.std.proofs.Common.{◌≡◌, ◌≤◌, ℕ, true, false, List, [], ◌∷◌, length, Option, Some, None, refl, subst, inl, inr, sym, rules, tests}
+use Rattle.std.specs.Prelude.{IsSome, nat_lt}
+use Rattle.pf_desk.specs.declared.command.Command.{Command}
+use Rattle.pf_script.specs.declared.record.Record.{Record}
+use Rattle.pf_script.specs.declared.record.Record.TheVariants.{Heading, Settings, Asks}
+use Rattle.pf_script.specs.declared.record.RecordTold.{RecordTold}
+use Rattle.pf_script.specs.declared.record.ScriptSettings.{ScriptSettings}
+use Rattle.pf_script.specs.Asked.{commands_in}
+use Rattle.pf_script.specs.Places.{record_lines}
 use Rattle.pf_script.specs.Script.{script_records}
+use Rattle.pf_script.specs.Told.{FaultTold, Reading, Good, Bad, Missing, faults, faults_in, first_of, readings, settings_in, settings_or, told}
+use Rattle.pf_script.proofs.Opening.{AreUnopened, beginning}
 use Rattle.pf_words.specs.declared.format.Format.{Format}
 use Rattle.pf_words.specs.declared.range_fault.RangeFault.{RangeFault}
 use Rattle.pf_words.specs.Formats.{range_fault}
-use Rattle.pf_check.specs.Laws as check
-use Rattle.pf_script.specs.Told.{FaultTold, faults}
-use Rattle.pf_check.proofs.FirstFaults.{first_fault_ends_reading}
 use Rattle.pf_cli.specs.Laws.{RunsEndAtTheFirstFault, EndsAt, EndsWhole}
-use Rattle.pf_cli.specs.Meaning.{End, BadRecord, ScriptCourse, Meaning, text_unless, course_behind, report_meaning, report_text, seen_at, line_meaning, lines_meaning, settings_meaning, course_opened_by, opening_course, opening_meaning, records_meaning, script_meaning}
-use Rattle.pf_opening.specs.Commands.{commands_of}
-use Rattle.pf_cli.proofs.Openings.{short_meaning}
+use Rattle.pf_formats.specs.Report.{report_text}
+use Rattle.pf_cli.specs.Meaning.{Meaning, ScriptCourse, course_behind, ended_meaning, fault_number, opening_course, outcome_of, report_meaning, script_meaning, seen_at, text_unless, told_meaning}
 
--- at a bad record of this number, or at none
-abbrev pub EndsBy : Format → Option ℕ → End → Type 0
-EndsBy format None end = EndsWhole format end
-EndsBy format (Some number) end = end ≡ BadRecord number
+pub short_meaning : (format : Format) (bytes : List ℕ) → length bytes ≤ 16777216 → script_meaning format bytes ≡ told_meaning format (told bytes)
+unfolding script_meaning
+short_meaning format bytes short = let fits : nat_lt 16777216 (length bytes) ≡ false = search (rules, tests) in rw fits refl
 
 -- the report ends well, or its range can't be shown
 report_end : (format : Format) (c : ScriptCourse) → EndsWhole format (report_meaning format c).end
@@ -34,56 +31,29 @@ report_end format c = by (range_fault format c.state.now) refl
     by None fits = inl refl
     by (Some fault) is = inr (c.state.now, fault, refl, is)
 
-line_end : (format : Format) (version : Version) (number : ℕ) (c : ScriptCourse) (records : List (List (List ℕ))) (line : Option Line)
-    → ((d : ScriptCourse) → EndsBy format (check.bad_line version (number + 1) records) (lines_meaning format version (number + 1) d records).end)
-    → EndsBy format (if is_some line then check.bad_line version (number + 1) records else Some number)
-    (line_meaning format number c (λ d. lines_meaning format version (number + 1) d records) line).end
-line_end format version number c records None rest = refl
-line_end format version number c records (Some line) rest = rest (course_behind c (commands_of line))
+-- a script without a fault has settings
+good_then : (one : RecordTold) (rest : List Reading) (said : Record) → (AreUnopened rest → faults_in rest ≡ [] → IsSome (settings_in rest))
+    → AreUnopened (Good (record one { says = said }) ∷ rest) → faults_in rest ≡ [] → IsSome (settings_or said (settings_in rest))
+good_then one rest Heading more unopened none = more unopened none
+good_then one rest (Settings s) more unopened none = refl
+good_then one rest (Asks line) more unopened none = absurd unopened
 
-lines_end : (format : Format) (version : Version) (number : ℕ) (c : ScriptCourse) (records : List (List (List ℕ)))
-    → EndsBy format (check.bad_line version number records) (lines_meaning format version number c records).end
-lines_end format version number c [] = report_end format c
-lines_end format version number c (fields ∷ records) =
-    line_end format version number c records (line_of version fields) (λ d. lines_end format version (number + 1) d records)
+has_settings : (rs : List Reading) → AreUnopened rs → faults_in rs ≡ [] → IsSome (settings_in rs)
+has_settings [] unopened none = absurd unopened
+has_settings (Bad fault ∷ rest) unopened none = cc
+has_settings (Missing fault ∷ rest) unopened none = cc
+has_settings (Good one ∷ rest) unopened none = good_then one rest one.says (has_settings rest) unopened none
 
--- settings within their limits or not
-settings_end : (format : Format) (version : Version) (number : ℕ) (records : List (List (List ℕ))) (fits : Bool) (every : ℕ) (settings : System)
-    → EndsBy format (if fits then check.bad_line version (number + 1) records else Some number)
-    (settings_meaning format version number records (option_map (opening_course every) (if fits then Some settings else None))).end
-settings_end format version number records true every settings = lines_end format version (number + 1) (opening_course every settings) records
-settings_end format version number records false every settings = refl
-
-opened_end : (format : Format) (version : Version) (number : ℕ) (records : List (List (List ℕ))) (opening : Option Opening)
-    → EndsBy format (if option_map_or check.is_in_limits opening false then check.bad_line version (number + 1) records else Some number)
-    (settings_meaning format version number records (course_opened_by version opening)).end
-opened_end format version number records None = refl
-opened_end format version number records (Some o) = settings_end format version number records (check.is_in_limits o) o.every
-    (record { processors = o.processors; base = o.base; cap = o.cap; horizon = horizon_of version })
-
-opening_end : (format : Format) (version : Version) (number : ℕ) (records : List (List (List ℕ)))
-    → EndsBy format (check.bad_opening version number records) (opening_meaning format version number records).end
-opening_end format version number [] = refl
-opening_end format version number (fields ∷ records) = opened_end format version number records (opening_of fields)
-
--- with a heading or without
-heading_end : (format : Format) (heading : Bool) (fields : List (List ℕ)) (records : List (List (List ℕ)))
-    → EndsBy format (if heading then check.bad_opening Second 2 records else check.bad_opening First 1 (fields ∷ records))
-    (if heading then opening_meaning format Second 2 records else opening_meaning format First 1 (fields ∷ records)).end
-heading_end format true fields records = opening_end format Second 2 records
-heading_end format false fields records = opening_end format First 1 (fields ∷ records)
-
-pub records_end : (format : Format) (records : List (List (List ℕ))) → EndsBy format (check.bad_among records) (records_meaning format records).end
-records_end format [] = refl
-records_end format (fields ∷ records) = heading_end format (is_heading fields) fields records
-
-same_end : (format : Format) (rs : List FaultTold) (end : End) → EndsBy format (check.first_number rs) end → EndsAt format rs end
-same_end format [] end ends = ends
-same_end format (r ∷ rs) end ends = ends
+ends_at : (format : Format) (opening : Option ScriptSettings) (commands : List Command) (fs : List FaultTold) → (fs ≡ [] → IsSome opening)
+    → EndsAt format fs (ended_meaning format (outcome_of opening commands (fault_number (first_of fs)))).end
+ends_at format None commands [] some = let never : false ≡ true = some refl in cc
+ends_at format (Some s) commands [] some = report_end format (course_behind (opening_course s.every s.settings) commands)
+ends_at format None commands (fault ∷ fs) some = refl
+ends_at format (Some s) commands (fault ∷ fs) some = refl
 
 -- Use: a run ends at the first fault that a check finds.
 pub runs_end_at_first_fault : RunsEndAtTheFirstFault
 runs_end_at_first_fault format bytes short =
-    let meant = subst (λ (m : Meaning). EndsBy format (check.bad_among (script_records bytes)) m.end) (sym (short_meaning format bytes short)) (records_end format (script_records bytes)) in
-    same_end format (faults bytes) (script_meaning format bytes).end
-    (subst (λ o. EndsBy format o (script_meaning format bytes).end) (sym (first_fault_ends_reading bytes)) meant)
+    subst (λ (m : Meaning). EndsAt format (faults bytes) m.end) (sym (short_meaning format bytes short))
+    (ends_at format (settings_in (readings bytes)) (commands_in (told bytes).rest.lines) (faults bytes)
+    (has_settings (readings bytes) (beginning 1 (record_lines bytes) (script_records bytes))))

@@ -16,7 +16,7 @@ use Rattle.pf_desk.specs.declared.reply.Reply.{Reply}
 use Rattle.pf_desk.specs.declared.reply.Reply.TheVariants.{Edited, Stepped, Refused}
 use Rattle.pf_desk.specs.Machine.{State, row_at, step_reply, strict_reply, edit_reply, reply_to, state_after}
 use Rattle.pf_desk.proofs.Pasts.{places_in}
-use Rattle.pf_cli.specs.Replies.{HasFewPlaces}
+use Rattle.pf_report.specs.Replies.{HasFewPlaces}
 
 -- an edit takes no slot
 strict_takes_none : (st : State) (change : Change) (slot : ℕ) (row : List (Option Pick)) (d : Option Denied)
@@ -52,20 +52,3 @@ few_places st after Step (Stepped slot row) answer state scenario =
     let long : length row ≡ st.plan.settings.processors =
     ap length (step_takes st slot row answer) ∙ places_in st.plan (st.now + 1) st.now [] held (omega arith) in
     omega (arith, held.settings.limits.processors_within)
-
--- three texts with a space between them
-spaced : (a b c : List ℕ) → a ++ (32 ∷ (b ++ (32 ∷ c))) ≡ (((a ++ 32 ∷ []) ++ b) ++ 32 ∷ []) ++ c
-spaced a b c = sym (simp append_assoc)
-
--- and what stands before them
-pub spaced_behind : (text before a b c : List ℕ)
-    → (((text ++ before) ++ a) ++ 32 ∷ []) ++ (b ++ (32 ∷ c)) ≡ text ++ (before ++ ((((a ++ 32 ∷ []) ++ b) ++ 32 ∷ []) ++ c))
-spaced_behind text before a b c =
-    append_assoc ((text ++ before) ++ a) (32 ∷ []) (b ++ (32 ∷ c))
-    ∙ append_assoc (text ++ before) a (32 ∷ (b ++ (32 ∷ c)))
-    ∙ append_assoc text before (a ++ (32 ∷ (b ++ (32 ∷ c))))
-    ∙ ap (λ t. text ++ (before ++ t)) (spaced a b c)
-
-pub ok_retold : {A E : Type 0} (r : Result A E) (new xs ys : List ℕ) → xs ≡ ys → OnOk r (new ≡ xs) → OnOk r (new ≡ ys)
-ok_retold (Ok done) new xs ys same h = h ∙ same
-ok_retold (Err e) new xs ys same h = tt

@@ -20,13 +20,16 @@ use Rattle.pf_tally.specs.Misses.{miss_cmp, misses_of}
 use Rattle.pf_report.specs.Tables.{schedule_text, lags_text, misses_text, denials_text}
 use Rattle.pf_report.specs.Part.{schedule_part_text}
 use Rattle.pf_script.specs.Fields.{number_of, is_word}
-use Rattle.pf_script.specs.Grammar.{is_heading, settings_of, opening_of, join_of_fields, event_of, strike_of, alter_of, change_of, steps_of, edit_of, line_of}
-use Rattle.pf_cli.specs.Replies.{reply_line}
-use Rattle.pf_cli.specs.Meaning.{report_text, script_meaning}
+use Rattle.pf_script.specs.Parsing.{number_at, number_within, join_at, leave_at, event_at, strike_at, alter_at, change_at, edit_at, steps_at, line_at, settings_at, names_line, opening_at, heading_at, record_at}
+use Rattle.pf_script.specs.Places.{lines_from}
+use Rattle.pf_script.specs.Told.{readings_from}
+use Rattle.pf_report.specs.Replies.{reply_line}
+use Rattle.pf_formats.specs.Report.{report_text}
+use Rattle.pf_cli.specs.Meaning.{script_meaning}
 use Rattle.pf_cli.specs.Examples.{WholeScripts, Ranges, BadScripts, WorkedScripts}
 
 bad : BadScripts
-unfolding digits escaped fields_text is_blank next_record records_from strip_bom release_of deadline_of bit_of group_of priority_cmp row_of run_cmp events_of done in_force inside load_of count_of shift_of member_of ready course_of rows_in denials_in number_of is_word is_heading settings_of opening_of join_of_fields event_of strike_of alter_of change_of steps_of edit_of line_of reply_line report_text script_meaning
+unfolding digits escaped fields_text is_blank next_record records_from strip_bom release_of deadline_of bit_of group_of priority_cmp row_of run_cmp events_of done in_force inside load_of count_of shift_of member_of ready course_of rows_in denials_in number_of is_word number_at number_within join_at leave_at event_at strike_at alter_at change_at edit_at steps_at line_at settings_at names_line opening_at heading_at record_at lines_from readings_from reply_line report_text script_meaning
 bad = record {
   third = refl;
   third_unshown = refl;
@@ -40,11 +43,11 @@ bad = record {
 }
 
 whole : WholeScripts
-unfolding digits escaped fields_text is_blank next_record records_from strip_bom release_of deadline_of bit_of group_of priority_cmp row_of run_cmp events_of done in_force inside load_of count_of shift_of member_of ready course_of rows_in denials_in clock_of lags_of miss_cmp misses_of schedule_text schedule_part_text lags_text misses_text denials_text number_of is_word is_heading settings_of opening_of join_of_fields event_of strike_of alter_of change_of steps_of edit_of line_of reply_line report_text script_meaning
+unfolding digits escaped fields_text is_blank next_record records_from strip_bom release_of deadline_of bit_of group_of priority_cmp row_of run_cmp events_of done in_force inside load_of count_of shift_of member_of ready course_of rows_in denials_in clock_of lags_of miss_cmp misses_of schedule_text schedule_part_text lags_text misses_text denials_text number_of is_word number_at number_within join_at leave_at event_at strike_at alter_at change_at edit_at steps_at line_at settings_at names_line opening_at heading_at record_at lines_from readings_from reply_line report_text script_meaning
 whole = record { tables = refl; schedule = refl; second_version = refl }
 
 ranges : Ranges
-unfolding digits escaped fields_text is_blank next_record records_from strip_bom release_of deadline_of bit_of group_of priority_cmp row_of run_cmp events_of done in_force inside load_of count_of shift_of member_of ready course_of rows_in denials_in schedule_part_text number_of is_word is_heading settings_of opening_of join_of_fields event_of strike_of alter_of change_of steps_of edit_of line_of reply_line report_text script_meaning
+unfolding digits escaped fields_text is_blank next_record records_from strip_bom release_of deadline_of bit_of group_of priority_cmp row_of run_cmp events_of done in_force inside load_of count_of shift_of member_of ready course_of rows_in denials_in schedule_part_text number_of is_word number_at number_within join_at leave_at event_at strike_at alter_at change_at edit_at steps_at line_at settings_at names_line opening_at heading_at record_at lines_from readings_from reply_line report_text script_meaning
 ranges = record { one = refl; from = refl; to = refl; empty = refl; beyond = refl; behind = refl; turned = refl; picture = refl; bad = refl }
 
 pub worked_scripts : WorkedScripts

@@ -3,11 +3,13 @@ use Rattle.std.specs.Prelude.{⊤, ◌≡◌, ℕ, ◌+◌, List, Option, Result
 use Rattle.std.specs.Io.KnownBytes.{Appends, Keeps}
 use Rattle.pf_stream.specs.declared.reading.ReadingFault.{ReadingFault}
 use Rattle.pf_stream.specs.declared.reading.ReadingFault.TheVariants as reading
+use Rattle.pf_script.specs.declared.fault.ScriptFault.{ScriptFault}
+use Rattle.pf_script.specs.declared.fault.ScriptFault.TheVariants as script
 use Rattle.pf_stream.specs.Written.{TookFront}
 use Rattle.pf_cli.specs.declared.fault.RunFault.{RunFault}
 use Rattle.pf_cli.specs.declared.fault.RunFault.TheVariants.{BadLine, ReadFault, WriteFault, ScriptTooLong, BadRange, NoMemory}
-use Rattle.pf_cli.specs.declared.output_fault.OutputFault.{OutputFault}
-use Rattle.pf_cli.specs.declared.output_fault.OutputFault.TheVariants as output
+use Rattle.pf_stream.specs.declared.output_fault.OutputFault.{OutputFault}
+use Rattle.pf_stream.specs.declared.output_fault.OutputFault.TheVariants as output
 use Rattle.pf_cli.specs.Meaning.{Meaning, Done, BadRecord, TooLong, Outside}
 
 -- the answer is the script's end and the writer took its text; a failing reader leaves the writer as it was, and after
@@ -46,12 +48,13 @@ fault_of_reading reading.Read = ReadFault
 fault_of_reading reading.TooLong = ScriptTooLong
 fault_of_reading reading.Memory = NoMemory
 
+-- where its next record was not read
+abbrev pub fault_of_script : ScriptFault → RunFault
+fault_of_script (script.Bad bad) = BadLine bad.number
+fault_of_script (script.Missing bad) = BadLine bad.number
+fault_of_script script.Memory = NoMemory
+
 -- and where its text was not put or written
 abbrev pub fault_of_output : OutputFault → RunFault
 fault_of_output output.Write = WriteFault
 fault_of_output output.Memory = NoMemory
-
--- the writer failed once where the answer is `Write`, and else not at all
-abbrev pub CountsOutput : {A : Type 0} → Result A OutputFault → ℕ → ℕ → Type 0
-CountsOutput (Err output.Write) old new = new ≡ old + 1
-CountsOutput result old new = new ≡ old

@@ -1,37 +1,17 @@
 -- How far a script is at its end, and whether a run fails on what is met there.
-use Rattle.std.specs.Prelude.{ℕ, Bool, ◌&&◌, ◌||◌, ◌==◌, not, nat_lt, if◌then◌else◌, List, [], ◌∷◌, length, Option, None, Some, option_map}
-use Rattle.std.specs.Option.{option_and_then}
+use Rattle.std.specs.Prelude.{ℕ, Bool, ◌&&◌, ◌||◌, ◌==◌, not, nat_lt, if◌then◌else◌, List, length, Option, None, Some, option_map}
+use Rattle.std.specs.Result.{result_ok}
 use Rattle.pf_run.specs.Computed.{run_of}
 use Rattle.pf_run.specs.RunRows.{denials_in}
 use Rattle.pf_tally.specs.Misses.{misses_of}
-use Rattle.pf_script.specs.declared.version.Version.{Version}
-use Rattle.pf_script.specs.declared.version.Version.TheVariants.{First, Second}
-use Rattle.pf_script.specs.Grammar.{is_heading, line_of, opening_of}
-use Rattle.pf_script.specs.Script.{script_records}
+use Rattle.pf_script.specs.Told.{told}
 use Rattle.pf_stream.specs.Reading.{longest_script}
 use Rattle.pf_words.specs.declared.fail_on.FailOn.{FailOn}
-use Rattle.pf_cli.specs.Meaning.{ScriptCourse, course_behind, course_opened_by}
-use Rattle.pf_opening.specs.Commands.{commands_of}
-
--- the course behind these records; none where one of them is no line
-abbrev pub course_through : Version → List (List (List ℕ)) → ScriptCourse → Option ScriptCourse
-course_through version [] c = Some c
-course_through version (fields ∷ records) c =
-    option_and_then (λ line. course_through version records (course_behind c (commands_of line))) (line_of version fields)
-
--- the course behind these records, the first of which is to be the settings
-abbrev pub course_from : Version → List (List (List ℕ)) → Option ScriptCourse
-course_from version [] = None
-course_from version (fields ∷ records) = option_and_then (course_through version records) (course_opened_by version (opening_of fields))
-
--- a script of version 2 begins with its heading
-abbrev pub course_among : List (List (List ℕ)) → Option ScriptCourse
-course_among [] = None
-course_among (fields ∷ records) = if is_heading fields then course_from Second records else course_from First (fields ∷ records)
+use Rattle.pf_cli.specs.Meaning.{ScriptCourse, outcome_told}
 
 -- how far the script of these bytes is at its end; none where a record is bad, and where it is too long
 unfoldable pub script_course : List ℕ → Option ScriptCourse
-script_course bytes = if nat_lt longest_script (length bytes) then None else course_among (script_records bytes)
+script_course bytes = if nat_lt longest_script (length bytes) then None else result_ok (outcome_told (told bytes))
 
 -- whether an event is denied in the run so far
 abbrev pub has_denials : ScriptCourse → Bool

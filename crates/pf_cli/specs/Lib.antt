@@ -1,4 +1,3 @@
-pub use Rattle.pf_opening.specs.Opened
 pub use Rattle.pf_stream.specs.Counted
 pub use Rattle.pf_stream.specs.Failing
 pub use Rattle.pf_stream.specs.Written
@@ -6,16 +5,17 @@ pub use Rattle.pf_stream.specs.Reading
 pub use Rattle.pf_words.specs.FailLists
 pub use Rattle.pf_words.specs.Formats
 pub use Rattle.pf_script.specs.Fields
-pub use Rattle.pf_script.specs.Grammar
 pub use Rattle.pf_script.specs.Script
 pub use Rattle.pf_script.specs.Told
 pub use Rattle.pf_check.specs.Reports
 pub mod Answers
-pub mod Batching
+pub mod Batched
+pub mod BatchedDesk
+pub mod Carried
 pub mod Checks
+pub mod Commands
+pub mod CommandsRead
 pub mod Ended
 pub mod Examples
 pub mod Laws
 pub mod Meaning
-pub mod Replies
-pub mod Session

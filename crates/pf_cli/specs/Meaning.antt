@@ -1,34 +1,20 @@
 -- What a script means: a text and an end.
-use Rattle.std.specs.Prelude.{ℕ, ◌+◌, Bool, false, ◌||◌, nat_lt, if◌then◌else◌, Option, None, Some, option_map, List, [], ◌∷◌, ◌++◌, codes, length}
+use Rattle.std.specs.Prelude.{ℕ, ◌+◌, Bool, false, ◌||◌, nat_lt, if◌then◌else◌, Option, None, Some, Result, Ok, Err, List, [], ◌∷◌, ◌++◌, codes, length}
+use Rattle.std.specs.List.{list_any}
 use Rattle.pf_scenario.specs.System.{System}
 use Rattle.pf_run.specs.RunRows.{rows_in, denials_in}
 use Rattle.pf_desk.specs.declared.command.Command.{Command}
 use Rattle.pf_desk.specs.Machine.{State, opening_state, reply_to, state_after}
-use Rattle.pf_desk.specs.Desk.{Seen}
-use Rattle.pf_report.specs.Tables.{schedule_text, lags_text, misses_text, denials_text}
-use Rattle.pf_report.specs.Part.{schedule_part_text}
-use Rattle.pf_report.specs.Events.{events_text}
-use Rattle.pf_report.specs.Script.{script_text_of}
-use Rattle.pf_report.specs.Json.{json_text}
-use Rattle.pf_stats.specs.Processors.{processors_text}
-use Rattle.pf_stats.specs.Stats.{stats_text}
-use Rattle.pf_chart.specs.Chart.{chart_text_of}
-use Rattle.pf_picture.specs.Picture.{picture_text_of}
-use Rattle.pf_script.specs.declared.version.Version.{Version}
-use Rattle.pf_script.specs.declared.version.Version.TheVariants.{First, Second}
-use Rattle.pf_script.specs.declared.line.Line.{Line}
-use Rattle.pf_script.specs.declared.line.Opening.{Opening}
+use Rattle.pf_desk.specs.Desk.{Seen, Shown}
 use Rattle.pf_stream.specs.Reading.{longest_script}
-use Rattle.pf_script.specs.Script.{script_records}
-use Rattle.pf_opening.specs.Opened.{system_of}
-use Rattle.pf_script.specs.Grammar.{is_heading, opening_of, line_of}
+use Rattle.pf_script.specs.declared.record.ScriptSettings.{ScriptSettings}
+use Rattle.pf_script.specs.Asked.{commands_in}
+use Rattle.pf_script.specs.Told.{FaultTold, Told, told}
 use Rattle.pf_words.specs.declared.format.Format.{Format}
-use Rattle.pf_words.specs.declared.format.Format.TheVariants.{Schedule, Tables, Json, Report, Replies, Lags, Misses, Denials, Events, Script, Processors, Stats, Chart, Svg}
 use Rattle.pf_words.specs.declared.range_fault.RangeFault.{RangeFault}
 use Rattle.pf_words.specs.Formats.{has_replies, range_fault}
-use Rattle.pf_words.specs.Ranges.{end_of, first_of}
-use Rattle.pf_cli.specs.Replies.{is_refusal, reply_line, line_end}
-use Rattle.pf_opening.specs.Commands.{commands_of}
+use Rattle.pf_formats.specs.Report.{report_text}
+use Rattle.pf_report.specs.Replies.{is_refusal, reply_line, line_end}
 
 -- how a script ends: well, at a bad record of this number, because it is too long, or because the range of its format
 -- can't be shown of the slots stepped
@@ -83,6 +69,15 @@ abbrev pub reply_lines : ScriptCourse → List Command → List ℕ
 reply_lines c [] = []
 reply_lines c (command ∷ commands) = reply_line (reply_to c.state command) ++ reply_lines (course_after c command) commands
 
+-- how far a desk is
+abbrev pub course_at : Shown → ScriptCourse
+course_at d = record {
+  state = d.state;
+  entries = length d.history;
+  refused = list_any (λ e. is_refusal e.reply) d.history;
+  every = d.every;
+}
+
 -- what the desk shows there
 abbrev pub seen_at : ScriptCourse → Seen
 seen_at c = record {
@@ -91,35 +86,6 @@ seen_at c = record {
   rows = rows_in c.state.plan c.state.now;
   denials = denials_in c.state.plan c.state.now;
 }
-
--- a table behind a line with its name
-abbrev pub text_under_title : List ℕ → List ℕ → List ℕ
-text_under_title title table = title ++ line_end ++ table
-
--- the four tables
-abbrev pub tables_text : Seen → List ℕ
-tables_text seen =
-    text_under_title (codes "schedule") (schedule_text seen)
-    ++ text_under_title (codes "lags") (lags_text seen)
-    ++ text_under_title (codes "misses") (misses_text seen)
-    ++ text_under_title (codes "denials") (denials_text seen)
-
--- what stands behind all replies, where the checkpoints lie so far apart
-unfoldable pub report_text : Format → ℕ → Seen → List ℕ
-report_text (Schedule range) every seen = schedule_part_text seen (first_of range) (end_of range seen.state.now)
-report_text Tables every seen = tables_text seen
-report_text Json every seen = json_text seen ++ line_end
-report_text Report every seen = json_text seen ++ line_end
-report_text Replies every seen = []
-report_text Lags every seen = lags_text seen
-report_text Misses every seen = misses_text seen
-report_text Denials every seen = denials_text seen
-report_text Events every seen = events_text seen
-report_text Script every seen = script_text_of every seen
-report_text Processors every seen = processors_text seen
-report_text Stats every seen = stats_text seen
-report_text (Chart range) every seen = chart_text_of seen (first_of range) (end_of range seen.state.now)
-report_text (Svg range cell) every seen = picture_text_of seen (first_of range) (end_of range seen.state.now) cell
 
 -- the text, or nothing where there is a fault of the range
 abbrev pub text_unless : Option RangeFault → List ℕ → Meaning
@@ -130,43 +96,49 @@ text_unless (Some fault) text = record { text = []; end = Outside fault }
 abbrev pub report_meaning : Format → ScriptCourse → Meaning
 report_meaning format c = text_unless (range_fault format c.state.now) (report_text format c.every (seen_at c))
 
--- the record is this line, or it is bad
-abbrev pub line_meaning : Format → ℕ → ScriptCourse → (ScriptCourse → Meaning) → Option Line → Meaning
-line_meaning format number c next None = bad_record number
-line_meaning format number c next (Some line) =
-    text_and_then (text_if_replies format (reply_lines c (commands_of line))) (next (course_behind c (commands_of line)))
+-- where the commands of a script leave it: at a course, or at a bad record of this number
+abbrev pub outcome_at : ScriptCourse → Option ℕ → Result ScriptCourse ℕ
+outcome_at c None = Ok c
+outcome_at c (Some number) = Err number
 
--- the records behind the settings, the first of them of this number
-abbrev pub lines_meaning : Format → Version → ℕ → ScriptCourse → List (List (List ℕ)) → Meaning
-lines_meaning format version number c [] = report_meaning format c
-lines_meaning format version number c (fields ∷ records) =
-    line_meaning format number c (λ d. lines_meaning format version (number + 1) d records) (line_of version fields)
+-- the number of the record that is at fault
+abbrev pub fault_number : Option FaultTold → Option ℕ
+fault_number None = None
+fault_number (Some fault) = Some fault.bad.number
 
--- the course that a script begins with, where its settings are within their limits
-abbrev pub course_opened_by : Version → Option Opening → Option ScriptCourse
-course_opened_by version None = None
-course_opened_by version (Some opening) = option_map (opening_course opening.every) (system_of version opening)
+-- the reply to settings
+abbrev pub ready_line : List ℕ
+ready_line = codes "ready" ++ line_end
 
-abbrev pub settings_meaning : Format → Version → ℕ → List (List (List ℕ)) → Option ScriptCourse → Meaning
-settings_meaning format version number records None = bad_record number
-settings_meaning format version number records (Some c) =
-    text_and_then (text_if_replies format (codes "ready" ++ line_end)) (lines_meaning format version (number + 1) c records)
+-- the replies to settings and the commands after them
+abbrev pub replies_to : Option ScriptSettings → List Command → List ℕ
+replies_to None commands = []
+replies_to (Some s) commands = ready_line ++ reply_lines (opening_course s.every s.settings) commands
 
--- the records from the one of this number on, which is to be the settings; a script needs one
-abbrev pub opening_meaning : Format → Version → ℕ → List (List (List ℕ)) → Meaning
-opening_meaning format version number [] = bad_record number
-opening_meaning format version number (fields ∷ records) =
-    settings_meaning format version number records (course_opened_by version (opening_of fields))
+-- where they leave the script; one without settings has a fault
+abbrev pub outcome_of : Option ScriptSettings → List Command → Option ℕ → Result ScriptCourse ℕ
+outcome_of None commands None = Err 1
+outcome_of None commands (Some number) = Err number
+outcome_of (Some s) commands fault = outcome_at (course_behind (opening_course s.every s.settings) commands) fault
 
--- a script of version 2 begins with its heading
-abbrev pub records_meaning : Format → List (List (List ℕ)) → Meaning
-records_meaning format [] = bad_record 1
-records_meaning format (fields ∷ records) =
-    if is_heading fields then opening_meaning format Second 2 records
-    else opening_meaning format First 1 (fields ∷ records)
+-- the same of what a script tells
+abbrev pub replies_told : Told → List ℕ
+replies_told t = replies_to t.opening (commands_in t.rest.lines)
 
--- what a script's bytes mean in a format
+abbrev pub outcome_told : Told → Result ScriptCourse ℕ
+outcome_told t = outcome_of t.opening (commands_in t.rest.lines) (fault_number t.rest.fault)
+
+-- behind the replies: the report at the course where the script ends well, else nothing
+abbrev pub ended_meaning : Format → Result ScriptCourse ℕ → Meaning
+ended_meaning format (Ok c) = report_meaning format c
+ended_meaning format (Err number) = bad_record number
+
+-- what a script means in a format that tells this: its replies, where the format has some, and its end
+abbrev pub told_meaning : Format → Told → Meaning
+told_meaning format t = text_and_then (text_if_replies format (replies_told t)) (ended_meaning format (outcome_told t))
+
+-- what a script's bytes mean
 unfoldable pub script_meaning : Format → List ℕ → Meaning
 script_meaning format bytes =
     if nat_lt longest_script (length bytes) then record { text = []; end = TooLong }
-    else records_meaning format (script_records bytes)
+    else told_meaning format (told bytes)

@@ -1,8 +1,8 @@
 ghost use Rattle.std.specs.Prelude.{◌≡◌, IfOk};
 ghost use Rattle.pf_desk.specs.Views.{lent_reply};
 ghost use Rattle.pf_cli.specs.Ended.{has_denials, has_misses, is_failing};
-ghost use Rattle.pf_cli.specs.Replies.{is_refusal};
-ghost use Rattle.pf_cli.specs.Session.{course_at};
+ghost use Rattle.pf_cli.specs.Meaning.{course_at};
+ghost use Rattle.pf_report.specs.Replies.{is_refusal};
 
 use pf_desk::desk::Desk;
 use pf_desk::reply_view::ReplyView;

@@ -1,8 +1,9 @@
 ghost use Rattle.std.specs.Prelude.{◌≡◌};
 ghost use Rattle.pf_cli.specs.declared.fault.RunFault.TheVariants.{NoMemory};
-ghost use Rattle.pf_cli.specs.Answers.{fault_of_reading, fault_of_output};
+ghost use Rattle.pf_cli.specs.Answers.{fault_of_reading, fault_of_output, fault_of_script};
 
-use crate::output_fault::OutputFault;
+use pf_script::fault::ScriptFault;
+use pf_stream::output_fault::OutputFault;
 use pf_stream::reading::ReadingFault;
 use pf_words::range_fault::RangeFault;
 use std::alloc::AllocError;
@@ -50,6 +51,18 @@ impl From<OutputFault> for RunFault {
         match fault {
             OutputFault::Write => RunFault::WriteFault,
             OutputFault::Memory => RunFault::NoMemory,
+        }
+    }
+}
+
+impl From<ScriptFault> for RunFault {
+    ghost from_gives = { λ script f. f ≡ fault_of_script script };
+
+    fn from(fault: ScriptFault) -> Self {
+        match fault {
+            ScriptFault::Bad(bad) => RunFault::BadLine(bad.number),
+            ScriptFault::Missing(bad) => RunFault::BadLine(bad.number),
+            ScriptFault::Memory => RunFault::NoMemory,
         }
     }
 }

@@ -4,16 +4,14 @@
 //! failed or memory was refused.
 #![tactic(auto)]
 
-mod batching;
+mod batching_desk;
 pub mod check;
+mod commands;
 mod failing;
 pub mod fault;
 pub mod laws;
-mod output_fault;
-mod replies;
-mod reports;
 pub mod run;
-mod session;
+mod script_replies;
 
 pub use pf_stream::{sink, source};
 pub use pf_words::{fail_on, format};

@@ -1,30 +1,23 @@
 ghost use Rattle.std.specs.Prelude.{◌≡◌, ◌+◌, ◌-◌, ◌^◌, ◌<◌, ◌≤◌, false, length, Some, IfOk, IfSome, IfErr, Err};
 ghost use Rattle.std.specs.Io.KnownBytes.{Keeps};
-ghost use Rattle.std.specs.Option.{option_and_then};
-ghost use Rattle.csv.specs.Records.{fields_of};
 ghost use Rattle.pf_stream.specs.Reading.{longest_script, TakesAtMost};
-ghost use Rattle.pf_script.specs.Grammar.{opening_of};
+ghost use Rattle.pf_script.specs.Told.{told};
 ghost use Rattle.pf_words.specs.FailLists.{on_nothing};
 ghost use Rattle.pf_cli.specs.declared.fault.RunFault.TheVariants.{ReadFault};
 ghost use Rattle.pf_cli.specs.Answers.{Answers, CountsReads, CountsWrites, IsOutside, IsPastReading};
-ghost use Rattle.pf_cli.specs.Ended.{course_through, fails_on, is_failing, script_course};
-ghost use Rattle.pf_cli.specs.Meaning.{script_meaning, settings_meaning, lines_meaning, text_and_then, course_opened_by};
-ghost use Rattle.pf_cli.specs.Session.{course_at};
+ghost use Rattle.pf_cli.specs.Carried.{CarriesOut};
+ghost use Rattle.pf_cli.specs.Ended.{fails_on, is_failing, script_course};
+ghost use Rattle.pf_cli.specs.Meaning.{course_at, report_meaning, script_meaning};
 
-use crate::batching::BatchingSession;
 use crate::failing::is_failing;
 use crate::fault::RunFault;
-use crate::session::{Session, let_go};
-use csv::ByteRecord;
+use crate::script_replies::ScriptReplies;
 use pf_desk::desk::Desk;
-use pf_opening::settings;
-use pf_script::fields::Fields;
-use pf_script::grammar::{read_heading, read_line, read_opening};
-use pf_script::script::Script;
-use pf_script::version::Version;
+use pf_formats::report::report_pieces;
 use pf_stream::reading::read_script;
 use pf_stream::sink::Sink;
 use pf_stream::source::Source;
+use pf_stream::writing::write_pieces;
 use pf_words::fail_on::FailOn;
 use pf_words::format::Format;
 use std::alloc::{AllocError, Global};
@@ -99,6 +92,9 @@ pub fn run_judged<R: Source, W: Sink>(
     }
 }
 
+/// Lets a desk go, by a call of its own: so nobody else looks at its parts.
+fn let_go(_desk: Desk) {}
+
 /// Whether a run fails on this that ended with this desk, which is let go.
 ///
 /// # Errors
@@ -146,95 +142,62 @@ fn carry_out<W: Sink>(
     ensures read { IsPastReading result }
     ensures writes { CountsWrites result (W.failed writer.old) (W.failed writer.new) }
 {
-    let mut script = Script::new(alloc, bytes);
-    let mut row = ByteRecord::new(alloc);
-    if !script.next(&mut row)? {
-        return Err(RunFault::BadLine(1));
+    // A copy of its own for each call: so the check follows both.
+    let shown = format;
+    match write_replies(alloc, bytes, writer, format) {
+        Ok(desk) => end(alloc, desk, writer, shown),
+        Err(fault) => Err(fault),
     }
-    if !read_heading(&Fields::new(&row)) {
-        return carry_out_from(
-            alloc,
-            &mut script,
-            &mut row,
-            writer,
-            format,
-            Version::First,
-            1,
-        );
-    }
-    if !script.next(&mut row)? {
-        return Err(RunFault::BadLine(2));
-    }
-    carry_out_from(
-        alloc,
-        &mut script,
-        &mut row,
-        writer,
-        format,
-        Version::Second,
-        2,
-    )
 }
 
-/// Carries out a script from the record in `row` on, which has this number and is to be the settings. Answers the desk at
-/// its end.
-fn carry_out_from<W: Sink>(
+/// Carries out a script of these bytes, writes its replies, and answers the desk at its end.
+fn write_replies<W: Sink>(
     alloc: Global,
-    script: &mut Script,
-    row: &mut ByteRecord,
+    bytes: &[u8],
     writer: &mut W,
     format: Format,
-    version: Version,
-    number: u64,
 ) -> Result<Desk, RunFault>
-    requires counted { number + length script.old < 2 ^ 64 - 1 }
-    requires writes { W.failed writer.old < 2 ^ 64 - 1 }
-    ensures meaning { Answers (settings_meaning format version number script.old (course_opened_by version (opening_of (fields_of row.old)))) result
-        (W.contents writer.old) (W.contents writer.new) }
-    ensures course { IfOk result
-        (λ desk. option_and_then (course_through version script.old) (course_opened_by version (opening_of (fields_of row.old))) ≡ Some (course_at desk)) }
+    requires { W.failed writer.old < 2 ^ 64 - 1 }
+    ensures replies { CarriesOut format (told bytes.now) result (W.contents writer.old) (W.contents writer.new) }
     ensures read { IsPastReading result }
     ensures writes { CountsWrites result (W.failed writer.old) (W.failed writer.new) }
 {
-    let Some(opening) = read_opening(&Fields::new(row)) else {
-        return Err(RunFault::BadLine(number));
-    };
-    let Some(settings) = settings(version, opening) else {
-        return Err(RunFault::BadLine(number));
-    };
-    let mut session = Session::open(alloc, settings, opening.every, format)?;
-    session.ready(writer)?;
-    carry_out_lines(alloc, session, script, row, writer, version, number + 1)
+    let mut replies = ScriptReplies::open(alloc, bytes, format)?;
+    write_pieces(alloc, writer, &mut replies)?;
+    replies.finish()
 }
 
-/// Carries out the records behind the settings, the first of which has this number, and answers the desk at their end. Each
-/// is read into `row`.
-fn carry_out_lines<W: Sink>(
-    alloc: Global,
-    session: Session,
-    script: &mut Script,
-    row: &mut ByteRecord,
-    writer: &mut W,
-    version: Version,
-    first: u64,
-) -> Result<Desk, RunFault>
-    requires counted { first + length script.old < 2 ^ 64 }
-    requires writes { W.failed writer.old < 2 ^ 64 - 1 }
-    ensures meaning { Answers (text_and_then session.lines (lines_meaning session.format version first (course_at session.desk) script.old)) result
-        (W.contents writer.old) (W.contents writer.new) }
-    ensures course { IfOk result (λ desk. course_through version script.old (course_at session.desk) ≡ Some (course_at desk)) }
+/// Writes the report of a desk, where the format can be shown of the slots stepped, and answers the desk.
+fn end<W: Sink>(alloc: Global, desk: Desk, writer: &mut W, format: Format) -> Result<Desk, RunFault>
+    requires { W.failed writer.old < 2 ^ 64 - 1 }
+    ensures report { Answers (report_meaning format (course_at desk)) result (W.contents writer.old) (W.contents writer.new) }
+    ensures desk { IfOk result (λ d. d ≡ desk) }
     ensures read { IsPastReading result }
     ensures writes { CountsWrites result (W.failed writer.old) (W.failed writer.new) }
 {
-    let mut batching = BatchingSession::new(alloc, session);
-    let mut number = first;
-    'records: while script.next(row)? {
-        let Some(line) = read_line(&Fields::new(row), version) else {
-            batching.finish(writer)?;
-            return Err(RunFault::BadLine(number));
-        };
-        batching.take(writer, line)?;
-        number += 1;
+    match write_report(alloc, &desk, writer, format) {
+        Ok(()) => Ok(desk),
+        Err(fault) => Err(fault),
     }
-    batching.report(alloc, writer)
+}
+
+/// Writes the report of a desk, where the format can be shown of the slots stepped.
+fn write_report<W: Sink>(
+    alloc: Global,
+    desk: &Desk,
+    writer: &mut W,
+    format: Format,
+) -> Result<(), RunFault>
+    requires { W.failed writer.old < 2 ^ 64 - 1 }
+    ensures report { Answers (report_meaning format (course_at desk.now)) result (W.contents writer.old) (W.contents writer.new) }
+    ensures read { IsPastReading result }
+    ensures writes { CountsWrites result (W.failed writer.old) (W.failed writer.new) }
+{
+    if let Some(fault) = format.range_fault(desk.now()) {
+        return Err(RunFault::BadRange(fault));
+    }
+    let snapshot = desk.snapshot()?;
+    let mut report = report_pieces(alloc, &snapshot, desk.distance(), format)?;
+    write_pieces(alloc, writer, &mut report)?;
+    Ok(())
 }

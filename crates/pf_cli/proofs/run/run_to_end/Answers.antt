@@ -9,7 +9,7 @@ use Rattle.pf_stream.specs.Reading.{longest_script, ReadsScript}
 use Rattle.pf_words.specs.declared.format.Format.{Format}
 use Rattle.pf_cli.specs.Answers.{Answers, fault_of_reading}
 use Rattle.pf_cli.specs.Meaning.{script_meaning}
-use Rattle.pf_cli.proofs.Sessions.{none_written}
+use Rattle.pf_stream.proofs.Sending.{none_written}
 use Rattle.pf_cli.proofs.Outside.{nothing_outside, outside_keeps}
 use Rattle.pf_cli.proofs.run.run_to_end.Goals as goal
 

@@ -1,0 +1,213 @@
+-- How the answers to a script's replies and to its report make up the answer to the script.
+use Rattle.std.proofs.Common.{◌≡◌, ◌≤◌, ℕ, Bool, true, false, List, [], ◌++◌, length, Option, None, Some, Result, Ok, Err, refl, sym, ap, ap₂, subst, ◌∙◌, rules, tests}
+use Rattle.std.specs.Prelude.{if◌then◌else◌, nat_lt}
+use Rattle.std.specs.Result.{result_ok}
+use Rattle.std.specs.Io.KnownBytes.{Appends}
+use Rattle.std.proofs.lemmas.List.{append-nil}
+use Rattle.std.proofs.KnownBytes.{Appends-nil, Appends-trans}
+use Rattle.pf_desk.specs.Desk.{Seen, Shown, StandsForHistory}
+use Rattle.pf_script.specs.Told.{Told, told}
+use Rattle.pf_stream.specs.Written.{CountsOutput, TookFront}
+use Rattle.pf_stream.proofs.Sending.{none_written, took-after, took-before}
+use Rattle.pf_words.specs.declared.format.Format.{Format}
+use Rattle.pf_words.specs.declared.range_fault.RangeFault.{RangeFault}
+use Rattle.pf_words.specs.Formats.{has_replies, range_fault}
+use Rattle.pf_cli.specs.declared.fault.RunFault.{RunFault}
+use Rattle.pf_cli.specs.declared.fault.RunFault.TheVariants.{BadLine, ReadFault, WriteFault, ScriptTooLong, BadRange, NoMemory}
+use Rattle.pf_stream.specs.declared.output_fault.OutputFault.{OutputFault}
+use Rattle.pf_stream.specs.declared.output_fault.OutputFault.TheVariants.{Write, Memory}
+use Rattle.pf_cli.specs.Answers.{Answers, CountsWrites, IsPastReading, fault_of_output}
+use Rattle.pf_cli.specs.Carried.{CarriesOut, EndsBy, OpensReplies}
+use Rattle.pf_cli.specs.Ended.{script_course}
+use Rattle.pf_formats.specs.Report.{report_text}
+use Rattle.pf_cli.specs.Meaning.{Meaning, BadRecord, Done, ScriptCourse, course_at, ended_meaning, outcome_told, replies_told, report_meaning, script_meaning, seen_at, text_and_then, text_if_replies, told_meaning}
+use Rattle.pf_cli.proofs.Courses.{seen_there}
+use Rattle.pf_cli.proofs.Ends.{short_meaning}
+
+-- the answer where a text was stopped
+pub answers_stopped : (A : Type 0) (m : Meaning) (fault : OutputFault) (old new : Option (List ℕ)) → TookFront old new m.text
+    → Answers {A = A} m (Err (fault_of_output fault)) old new
+answers_stopped A m Write old new h = h
+answers_stopped A m Memory old new h = h
+
+pub counts_stopped : (A B : Type 0) (fault : OutputFault) (old new : ℕ) → CountsOutput {A = A} (Err fault) old new
+    → CountsWrites {A = B} (Err (fault_of_output fault)) old new
+counts_stopped A B Write old new h = h
+counts_stopped A B Memory old new h = h
+
+pub past_stopped : (A : Type 0) (fault : OutputFault) → IsPastReading {A = A} (Err (fault_of_output fault))
+past_stopped A Write = tt
+past_stopped A Memory = tt
+
+-- of a script without replies yet
+either_way : (b : Bool) (xs : List ℕ) → (if b then xs else xs) ≡ xs
+either_way true xs = refl
+either_way false xs = refl
+
+none_shown : (format : Format) → text_if_replies format [] ≡ []
+none_shown format = either_way (has_replies format) []
+
+-- the text of a script that a bad record ends
+bad_end : (format : Format) (t : Told) (number : ℕ) → outcome_told t ≡ Err number
+    → told_meaning format t ≡ record { text = text_if_replies format (replies_told t); end = BadRecord number }
+bad_end format t number is =
+    ap (λ o. text_and_then (text_if_replies format (replies_told t)) (ended_meaning format o)) is
+    ∙ ap (λ text. record { text = text; end = BadRecord number }) (append-nil (text_if_replies format (replies_told t)))
+
+-- Use: the settings were not read.
+pub unopened : (format : Format) (t : Told) (fault : RunFault) (x : Option (List ℕ)) → OpensReplies format t (Err fault) → CarriesOut format t (Err fault) x x
+unopened format t (BadLine number) x h =
+    let none : text_if_replies format (replies_told t) ≡ [] = ap (text_if_replies format) h.0 ∙ none_shown format in
+    subst (λ m. Answers {A = Shown} m (Err (BadLine number)) x x) (sym (bad_end format t number h.1)) (refl, subst (Appends x x) (sym none) (Appends-nil x))
+unopened format t NoMemory x h = none_written x _
+unopened format t ReadFault x h = absurd h
+unopened format t WriteFault x h = absurd h
+unopened format t ScriptTooLong x h = absurd h
+unopened format t (BadRange fault) x h = absurd h
+
+-- Use: the writing of the replies was stopped.
+pub replies_stopped : (format : Format) (t : Told) (fault : OutputFault) (old new : Option (List ℕ)) (text : List ℕ)
+    → text ≡ text_if_replies format (replies_told t) → TookFront old new text → CarriesOut format t (Err (fault_of_output fault)) old new
+replies_stopped format t fault old new text is h =
+    replies_cut fault (took-before old new (text_if_replies format (replies_told t)) _ (subst (TookFront old new) is h))
+  where
+    replies_cut : (f : OutputFault) → TookFront old new (told_meaning format t).text → CarriesOut format t (Err (fault_of_output f)) old new
+    replies_cut Write took = took
+    replies_cut Memory took = took
+
+-- Use: the replies were written, and the script carried out.
+pub carried : (format : Format) (t : Told) (result : Result Shown RunFault) (outcome : Result ScriptCourse ℕ) (old new : Option (List ℕ)) (text : List ℕ)
+    → text ≡ text_if_replies format (replies_told t) → outcome ≡ outcome_told t → Appends old new text → EndsBy outcome result → CarriesOut format t result old new
+carried format t (Ok desk) outcome old new text is same wrote ends = (sym same ∙ ends, subst (Appends old new) is wrote)
+carried format t (Err (BadLine number)) outcome old new text is same wrote ends =
+    subst (λ m. Answers {A = Shown} m (Err (BadLine number)) old new) (sym (bad_end format t number (sym same ∙ ends)))
+    (refl, subst (Appends old new) is wrote)
+carried format t (Err NoMemory) outcome old new text is same wrote ends =
+    ((ended_meaning format (outcome_told t)).text, (text_if_replies format (replies_told t), subst (Appends old new) is wrote, refl))
+carried format t (Err ReadFault) outcome old new text is same wrote ends = absurd ends
+carried format t (Err WriteFault) outcome old new text is same wrote ends = absurd ends
+carried format t (Err ScriptTooLong) outcome old new text is same wrote ends = absurd ends
+carried format t (Err (BadRange fault)) outcome old new text is same wrote ends = absurd ends
+
+-- a text was written, and then what follows it
+behind_text : (m : Meaning) (result : Result Shown RunFault) (text : List ℕ) (old mid new : Option (List ℕ)) → Appends old mid text
+    → IsPastReading result → Answers m result mid new → Answers (text_and_then text m) result old new
+behind_text m (Ok desk) text old mid new wrote past a = (a.0, Appends-trans old mid new text m.text wrote a.1)
+behind_text m (Err (BadLine number)) text old mid new wrote past a = (a.0, Appends-trans old mid new text m.text wrote a.1)
+behind_text m (Err ScriptTooLong) text old mid new wrote past a = (a.0, Appends-trans old mid new text m.text wrote a.1)
+behind_text m (Err (BadRange fault)) text old mid new wrote past a = (a.0, Appends-trans old mid new text m.text wrote a.1)
+behind_text m (Err ReadFault) text old mid new wrote past a = absurd past
+behind_text m (Err WriteFault) text old mid new wrote past a = took-after old mid new text m.text wrote a
+behind_text m (Err NoMemory) text old mid new wrote past a = took-after old mid new text m.text wrote a
+
+-- Use: the script of these bytes was carried out, and its report written or stopped.
+module _ (format : Format) (bytes : List ℕ) (short : length bytes ≤ 16777216) where
+  pub stopped_carrying : (fault : RunFault) (old new : Option (List ℕ)) → CarriesOut format (told bytes) (Err fault) old new
+      → Answers {A = Shown} (script_meaning format bytes) (Err fault) old new
+  stopped_carrying fault old new h = subst (λ m. Answers {A = Shown} m (Err fault) old new) (sym (short_meaning format bytes short)) h
+
+  module _ (desk : Shown) (old mid : Option (List ℕ)) (h : CarriesOut format (told bytes) (Ok desk) old mid) where
+    ended_there : script_meaning format bytes ≡ text_and_then (text_if_replies format (replies_told (told bytes))) (report_meaning format (course_at desk))
+    ended_there =
+        short_meaning format bytes short
+        ∙ ap (λ o. text_and_then (text_if_replies format (replies_told (told bytes))) (ended_meaning format o)) h.0
+
+    pub reported : (result : Result Shown RunFault) (new : Option (List ℕ)) → IsPastReading result
+        → Answers (report_meaning format (course_at desk)) result mid new → Answers (script_meaning format bytes) result old new
+    reported result new past a =
+        subst (λ m. Answers m result old new) (sym ended_there)
+        (behind_text (report_meaning format (course_at desk)) result (text_if_replies format (replies_told (told bytes))) old mid new h.1 past a)
+
+    pub course_there : script_course bytes ≡ Some (course_at desk)
+    unfolding script_course
+    course_there = let fits : nat_lt 16777216 (length bytes) ≡ false = search (rules, tests) in rw fits (ap result_ok h.0)
+
+-- a report that can be shown
+pub shown_meaning : (format : Format) (c : ScriptCourse) → range_fault format c.state.now ≡ None
+    → report_meaning format c ≡ record { text = report_text format c.every (seen_at c); end = Done }
+shown_meaning format c fits = rw fits refl
+
+-- Use: the report was written, or its writing stopped.
+module _ (format : Format) (desk : Shown) (fits : range_fault format desk.state.now ≡ None) (every : ℕ) (same : every ≡ desk.every)
+    (seen : Seen) (stands : StandsForHistory desk.history seen)
+    (shows : seen ≡ record { version = length desk.history; state = desk.state; rows = desk.rows; denials = desk.denials }) where
+  meant : record { text = report_text format every seen; end = Done } ≡ report_meaning format (course_at desk)
+  meant =
+      ap₂ (λ n s. record { text = report_text format n s; end = Done }) same (seen_there desk seen stands shows)
+      ∙ sym (shown_meaning format (course_at desk) fits)
+
+  module _ (text : List ℕ) (is : text ≡ report_text format every seen) where
+    pub report_written : (done : Unit {0}) (old new : Option (List ℕ)) → Appends old new text → Answers (report_meaning format (course_at desk)) (Ok done) old new
+    report_written done old new wrote = subst (λ m. Answers m (Ok done) old new) meant (refl, subst (Appends old new) is wrote)
+
+    pub report_stopped : (fault : OutputFault) (old new : Option (List ℕ)) → TookFront old new text
+        → Answers {A = Unit {0}} (report_meaning format (course_at desk)) (Err (fault_of_output fault)) old new
+    report_stopped fault old new took =
+        subst (λ m. Answers {A = Unit {0}} m (Err (fault_of_output fault)) old new) meant
+        (answers_stopped (Unit {0}) (record { text = report_text format every seen; end = Done }) fault old new (subst (TookFront old new) is took))
+
+-- Use: the range can't be shown.
+pub outside_answered : (format : Format) (c : ScriptCourse) (fault : RangeFault) (x : Option (List ℕ)) → Some fault ≡ range_fault format c.state.now
+    → Answers {A = Unit {0}} (report_meaning format c) (Err (BadRange fault)) x x
+outside_answered format c fault x is = rw (← is) (refl, Appends-nil x)
+
+-- Use: a fault of one call is that of another.
+module _ (A B : Type 0) where
+  pub answers_as : (m : Meaning) (fault : RunFault) (old new : Option (List ℕ)) → Answers {A = A} m (Err fault) old new → Answers {A = B} m (Err fault) old new
+  answers_as m ReadFault old new h = h
+  answers_as m (BadLine number) old new h = h
+  answers_as m WriteFault old new h = h
+  answers_as m ScriptTooLong old new h = h
+  answers_as m (BadRange fault) old new h = h
+  answers_as m NoMemory old new h = h
+
+  pub past_as : (fault : RunFault) → IsPastReading {A = A} (Err fault) → IsPastReading {A = B} (Err fault)
+  past_as ReadFault past = absurd past
+  past_as (BadLine number) past = tt
+  past_as WriteFault past = tt
+  past_as ScriptTooLong past = tt
+  past_as (BadRange fault) past = tt
+  past_as NoMemory past = tt
+
+  pub counts_as : (fault : RunFault) (old new : ℕ) → CountsWrites {A = A} (Err fault) old new → CountsWrites {A = B} (Err fault) old new
+  counts_as ReadFault old new h = h
+  counts_as (BadLine number) old new h = h
+  counts_as WriteFault old new h = h
+  counts_as ScriptTooLong old new h = h
+  counts_as (BadRange fault) old new h = h
+  counts_as NoMemory old new h = h
+
+-- Use: the replies that were not begun, and the end of a script, fail in few ways.
+pub opens_past : (format : Format) (t : Told) (fault : RunFault) → OpensReplies format t (Err fault) → IsPastReading {A = Shown} (Err fault)
+opens_past format t (BadLine number) h = tt
+opens_past format t NoMemory h = tt
+opens_past format t ReadFault h = absurd h
+opens_past format t WriteFault h = absurd h
+opens_past format t ScriptTooLong h = absurd h
+opens_past format t (BadRange fault) h = absurd h
+
+pub opens_counts : (format : Format) (t : Told) (fault : RunFault) (n : ℕ) → OpensReplies format t (Err fault) → CountsWrites {A = Shown} (Err fault) n n
+opens_counts format t (BadLine number) n h = refl
+opens_counts format t NoMemory n h = refl
+opens_counts format t ReadFault n h = absurd h
+opens_counts format t WriteFault n h = absurd h
+opens_counts format t ScriptTooLong n h = absurd h
+opens_counts format t (BadRange fault) n h = absurd h
+
+pub ends_past : (outcome : Result ScriptCourse ℕ) (result : Result Shown RunFault) → EndsBy outcome result → IsPastReading result
+ends_past outcome (Ok desk) h = tt
+ends_past outcome (Err (BadLine number)) h = tt
+ends_past outcome (Err NoMemory) h = tt
+ends_past outcome (Err ReadFault) h = absurd h
+ends_past outcome (Err WriteFault) h = absurd h
+ends_past outcome (Err ScriptTooLong) h = absurd h
+ends_past outcome (Err (BadRange fault)) h = absurd h
+
+pub ends_counts : (outcome : Result ScriptCourse ℕ) (result : Result Shown RunFault) (old new : ℕ) → new ≡ old → EndsBy outcome result → CountsWrites result old new
+ends_counts outcome (Ok desk) old new same h = same
+ends_counts outcome (Err (BadLine number)) old new same h = same
+ends_counts outcome (Err NoMemory) old new same h = same
+ends_counts outcome (Err ReadFault) old new same h = absurd h
+ends_counts outcome (Err WriteFault) old new same h = absurd h
+ends_counts outcome (Err ScriptTooLong) old new same h = absurd h
+ends_counts outcome (Err (BadRange fault)) old new same h = absurd h

@@ -1,0 +1,136 @@
+-- The turns of a script that is carried out.
+use Rattle.std.proofs.Common.{◌≡◌, ◌≤◌, ◌<◌, ℕ, ◌+◌, ◌*◌, Bool, true, false, List, [], ◌∷◌, ◌++◌, length, Option, None, Some, Result, Ok, Err, refl, sym, ap, ap₂, ◌∙◌, arith, append_assoc}
+use Rattle.std.specs.Prelude.{if◌then◌else◌, IfOk, OnOk}
+use Rattle.std.proofs.lemmas.List.{append-nil}
+use Rattle.pf_desk.specs.declared.command.Command.{Command}
+use Rattle.pf_script.specs.declared.record.ScriptSettings.{ScriptSettings}
+use Rattle.pf_script.specs.Asked.{commands_in}
+use Rattle.pf_script.specs.Told.{LinesTold, Told}
+use Rattle.pf_words.specs.declared.format.Format.{Format}
+use Rattle.pf_words.specs.Formats.{has_replies}
+use Rattle.pf_cli.specs.declared.script_replies.ScriptReplies.{ScriptReplies}
+use Rattle.pf_cli.specs.Batched.{Batched, HasAnswered, HasTaken, course_to_be, entry_lines, lines_to_be, turns_left}
+use Rattle.pf_cli.specs.Batched as batched
+use Rattle.pf_cli.specs.Carried.{CarriesOn, GoesOn, HasNoLine, IsAtEnd, OpensReplies, ShowsLine, first_turn, lines_left, outcome_left, text_left, turns_to_come}
+use Rattle.pf_cli.specs.Commands.{CommandsLeft, TakesCommand}
+use Rattle.pf_cli.specs.Meaning.{ScriptCourse, course_after, course_behind, fault_number, opening_course, outcome_at, ready_line, reply_lines, text_if_replies}
+use Rattle.pf_cli.proofs.Batches.{settled_course, settled_lines}
+
+-- what is to come where the desk and the commands are these
+lines_by : Bool → Batched → List Command → List ℕ
+lines_by begun desk commands = (if begun then [] else ready_line) ++ (lines_to_be desk ++ reply_lines (course_to_be desk) commands)
+
+-- Use: a command was taken.
+module _ (a b : ScriptReplies) (command : Command) (taken : TakesCommand (Some command) a.commands b.commands) (h : HasTaken command a.desk b.desk)
+    (format : b.format ≡ a.format) (begun : b.begun ≡ a.begun) where
+  lines_on : lines_left b ≡ lines_left a
+  lines_on =
+      ap₂ (λ x t. (if x then [] else ready_line) ++ t) begun
+      (ap₂ (λ t c. t ++ reply_lines c b.commands.commands) h.lines h.course
+      ∙ append_assoc (lines_to_be a.desk) _ (reply_lines (course_after (course_to_be a.desk) command) b.commands.commands)
+      ∙ ap (λ cs. lines_to_be a.desk ++ reply_lines (course_to_be a.desk) cs) (sym taken.0))
+
+  pub command_carried : GoesOn a b
+  command_carried = record {
+    text = ap₂ text_if_replies format lines_on;
+    outcome =
+        ap₂ (λ c f. outcome_at (course_behind c b.commands.commands) f) h.course taken.1
+        ∙ ap (λ cs. outcome_at (course_behind (course_to_be a.desk) cs) a.commands.fault) (sym taken.0);
+    turns =
+        let same : first_turn b.begun ≡ first_turn a.begun = ap first_turn begun in
+        omega (arith, ap length taken.0, same, h.turns);
+  }
+
+-- Use: those that waited were answered.
+pub waiting_carried : (a b : ScriptReplies) → HasAnswered a.desk b.desk → 1 ≤ length a.desk.waiting → b.commands.commands ≡ a.commands.commands
+    → b.commands.fault ≡ a.commands.fault → b.format ≡ a.format → b.begun ≡ a.begun → GoesOn a b
+waiting_carried a b h some commands fault format begun =
+    let course : course_to_be b.desk ≡ course_to_be a.desk = settled_course b.desk h.none ∙ h.course in
+    let lines : lines_to_be b.desk ≡ lines_to_be a.desk = settled_lines b.desk h.none ∙ h.lines in
+    record {
+      text =
+          ap₂ text_if_replies format
+          (ap₂ (λ x t. (if x then [] else ready_line) ++ t) begun
+          (ap₂ (λ t u. t ++ u) lines (ap₂ reply_lines course commands)));
+      outcome = ap₂ outcome_at (ap₂ course_behind course commands) fault;
+      turns =
+          let same : first_turn b.begun ≡ first_turn a.begun = ap first_turn begun in
+          omega (arith, ap length commands, same, h.entries, ap length h.none, some);
+    }
+
+-- Use: no command is left, and those that waited are answered.
+pub end_carried : {E : Type 0} (r : Result Bool E) (a : ScriptReplies) (commands : CommandsLeft) (desk : Batched) → TakesCommand None a.commands commands
+    → OnOk r (HasAnswered a.desk desk) → IfOk r (λ some. some ≡ true → 1 ≤ length a.desk.waiting) → IfOk r (λ some. some ≡ false → desk ≡ a.desk)
+    → IfOk r (λ some. CarriesOn some a (record a { commands = commands; desk = desk }))
+end_carried (Ok true) a commands desk taken answered some none =
+    waiting_carried a (record a { commands = commands; desk = desk }) answered (some refl) (ap (λ c. c.commands) taken.1) (ap (λ c. c.fault) taken.1) refl refl
+end_carried (Ok false) a commands desk taken answered some none = record {
+  same = λ i. record a { commands = taken.1 i; desk = none refl i };
+  commands = taken.0;
+  waiting = sym (ap (λ d. d.waiting) (none refl)) ∙ answered.none;
+}
+end_carried (Err e) a commands desk taken answered some none = tt
+
+-- Use: the line for the settings was shown.
+pub settings_shown : (a b : ScriptReplies) (text more : List ℕ) → has_replies a.format ≡ true → a.begun ≡ false → b ≡ record a { begun = true }
+    → more ≡ text ++ ready_line → ShowsLine text more a b
+settings_shown a b text more shows begun same is =
+    let rest = lines_to_be a.desk ++ reply_lines (course_to_be a.desk) a.commands.commands in
+    let before : text_left a ≡ ready_line ++ rest = rw (shows, begun) refl in
+    let after : text_left b ≡ rest = ap text_left same ∙ rw shows refl in
+    record {
+      text = ap (λ t. text ++ t) before ∙ sym (append_assoc text ready_line rest) ∙ ap₂ (λ t u. t ++ u) (sym is) (sym after);
+      outcome = ap outcome_left same;
+      turns = rw (same, begun) (omega arith);
+    }
+
+-- Use: a line of the desk was shown.
+pub entry_shown : (a b : ScriptReplies) (text more : List ℕ) → has_replies a.format ≡ true → a.begun ≡ true → b ≡ record a { desk = b.desk }
+    → batched.HasShown text more a.desk b.desk → ShowsLine text more a b
+entry_shown a b text more shows begun same h =
+    let replies = reply_lines a.desk.answered a.desk.waiting in
+    let rest = reply_lines (course_to_be a.desk) a.commands.commands in
+    let before : text_left a ≡ (entry_lines a.desk.unshown ++ replies) ++ rest = rw (shows, begun) refl in
+    let course : course_to_be b.desk ≡ course_to_be a.desk = ap₂ course_behind h.answered h.waiting in
+    let after : text_left b ≡ (entry_lines b.desk.unshown ++ replies) ++ rest =
+    ap text_left same ∙ rw (shows, begun) (ap₂ (λ t c. t ++ reply_lines c a.commands.commands)
+    (ap (λ t. entry_lines b.desk.unshown ++ t) (ap₂ reply_lines h.answered h.waiting)) course) in
+    record {
+      text =
+          ap (λ t. text ++ t) before ∙ regrouped text (entry_lines a.desk.unshown) replies rest
+          ∙ ap (λ t. (t ++ replies) ++ rest) h.lines
+          ∙ sym (regrouped more (entry_lines b.desk.unshown) replies rest) ∙ ap (λ t. more ++ t) (sym after);
+      outcome = ap outcome_left same ∙ ap (λ c. outcome_at (course_behind c a.commands.commands) a.commands.fault) course;
+      turns =
+          let turns : turns_to_come b ≡ 3 * length a.commands.commands + turns_left b.desk + first_turn a.begun = ap turns_to_come same in
+          omega (arith, turns, ap length h.waiting, h.entries);
+    }
+  where
+    regrouped : (t x y z : List ℕ) → t ++ ((x ++ y) ++ z) ≡ ((t ++ x) ++ y) ++ z
+    regrouped t x y z = sym (append_assoc t (x ++ y) z) ∙ ap (λ w. w ++ z) (sym (append_assoc t x y))
+
+-- Use: no command and no line is left, so no text is.
+pub nothing_left : (a b : ScriptReplies) → HasNoLine a → IsAtEnd a b → text_left b ≡ []
+nothing_left a b silent h = ap text_left h.same ∙ by (has_replies a.format) refl
+  where
+    by : (shows : Bool) → has_replies a.format ≡ shows → (if shows then lines_left a else []) ≡ []
+    by false hides = refl
+    by true shows =
+        let none = silent shows in
+        ap₂ (λ x t. (if x then [] else ready_line) ++ t) none.0
+        (ap₂ (λ t cs. t ++ reply_lines (course_to_be a.desk) cs)
+        (settled_lines a.desk h.waiting ∙ ap entry_lines none.1) h.commands)
+
+-- Use: where the commands left the script.
+pub outcome_there : (a b : ScriptReplies) → IsAtEnd a b → outcome_left b ≡ outcome_at b.desk.answered b.commands.fault
+outcome_there a b h =
+    ap outcome_left h.same
+    ∙ ap₂ (λ c cs. outcome_at (course_behind c cs) a.commands.fault) (settled_course a.desk h.waiting) h.commands
+    ∙ ap (λ r. outcome_at r.desk.answered r.commands.fault) (sym h.same)
+
+-- Use: replies to a script whose settings were read.
+pub opened_replies : (format : Format) (t : Told) (s : ScriptSettings) (lines : LinesTold) (commands : CommandsLeft) (desk : Batched)
+    → t ≡ record { opening = Some s; rest = lines } → commands ≡ record { commands = commands_in lines.lines; fault = fault_number lines.fault; ended = false }
+    → desk ≡ record { answered = opening_course s.every s.settings; waiting = []; unshown = [] }
+    → OpensReplies format t (Ok (record { commands = commands; desk = desk; format = format; begun = false }))
+opened_replies format t s lines commands desk told are opened = rw (told, are, opened) (refl, refl)

@@ -1,0 +1,59 @@
+use Rattle.std.proofs.Common.{ap, refl, sym, ◌∙◌}
+use Rattle.std.proofs.lemmas.Result.{err_from_is_err_and}
+use Rattle.pf_stream.proofs.Sending.{none_written}
+use Rattle.pf_words.specs.Formats.{range_fault}
+use Rattle.pf_cli.specs.Meaning.{course_at}
+use Rattle.pf_cli.proofs.Answering.{counts_stopped, outside_answered, past_stopped, report_stopped, report_written}
+use Rattle.pf_cli.proofs.run.write_report.Goals as goal
+
+pub returns-in-Some-clause-report : goal.returns-in-Some-clause-report
+returns-in-Some-clause-report g c =
+    outside_answered c.args.format (course_at c.args.desk.now) c.in-Some.fault _
+    (c.in-Some.ensures ∙ ap (range_fault c.args.format) c.now.ensures.value)
+
+pub returns-in_err-snapshot-clause-report : goal.returns-in_err-snapshot-clause-report
+returns-in_err-snapshot-clause-report g c =
+    let p = err_from_is_err_and c.from_residual.result c.from_residual.ensures.1 in rw (p.1, p.2) (none_written _ _)
+
+pub returns-in_err-snapshot-clause-read : goal.returns-in_err-snapshot-clause-read
+returns-in_err-snapshot-clause-read g c =
+    let p = err_from_is_err_and c.from_residual.result c.from_residual.ensures.1 in rw (p.1, p.2) tt
+
+pub returns-in_err-snapshot-clause-writes : goal.returns-in_err-snapshot-clause-writes
+returns-in_err-snapshot-clause-writes g c =
+    let p = err_from_is_err_and c.from_residual.result c.from_residual.ensures.1 in rw (p.1, p.2) refl
+
+pub returns-in_err-report-clause-report : goal.returns-in_err-report-clause-report
+returns-in_err-report-clause-report g c =
+    let p = err_from_is_err_and c.from_residual-in_err-report.result c.from_residual-in_err-report.ensures.1 in rw (p.1, p.2) (none_written _ _)
+
+pub returns-in_err-report-clause-read : goal.returns-in_err-report-clause-read
+returns-in_err-report-clause-read g c =
+    let p = err_from_is_err_and c.from_residual-in_err-report.result c.from_residual-in_err-report.ensures.1 in rw (p.1, p.2) tt
+
+pub returns-in_err-report-clause-writes : goal.returns-in_err-report-clause-writes
+returns-in_err-report-clause-writes g c =
+    let p = err_from_is_err_and c.from_residual-in_err-report.result c.from_residual-in_err-report.ensures.1 in rw (p.1, p.2) refl
+
+pub returns-in_err-write_pieces-clause-report : goal.returns-in_err-write_pieces-clause-report
+returns-in_err-write_pieces-clause-report g c =
+    let p = err_from_is_err_and c.from_residual-in_err-write_pieces.result c.from_residual-in_err-write_pieces.ensures.1 in
+    let e = c.in_ok-snapshot.ensures in
+    let fits = ap (range_fault c.args.format) (sym c.now.ensures.value) ∙ sym c.in_default.ensures in
+    rw (p.1, p.2) (report_stopped c.args.format c.args.desk.now fits c.distance.result c.distance.ensures.value c.in_ok-snapshot.snapshot e.stands e.shown _ c.in_ok-report.ensures _ _ _ c.in_err-write_pieces.ensures.err)
+
+pub returns-in_err-write_pieces-clause-read : goal.returns-in_err-write_pieces-clause-read
+returns-in_err-write_pieces-clause-read g c =
+    let p = err_from_is_err_and c.from_residual-in_err-write_pieces.result c.from_residual-in_err-write_pieces.ensures.1 in
+    rw (p.1, p.2) (past_stopped (Unit {0}) _)
+
+pub returns-in_err-write_pieces-clause-writes : goal.returns-in_err-write_pieces-clause-writes
+returns-in_err-write_pieces-clause-writes g c =
+    let p = err_from_is_err_and c.from_residual-in_err-write_pieces.result c.from_residual-in_err-write_pieces.ensures.1 in
+    rw (p.1, p.2) (counts_stopped (Unit {0}) (Unit {0}) _ _ _ c.in_err-write_pieces.ensures.count)
+
+pub returns-clause-report : goal.returns-clause-report
+returns-clause-report g c =
+    let e = c.in_ok-snapshot.ensures in
+    let fits = ap (range_fault c.args.format) (sym c.now.ensures.value) ∙ sym c.in_default.ensures in
+    report_written c.args.format c.args.desk.now fits c.distance.result c.distance.ensures.value c.in_ok-snapshot.snapshot e.stands e.shown _ c.in_ok-report.ensures _ _ _ c.in_ok-write_pieces.ensures.ok

@@ -1,0 +1,85 @@
+-- A script that is carried out.
+use Rattle.std.specs.Prelude.{⊤, ℕ, ◌≡◌, ◌+◌, ◌*◌, ◌<◌, Bool, true, false, if◌then◌else◌, List, [], ◌++◌, length, Option, Result, Ok, Err}
+use Rattle.std.specs.Io.KnownBytes.{Appends}
+use Rattle.pf_desk.specs.Desk.{Shown}
+use Rattle.pf_script.specs.Told.{Told}
+use Rattle.pf_words.specs.declared.format.Format.{Format}
+use Rattle.pf_words.specs.Formats.{has_replies}
+use Rattle.pf_cli.specs.declared.fault.RunFault.{RunFault}
+use Rattle.pf_cli.specs.declared.fault.RunFault.TheVariants.{BadLine, NoMemory}
+use Rattle.pf_cli.specs.declared.script_replies.ScriptReplies.{ScriptReplies}
+use Rattle.pf_cli.specs.Answers.{Answers}
+use Rattle.pf_cli.specs.Batched.{course_to_be, lines_to_be, turns_left}
+use Rattle.pf_cli.specs.Meaning.{ScriptCourse, course_at, course_behind, outcome_at, outcome_told, ready_line, replies_told, reply_lines, text_if_replies, told_meaning}
+
+-- the reply lines that are left, ..
+abbrev pub lines_left : ScriptReplies → List ℕ
+lines_left r =
+    (if r.begun then [] else ready_line) ++ (lines_to_be r.desk ++ reply_lines (course_to_be r.desk) r.commands.commands)
+
+-- .. as the text of a format, ..
+abbrev pub text_left : ScriptReplies → List ℕ
+text_left r = text_if_replies r.format (lines_left r)
+
+-- .. where the commands leave the script, ..
+abbrev pub outcome_left : ScriptReplies → Result ScriptCourse ℕ
+outcome_left r = outcome_at (course_behind (course_to_be r.desk) r.commands.commands) r.commands.fault
+
+-- .. and how many turns are left at most: the line for the settings takes one, a command three
+abbrev pub first_turn : Bool → ℕ
+first_turn true = 0
+first_turn false = 1
+
+abbrev pub turns_to_come : ScriptReplies → ℕ
+turns_to_come r = 3 * length r.commands.commands + turns_left r.desk + first_turn r.begun
+
+-- one turn was taken, and what is to come of the replies and of the script stays as it was
+pub record GoesOn (before after : ScriptReplies) : Type 0 where
+  pub text : text_left after ≡ text_left before
+  pub outcome : outcome_left after ≡ outcome_left before
+  pub turns : turns_to_come after < turns_to_come before
+
+-- all commands were answered; nothing but that their end was read has changed
+pub record IsAtEnd (before after : ScriptReplies) : Type 0 where
+  pub same : after ≡ record before { commands = record before.commands { ended = true } }
+  pub commands : before.commands.commands ≡ []
+  pub waiting : before.desk.waiting ≡ []
+
+-- whether there was something to carry out
+abbrev pub CarriesOn : Bool → ScriptReplies → ScriptReplies → Type 0
+CarriesOn true before after = GoesOn before after
+CarriesOn false before after = IsAtEnd before after
+
+-- a line was put behind a text
+pub record ShowsLine (was now : List ℕ) (before after : ScriptReplies) : Type 0 where
+  pub text : was ++ text_left before ≡ now ++ text_left after
+  pub outcome : outcome_left after ≡ outcome_left before
+  pub turns : turns_to_come after < turns_to_come before
+
+-- each reply so far has had its line, where the format has lines
+abbrev pub HasNoLine : ScriptReplies → Type 0
+HasNoLine r = has_replies r.format ≡ true → (r.begun ≡ true) × (r.desk.unshown ≡ [])
+
+-- whether there was a line to show
+abbrev pub ShowsNext : Bool → List ℕ → List ℕ → ScriptReplies → ScriptReplies → Type 0
+ShowsNext true text more before after = ShowsLine text more before after
+ShowsNext false text more before after = HasNoLine before × (after ≡ before) × (more ≡ text)
+
+-- replies in this format to a script that tells this; or it has no good settings
+abbrev pub OpensReplies : Format → Told → Result ScriptReplies RunFault → Type 0
+OpensReplies format t (Ok r) = (text_left r ≡ text_if_replies format (replies_told t)) × (outcome_left r ≡ outcome_told t)
+OpensReplies format t (Err (BadLine number)) = (replies_told t ≡ []) × (outcome_told t ≡ Err number)
+OpensReplies format t (Err NoMemory) = ⊤
+OpensReplies format t (Err fault) = ⊥
+
+-- the desk where the commands leave the script, or its bad record
+abbrev pub EndsBy : Result ScriptCourse ℕ → Result Shown RunFault → Type 0
+EndsBy outcome (Ok desk) = outcome ≡ Ok (course_at desk)
+EndsBy outcome (Err (BadLine number)) = outcome ≡ Err number
+EndsBy outcome (Err NoMemory) = ⊤
+EndsBy outcome (Err fault) = ⊥
+
+-- the script was carried out and the writer took its replies; or the answer is one to the whole script
+abbrev pub CarriesOut : Format → Told → Result Shown RunFault → Option (List ℕ) → Option (List ℕ) → Type 0
+CarriesOut format t (Ok desk) old new = (outcome_told t ≡ Ok (course_at desk)) × Appends old new (text_if_replies format (replies_told t))
+CarriesOut format t (Err fault) old new = Answers {A = Shown} (told_meaning format t) (Err fault) old new
