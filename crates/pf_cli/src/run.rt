@@ -1,6 +1,7 @@
-ghost use Rattle.std.specs.Prelude.{◌≡◌, ◌+◌, ◌-◌, ◌^◌, ◌<◌, ◌≤◌, false, length, Some, IfOk, IfSome, IfErr, Err};
-ghost use Rattle.std.specs.Io.KnownBytes.{Keeps};
+ghost use Rattle.std.specs.Prelude.{◌≡◌, ◌+◌, ◌-◌, ◌^◌, ◌<◌, ◌≤◌, false, length, Some, IfOk, IfSome, IfErr, OnOk, OnErr, Err};
+ghost use Rattle.std.specs.Io.KnownBytes.{Appends, Keeps};
 ghost use Rattle.pf_stream.specs.Reading.{longest_script, TakesAtMost};
+ghost use Rattle.pf_stream.specs.Written.{CountsOutput, TookFront};
 ghost use Rattle.pf_script.specs.Told.{told};
 ghost use Rattle.pf_words.specs.FailLists.{on_nothing};
 ghost use Rattle.pf_cli.specs.declared.fault.RunFault.TheVariants.{ReadFault};
@@ -14,10 +15,12 @@ use crate::fault::RunFault;
 use crate::script_replies::ScriptReplies;
 use pf_desk::desk::Desk;
 use pf_formats::report::report_pieces;
+use pf_stream::output_fault::OutputFault;
 use pf_stream::reading::read_script;
 use pf_stream::sink::Sink;
 use pf_stream::source::Source;
 use pf_stream::writing::write_pieces;
+use pf_text::pieces::Pieces;
 use pf_words::fail_on::FailOn;
 use pf_words::format::Format;
 use std::alloc::{AllocError, Global};
@@ -197,7 +200,21 @@ fn write_report<W: Sink>(
         return Err(RunFault::BadRange(fault));
     }
     let snapshot = desk.snapshot()?;
-    let mut report = report_pieces(alloc, &snapshot, desk.distance(), format)?;
-    write_pieces(alloc, writer, &mut report)?;
+    let report = report_pieces(alloc, &snapshot, desk.distance(), format)?;
+    write_whole(alloc, report, writer)?;
     Ok(())
+}
+
+/// Writes all of some pieces, and lets them go, by a call of its own: so nobody else looks at their kinds.
+fn write_whole<P: Pieces + Drop, W: Sink>(
+    alloc: Global,
+    mut pieces: P,
+    writer: &mut W,
+) -> Result<(), OutputFault>
+    requires { W.failed writer.old < 2 ^ 64 - 1 }
+    ensures ok { OnOk result (Appends (W.contents writer.old) (W.contents writer.new) (P.left pieces)) }
+    ensures err { OnErr result (TookFront (W.contents writer.old) (W.contents writer.new) (P.left pieces)) }
+    ensures count { CountsOutput result (W.failed writer.old) (W.failed writer.new) }
+{
+    write_pieces(alloc, writer, &mut pieces)
 }

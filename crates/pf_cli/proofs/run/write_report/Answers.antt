@@ -35,25 +35,25 @@ pub returns-in_err-report-clause-writes : goal.returns-in_err-report-clause-writ
 returns-in_err-report-clause-writes g c =
     let p = err_from_is_err_and c.from_residual-in_err-report.result c.from_residual-in_err-report.ensures.1 in rw (p.1, p.2) refl
 
-pub returns-in_err-write_pieces-clause-report : goal.returns-in_err-write_pieces-clause-report
-returns-in_err-write_pieces-clause-report g c =
-    let p = err_from_is_err_and c.from_residual-in_err-write_pieces.result c.from_residual-in_err-write_pieces.ensures.1 in
+pub returns-in_err-write_whole-clause-report : goal.returns-in_err-write_whole-clause-report
+returns-in_err-write_whole-clause-report g c =
+    let p = err_from_is_err_and c.from_residual-in_err-write_whole.result c.from_residual-in_err-write_whole.ensures.1 in
     let e = c.in_ok-snapshot.ensures in
     let fits = ap (range_fault c.args.format) (sym c.now.ensures.value) ∙ sym c.in_default.ensures in
-    rw (p.1, p.2) (report_stopped c.args.format c.args.desk.now fits c.distance.result c.distance.ensures.value c.in_ok-snapshot.snapshot e.stands e.shown _ c.in_ok-report.ensures _ _ _ c.in_err-write_pieces.ensures.err)
+    rw (p.1, p.2) (report_stopped c.args.format c.args.desk.now fits c.distance.result c.distance.ensures.value c.in_ok-snapshot.snapshot e.stands e.shown _ c.in_ok-report.ensures _ _ _ c.in_err-write_whole.ensures.err)
 
-pub returns-in_err-write_pieces-clause-read : goal.returns-in_err-write_pieces-clause-read
-returns-in_err-write_pieces-clause-read g c =
-    let p = err_from_is_err_and c.from_residual-in_err-write_pieces.result c.from_residual-in_err-write_pieces.ensures.1 in
+pub returns-in_err-write_whole-clause-read : goal.returns-in_err-write_whole-clause-read
+returns-in_err-write_whole-clause-read g c =
+    let p = err_from_is_err_and c.from_residual-in_err-write_whole.result c.from_residual-in_err-write_whole.ensures.1 in
     rw (p.1, p.2) (past_stopped (Unit {0}) _)
 
-pub returns-in_err-write_pieces-clause-writes : goal.returns-in_err-write_pieces-clause-writes
-returns-in_err-write_pieces-clause-writes g c =
-    let p = err_from_is_err_and c.from_residual-in_err-write_pieces.result c.from_residual-in_err-write_pieces.ensures.1 in
-    rw (p.1, p.2) (counts_stopped (Unit {0}) (Unit {0}) _ _ _ c.in_err-write_pieces.ensures.count)
+pub returns-in_err-write_whole-clause-writes : goal.returns-in_err-write_whole-clause-writes
+returns-in_err-write_whole-clause-writes g c =
+    let p = err_from_is_err_and c.from_residual-in_err-write_whole.result c.from_residual-in_err-write_whole.ensures.1 in
+    rw (p.1, p.2) (counts_stopped (Unit {0}) (Unit {0}) _ _ _ c.in_err-write_whole.ensures.count)
 
 pub returns-clause-report : goal.returns-clause-report
 returns-clause-report g c =
     let e = c.in_ok-snapshot.ensures in
     let fits = ap (range_fault c.args.format) (sym c.now.ensures.value) ∙ sym c.in_default.ensures in
-    report_written c.args.format c.args.desk.now fits c.distance.result c.distance.ensures.value c.in_ok-snapshot.snapshot e.stands e.shown _ c.in_ok-report.ensures _ _ _ c.in_ok-write_pieces.ensures.ok
+    report_written c.args.format c.args.desk.now fits c.distance.result c.distance.ensures.value c.in_ok-snapshot.snapshot e.stands e.shown _ c.in_ok-report.ensures _ _ _ c.in_ok-write_whole.ensures.ok
