@@ -1,4 +1,3 @@
-pub mod Asked
 pub mod Drilled
 pub mod Gates
 pub mod Rounds

@@ -1,10 +1,10 @@
 -- A script, read again.
-use Rattle.std.proofs.Common.{◌≡◌, ◌∙◌, ◌^◌, ◌+◌, ◌<◌, ◌≤◌, ◌==◌, ℕ, zero, suc, Bool, true, false, List, [], ◌∷◌, ◌++◌, Option, Some, All, codes, map, length, length-append, get_or, ⊎_elim, refl, sym, ap, ap₂, arith}
+use Rattle.std.proofs.Common.{◌≡◌, ◌∙◌, ◌^◌, ◌+◌, ◌<◌, ◌≤◌, ◌==◌, ℕ, zero, suc, Bool, true, false, List, [], ◌∷◌, ◌++◌, None, Some, All, codes, map, length, length-append, get_or, ⊎_elim, refl, sym, ap, ap₂, arith}
 use Rattle.std.specs.Fmt.{decimal}
 use Rattle.std.proofs.lemmas.Bool.Decides.{nat_tests}
 use Rattle.std.proofs.lemmas.List.{map-append}
 use Rattle.std.proofs.lemmas.List.Elements.{All-head, All-tail}
-use Rattle.std.specs.Prelude.{if◌then◌else◌}
+use Rattle.std.specs.Prelude.{if◌then◌else◌, Result, Ok}
 use Rattle.csv.specs.Machine.{next_record}
 use Rattle.csv.specs.Reading.{records, records_from, default_config, strip_bom}
 use Rattle.csv.specs.Writing.{row_body, row_text, end_text, default_writer, read_back, escaped, fields_text, is_blank}
@@ -17,15 +17,21 @@ use Rattle.pf_scenario.specs.declared.event.Numbered.{Numbered}
 use Rattle.pf_scenario.specs.declared.change.Change.TheVariants.{Insert}
 use Rattle.pf_desk.specs.Desk.{Seen}
 use Rattle.pf_script.specs.Fields.{is_word}
-use Rattle.pf_script.specs.Grammar.{is_heading, line_of, horizon_of}
+use Rattle.pf_script.specs.Grammar.{horizon_of}
+use Rattle.pf_script.specs.Parsing.{heading_at, line_at, record_at}
+use Rattle.pf_script.specs.Places.{record_lines, lines_behind}
 use Rattle.pf_script.specs.Script.{script_records}
+use Rattle.pf_script.specs.Told.{LinesTold, Good, readings_from, rest_in, told, told_in}
+use Rattle.pf_script.specs.declared.fault.RecordFault.{RecordFault}
+use Rattle.pf_script.specs.declared.record.Record.TheVariants.{Settings}
+use Rattle.pf_script.specs.declared.stage.Stage.TheVariants.{Beginning, Opened}
 use Rattle.pf_script.specs.declared.version.Version.{Version}
 use Rattle.pf_script.specs.declared.version.Version.TheVariants.{First, Second}
 use Rattle.pf_script.specs.declared.line.Line.{Line}
 use Rattle.pf_script.specs.declared.line.Line.TheVariants.{Edit, Steps}
 use Rattle.pf_text.specs.Page.{table_text}
 use Rattle.pf_report.specs.Script.{settings_record, insert_record, insert_records, step_records, script_rows, script_text_of}
-use Rattle.pf_reopen.specs.Reopen.{version_of, CanBeWritten, insert_lines, step_lines, IsReadAgain, ScriptsAreReadAgain}
+use Rattle.pf_reopen.specs.Reopen.{CanBeWritten, insert_lines, lines_told, step_lines, told_of, ScriptsAreReadAgain}
 use Rattle.pf_reopen.proofs.Lines.{AreShort, IsAllowed, short_from, insert_again, steps_again, settings_again}
 
 -- a record has a byte at least: the end of its line
@@ -93,27 +99,59 @@ records_again every seen =
 
 -- the inserts are read as such
 inserts_again : (version : Version) (xs : List Numbered) → All (λ x. AreShort x.event) xs → All (λ x. IsAllowed version x.event) xs
-    → map (line_of version) (insert_records xs) ≡ map (λ line. Some line) (insert_lines xs)
+    → map (line_at version) (insert_records xs) ≡ map (λ line. Ok line) (insert_lines xs)
 inserts_again version [] short allowed = refl
 inserts_again version (x ∷ xs) short allowed =
     rw (insert_again version x.event (All-head (λ x. AreShort x.event) x xs short) (All-head (λ x. IsAllowed version x.event) x xs allowed))
-    (ap (λ (t : List (Option Line)). Some (Edit (Insert x.event) false) ∷ t)
+    (ap (λ (t : List (Result Line RecordFault)). Ok (Edit (Insert x.event) false) ∷ t)
     (inserts_again version xs (All-tail (λ x. AreShort x.event) x xs short) (All-tail (λ x. IsAllowed version x.event) x xs allowed)))
 
 -- and the steps
 step_lines_by : (version : Version) (n : ℕ) (b : Bool) → (n == 0) ≡ b → n ≤ horizon_of version → n < 10 ^ 15
-    → map (line_of version) (if b then [] else (codes "step" ∷ decimal n ∷ []) ∷ []) ≡ map (λ line. Some line) (if b then [] else Steps n ∷ [])
+    → map (line_at version) (if b then [] else (codes "step" ∷ decimal n ∷ []) ∷ []) ≡ map (λ line. Ok line) (if b then [] else Steps n ∷ [])
 step_lines_by version n true none within short = refl
 step_lines_by version n false some within short =
     ap (λ line. line ∷ []) (steps_again version n (grind (arith, nat_tests, some)) within short)
 
 step_lines_again : (version : Version) (n : ℕ) → n ≤ horizon_of version → n < 10 ^ 15
-    → map (line_of version) (step_records n) ≡ map (λ line. Some line) (step_lines n)
+    → map (line_at version) (step_records n) ≡ map (λ line. Ok line) (step_lines n)
 step_lines_again version n within short = step_lines_by version n (n == 0) refl within short
+
+-- records that are lines are told as these, on whatever lines of the text they stand
+lines_read : (version : Version) (number : ℕ) (places : List ℕ) (rows : List (List (List ℕ))) (lines : List Line)
+    → map (line_at version) rows ≡ map (λ line. Ok line) lines
+    → rest_in (readings_from (Opened version) number places rows) ≡ record { lines = lines_told number lines; fault = None }
+unfolding readings_from record_at
+lines_read version number places [] [] are = refl
+lines_read version number places [] (line ∷ lines) are = absurd (cc)
+lines_read version number places (fields ∷ rows) [] are = absurd (cc)
+lines_read version number places (fields ∷ rows) (line ∷ lines) are =
+    let first : line_at version fields ≡ Ok line = cc in
+    let rest : map (line_at version) rows ≡ map (λ line. Ok line) lines = cc in
+    rw first (ap (λ (told : LinesTold). record { lines = record { number = number; asks = line } ∷ told.lines; fault = told.fault })
+    (lines_read version (number + 1) (lines_behind places) rows lines rest))
+
+-- and the settings before them
+opening_read : (version : Version) (s : System) (every number : ℕ) (places : List ℕ) (rows : List (List (List ℕ))) (lines : List Line)
+    → map (line_at version) rows ≡ map (λ line. Ok line) lines
+    → told_in (Good (record { number = number; says = Settings (record { version = version; settings = s; every = every }) }) ∷ readings_from (Opened version) (number + 1) places rows)
+    ≡ record {
+      opening = Some (record { version = version; settings = s; every = every });
+      rest = record { lines = lines_told (number + 1) lines; fault = None };
+    }
+opening_read version s every number places rows lines are =
+    ap (λ (rest : LinesTold). record { opening = Some (record { version = version; settings = s; every = every }); rest = rest })
+    (lines_read version (number + 1) places rows lines are)
 
 module _ (every : ℕ) (seen : Seen) (can : CanBeWritten every seen) where
   abbrev settings : System
   settings = seen.state.plan.settings
+
+  abbrev rows : List (List (List ℕ))
+  rows = insert_records seen.state.plan.events ++ step_records seen.state.now
+
+  abbrev lines : List Line
+  lines = insert_lines seen.state.plan.events ++ step_lines seen.state.now
 
   limits : IsInLimits settings.processors settings.base settings.cap
   limits = can.scenario.settings.limits
@@ -122,9 +160,6 @@ module _ (every : ℕ) (seen : Seen) (can : CanBeWritten every seen) where
   of_version : (b : Bool) → (settings.horizon == near_horizon) ≡ b → horizon_of (if b then First else Second) ≡ settings.horizon
   of_version true is = sym (grind (arith, nat_tests, is))
   of_version false is = ⊎_elim (λ near. absurd (grind (arith, nat_tests, is, near))) (λ wide. sym wide) can.scenario.settings.horizon
-
-  pub horizon_is : horizon_of (version_of settings) ≡ settings.horizon
-  horizon_is = of_version (settings.horizon == near_horizon) refl
 
   pub least_horizon : settings.horizon ≤ 2 ^ 22
   least_horizon = ⊎_elim (λ near. omega (arith, near)) (λ wide. omega (arith, wide)) can.scenario.settings.horizon
@@ -136,32 +171,36 @@ module _ (every : ℕ) (seen : Seen) (can : CanBeWritten every seen) where
   allowed_in true is = can.limits (grind (arith, nat_tests, is))
   allowed_in false is = λ k d within. tt
 
-  pub lines_again : map (line_of (version_of settings)) (insert_records seen.state.plan.events ++ step_records seen.state.now)
-      ≡ map (λ line. Some line) (insert_lines seen.state.plan.events ++ step_lines seen.state.now)
-  lines_again =
-      let version = version_of settings in
-      let stepped : seen.state.now ≤ horizon_of version = rw horizon_is can.stepped in
+  lines_again : (b : Bool) → (settings.horizon == near_horizon) ≡ b → map (line_at (if b then First else Second)) rows ≡ map (λ line. Ok line) lines
+  lines_again b is =
+      let version = if b then First else Second in
+      let stepped : seen.state.now ≤ horizon_of version = rw (of_version b is) can.stepped in
       let few : seen.state.now < 10 ^ 15 = omega (arith, can.stepped, least_horizon) in
-      map-append (line_of version) (insert_records seen.state.plan.events) (step_records seen.state.now)
-      ∙ ap₂ (λ (xs ys : List (Option Line)). xs ++ ys)
-      (inserts_again version seen.state.plan.events short (allowed_in (settings.horizon == near_horizon) refl))
+      map-append (line_at version) (insert_records seen.state.plan.events) (step_records seen.state.now)
+      ∙ ap₂ (λ (xs ys : List (Result Line RecordFault)). xs ++ ys)
+      (inserts_again version seen.state.plan.events short (allowed_in b is))
       (step_lines_again version seen.state.now stepped few)
-      ∙ sym (map-append (λ line. Some line) (insert_lines seen.state.plan.events) (step_lines seen.state.now))
+      ∙ sym (map-append (λ line. Ok line) (insert_lines seen.state.plan.events) (step_lines seen.state.now))
 
-  headed : (b : Bool) → map is_heading (if b then [] else (codes "pfair" ∷ codes "2" ∷ []) ∷ []) ≡ (if b then [] else true ∷ [])
-  unfolding is_heading is_word
-  headed true = refl
-  headed false = refl
+  -- with its heading, or without one
+  told_from : (b : Bool) → (settings.horizon == near_horizon) ≡ b → (places : List ℕ)
+      → told_in (readings_from Beginning 1 places ((if b then [] else (codes "pfair" ∷ codes "2" ∷ []) ∷ []) ++ settings_record settings every ∷ rows))
+      ≡ record {
+        opening = Some (record { version = if b then First else Second; settings = settings; every = every });
+        rest = record { lines = lines_told (if b then 2 else 3) lines; fault = None };
+      }
+  unfolding readings_from record_at heading_at is_word
+  told_from true is places =
+      rw (settings_again First settings every limits can.distance (of_version true is))
+      (opening_read First settings every 1 (lines_behind places) rows lines (lines_again true is))
+  told_from false is places =
+      rw (settings_again Second settings every limits can.distance (of_version false is))
+      (opening_read Second settings every 2 (lines_behind (lines_behind places)) rows lines (lines_again false is))
 
-  pub read_again : IsReadAgain every seen
-  read_again = record {
-    rows = insert_records seen.state.plan.events ++ step_records seen.state.now;
-    records = records_again every seen;
-    heading = headed (settings.horizon == near_horizon);
-    opening = settings_again settings every limits can.distance;
-    horizon = horizon_is;
-    lines = lines_again;
-  }
+  pub told_again : told (script_text_of every seen) ≡ told_of every settings lines
+  told_again =
+      ap (λ records. told_in (readings_from Beginning 1 (record_lines (script_text_of every seen)) records)) (records_again every seen)
+      ∙ told_from (settings.horizon == near_horizon) refl (record_lines (script_text_of every seen))
 
 pub scripts_are_read_again : ScriptsAreReadAgain
-scripts_are_read_again every seen can = read_again every seen can
+scripts_are_read_again every seen can = told_again every seen can

@@ -1,7 +1,7 @@
 -- A desk has a script, and its script opens it again.
 use Rattle.std.proofs.Common.{◌≡◌, map, sym, ◌∙◌}
 use Rattle.pf_desk.specs.Desk.{seen_of}
-use Rattle.pf_drill.specs.Asked.{Whole}
+use Rattle.pf_script.specs.Asked.{Whole}
 use Rattle.pf_reopen.specs.Whole.{script_commands}
 use Rattle.pf_reopen.specs.Asked.{DesksHaveScripts, ScriptsReopenDesks}
 use Rattle.pf_reopen.proofs.Asked.{asked_whole}
@@ -9,13 +9,13 @@ use Rattle.pf_reopen.proofs.Lengths.{short_script}
 use Rattle.pf_reopen.proofs.Whole.{commands_reopen_desks}
 
 pub desks_have_scripts : DesksHaveScripts
-desks_have_scripts every seen can distance = record {
+desks_have_scripts every seen can = record {
   short = short_script every seen can;
-  asked = asked_whole every seen can distance;
+  asked = asked_whole every seen can;
 }
 
 pub scripts_reopen_desks : ScriptsReopenDesks
-scripts_reopen_desks every d q of_d of_q can distance asked =
+scripts_reopen_desks every d q of_d of_q can asked =
     let both : Whole d.state.plan.settings (script_commands d.state) ≡ Whole q.state.plan.settings (map (λ e. e.command) q.history) =
-    sym (asked_whole every (seen_of d) can distance) ∙ asked in
+    sym (asked_whole every (seen_of d) can) ∙ asked in
     commands_reopen_desks d q of_d of_q (cc) (cc)

@@ -161,7 +161,7 @@ short_script every seen can =
     let steps = few_steps seen.state.now (omega (arith, can.stepped, least_horizon every seen can)) in
     let behind = few_both (length events) 1 (insert_records events) (step_records seen.state.now) inserts steps in
     let opened = few_both 1 (length events + 1) (settings_record s every ∷ []) (insert_records events ++ step_records seen.state.now)
-    (few_settings s every can.scenario.settings.limits can.distance) behind in
+    (few_settings s every can.scenario.settings.limits (omega (arith, can.distance.within))) behind in
     let all = few_both 1 (1 + (length events + 1)) (heading_records s) (settings_record s every ∷ (insert_records events ++ step_records seen.state.now))
     (few_headings s) opened in
     let few : length events ≤ MOST_EVENTS = can.scenario.few in

@@ -1,17 +1,11 @@
 -- What the script of a desk asks for, and a desk that has answered it.
 use Rattle.std.specs.Prelude.{◌≡◌, ℕ, ◌≤◌, length, map}
-use Rattle.pf_timeline.specs.Checkpoints.{largest_distance}
 use Rattle.pf_desk.specs.Desk.{Seen, Shown, IsDesk, seen_of}
 use Rattle.pf_report.specs.Script.{script_text_of}
 use Rattle.pf_stream.specs.Reading.{longest_script}
-use Rattle.pf_drill.specs.Asked.{Whole, script_asked}
+use Rattle.pf_script.specs.Asked.{Whole, script_asked}
 use Rattle.pf_reopen.specs.Reopen.{CanBeWritten}
 use Rattle.pf_reopen.specs.Whole.{script_commands, IsReopened}
-
--- a script opens a desk with checkpoints so far apart
-pub record IsDistance (every : ℕ) : Type 0 where
-  pub some : 1 ≤ every
-  pub within : every ≤ largest_distance
 
 -- the script of a snapshot is one: it is not too long, no record of it is bad, and it asks for a desk of the same
 -- settings and for the commands of what was seen
@@ -20,12 +14,12 @@ pub record IsScriptOf (every : ℕ) (seen : Seen) : Type 0 where
   pub asked : script_asked (script_text_of every seen) ≡ Whole seen.state.plan.settings (script_commands seen.state)
 
 abbrev pub DesksHaveScripts : Type 0
-DesksHaveScripts = (every : ℕ) (seen : Seen) → CanBeWritten every seen → IsDistance every → IsScriptOf every seen
+DesksHaveScripts = (every : ℕ) (seen : Seen) → CanBeWritten every seen → IsScriptOf every seen
 
 -- The script of a desk opens it again: a desk q that has answered what the script of a desk d asks for, and no more,
 -- shows what d does, with its events numbered from 1 on.
 abbrev pub ScriptsReopenDesks : Type 0
 ScriptsReopenDesks =
-    (every : ℕ) (d q : Shown) → IsDesk d → IsDesk q → CanBeWritten every (seen_of d) → IsDistance every
+    (every : ℕ) (d q : Shown) → IsDesk d → IsDesk q → CanBeWritten every (seen_of d)
     → script_asked (script_text_of every (seen_of d)) ≡ Whole q.state.plan.settings (map (λ e. e.command) q.history)
     → IsReopened d q

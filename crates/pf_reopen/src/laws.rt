@@ -5,7 +5,8 @@ ghost use Rattle.pf_reopen.specs.Reopen.{ScriptsAreReadAgain};
 ghost use Rattle.pf_reopen.specs.Taken.{EventsAreTakenAgain};
 ghost use Rattle.pf_reopen.specs.Whole.{CommandsReopenDesks, DesksCanBeReopened};
 
-/// The script of a desk is read as it was written, record by record.
+/// The script of a desk tells what it was written of: the settings, an insert of each event by number, and the steps; no record
+/// of it is bad.
 pub fn scripts_are_read_again()
     ensures { ScriptsAreReadAgain }
 {}
