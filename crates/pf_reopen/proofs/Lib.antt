@@ -12,3 +12,4 @@ pub mod Anew
 pub mod Whole
 pub mod Examples
 pub mod Desks
+pub mod Rerun

@@ -4,3 +4,4 @@ pub mod Renumbered
 pub mod Whole
 pub mod Examples
 pub mod Asked
+pub mod Rerun

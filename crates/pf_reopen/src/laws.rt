@@ -2,6 +2,7 @@ ghost use Rattle.pf_reopen.specs.Asked.{DesksHaveScripts, ScriptsReopenDesks};
 ghost use Rattle.pf_reopen.specs.Examples.{WorkedRenumbering};
 ghost use Rattle.pf_reopen.specs.Renumbered.{EventsAreNumberedAnew, NumbersChangeNoRun};
 ghost use Rattle.pf_reopen.specs.Reopen.{ScriptsAreReadAgain};
+ghost use Rattle.pf_reopen.specs.Rerun.{ScheduleIsWrittenAgain, ScriptsRunAgain};
 ghost use Rattle.pf_reopen.specs.Taken.{EventsAreTakenAgain};
 ghost use Rattle.pf_reopen.specs.Whole.{CommandsReopenDesks, DesksCanBeReopened};
 
@@ -46,6 +47,18 @@ pub fn desks_have_scripts()
 /// A desk that has answered what the script of another asks for is that desk, as `commands_reopen_desks` says.
 pub fn scripts_reopen_desks()
     ensures { ScriptsReopenDesks }
+{}
+
+/// A run of the script of a snapshot ends with no bad record: it reports what was seen, with the events numbered from 1
+/// on, behind the replies where its format has them.
+pub fn scripts_run_again()
+    ensures { ScriptsRunAgain }
+{}
+
+/// In the formats `schedule`, `lags`, `misses` and `script` it reports what was seen, byte for byte. In the last of them
+/// it writes the very script that was run.
+pub fn schedule_is_written_again()
+    ensures { ScheduleIsWrittenAgain }
 {}
 
 /// A worked example: its events numbered anew, its rows and its denials.

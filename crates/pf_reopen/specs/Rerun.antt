@@ -1,5 +1,5 @@
 -- A desk's script, run by the program.
-use Rattle.std.specs.Prelude.{◌≡◌, ℕ, List, ◌++◌, codes, length, map}
+use Rattle.std.specs.Prelude.{◌≡◌, ℕ, List, ◌++◌, length, map}
 use Rattle.pf_run.specs.RunRows.{AreOfRun}
 use Rattle.pf_desk.specs.Desk.{Seen}
 use Rattle.pf_report.specs.Script.{script_text_of}
@@ -7,13 +7,12 @@ use Rattle.pf_words.specs.declared.format.Format.{Format}
 use Rattle.pf_words.specs.declared.format.Format.TheVariants.{Schedule, Lags, Misses, Script}
 use Rattle.pf_words.specs.declared.slot_range.SlotRange.{SlotRange}
 use Rattle.pf_words.specs.Formats.{range_fault}
-use Rattle.pf_cli.specs.Meaning.{Meaning, opening_course, text_and_then, text_if_replies, text_unless, reply_lines, report_text, script_meaning}
-use Rattle.pf_cli.specs.Replies.{line_end}
+use Rattle.pf_formats.specs.Report.{report_text}
+use Rattle.pf_cli.specs.Meaning.{Meaning, opening_course, ready_line, reply_lines, script_meaning, text_and_then, text_if_replies, text_unless}
 use Rattle.pf_reopen.specs.Reopen.{CanBeWritten}
 use Rattle.pf_reopen.specs.Taken.{renumbered}
 use Rattle.pf_reopen.specs.Renumbered.{denied_under, new_number}
 use Rattle.pf_reopen.specs.Whole.{script_commands}
-use Rattle.pf_reopen.specs.Asked.{IsDistance}
 
 -- what was seen, with the events numbered from 1 on, after as many entries as the script asks for
 abbrev pub seen_again : Seen → Seen
@@ -27,8 +26,7 @@ seen_again seen = record {
 -- the replies to the settings and to each command of the script, where the format has replies
 abbrev pub replies_again : Format → ℕ → Seen → List ℕ
 replies_again format every seen =
-    text_if_replies format (codes "ready" ++ line_end)
-    ++ text_if_replies format (reply_lines (opening_course every seen.state.plan.settings) (script_commands seen.state))
+    text_if_replies format (ready_line ++ reply_lines (opening_course every seen.state.plan.settings) (script_commands seen.state))
 
 -- the report of what was seen, where the format can be shown of the slots stepped, and else nothing
 abbrev pub report_of : Format → ℕ → Seen → Meaning
@@ -37,7 +35,6 @@ report_of format every seen = text_unless (range_fault format seen.state.now) (r
 -- a script can be written of the snapshot, and its rows and denials are those of its scenario
 pub record CanBeRerun (every : ℕ) (seen : Seen) : Type 0 where
   pub written : CanBeWritten every seen
-  pub distance : IsDistance every
   pub of_run : AreOfRun seen.state.plan seen.state.now seen.rows seen.denials
 
 -- Scripts run again: in any format the script of a snapshot means the replies, and then the report of what was seen.
