@@ -13,9 +13,8 @@ use Rattle.pf_script.specs.declared.line.Line.{Line}
 use Rattle.pf_script.specs.declared.line.Line.TheVariants.{Steps}
 use Rattle.pf_cli.specs.Meaning.{ScriptCourse, course_behind, seen_at}
 use Rattle.pf_opening.specs.Commands.{commands_of}
-use Rattle.pf_cli.specs.Session.{course_at}
-use Rattle.pf_cli.proofs.Batches.{answered_course}
-use Rattle.pf_cli.proofs.Sessions.{course_behind-append, course_entered, seen_there}
+use Rattle.pf_cli.specs.Meaning.{course_at}
+use Rattle.pf_cli.proofs.Courses.{answered_course, course_behind-append, one_answered, seen_there}
 use Rattle.pf_change.specs.Change.{change_text, lines_before, seen_behind}
 
 -- what follows from what a call did
@@ -31,7 +30,7 @@ ok_anyway (Err e) P h = tt
 pub step_more : (caller turn : ℕ) (c : ScriptCourse) (before after : Shown) (reply : Reply) → AnswersCaller caller Step before reply after
     → course_at before ≡ course_behind c (replicate turn Step) → course_at after ≡ course_behind c (replicate (turn + 1) Step)
 step_more caller turn c before after reply h is =
-    course_entered caller Step before after reply h
+    answered_course caller (Step ∷ []) before after (one_answered caller Step before after reply h)
     ∙ ap (λ d. course_behind d (Step ∷ [])) is
     ∙ sym (course_behind-append c (replicate turn Step) (Step ∷ []))
     ∙ ap (course_behind c) (replicate_more turn Step)

@@ -1,6 +1,6 @@
 -- What a script's first records changed.
-use Rattle.std.proofs.Common.{◌≡◌, ◌≤◌, ℕ, ◌+◌, true, false, List, [], ◌∷◌, ◌++◌, length, Option, Some, None, Result, Ok, Err, refl, ap, sym, subst, ◌∙◌, rules, tests}
-use Rattle.std.specs.Prelude.{nat_lt, IfOk, IfErr}
+use Rattle.std.proofs.Common.{◌≡◌, ◌≤◌, ℕ, ◌+◌, Bool, true, false, List, [], ◌∷◌, ◌++◌, length, Option, Some, None, Result, Ok, Err, refl, ap, sym, subst, ◌∙◌, rules, tests}
+use Rattle.std.specs.Prelude.{if◌then◌else◌, nat_lt, IfOk, IfErr}
 use Rattle.pf_script.specs.declared.line.Line.{Line}
 use Rattle.pf_script.specs.declared.version.Version.{Version}
 use Rattle.pf_script.specs.declared.version.Version.TheVariants.{First, Second}
@@ -8,9 +8,20 @@ use Rattle.pf_script.specs.Grammar.{is_heading, line_of, opening_of}
 use Rattle.pf_script.specs.Script.{script_records}
 use Rattle.pf_cli.specs.declared.fault.RunFault.{RunFault}
 use Rattle.pf_cli.specs.declared.fault.RunFault.TheVariants.{BadLine, ReadFault, WriteFault, ScriptTooLong, BadRange, NoMemory}
-use Rattle.pf_cli.specs.Meaning.{Meaning, Done, ScriptCourse, bad_record, course_opened_by}
-use Rattle.pf_change.specs.Change.{Lines, BadLineAt, lines_told, change_text, change_opened, change_among, change_meaning}
+use Rattle.pf_cli.specs.Meaning.{Meaning, Done, ScriptCourse, bad_record}
+use Rattle.pf_change.specs.Change.{Lines, BadLineAt, lines_told, change_text, change_opened, change_among, change_meaning, course_opened_by}
 use Rattle.pf_change.specs.Made.{Stops, StopsReading}
+
+-- Use: the first of the records that a script had left, or none.
+pub is_first : (found : Bool) (script : List (List (List ℕ))) (fields : List (List ℕ)) (rest : List (List (List ℕ)))
+    → script ≡ (if found then fields ∷ rest else []) → found ≡ true → script ≡ fields ∷ rest
+is_first true script fields rest e yes_found = e
+is_first false script fields rest e yes_found = cc
+
+pub is_none : (found : Bool) (script : List (List (List ℕ))) (fields : List (List ℕ)) (rest : List (List (List ℕ)))
+    → script ≡ (if found then fields ∷ rest else []) → found ≡ false → script ≡ []
+is_none true script fields rest e none_found = cc
+is_none false script fields rest e none_found = e
 
 short_change : (since : Option ℕ) (bytes : List ℕ) → length bytes ≤ 16777216 → change_meaning since bytes ≡ change_among since (script_records bytes)
 unfolding change_meaning

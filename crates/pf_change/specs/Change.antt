@@ -1,16 +1,18 @@
 -- What a script's records from one of them on changed: a text and an end.
-use Rattle.std.specs.Prelude.{ℕ, ◌+◌, ◌-◌, nat_lt, if◌then◌else◌, Option, None, Some, List, [], ◌∷◌, ◌++◌, length, take}
+use Rattle.std.specs.Prelude.{ℕ, ◌+◌, ◌-◌, nat_lt, if◌then◌else◌, Option, None, Some, option_map, List, [], ◌∷◌, ◌++◌, length, take}
 use Rattle.std.specs.List.{flat_map}
 use Rattle.pf_desk.specs.Desk.{Seen}
 use Rattle.pf_diff.specs.Diff.{diff_text_of}
 use Rattle.pf_script.specs.declared.version.Version.{Version}
 use Rattle.pf_script.specs.declared.version.Version.TheVariants.{First, Second}
 use Rattle.pf_script.specs.declared.line.Line.{Line}
+use Rattle.pf_script.specs.declared.line.Opening.{Opening}
 use Rattle.pf_script.specs.Script.{script_records}
 use Rattle.pf_script.specs.Grammar.{is_heading, opening_of, line_of}
 use Rattle.pf_stream.specs.Reading.{longest_script}
-use Rattle.pf_cli.specs.Meaning.{Meaning, Done, ScriptCourse, TooLong, bad_record, course_behind, course_opened_by, seen_at}
+use Rattle.pf_cli.specs.Meaning.{Meaning, Done, ScriptCourse, TooLong, bad_record, course_behind, opening_course, seen_at}
 use Rattle.pf_opening.specs.Commands.{commands_of}
+use Rattle.pf_opening.specs.Opened.{system_of}
 
 -- records behind the settings: lines, or the number of the first that is none
 pub data Told : Type 0 where
@@ -49,6 +51,11 @@ change_text since number c lines =
 abbrev pub told_meaning : Option ℕ → ℕ → ScriptCourse → Told → Meaning
 told_meaning since number c (BadLineAt bad) = bad_record bad
 told_meaning since number c (Lines lines) = record { text = change_text since number c lines; end = Done }
+
+-- the course that a script begins with, where its settings are within their limits
+abbrev pub course_opened_by : Version → Option Opening → Option ScriptCourse
+course_opened_by version None = None
+course_opened_by version (Some opening) = option_map (opening_course opening.every) (system_of version opening)
 
 -- the settings, which are the record of this number and open a desk at this course, and the records behind them
 abbrev pub change_opened : Option ℕ → Version → ℕ → List (List (List ℕ)) → Option ScriptCourse → Meaning

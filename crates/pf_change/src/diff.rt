@@ -5,9 +5,8 @@ ghost use Rattle.pf_timeline.specs.Checkpoints.{largest_distance};
 ghost use Rattle.pf_script.specs.Grammar.{opening_of};
 ghost use Rattle.pf_stream.specs.Reading.{longest_script, TakesAtMost};
 ghost use Rattle.pf_cli.specs.Answers.{Answers, CountsReads, CountsWrites};
-ghost use Rattle.pf_cli.specs.Meaning.{Meaning, Done, course_opened_by, opening_course};
-ghost use Rattle.pf_cli.specs.Session.{course_at};
-ghost use Rattle.pf_change.specs.Change.{change_meaning, change_opened, change_text, record_asked};
+ghost use Rattle.pf_cli.specs.Meaning.{Meaning, Done, course_at, opening_course};
+ghost use Rattle.pf_change.specs.Change.{change_meaning, change_opened, change_text, course_opened_by, record_asked};
 ghost use Rattle.pf_change.specs.Made.{IsUnwritten, Stops};
 
 use crate::lines::read_lines;

@@ -1,9 +1,8 @@
 ghost use Rattle.std.specs.Prelude.{◌≡◌, replicate, IfOk, OnOk};
 ghost use Rattle.std.specs.List.{flat_map};
 ghost use Rattle.pf_desk.specs.declared.command.Command.TheVariants.{Step};
-ghost use Rattle.pf_cli.specs.Meaning.{course_behind, seen_at};
+ghost use Rattle.pf_cli.specs.Meaning.{course_at, course_behind, seen_at};
 ghost use Rattle.pf_opening.specs.Commands.{commands_of};
-ghost use Rattle.pf_cli.specs.Session.{course_at};
 
 use pf_desk::command::Command;
 use pf_desk::desk::Desk;

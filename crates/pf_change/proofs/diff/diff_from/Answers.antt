@@ -1,8 +1,8 @@
 use Rattle.std.proofs.Common.{option_map, ap, ◌∙◌, sym}
 use Rattle.pf_script.specs.Grammar.{opening_of}
-use Rattle.pf_cli.specs.Meaning.{course_opened_by, opening_course}
+use Rattle.pf_cli.specs.Meaning.{opening_course}
 use Rattle.pf_opening.proofs.Limits.{every_of}
-use Rattle.pf_change.specs.Change.{change_opened, change_text}
+use Rattle.pf_change.specs.Change.{change_opened, change_text, course_opened_by}
 use Rattle.pf_change.proofs.Records.{lines_made, lines_stopped}
 use Rattle.pf_change.proofs.diff.diff_from.Goals as goal
 

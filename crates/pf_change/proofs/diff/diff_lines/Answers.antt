@@ -1,5 +1,5 @@
 use Rattle.pf_cli.specs.Meaning.{opening_course}
-use Rattle.pf_cli.specs.Session.{course_at}
+use Rattle.pf_cli.specs.Meaning.{course_at}
 use Rattle.pf_change.proofs.Courses.{both_shown, made_at}
 use Rattle.pf_change.proofs.diff.diff_lines.Goals as goal
 

@@ -2,8 +2,7 @@ use Rattle.std.proofs.Common.{length, ap, ◌∙◌, sym, arith}
 use Rattle.std.proofs.lemmas.Result.{err_from_is_err_and}
 use Rattle.pf_script.specs.Grammar.{is_heading}
 use Rattle.pf_script.proofs.Counting.{few_records}
-use Rattle.pf_cli.proofs.Scripts.{is_first, is_none}
-use Rattle.pf_change.proofs.Records.{heading_alone, heading_first, made_same, no_heading, no_record, stops_same}
+use Rattle.pf_change.proofs.Records.{heading_alone, heading_first, is_first, is_none, made_same, no_heading, no_record, stops_same}
 use Rattle.pf_change.proofs.diff.diff_script.Goals as goal
 
 pub returns-in_err-next-clause-stopped : goal.returns-in_err-next-clause-stopped

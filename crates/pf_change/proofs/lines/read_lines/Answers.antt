@@ -1,8 +1,7 @@
 use Rattle.std.proofs.Common.{ap, ◌∙◌, sym}
 use Rattle.std.proofs.lemmas.Result.{err_from_is_err_and}
 use Rattle.pf_script.specs.Grammar.{line_of}
-use Rattle.pf_cli.proofs.Scripts.{is_first}
-use Rattle.pf_change.proofs.Records.{told_bad}
+use Rattle.pf_change.proofs.Records.{is_first, told_bad}
 use Rattle.pf_change.proofs.lines.read_lines.Goals as goal
 
 pub returns-in_err-next-clause-stopped : goal.returns-in_err-next-clause-stopped

@@ -1,6 +1,6 @@
 use Rattle.std.proofs.Common.{◌∙◌, arith}
 use Rattle.pf_cli.specs.Meaning.{course_behind}
-use Rattle.pf_cli.specs.Session.{course_at}
+use Rattle.pf_cli.specs.Meaning.{course_at}
 use Rattle.pf_change.proofs.Courses.{all_taken, next_line}
 use Rattle.pf_change.proofs.taking.take_lines.Goals as goal
 

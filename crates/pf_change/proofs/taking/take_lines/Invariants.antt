@@ -2,7 +2,7 @@ use Rattle.std.proofs.Common.{◌≡◌, drop}
 use Rattle.std.specs.List.{flat_map}
 use Rattle.pf_cli.specs.Meaning.{course_behind}
 use Rattle.pf_opening.specs.Commands.{commands_of}
-use Rattle.pf_cli.specs.Session.{course_at}
+use Rattle.pf_cli.specs.Meaning.{course_at}
 use Rattle.pf_change.proofs.taking.take_lines.Given as goal
 
 -- the course once the edits that wait are answered, and the lines left are carried out

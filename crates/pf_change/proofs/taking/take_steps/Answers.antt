@@ -1,4 +1,4 @@
-use Rattle.pf_cli.specs.Session.{course_at}
+use Rattle.pf_cli.specs.Meaning.{course_at}
 use Rattle.pf_change.proofs.Courses.{step_more}
 use Rattle.pf_change.proofs.taking.take_steps.Goals as goal
 

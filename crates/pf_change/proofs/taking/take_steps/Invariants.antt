@@ -1,7 +1,7 @@
 use Rattle.std.proofs.Common.{◌≡◌, replicate}
 use Rattle.pf_desk.specs.declared.command.Command.TheVariants.{Step}
 use Rattle.pf_cli.specs.Meaning.{course_behind}
-use Rattle.pf_cli.specs.Session.{course_at}
+use Rattle.pf_cli.specs.Meaning.{course_at}
 use Rattle.pf_change.proofs.taking.take_steps.Given as goal
 
 -- so many steps were taken
