@@ -488,6 +488,7 @@ class Desk:
             "processors": lambda: processors_table(placed),
             "chart": lambda: chart(placed, NAMES, first, end),
             "svg": lambda: picture(placed, NAMES, first, end, view.cell()),
+            "quanta": lambda: quanta_table(placed, first, end),
             "drill": lambda: "schedule\n" + schedule(placed, first, end) + "taken\n" + taken_table(self.taken),
         }
         return reports[view.form]()
@@ -542,6 +543,11 @@ def schedule(placed, first, end):
     processors = range(placed.run.scenario.settings.processors)
     return table(["slot", *(f"p{p}" for p in processors)],
                  ([t, *map(name, placed.rows[t])] for t in range(first, end)))
+
+
+def quanta_table(placed, first, end):
+    return table(("slot", "processor", "task", "sub"),
+                 ((t, p, *place) for t in range(first, end) for p, place in enumerate(placed.rows[t]) if place))
 
 
 def lags_table(placed):

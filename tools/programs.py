@@ -9,9 +9,9 @@ CASES = TOP / "crates" / "pfair" / "cases"
 
 # The formats of `run` whose answers stand beside a case, in a file of that ending; those that show a part of these, and have
 # no file; and of the first those that may show some of the slots.
-FORMATS = ("schedule", "tables", "json", "events", "script", "processors", "stats", "chart", "svg")
+FORMATS = ("schedule", "tables", "json", "events", "script", "processors", "stats", "chart", "svg", "quanta")
 PARTS = ("replies", "lags", "misses", "denials", "report")
-RANGED = ("schedule", "chart", "svg")
+RANGED = ("schedule", "chart", "svg", "quanta")
 
 # Seconds after which a run is stopped, and the tool with it.
 LONGEST_RUN = 120

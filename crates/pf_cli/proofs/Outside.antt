@@ -7,7 +7,7 @@ use Rattle.std.proofs.lemmas.List.{append-nil}
 use Rattle.pf_script.specs.Told.{Told, told}
 use Rattle.pf_stream.specs.Reading.{longest_script}
 use Rattle.pf_words.specs.declared.format.Format.{Format}
-use Rattle.pf_words.specs.declared.format.Format.TheVariants.{Schedule, Tables, Json, Report, Replies, Lags, Misses, Denials, Events, Script, Processors, Stats, Chart, Svg}
+use Rattle.pf_words.specs.declared.format.Format.TheVariants.{Schedule, Quanta, Tables, Json, Report, Replies, Lags, Misses, Denials, Events, Script, Processors, Stats, Chart, Svg}
 use Rattle.pf_words.specs.declared.range_fault.RangeFault.{RangeFault}
 use Rattle.pf_words.specs.Formats.{has_replies, range_fault}
 use Rattle.pf_words.specs.Ranges.{is_within, whole}
@@ -25,6 +25,7 @@ whole_is_within now = rw (le-leb 0 now (omega arith), le-leb now now (omega arit
 -- a format that has replies can always be shown
 silent : (format : Format) (now : ℕ) (fault : RangeFault) → range_fault format now ≡ Some fault → has_replies format ≡ false
 silent (Schedule range) now fault is = refl
+silent (Quanta range) now fault is = refl
 silent (Chart range) now fault is = refl
 silent (Svg range cell) now fault is = refl
 silent Report now fault is = refl

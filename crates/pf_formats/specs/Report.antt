@@ -6,13 +6,14 @@ use Rattle.pf_report.specs.Part.{schedule_part_text}
 use Rattle.pf_report.specs.Events.{events_text}
 use Rattle.pf_report.specs.Script.{script_text_of}
 use Rattle.pf_report.specs.Json.{json_text}
+use Rattle.pf_report.specs.Quanta.{quanta_text}
 use Rattle.pf_report.specs.Replies.{line_end}
 use Rattle.pf_stats.specs.Processors.{processors_text}
 use Rattle.pf_stats.specs.Stats.{stats_text}
 use Rattle.pf_chart.specs.Chart.{chart_text_of}
 use Rattle.pf_picture.specs.Picture.{picture_text_of}
 use Rattle.pf_words.specs.declared.format.Format.{Format}
-use Rattle.pf_words.specs.declared.format.Format.TheVariants.{Schedule, Tables, Json, Report, Replies, Lags, Misses, Denials, Events, Script, Processors, Stats, Chart, Svg}
+use Rattle.pf_words.specs.declared.format.Format.TheVariants.{Schedule, Tables, Json, Report, Replies, Lags, Misses, Denials, Events, Script, Processors, Stats, Chart, Svg, Quanta}
 use Rattle.pf_words.specs.Ranges.{end_of, first_of}
 
 -- a table behind a line with its name
@@ -43,3 +44,4 @@ report_text Processors every seen = processors_text seen
 report_text Stats every seen = stats_text seen
 report_text (Chart range) every seen = chart_text_of seen (first_of range) (end_of range seen.state.now)
 report_text (Svg range cell) every seen = picture_text_of seen (first_of range) (end_of range seen.state.now) cell
+report_text (Quanta range) every seen = quanta_text seen (first_of range) (end_of range seen.state.now)

@@ -3,6 +3,7 @@ ghost use Rattle.pf_chart.specs.Chart.{chart_text_of};
 ghost use Rattle.pf_picture.specs.Picture.{picture_text_of};
 ghost use Rattle.pf_report.specs.Json.{json_text};
 ghost use Rattle.pf_report.specs.Part.{schedule_part_text};
+ghost use Rattle.pf_report.specs.Quanta.{quanta_text};
 ghost use Rattle.pf_report.specs.Replies.{line_end};
 ghost use Rattle.pf_words.specs.declared.format.TheConstants.{MOST_SLOTS};
 ghost use Rattle.pf_words.specs.Formats.{range_fault};
@@ -20,6 +21,7 @@ use pf_report::events::events_csv;
 use pf_report::json::{JsonPieces, json_pieces};
 use pf_report::lags::lag_pieces;
 use pf_report::misses::miss_pieces;
+use pf_report::quanta::{QuantaPieces, quanta_pieces};
 use pf_report::schedule_part::{PartPieces, schedule_part_pieces};
 use pf_report::script::script_pieces;
 use pf_stats::processors::processors_csv;
@@ -62,6 +64,7 @@ pub fn report_pieces(
         Format::Svg(range, cell) => {
             ReportPieces::Picture(picture_of(alloc, snapshot, range, cell)?)
         }
+        Format::Quanta(range) => ReportPieces::Quanta(quanta_of(alloc, snapshot, range)?),
     };
     Ok(pieces)
 }
@@ -106,6 +109,19 @@ fn picture_of(
 {
     let to = range.end(snapshot.now());
     picture_pieces(alloc, snapshot, range.first(), to, cell.get())
+}
+
+/// The quanta of a range of slots, in pieces.
+fn quanta_of(
+    alloc: Global,
+    snapshot: &Snapshot,
+    range: SlotRange,
+) -> Result<QuantaPieces<'_>, AllocError>
+    requires { is_within range snapshot.now.state.now ≡ true }
+    ensures { IfOk result
+        (λ pieces. pieces ≡ quanta_text snapshot.now (first_of range) (end_of range snapshot.now.state.now)) }
+{
+    quanta_pieces(alloc, snapshot, range.first(), range.end(snapshot.now()))
 }
 
 /// The JSON object, as a line, in pieces.

@@ -5,6 +5,7 @@ use pf_report::denials::DenialPieces;
 use pf_report::json::JsonPieces;
 use pf_report::lags::LagPieces;
 use pf_report::misses::MissPieces;
+use pf_report::quanta::QuantaPieces;
 use pf_report::schedule_part::PartPieces;
 use pf_report::script::ScriptPieces;
 use pf_text::pieces::{Chain, Pieces, Whole};
@@ -33,6 +34,8 @@ pub enum ReportPieces<'a> {
     Chart(ChartPieces<'a>),
     /// The picture of a range.
     Picture(PicturePieces<'a>),
+    /// The quanta of a range.
+    Quanta(QuantaPieces<'a>),
 }
 
 impl Pieces for ReportPieces<'_> {
@@ -54,6 +57,7 @@ impl Pieces for ReportPieces<'_> {
             ReportPieces::Script(pieces) => pieces.next_piece(alloc),
             ReportPieces::Chart(pieces) => pieces.next_piece(alloc),
             ReportPieces::Picture(pieces) => pieces.next_piece(alloc),
+            ReportPieces::Quanta(pieces) => pieces.next_piece(alloc),
         }
     }
 }

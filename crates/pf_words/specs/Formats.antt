@@ -2,7 +2,7 @@
 use Rattle.std.specs.Prelude.{ℕ, Bool, true, false, not, nat_lt, if◌then◌else◌, List, Option, Some, None, codes}
 use Rattle.std.specs.Str.{bytes_eq}
 use Rattle.pf_words.specs.declared.format.Format.{Format}
-use Rattle.pf_words.specs.declared.format.Format.TheVariants.{Schedule, Tables, Json, Report, Replies, Lags, Misses, Denials, Events, Script, Processors, Stats, Chart, Svg}
+use Rattle.pf_words.specs.declared.format.Format.TheVariants.{Schedule, Tables, Json, Report, Replies, Lags, Misses, Denials, Events, Script, Processors, Stats, Chart, Svg, Quanta}
 use Rattle.pf_words.specs.declared.format.TheConstants.{MOST_SLOTS}
 use Rattle.pf_words.specs.declared.range_fault.RangeFault.{RangeFault}
 use Rattle.pf_words.specs.declared.range_fault.RangeFault.TheVariants.{NotWithin, TooLong}
@@ -27,6 +27,7 @@ format_named name =
     else if bytes_eq name (codes "stats") then Some Stats
     else if bytes_eq name (codes "chart") then Some (Chart whole)
     else if bytes_eq name (codes "svg") then Some (Svg whole usual_cell)
+    else if bytes_eq name (codes "quanta") then Some (Quanta whole)
     else None
 
 -- the formats that have reply lines
@@ -36,11 +37,12 @@ has_replies Json = true
 has_replies Replies = true
 has_replies format = false
 
--- the format with the slots of a range alone; any other than these three has no range
+-- the format with the slots of a range alone; any other than these four has no range
 abbrev pub format_within : Format → SlotRange → Option Format
 format_within (Schedule all) range = Some (Schedule range)
 format_within (Chart all) range = Some (Chart range)
 format_within (Svg all cell) range = Some (Svg range cell)
+format_within (Quanta all) range = Some (Quanta range)
 format_within format range = if is_whole range then Some format else None
 
 -- the format in slots of a width; any other than this one has none
@@ -53,6 +55,7 @@ abbrev pub range_of : Format → SlotRange
 range_of (Schedule range) = range
 range_of (Chart range) = range
 range_of (Svg range cell) = range
+range_of (Quanta range) = range
 range_of format = whole
 
 -- a picture of more slots than one may show, where n slots were stepped

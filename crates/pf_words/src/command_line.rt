@@ -101,7 +101,7 @@ fn with_from<'a>(alloc: Global, command: Command<'a>) -> Result<Command<'a>, All
     let from = Arg::new(alloc, "from")
         .long("from")
         .value_name("F")
-        .help("schedule, chart and svg: the first slot that is shown [default: 0]")
+        .help("schedule, chart, svg, quanta: the first slot that is shown [default: 0]")
         .action(ArgAction::Set);
     command.arg(from)
 }
@@ -116,7 +116,7 @@ fn with_to<'a>(alloc: Global, command: Command<'a>) -> Result<Command<'a>, Alloc
         .long("to")
         .value_name("T")
         .help(
-            "schedule, chart and svg: the slots below T are shown [default: all that were stepped]",
+            "schedule, chart, svg, quanta: the slots below T are shown [default: all that were stepped]",
         )
         .action(ArgAction::Set);
     command.arg(to)

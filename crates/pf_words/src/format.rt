@@ -39,12 +39,14 @@ pub enum Format {
     Chart(SlotRange),
     /// The schedule of these slots as a picture in SVG, each slot so wide.
     Svg(SlotRange, Cell),
+    /// The schedule of these slots as a table with a line for each quantum.
+    Quanta(SlotRange),
 }
 
 impl Format {
     /// The format of this name: `schedule`, `tables`, `json`, `report`, `replies`, `lags`, `misses`, `denials`, `events`,
-    /// `script`, `processors`, `stats`, `chart` or `svg`, of all slots and of the usual width. `None` where the text is
-    /// none of these.
+    /// `script`, `processors`, `stats`, `chart`, `svg` or `quanta`, of all slots and of the usual width. `None` where the
+    /// text is none of these.
     pub fn named(name: &str) -> Option<Format>
         ensures { result ≡ format_named name.now }
     {
@@ -63,12 +65,13 @@ impl Format {
             "stats" => Some(Format::Stats),
             "chart" => Some(Format::Chart(SlotRange::whole())),
             "svg" => Some(Format::Svg(SlotRange::whole(), Cell::usual())),
+            "quanta" => Some(Format::Quanta(SlotRange::whole())),
             _ => None,
         }
     }
 
-    /// The same format of the slots of a range alone, where it is one of `schedule`, `chart` and `svg`. Any other has no range:
-    /// it is as before where both ends are left out, and else `None`.
+    /// The same format of the slots of a range alone, where it is one of `schedule`, `chart`, `svg` and `quanta`. Any other
+    /// has no range: it is as before where both ends are left out, and else `None`.
     pub fn within(self, range: SlotRange) -> Option<Format>
         ensures { result ≡ format_within self range }
     {
@@ -76,6 +79,7 @@ impl Format {
             Format::Schedule(_) => Some(Format::Schedule(range)),
             Format::Chart(_) => Some(Format::Chart(range)),
             Format::Svg(_, cell) => Some(Format::Svg(range, cell)),
+            Format::Quanta(_) => Some(Format::Quanta(range)),
             other => {
                 if !range.is_whole() {
                     return None;
@@ -100,7 +104,10 @@ impl Format {
         ensures { result ≡ range_of self.now }
     {
         match *self {
-            Format::Schedule(range) | Format::Chart(range) | Format::Svg(range, _) => range,
+            Format::Schedule(range)
+            | Format::Chart(range)
+            | Format::Svg(range, _)
+            | Format::Quanta(range) => range,
             _ => SlotRange::whole(),
         }
     }

@@ -45,6 +45,7 @@ Formats:
   stats       the figures of each task: how often it ran, moved and was put off, how soon, how late, its lag
   chart       a picture in characters: who runs where, each task's windows, its lag, what is late or denied
   svg         the same as SVG, for a browser; --cell W (6 to 40) tells how wide each slot is
+  quanta      the schedule, a line for each quantum
 
 `check` tells of each record that the format does not allow, and where and why, and carries nothing out.
 `diff` tells what the records from RECORD on changed, or the last one where --since is left out: the desk before it beside
