@@ -12,7 +12,7 @@ from dataclasses import dataclass, field, replace
 from functools import cache, lru_cache
 from itertools import count
 
-from pictures import chart, listed_tasks, picture
+from pictures import chart, in_use, listed_tasks, picture
 
 # Limits
 
@@ -487,8 +487,12 @@ class Desk:
             "stats": lambda: stats_table(placed),
             "processors": lambda: processors_table(placed),
             "chart": lambda: chart(placed, NAMES, first, end),
-            "svg": lambda: picture(placed, NAMES, first, end, view.cell()),
+            "svg": lambda: picture(placed, NAMES, len(misses(placed)), first, end, view.cell(), view.wrap(), view.style()),
+            "windows": lambda: windows_table(placed, first, end),
+            "jobs": lambda: jobs_table(placed),
+            "load": lambda: load_table(placed, first, end),
             "quanta": lambda: quanta_table(placed, first, end),
+            "c": lambda: c_array(placed),
             "drill": lambda: "schedule\n" + schedule(placed, first, end) + "taken\n" + taken_table(self.taken),
         }
         return reports[view.form]()
@@ -506,6 +510,12 @@ class View:
     def cell(self):
         return 9 if self.is_part else 20
 
+    def wrap(self):
+        return 7 if self.is_part else None
+
+    def style(self):
+        return "stairs" if self.is_part else "strips"
+
     def since(self, records):
         """The record from which on a diff tells what changed: of a part one in the middle, else the last one."""
         return max(1, len(records) // 2) if self.is_part else len(records)
@@ -522,8 +532,8 @@ class View:
         told, _ = answers(script)
         first, end = self.range(told.now if isinstance(told, Desk) else 0)
         part = ["--from", str(first), "--to", str(end)] if self.is_part else []
-        cell = ["--cell", str(self.cell())] if self.is_part and self.form == "svg" else []
-        return ["run", "--format", self.form, *part, *cell]
+        look = ["--cell", str(self.cell()), "--wrap", str(self.wrap()), "--style", self.style()]
+        return ["run", "--format", self.form, *part, *(look if self.is_part and self.form == "svg" else [])]
 
     def __str__(self):
         return f"{self.form}.part" if self.is_part else self.form
@@ -548,6 +558,65 @@ def schedule(placed, first, end):
 def quanta_table(placed, first, end):
     return table(("slot", "processor", "task", "sub"),
                  ((t, p, *place) for t in range(first, end) for p, place in enumerate(placed.rows[t]) if place))
+
+
+def admitted_tasks(placed):
+    return (task for task in listed_tasks(placed, NAMES) if task.was_admitted)
+
+
+def windows_table(placed, first, end):
+    """The drawn windows of which a slot, before the task's leave, or the quantum is one of these slots."""
+    lines = []
+    for task in admitted_tasks(placed):
+        join = placed.run.join_of(task.number)
+        for window in task.windows:
+            last = min(window.deadline, task.end, end) if task.has_left else min(window.deadline, end)
+            if max(window.release, first) < last or (window.ran is not None and first <= window.ran < end):
+                lines.append((task.number, window.i, (window.i - 1) // join.cost + 1, max(join.slot, window.release - join.early),
+                              window.release, window.deadline, window.bit, window.group, window.ran, window.on))
+    return table(("task", "sub", "job", "eligible", "release", "deadline", "bit", "group", "ran", "processor"), lines)
+
+
+def jobs_of(task, run):
+    """(job, release, deadline, the slot behind its last quantum or None) of the jobs that are finished, or due by the task's end."""
+    cost = run.join_of(task.number).cost
+    for job in count(1):
+        release, deadline = run.release(task.number, (job - 1) * cost + 1), run.deadline(task.number, job * cost)
+        ran = run.slot_of(task.number, job * cost)
+        if ran is None and deadline > task.end:
+            return
+        yield job, release, deadline, None if ran is None else ran + 1
+
+
+def jobs_table(placed):
+    return table(("task", "job", "release", "deadline", "finish", "response", "tardiness"),
+                 ((task.number, job, release, deadline, *((None,) * 3 if end is None else (end, end - release, max(0, end - deadline))))
+                  for task in admitted_tasks(placed) for job, release, deadline, end in jobs_of(task, placed.run)))
+
+
+def level(run, admitted, t):
+    """Load and room of slot t of a run with these tasks."""
+    base = run.scenario.settings.base
+    inside = (task for task in admitted if task.joined <= t and not (task.has_left and task.end <= t))
+    return sum(run.join_of(task.number).weight().units(base) for task in inside), base * in_use(run, t)
+
+
+def load_table(placed, first, end):
+    admitted = list(admitted_tasks(placed))
+    levels = [level(placed.run, admitted, t) for t in range(first, end)]
+    return table(("slot", "load", "room"),
+                 ((t, *now) for t, before, now in zip(range(first, end), [None, *levels], levels) if now != before))
+
+
+def c_array(placed):
+    """The schedule as a C array: a row for each slot, or one with nobody in it."""
+    settings, count_of_slots = placed.run.scenario.settings, len(placed.rows)
+    rows = placed.rows or [[None] * settings.processors]
+    lines = ("    {" + ", ".join(str(place[0] if place else 0) for place in row) + "},\n" for row in rows)
+    return (f"/* PD2 schedule: {settings.processors} processors, {count_of_slots} slots, base {settings.base}. "
+            "One row a slot, one task a processor; 0 is nobody. */\n#include <stdint.h>\n"
+            f"enum {{ PFAIR_PROCESSORS = {settings.processors}, PFAIR_SLOTS = {count_of_slots} }};\n"
+            f"static const uint16_t pfair_schedule[{len(rows)}][{settings.processors}] = {{\n" + "".join(lines) + "};\n")
 
 
 def lags_table(placed):

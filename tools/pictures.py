@@ -192,135 +192,238 @@ def chart(placed, names, first, end):
 
 # The picture
 
-STYLE = ("text{font:10px monospace}.n{text-anchor:middle}.a{text-anchor:middle;fill:#555}.f{fill:#fff}.g{stroke:#eee}"
-         ".h{stroke:#bbb}.w{fill:none;stroke:#456}.v{fill:none;stroke:#c00;stroke-width:2}"
-         ".e{stroke:#456;stroke-dasharray:2 2}.q{stroke:#456}.t{stroke:#c00;stroke-width:2}"
-         ".o{stroke:#c00;stroke-dasharray:1 1}.d{fill:#456}.s{fill:#ddd}.u{fill:#888}"
-         ".z{stroke:#999;stroke-dasharray:1 2}.k{fill:none;stroke:#06c}"
-         ".x{fill:none;stroke:#c00;stroke-width:2}.r{fill:#c00}.j{fill:#080}.c0{fill:#8dd3c7}.c1{fill:#ffffb3}"
-         ".c2{fill:#bebada}.c3{fill:#fdb462}.c4{fill:#80b1d3}.c5{fill:#fccde5}.c6{fill:#b3de69}.c7{fill:#d9d9d9}"
-         ".c8{fill:#bc80bd}.c9{fill:#ccebc5}.c10{fill:#ffed6f}.c11{fill:#fb8072}")
-CAPTION = ("bracket: window; box: quantum and its processor; red: missed; triangle: group deadline; grey: stopped; "
-           "blue: lag; x: denied")
+STYLE = ("text{font:10px monospace;fill:#222}.n{text-anchor:middle;fill:#000}.i{fill:#fff}.a{text-anchor:middle;fill:#555}"
+         ".m{text-anchor:end}.f{fill:#fff}.g{stroke:#eee}.h{stroke:#bbb}.w{fill:none;stroke:#456}"
+         ".v{fill:none;stroke:#c00;stroke-width:2}.e{stroke:#456;stroke-dasharray:2 2}.q{stroke:#456}"
+         ".t{stroke:#c00;stroke-width:2}.o{stroke:#c00;stroke-dasharray:1 1}.d{fill:#456}"
+         ".l{stroke:#456;stroke-dasharray:4 2}.b{fill:#cde}.s,.y{fill:#ddd}.u{fill:#888}"
+         ".z{stroke:#999;stroke-dasharray:1 2}.k{fill:none;stroke:#06c}.x{fill:none;stroke:#c00;stroke-width:2}"
+         ".r{fill:#b00}.j{fill:#080}.c0{fill:#fdb}.c1{fill:#755}.c2{fill:#3b3}.c3{fill:#00d}.c4{fill:#b99}"
+         ".c5{fill:#035}.c6{fill:#b9f}.c7{fill:#570}.c8{fill:#ddf}.c9{fill:#37b}.c10{fill:#bf0}.c11{fill:#330}"
+         "@media screen and (prefers-color-scheme:dark){text{fill:#ddd}.a{fill:#aaa}.f{fill:#16181d}"
+         ".g{stroke:#26292f}.h{stroke:#50555d}.w,.e,.q,.l{stroke:#9ab}.d{fill:#9ab}.b{fill:#354a63}"
+         ".s{fill:#3a3d44}.u{fill:#666}.z{stroke:#777}.k{stroke:#6bf}.v,.t,.o,.x{stroke:#f66}.r{fill:#f88}"
+         ".j{fill:#5c5}}@media print{svg{max-width:100%;height:auto}}")
+BRACKET = "M1 1V11H21V1"
+TRIANGLE = '<path class="d" d="M11 3l-3 5h6z"/>'
+SIGNS = [('<rect class="q c0" x="1" y="1" width="20" height="10"/><text class="n" x="11" y="10">0</text>',
+          "quantum, its processor"),
+         (f'<path class="w" d="{BRACKET}"/>', "window"), ('<path class="e" d="M1 11H21"/>', "may run before it"),
+         (f'<path class="v" d="{BRACKET}"/>', "missed window"), ('<path class="o" d="M1 6H21"/>', "late, until it ran"),
+         None, None, ('<rect class="s" x="1" width="20" height="12"/>', "clock stopped"),
+         ('<rect class="u" x="1" width="20" height="12"/>', "processor out of use"),
+         ('<path class="j" d="M8 3l6 3l-6 3z"/>', "joins"), ('<path class="j" d="M14 3l-6 3l6 3z"/>', "left"),
+         ('<path class="x" d="M8 3l6 6m0-6l-6 6"/>', "event denied")]
+OWN_SIGNS = {
+    "strips": [(TRIANGLE, "group deadline"),
+               ('<path class="z" d="M1 8H21"/><path class="k" d="M1 8H8V3H14V10H21"/>', "lag, up where owed")],
+    "stairs": [('<path class="l" d="M11 0V12"/>' + TRIANGLE, "group deadline"),
+               ('<rect class="b" x="1" width="20" height="12"/>', "in two windows")]}
+
+
+def rounded_up(a, b):
+    return -(-a // b)
 
 
 class Picture:
-    """The elements of a picture of the slots from `first` on and below `end`, in cells of this width."""
+    """A picture of the slots from `first` on and below `end`, in cells of this width, in blocks of so many slots, or in one,
+    and in a style."""
 
-    def __init__(self, placed, names, first, end, cell):
-        self.placed, self.first, self.end, self.cell = placed, first, end, cell
-        self.tasks, self.processors = listed_tasks(placed, names), placed.run.scenario.settings.processors
-        self.width = max(112 + cell * (end - first), 760)
-        self.height = 80 + 20 * self.processors + 72 * len(self.tasks)
-        self.strips = max([1, *(-(-abs(lag) // task.join.period) for task in self.tasks if task.was_admitted
+    def __init__(self, placed, names, missed, first, end, cell, wrap=None, style="strips"):
+        self.placed, self.first, self.end, self.cell, self.style = placed, first, end, cell, style
+        self.tasks, self.settings = listed_tasks(placed, names), placed.run.scenario.settings
+        self.missed, self.denied = missed, len(placed.run.denials)
+        self.wrap = wrap or max(1, end - first)
+        self.strips = max([1, *(rounded_up(abs(lag), task.join.period) for task in self.tasks if task.was_admitted
                                 for t, lag in task.lags.items() if first <= t <= end)])
+        widths = [16 + 6 * len(words) for task in self.tasks for words in self.words(task)]
+        self.gutter = max([96, *widths])
+        self.width = max(self.gutter + 16 + cell * min(self.wrap, end - first), 400)
+        self.step = next(s for s in (5, 10, 20, 50, 100) if s * cell >= max(40, 6 * len(str(end)) + 6))
 
-    def x(self, t):
-        return 96 + self.cell * (t - self.first)
+    def words(self, task):
+        label, weight = f"task {task.number}", f"{task.join.cost}/{task.join.period}" if task.join else "-"
+        return [label, weight] if self.style == "strips" else [f"{label}, {weight}"]
 
     def text(self):
-        lines = [*self.frame(), *(each for p in range(self.processors) for each in self.processor(p)),
-                 *(each for task in self.tasks for each in self.task(task)),
-                 f'<text x="8" y="{self.height - 8}">{CAPTION}</text>', "</svg>"]
-        return "".join(each + "\n" for each in lines)
+        blocks, below = [], 24
+        for a in range(self.first, max(self.end, self.first + 1), self.wrap):
+            block = Block(self, a, min(a + self.wrap, self.end))
+            blocks += [f'<g transform="translate(0 {below})">', *block.lines(), "</g>"]
+            below += block.height
+        return "".join(line + "\n" for line in [*self.front(below), *blocks, *self.legend(below), "</svg>"])
 
-    def frame(self):
-        b, h = self.width, self.height
-        yield f'<svg xmlns="http://www.w3.org/2000/svg" viewBox="0 0 {b} {h}" width="{b}" height="{h}">'
+    def columns(self):
+        return (self.width - 16) // 172
+
+    def front(self, below):
+        settings, many, b = self.settings, len(self.tasks), self.width
+        h = below + 44 + 16 * rounded_up(12, self.columns())
+        slots = f"slots {self.first} to {self.end} of {len(self.placed.rows)}"
+        yield (f'<svg xmlns="http://www.w3.org/2000/svg" lang="en" role="img" viewBox="0 0 {b} {h}" '
+               f'width="{b}" height="{h}">')
+        yield f"<title>PD2 schedule, {slots}</title>"
+        yield (f"<desc>Tasks {many} of {many}; processors {settings.processors}; base {settings.base}; "
+               f"cap {settings.cap}; missed windows {self.missed}; denied events {self.denied}.</desc>")
         yield f"<style>{STYLE}</style>"
         yield f'<rect class="f" width="{b}" height="{h}"/>'
-        yield f'<text x="8" y="16">{head(self.placed, self.first, self.end)}; lag strips {self.strips}</text>'
-        step = next(s for s in (5, 10, 20, 50, 100) if s * self.cell >= 40)
-        for t in range(self.first, self.end + 1):
-            yield f'<path class="{"g" if t % step else "h"}" d="M{self.x(t)} 40V{h - 24}"/>'
-            if t % step == 0:
+        strips = f"; lag strips {self.strips}" if self.style == "strips" else ""
+        for y, words in ((16, f"{slots}; processors {settings.processors}"),
+                         (30, f"base {settings.base}; cap {settings.cap}{strips}"),
+                         (44, f"tasks {many} of {many}; missed windows {self.missed}; denied events {self.denied}")):
+            yield f'<text x="8" y="{y}">{words}</text>'
+
+    def legend(self, below):
+        for k, sign in enumerate(SIGNS):
+            drawn, words = sign or OWN_SIGNS[self.style][k - 5]
+            x, y = 8 + 172 * (k % self.columns()), below + 36 + 16 * (k // self.columns())
+            yield f'<g transform="translate({x} {y})">{drawn}<text x="28" y="10">{words}</text></g>'
+
+
+class Block:
+    """A block of a picture: its slots from a on and below b."""
+
+    def __init__(self, picture, a, b):
+        self.picture, self.a, self.b = picture, a, b
+        self.cell, self.style, self.processors = picture.cell, picture.style, picture.settings.processors
+        self.heights = [72 if self.style == "strips" else 28 + 14 * len(self.rows(task)) for task in picture.tasks]
+        self.height = 48 + 20 * self.processors + sum(self.heights)
+
+    def rows(self, task):
+        if not task.was_admitted:
+            return []
+        return [x for x in task.windows if max(x.release, self.a) < min(x.deadline, task.end, self.b)
+                or x.ran is not None and self.a <= x.ran < self.b]
+
+    def x(self, t):
+        return self.picture.gutter + self.cell * (t - self.a)
+
+    def lines(self):
+        yield '<text x="8" y="36">slot</text>'
+        for t in range(self.a, self.b + 1):
+            numbered = t % self.picture.step == 0
+            yield f'<path class="{"h" if numbered else "g"}" d="M{self.x(t)} 40V{self.height + 8}"/>'
+            if numbered:
                 yield f'<text class="a" x="{self.x(t)}" y="36">{t}</text>'
+        for p in range(self.processors):
+            yield from self.processor(p)
+        y = 56 + 20 * self.processors
+        for task, height in zip(self.picture.tasks, self.heights):
+            yield from self.task(task, y)
+            y += height
 
     def processor(self, p):
-        y, placed = 44 + 20 * p, self.placed
+        y, placed = 44 + 20 * p, self.picture.placed
         yield f'<text x="8" y="{y + 12}">p{p}</text>'
-        for t in range(self.first, self.end):
+        for t in range(self.a, self.b):
             place = placed.rows[t][p]
             if p >= in_use(placed.run, t):
                 yield f'<rect class="u" x="{self.x(t)}" y="{y}" width="{self.cell}" height="16"/>'
             elif place:
-                task = next(x for x in self.tasks if x.number == place[0])
+                task = next(x for x in self.picture.tasks if x.number == place[0])
                 yield self.box(task, task.running(t), self.x(t) + 1, y, self.cell - 2, 16)
-                if 6 * len(str(place[0])) + 2 <= self.cell:
-                    yield f'<text class="n" x="{self.x(t) + self.cell // 2}" y="{y + 12}">{place[0]}</text>'
+                yield from self.digits(task, task.number, self.cell - 2, self.x(t) + self.cell // 2, y + 12)
 
     def box(self, task, window, x, y, width, height):
-        late, color = " t" if window.is_late else "", (task.rank - 1) % 12
-        title = f"{window.ran} p{window.on} {task.number}/{window.i} {window.release} {window.deadline}"
-        return (f'<rect class="q{late} c{color}" x="{x}" y="{y}" width="{width}" height="{height}">'
-                f"<title>{title}</title></rect>")
+        group = f", group deadline {window.group}" if window.group else ""
+        late = f", late by {window.ran + 1 - window.deadline}" if window.is_late else ""
+        told = (f"slot {window.ran}, p{window.on}: task {task.number}, subtask {window.i}, "
+                f"window {window.release} to {window.deadline}{group}{late}")
+        return (f'<rect class="q{" t" if late else ""} c{(task.rank - 1) % 12}" x="{x}" y="{y}" width="{width}" '
+                f'height="{height}"><title>{told}</title></rect>')
 
-    def task(self, task):
-        y = 56 + 20 * self.processors + 72 * (task.rank - 1)
-        yield f'<path class="h" d="M0 {y - 4}H{self.width}"/>'
-        yield f'<text x="8" y="{y + 12}">task {task.number}</text>'
-        weight = f"{task.join.cost}/{task.join.period}" if task.join else "-"
-        yield f'<text x="8" y="{y + 26}">{weight}</text>'
+    @staticmethod
+    def digits(task, number, room, x, y):
+        if 6 * len(str(number)) <= room:
+            yield f'<text class="{"n" if task.rank % 2 else "n i"}" x="{x}" y="{y}">{number}</text>'
+
+    def task(self, task, y):
+        yield f'<path class="h" d="M0 {y - 4}H{self.picture.width}"/>'
+        for k, words in enumerate(self.picture.words(task)):
+            yield f'<text x="8" y="{y + 12 + 14 * k}">{words}</text>'
+        level = y + 29 if self.style == "strips" else y + 6
         if task.was_admitted:
-            yield from self.course(task, y)
+            yield from (self.strip if self.style == "strips" else self.stairs)(task, y)
+            if self.a <= task.joined < self.b:
+                yield f'<path class="j" d="M{self.x(task.joined)} {level}l6 3l-6 3z"/>'
+            if task.has_left and self.a < task.end <= self.b:
+                yield f'<path class="j" d="M{self.x(task.end)} {level}l-6 3l6 3z"/>'
         for slot, number, name in task.denied:
-            if self.first <= slot < self.end:
-                yield f'<path class="x" d="M{self.x(slot) - 3} {y + 29}l6 6m0-6l-6 6"/>'
-                yield f'<text class="r" x="{self.x(slot) + 6}" y="{y + 36}">event {number} {name}</text>'
+            if self.a <= slot < self.b:
+                second = 2 * (slot - self.a) >= self.b - self.a
+                style, x = ("r m", self.x(slot) - 6) if second else ("r", self.x(slot) + 6)
+                yield f'<path class="x" d="M{self.x(slot) - 3} {level}l6 6m0-6l-6 6"/>'
+                yield f'<text class="{style}" x="{x}" y="{level + 7}">event {number} {name}</text>'
 
-    def course(self, task, y):
-        low, high = max(task.joined, self.first), min(task.end, self.end)
-        if task.joined <= self.end <= task.end:
-            yield f'<text x="8" y="{y + 54}">lag {task.lags[self.end]}</text>'
+    def stops(self, task, y, height):
         for first, end in task.stops:
-            a, z = max(first, low), min(end, high)
-            if a < z:
-                yield f'<rect class="s" x="{self.x(a)}" y="{y}" width="{self.cell * (z - a)}" height="64"/>'
-        for window in task.windows:
-            yield from self.window(task, window, y + 2 + 14 * ((window.i - 1) % 2))
+            f, g = max(first, task.joined, self.a), min(end, task.end, self.b)
+            if f < g:
+                yield f'<rect class="s" x="{self.x(f)}" y="{y}" width="{self.cell * (g - f)}" height="{height}"/>'
+
+    def groups(self, task):
         last = 0
         for window in task.windows:
             if window.bit == 1 and window.group not in (0, last):
-                if low < window.group <= high:
-                    yield f'<path class="d" d="M{self.x(window.group)} {y + 29}l-3 5h6z"/>'
                 last = window.group
-        yield from self.lag_line(task, y + 50, low, high)
-        if self.first <= task.joined < self.end:
-            yield f'<path class="j" d="M{self.x(task.joined)} {y + 29}l6 3l-6 3z"/>'
-        if task.has_left and self.first < task.end <= self.end:
-            yield f'<path class="j" d="M{self.x(task.end)} {y + 29}l-6 3l6 3z"/>'
+                if max(task.joined, self.a) < last <= min(task.end, self.b):
+                    yield self.x(last)
+
+    def strip(self, task, y):
+        if task.joined <= self.b <= task.end:
+            yield f'<text x="8" y="{y + 54}">lag {task.lags[self.b]}</text>'
+        yield from self.stops(task, y, 64)
+        for window in task.windows:
+            yield from self.window(task, window, y + 2 + 14 * ((window.i - 1) % 2))
+        for x in self.groups(task):
+            yield f'<path class="d" d="M{x} {y + 29}l-3 5h6z"/>'
+        low, high, middle = max(task.joined, self.a), min(task.end, self.b), y + 50
+        if low < high:
+            level = {t: middle - 14 * task.lags[t] // (task.join.period * self.picture.strips) for t in range(low, high + 1)}
+            steps = "".join(f"H{self.x(t)}V{level[t]}" for t in range(low + 1, high + 1))
+            yield f'<path class="z" d="M{self.x(low)} {middle}H{self.x(high)}"/>'
+            yield f'<path class="k" d="M{self.x(low)} {level[low]}{steps}"/>'
+
+    def stairs(self, task, y):
+        rows = self.rows(task)
+        end = y + 20 + 14 * len(rows)
+        yield from self.stops(task, y, 20 + 14 * len(rows))
+        for k, (window, following) in enumerate(zip(rows, rows[1:])):
+            f, g = max(following.release, self.a), min(window.deadline, task.end, self.b)
+            if f < g:
+                yield (f'<rect class="b" x="{self.x(f)}" y="{y + 20 + 14 * k}" width="{self.cell * (g - f)}" '
+                       'height="26"/>')
+        for x in self.groups(task):
+            yield f'<path class="l" d="M{x} {y + 13}V{end}"/>'
+            yield f'<path class="d" d="M{x} {y + 8}l-3 5h6z"/>'
+        for k, window in enumerate(rows):
+            z, eligible = y + 20 + 14 * k, max(task.joined, window.release - task.join.early)
+            yield f'<text class="m" x="{self.x(max(eligible, self.a)) - 3}" y="{z + 10}">T{window.i}</text>'
+            yield from self.window(task, window, z)
 
     def window(self, task, window, z):
-        first, end, r, d = self.first, self.end, window.release, window.deadline
-        a, g, begin = max(r, first), min(d, task.end, end), max(task.joined, r - task.join.early)
-        if begin < r and first < r and begin < end:
-            yield f'<path class="e" d="M{self.x(max(begin, first))} {z + 12}H{self.x(min(r, end))}"/>'
-        if a < g:
-            up, over = z if r >= first else z + 12, z if g == d else z + 12
+        a, b, r, d = self.a, self.b, window.release, window.deadline
+        eligible = max(task.joined, r - task.join.early)
+        if eligible < r and a < r and eligible < b:
+            yield f'<path class="e" d="M{self.x(max(eligible, a))} {z + 12}H{self.x(min(r, b))}"/>'
+        f, g = max(r, a), min(d, task.end, b)
+        if f < g:
+            up, over = z if r >= a else z + 12, z if g == d else z + 12
             style = "v" if window.is_late else "w"
-            yield f'<path class="{style}" d="M{self.x(a) + 2} {up}V{z + 12}H{self.x(g) - 2}V{over}"/>'
-        until = min(task.end if window.ran is None else window.ran, end)
-        if window.is_late and max(d, first) < until:
-            yield f'<path class="o" d="M{self.x(max(d, first))} {z + 5}H{self.x(until)}"/>'
-        if window.ran is not None and first <= window.ran < end:
+            yield f'<path class="{style}" d="M{self.x(f) + 2} {up}V{z + 12}H{self.x(g) - 2}V{over}"/>'
+        until = min(task.end if window.ran is None else window.ran, b)
+        if window.is_late and max(d, a) < until:
+            yield f'<path class="o" d="M{self.x(max(d, a))} {z + 5}H{self.x(until)}"/>'
+        if window.ran is not None and a <= window.ran < b:
             inset = self.cell // 5
-            room = self.cell - 2 * inset
-            yield self.box(task, window, self.x(window.ran) + inset, z, room, 10)
-            if 6 * len(str(window.on)) <= room:
-                yield f'<text class="n" x="{self.x(window.ran) + self.cell // 2}" y="{z + 9}">{window.on}</text>'
-
-    def lag_line(self, task, middle, low, high):
-        def height(t):
-            return middle - 14 * task.lags[t] // (task.join.period * self.strips)
-
-        if low < high:
-            yield f'<path class="z" d="M{self.x(low)} {middle}H{self.x(high)}"/>'
-            steps = "".join(f"H{self.x(t)}V{height(t)}" for t in range(low + 1, high + 1))
-            yield f'<path class="k" d="M{self.x(low)} {height(low)}{steps}"/>'
+            room, x = self.cell - 2 * inset, self.x(window.ran)
+            yield self.box(task, window, x + inset, z, room, 10)
+            yield from self.digits(task, window.on, room, x + self.cell // 2, z + 9)
 
 
-def picture(placed, names, first, end, cell):
-    return Picture(placed, names, first, end, cell).text()
+def picture(placed, names, missed, first, end, cell, wrap=None, style="strips"):
+    """The picture of a run in which so many windows are missed."""
+    return Picture(placed, names, missed, first, end, cell, wrap, style).text()
 
 
 # A chart, read back

@@ -9,9 +9,10 @@ CASES = TOP / "crates" / "pfair" / "cases"
 
 # The formats of `run` whose answers stand beside a case, in a file of that ending; those that show a part of these, and have
 # no file; and of the first those that may show some of the slots.
-FORMATS = ("schedule", "tables", "json", "events", "script", "processors", "stats", "chart", "svg", "quanta")
+FORMATS = ("schedule", "tables", "json", "events", "script", "processors", "stats", "chart", "svg", "windows", "jobs",
+           "load", "quanta", "c")
 PARTS = ("replies", "lags", "misses", "denials", "report")
-RANGED = ("schedule", "chart", "svg", "quanta")
+RANGED = ("schedule", "chart", "svg", "windows", "load", "quanta")
 
 # Seconds after which a run is stopped, and the tool with it.
 LONGEST_RUN = 120

@@ -1,9 +1,7 @@
 -- The course of a desk on which lines are carried out.
-use Rattle.std.proofs.Common.{◌≡◌, ◌<◌, ◌≤◌, ℕ, ◌+◌, List, [], ◌∷◌, ◌++◌, length, take, drop, get_or, Option, Result, Ok, Err, sym, ap, ap₂, ◌∙◌, replicate}
+use Rattle.std.proofs.Common.{◌≡◌, ◌<◌, ◌≤◌, ℕ, ◌+◌, List, [], ◌∷◌, ◌++◌, length, take, drop, get_or, Option, Result, Ok, Err, refl, sym, ap, ap₂, append_assoc, ◌∙◌, replicate}
 use Rattle.std.specs.Prelude.{IfOk, OnOk}
-use Rattle.std.specs.List.{flat_map}
 use Rattle.std.proofs.lemmas.List.{at_drop_all, at_drop_more, replicate_more, take-append-drop}
-use Rattle.std.proofs.lemmas.Grind.{flat_map-append}
 use Rattle.pf_desk.specs.declared.command.Command.{Command}
 use Rattle.pf_desk.specs.declared.command.Command.TheVariants.{Step}
 use Rattle.pf_desk.specs.declared.reply.Reply.{Reply}
@@ -12,7 +10,8 @@ use Rattle.pf_diff.specs.Diff.{diff_text_of}
 use Rattle.pf_script.specs.declared.line.Line.{Line}
 use Rattle.pf_script.specs.declared.line.Line.TheVariants.{Steps}
 use Rattle.pf_cli.specs.Meaning.{ScriptCourse, course_behind, seen_at}
-use Rattle.pf_opening.specs.Commands.{commands_of}
+use Rattle.pf_script.specs.declared.record.LineTold.{LineTold}
+use Rattle.pf_script.specs.Asked.{commands_in, commands_of}
 use Rattle.pf_cli.specs.Meaning.{course_at}
 use Rattle.pf_cli.proofs.Courses.{answered_course, course_behind-append, one_answered, seen_there}
 use Rattle.pf_change.specs.Change.{change_text, lines_before, seen_behind}
@@ -50,21 +49,21 @@ steps_behind r caller count given edits none a b d h same is taken =
     ∙ ap (λ c. course_behind c (replicate count Step)) (answered_course caller given a b h ∙ ap (course_behind (course_at a)) same)) taken
 
 -- Use: of the lines left the first was taken.
-pub next_line : (c d : ScriptCourse) (lines : List Line) (i : ℕ) (z : Line) → i < length lines → d ≡ course_behind c (commands_of (get_or lines i z))
-    → course_behind d (flat_map commands_of (drop (i + 1) lines)) ≡ course_behind c (flat_map commands_of (drop i lines))
+pub next_line : (c d : ScriptCourse) (lines : List LineTold) (i : ℕ) (z : LineTold) → i < length lines → d ≡ course_behind c (commands_of (get_or lines i z).asks)
+    → course_behind d (commands_in (drop (i + 1) lines)) ≡ course_behind c (commands_in (drop i lines))
 next_line c d lines i z within taken =
-    let rest = flat_map commands_of (drop (i + 1) lines) in
+    let rest = commands_in (drop (i + 1) lines) in
     ap (λ x. course_behind x rest) taken
-    ∙ sym (course_behind-append c (commands_of (get_or lines i z)) rest)
-    ∙ sym (at_drop_more (λ xs. course_behind c (flat_map commands_of xs)) lines i z within)
+    ∙ sym (course_behind-append c (commands_of (get_or lines i z).asks) rest)
+    ∙ sym (at_drop_more (λ xs. course_behind c (commands_in xs)) lines i z within)
 
 -- Use: no line is left, and the edits that wait were answered.
-pub all_taken : {A E : Type 0} (r : Result A E) (caller : ℕ) (given edits : List Command) (a b : Shown) (lines : List Line) (i : ℕ) (whole : ScriptCourse)
-    → given ≡ edits → length lines ≤ i → course_behind (course_behind (course_at a) edits) (flat_map commands_of (drop i lines)) ≡ whole
+pub all_taken : {A E : Type 0} (r : Result A E) (caller : ℕ) (given edits : List Command) (a b : Shown) (lines : List LineTold) (i : ℕ) (whole : ScriptCourse)
+    → given ≡ edits → length lines ≤ i → course_behind (course_behind (course_at a) edits) (commands_in (drop i lines)) ≡ whole
     → OnOk r (AnswersAll caller given a b) → OnOk r (course_at b ≡ whole)
 all_taken r caller given edits a b lines i whole same none left answered =
     on_ok r _ _ (λ h. answered_course caller given a b h ∙ ap (course_behind (course_at a)) same
-    ∙ sym (at_drop_all (λ xs. course_behind (course_behind (course_at a) edits) (flat_map commands_of xs)) lines i none) ∙ left) answered
+    ∙ sym (at_drop_all (λ xs. course_behind (course_behind (course_at a) edits) (commands_in xs)) lines i none) ∙ left) answered
 
 -- Use: an equal text in its place.
 pub made_at : {V F : Type 0} (items : V → List ℕ) (r : Result V F) (x y : List ℕ) → x ≡ y → IfOk r (λ v. items v ≡ x) → IfOk r (λ v. items v ≡ y)
@@ -77,19 +76,25 @@ pub shown_there : {E : Type 0} (r : Result Seen E) (d : Shown) (c : ScriptCourse
 shown_there (Ok s) d c is stands shows = seen_there d s stands shows ∙ ap seen_at is
 shown_there (Err e) d c is stands shows = tt
 
+-- the commands of two lists of lines
+commands_in-append : (xs ys : List LineTold) → commands_in (xs ++ ys) ≡ commands_in xs ++ commands_in ys
+commands_in-append [] ys = refl
+commands_in-append (x ∷ xs) ys =
+    ap (λ (cs : List Command). commands_of x.asks ++ cs) (commands_in-append xs ys) ∙ sym (append_assoc (commands_of x.asks) (commands_in xs) (commands_in ys))
+
 -- Use: the desk before a record and at the end.
-module _ (since : Option ℕ) (number k : ℕ) (start : ScriptCourse) (lines first rest : List Line) (c d : ScriptCourse) (before after : Seen)
+module _ (since : Option ℕ) (k : ℕ) (start : ScriptCourse) (lines first rest : List LineTold) (c d : ScriptCourse) (before after : Seen)
     (opened : c ≡ start) (is_first : first ≡ take k lines) (is_rest : rest ≡ drop k lines)
-    (is_before : take k lines ≡ lines_before since number lines) where
-  pub both_shown : before ≡ seen_at (course_behind c (flat_map commands_of first)) → d ≡ course_behind c (flat_map commands_of first)
-      → after ≡ seen_at (course_behind d (flat_map commands_of rest)) → diff_text_of before after ≡ change_text since number start lines
+    (is_before : take k lines ≡ lines_before since lines) where
+  pub both_shown : before ≡ seen_at (course_behind c (commands_in first)) → d ≡ course_behind c (commands_in first)
+      → after ≡ seen_at (course_behind d (commands_in rest)) → diff_text_of before after ≡ change_text since start lines
   both_shown shown_before on shown_after =
-      let front : before ≡ seen_behind start (lines_before since number lines) =
-      shown_before ∙ ap₂ (λ x xs. seen_at (course_behind x (flat_map commands_of xs))) opened (is_first ∙ is_before) in
+      let front : before ≡ seen_behind start (lines_before since lines) =
+      shown_before ∙ ap₂ (λ x xs. seen_at (course_behind x (commands_in xs))) opened (is_first ∙ is_before) in
       let whole : first ++ rest ≡ lines = ap₂ (λ x y. x ++ y) is_first is_rest ∙ take-append-drop k lines in
-      let behind : course_behind d (flat_map commands_of rest) ≡ course_behind start (flat_map commands_of lines) =
-      ap (λ x. course_behind x (flat_map commands_of rest)) on
-      ∙ sym (course_behind-append c (flat_map commands_of first) (flat_map commands_of rest))
-      ∙ ap (course_behind c) (sym (flat_map-append commands_of first rest))
-      ∙ ap₂ (λ x xs. course_behind x (flat_map commands_of xs)) opened whole in
+      let behind : course_behind d (commands_in rest) ≡ course_behind start (commands_in lines) =
+      ap (λ x. course_behind x (commands_in rest)) on
+      ∙ sym (course_behind-append c (commands_in first) (commands_in rest))
+      ∙ ap (course_behind c) (sym (commands_in-append first rest))
+      ∙ ap₂ (λ x xs. course_behind x (commands_in xs)) opened whole in
       ap₂ diff_text_of front (shown_after ∙ ap seen_at behind)

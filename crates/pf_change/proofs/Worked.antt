@@ -20,12 +20,14 @@ use Rattle.pf_tally.specs.Misses.{miss_cmp, misses_of}
 use Rattle.pf_diff.specs.Changes.{changes_of}
 use Rattle.pf_diff.specs.Diff.{diff_text_of}
 use Rattle.pf_script.specs.Fields.{number_of, is_word}
-use Rattle.pf_script.specs.Grammar.{is_heading, settings_of, opening_of, join_of_fields, event_of, strike_of, alter_of, change_of, steps_of, edit_of, line_of}
+use Rattle.pf_script.specs.Parsing.{number_at, number_within, join_at, leave_at, event_at, strike_at, alter_at, change_at, edit_at, steps_at, line_at, settings_at, names_line, opening_at, heading_at, record_at}
+use Rattle.pf_script.specs.Places.{lines_from}
+use Rattle.pf_script.specs.Told.{readings_from}
 use Rattle.pf_change.specs.Change.{change_meaning}
 use Rattle.pf_change.specs.Examples.{WorkedChanges}
 
 pub worked_changes : WorkedChanges
-unfolding digits escaped fields_text is_blank next_record records_from strip_bom release_of deadline_of bit_of group_of priority_cmp row_of run_cmp events_of done in_force inside load_of count_of shift_of member_of ready course_of rows_in denials_in clock_of lags_of miss_cmp misses_of changes_of diff_text_of number_of is_word is_heading settings_of opening_of join_of_fields event_of strike_of alter_of change_of steps_of edit_of line_of change_meaning
+unfolding digits escaped fields_text is_blank next_record records_from strip_bom release_of deadline_of bit_of group_of priority_cmp row_of run_cmp events_of done in_force inside load_of count_of shift_of member_of ready course_of rows_in denials_in clock_of lags_of miss_cmp misses_of changes_of diff_text_of number_of is_word number_at number_within join_at leave_at event_at strike_at alter_at change_at edit_at steps_at line_at settings_at names_line opening_at heading_at record_at lines_from readings_from change_meaning
 worked_changes = record {
   last = refl;
   sixth = refl;

@@ -1,29 +1,28 @@
 -- How a text is made before it is written.
-use Rattle.std.specs.Prelude.{⊤, ◌≡◌}
-use Rattle.pf_cli.specs.declared.fault.RunFault.{RunFault}
-use Rattle.pf_cli.specs.declared.fault.RunFault.TheVariants.{BadLine, ReadFault, WriteFault, ScriptTooLong, BadRange, NoMemory}
-use Rattle.pf_cli.specs.Meaning.{Meaning, bad_record}
-use Rattle.pf_change.specs.Change.{Told, BadLineAt}
+use Rattle.std.specs.Prelude.{⊤, ℕ, ◌≡◌, Option, Some}
+use Rattle.pf_fault.specs.declared.fault.Fault.{Fault}
+use Rattle.pf_fault.specs.declared.fault.Fault.TheVariants as why
+use Rattle.pf_script.specs.Told.{FaultTold}
+use Rattle.pf_cli.specs.Meaning.{Meaning, bad_record, fault_number}
 
 -- a text that means this was not made: the first bad record stopped it, or want of memory
-abbrev pub Stops : Meaning → RunFault → Type 0
-Stops m (BadLine number) = m ≡ bad_record number
-Stops m NoMemory = ⊤
-Stops m ReadFault = ⊥
-Stops m WriteFault = ⊥
-Stops m ScriptTooLong = ⊥
-Stops m (BadRange fault) = ⊥
+abbrev pub Stops : Meaning → Fault → Type 0
+Stops m (why.BadRecord number) = m ≡ bad_record number
+Stops m why.NoMemory = ⊤
+Stops m why.Read = ⊥
+Stops m why.Write = ⊥
+Stops m why.TooLong = ⊥
+Stops m (why.BadRange range) = ⊥
+Stops m why.NoReader = ⊥
+Stops m why.GateShut = ⊥
 
--- and lines that are this were not read
-abbrev pub StopsReading : Told → RunFault → Type 0
-StopsReading told (BadLine number) = told ≡ BadLineAt number
-StopsReading told NoMemory = ⊤
-StopsReading told ReadFault = ⊥
-StopsReading told WriteFault = ⊥
-StopsReading told ScriptTooLong = ⊥
-StopsReading told (BadRange fault) = ⊥
-
--- a fault that comes before anything is written
-abbrev pub IsUnwritten : RunFault → Type 0
-IsUnwritten WriteFault = ⊥
-IsUnwritten fault = ⊤
+-- and lines with this fault were not read
+abbrev pub StopsReading : Option FaultTold → Fault → Type 0
+StopsReading told (why.BadRecord number) = fault_number told ≡ Some number
+StopsReading told why.NoMemory = ⊤
+StopsReading told why.Read = ⊥
+StopsReading told why.Write = ⊥
+StopsReading told why.TooLong = ⊥
+StopsReading told (why.BadRange range) = ⊥
+StopsReading told why.NoReader = ⊥
+StopsReading told why.GateShut = ⊥

@@ -1,14 +1,14 @@
 ghost use Rattle.std.specs.Prelude.{◌≡◌, replicate, IfOk, OnOk};
-ghost use Rattle.std.specs.List.{flat_map};
 ghost use Rattle.pf_desk.specs.declared.command.Command.TheVariants.{Step};
 ghost use Rattle.pf_cli.specs.Meaning.{course_at, course_behind, seen_at};
-ghost use Rattle.pf_opening.specs.Commands.{commands_of};
+ghost use Rattle.pf_script.specs.Asked.{commands_in, commands_of};
 
 use pf_desk::command::Command;
 use pf_desk::desk::Desk;
 use pf_desk::snapshot::Snapshot;
 use pf_order::meter::Meter;
 use pf_script::line::Line;
+use pf_script::record::LineTold;
 use std::alloc::{AllocError, Global};
 
 // All commands of a script come from the one caller.
@@ -22,10 +22,10 @@ const CALLER: u32 = 0;
 pub(crate) fn show_behind(
     alloc: Global,
     desk: &mut Desk,
-    lines: &[Line],
+    lines: &[LineTold],
 ) -> Result<Snapshot, AllocError>
-    ensures desk { OnOk result (course_at desk.new ≡ course_behind (course_at desk.old) (flat_map commands_of lines.now)) }
-    ensures shown { IfOk result (λ seen. seen ≡ seen_at (course_behind (course_at desk.old) (flat_map commands_of lines.now))) }
+    ensures desk { OnOk result (course_at desk.new ≡ course_behind (course_at desk.old) (commands_in lines.now)) }
+    ensures shown { IfOk result (λ seen. seen ≡ seen_at (course_behind (course_at desk.old) (commands_in lines.now))) }
 {
     take_lines(alloc, desk, lines)?;
     desk.snapshot()
@@ -33,13 +33,13 @@ pub(crate) fn show_behind(
 
 /// Carries lines out. Edits that follow one another are answered together, so that the slots that they touch are replayed
 /// once.
-fn take_lines(alloc: Global, desk: &mut Desk, lines: &[Line]) -> Result<(), AllocError>
-    ensures { OnOk result (course_at desk.new ≡ course_behind (course_at desk.old) (flat_map commands_of lines.now)) }
+fn take_lines(alloc: Global, desk: &mut Desk, lines: &[LineTold]) -> Result<(), AllocError>
+    ensures { OnOk result (course_at desk.new ≡ course_behind (course_at desk.old) (commands_in lines.now)) }
 {
     let mut meter = Meter::new();
     let mut edits = Vec::new(alloc);
     for line in lines {
-        take_line(desk, &mut meter, &mut edits, *line)?;
+        take_line(desk, &mut meter, &mut edits, line.asks)?;
     }
     desk.apply_all(&mut meter, CALLER, &edits)
 }

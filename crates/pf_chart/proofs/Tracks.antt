@@ -68,7 +68,8 @@ module _ (s : Plan) (n : ℕ) (scenario : IsScenario s) (long : length (run_of s
   unfolding shift_of
   shift_same i = ap (λ held. j.slot + sum_by (hold_of i) held) of_next ∙ ap (λ n. j.slot + n) (sym (all_counted (run_of s n) j j.slot i xs))
 
-  window_is : (i : ℕ) → 1 ≤ i → window_by j ran on held (end_of xs j n) i ≡ window_of (run_of s n) on xs j i
+  -- Use: the window of a subtask by the definition.
+  pub window_is : (i : ℕ) → 1 ≤ i → window_by j ran on held (end_of xs j n) i ≡ window_of (run_of s n) on xs j i
   window_is i some =
       let release = released_is j ran xs n can (run_of s n) (sym of_ran) held of_held i in
       let due = sym (due_same s n scenario long xs j ran held (end_of xs j n) of_ran of_next of_last i) in

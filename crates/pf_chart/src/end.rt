@@ -6,7 +6,7 @@ use pf_tally::admitted::Admitted;
 use pf_tally::late::leave_of;
 
 /// The slot of the task's leave, or `now` where it did not leave.
-pub(crate) fn end_of(events: &[Numbered], task: Admitted, now: u64) -> u64
+pub fn end_of(events: &[Numbered], task: Admitted, now: u64) -> u64
     ensures value { result ≡ end_of events.now task now }
     ensures most { result ≤ now }
 {

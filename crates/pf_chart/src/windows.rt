@@ -52,8 +52,16 @@ fn group_due(weight: Weight, i: u32, shift: u64) -> u64
     }
 }
 
-/// The window of subtask i of a task with this end.
-fn window_of(task: Admitted, ran: &[u64], on: &[u32], delays: &[Held], end: u64, i: u32) -> Window
+/// The window of subtask i (1 to 2^24) of a task with this end, which ran in the slots `ran`, on these processors, and was
+/// delayed so.
+pub fn window_of(
+    task: Admitted,
+    ran: &[u64],
+    on: &[u32],
+    delays: &[Held],
+    end: u64,
+    i: u32,
+) -> Window
     requires first { 1 ≤ i }
     requires last { i ≤ 2 ^ 24 }
     requires chain { AreSuccessive 0 task.slot delays.now }

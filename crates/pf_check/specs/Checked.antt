@@ -7,8 +7,6 @@ use Rattle.pf_script.specs.declared.record.RecordTold.{RecordTold}
 use Rattle.pf_script.specs.Told.{FaultTold, Reading, faults_in, records_in}
 use Rattle.pf_stream.specs.Written.{TookAllBut}
 use Rattle.pf_check.specs.declared.checker.Checker.{Checker}
-use Rattle.pf_check.specs.declared.fault.CheckFault.{CheckFault}
-use Rattle.pf_check.specs.declared.fault.CheckFault.TheVariants.{Write}
 use Rattle.pf_check.specs.Reports.{fault_shown, report_text, totals_text}
 
 -- a check at its beginning
@@ -47,8 +45,3 @@ text_of_rest c readings =
 -- what a check still writes: what waits, and that
 abbrev pub text_left : Checker → List Reading → List ℕ
 text_left c readings = c.lines ++ text_of_rest c readings
-
--- the writer failed once where the answer is `Write`, and else not at all
-abbrev pub CountsCheck : {A : Type 0} → Result A CheckFault → ℕ → ℕ → Type 0
-CountsCheck (Err Write) old new = new ≡ old + 1
-CountsCheck answer old new = new ≡ old

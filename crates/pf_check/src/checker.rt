@@ -1,19 +1,19 @@
 ghost use Rattle.std.specs.Prelude.{◌≡◌, ◌+◌, ◌-◌, ◌^◌, ◌<◌, ◌≤◌, ◌++◌, ◌∷◌, [], length, Err, IfOk, OnOk, OnErr};
 ghost use Rattle.std.specs.List.{flat_map};
 ghost use Rattle.std.specs.Io.KnownBytes.{Appends};
-ghost use Rattle.pf_stream.specs.Written.{TookFront};
+ghost use Rattle.pf_stream.specs.Written.{CountsOutput, TookFront};
 ghost use Rattle.pf_stream.specs.Reading.{longest_script};
 ghost use Rattle.pf_script.specs.Told.{FaultTold, faults};
-ghost use Rattle.pf_check.specs.Checked.{CountsCheck, GoesOn, HasReported, IsFresh, faults_of, record_count};
+ghost use Rattle.pf_check.specs.Checked.{GoesOn, HasReported, IsFresh, faults_of, record_count};
 ghost use Rattle.pf_check.specs.Reports.{check_text, fault_shown, report_text, totals_text};
 
-use crate::fault::CheckFault;
 use crate::report::{push_report, push_totals};
 use csv::ByteRecord;
 use pf_script::fault::{BadRecord, ScriptFault};
 use pf_script::fields::Fields;
 use pf_script::reader::ScriptReader;
 use pf_script::record::RecordTold;
+use pf_stream::output_fault::OutputFault;
 use pf_stream::sink::Sink;
 use pf_stream::text_buffer::TextBuffer;
 use std::alloc::{AllocError, Global};
@@ -26,13 +26,17 @@ use std::alloc::{AllocError, Global};
 /// # Errors
 ///
 /// `Write` where the writer fails or takes nothing, and `Memory` where memory is refused: a front of the text was written.
-pub fn write_check<W: Sink>(alloc: Global, script: &[u8], writer: &mut W) -> Result<u64, CheckFault>
+pub fn write_check<W: Sink>(
+    alloc: Global,
+    script: &[u8],
+    writer: &mut W,
+) -> Result<u64, OutputFault>
     requires short { length script.now ≤ longest_script }
     requires writes { W.failed writer.old < 2 ^ 64 - 1 }
     ensures text { OnOk result (Appends (W.contents writer.old) (W.contents writer.new) (check_text script.now)) }
     ensures faults { IfOk result (λ n. n ≡ length (faults script.now)) }
     ensures front { OnErr result (TookFront (W.contents writer.old) (W.contents writer.new) (check_text script.now)) }
-    ensures count { CountsCheck result (W.failed writer.old) (W.failed writer.new) }
+    ensures count { CountsOutput result (W.failed writer.old) (W.failed writer.new) }
 {
     let mut reader = ScriptReader::new(alloc, script);
     let mut row = ByteRecord::new(alloc);
@@ -73,7 +77,7 @@ impl Checker {
         writer: &mut W,
         fields: &Fields,
         read: Result<RecordTold, ScriptFault>,
-    ) -> Result<(), CheckFault>
+    ) -> Result<(), OutputFault>
         requires records { self.old.records < 2 ^ 64 - 1 }
         requires faults { self.old.faults < 2 ^ 64 - 1 }
         requires writes { W.failed writer.old < 2 ^ 64 - 1 }
@@ -82,7 +86,7 @@ impl Checker {
         ensures on { OnOk result (GoesOn read) }
         ensures err { OnErr result (TookFront (W.contents writer.old) (W.contents writer.new)
             (self.old.lines ++ flat_map report_text (faults_of read fields.now))) }
-        ensures count { CountsCheck result (W.failed writer.old) (W.failed writer.new) }
+        ensures count { CountsOutput result (W.failed writer.old) (W.failed writer.new) }
     {
         match read {
             Ok(_) => {
@@ -99,7 +103,7 @@ impl Checker {
         writer: &mut W,
         fields: &Fields,
         fault: ScriptFault,
-    ) -> Result<(), CheckFault>
+    ) -> Result<(), OutputFault>
         requires records { self.old.records < 2 ^ 64 - 1 }
         requires faults { self.old.faults < 2 ^ 64 - 1 }
         requires writes { W.failed writer.old < 2 ^ 64 - 1 }
@@ -108,7 +112,7 @@ impl Checker {
         ensures on { OnOk result (GoesOn (Err fault)) }
         ensures err { OnErr result (TookFront (W.contents writer.old) (W.contents writer.new)
             (self.old.lines ++ flat_map report_text (faults_of (Err fault) fields.now))) }
-        ensures count { CountsCheck result (W.failed writer.old) (W.failed writer.new) }
+        ensures count { CountsOutput result (W.failed writer.old) (W.failed writer.new) }
     {
         match fault {
             ScriptFault::Bad(bad) => {
@@ -116,7 +120,7 @@ impl Checker {
                 self.put_report(writer, fields, bad)
             }
             ScriptFault::Missing(bad) => self.put_report(writer, fields, bad),
-            ScriptFault::Memory => Err(CheckFault::Memory),
+            ScriptFault::Memory => Err(OutputFault::Memory),
         }
     }
 
@@ -126,14 +130,14 @@ impl Checker {
         writer: &mut W,
         fields: &Fields,
         bad: BadRecord,
-    ) -> Result<(), CheckFault>
+    ) -> Result<(), OutputFault>
         requires faults { self.old.faults < 2 ^ 64 - 1 }
         requires writes { W.failed writer.old < 2 ^ 64 - 1 }
         ensures ok { OnOk result (HasReported (fault_shown bad fields.now ∷ []) self.old self.new (W.contents writer.old) (W.contents writer.new)) }
         ensures records { self.new.records ≡ self.old.records }
         ensures err { OnErr result (TookFront (W.contents writer.old) (W.contents writer.new)
             (self.old.lines ++ flat_map report_text (fault_shown bad fields.now ∷ []))) }
-        ensures count { CountsCheck result (W.failed writer.old) (W.failed writer.new) }
+        ensures count { CountsOutput result (W.failed writer.old) (W.failed writer.new) }
     {
         self.faults += 1;
         self.text.clear();
@@ -143,12 +147,12 @@ impl Checker {
     }
 
     /// Puts the totals, and writes what waits.
-    fn write_totals<W: Sink>(mut self, writer: &mut W) -> Result<u64, CheckFault>
+    fn write_totals<W: Sink>(mut self, writer: &mut W) -> Result<u64, OutputFault>
         requires writes { W.failed writer.old < 2 ^ 64 - 1 }
         ensures text { OnOk result (Appends (W.contents writer.old) (W.contents writer.new) (self.lines ++ totals_text self.records self.faults)) }
         ensures faults { IfOk result (λ faults. faults ≡ self.faults) }
         ensures front { OnErr result (TookFront (W.contents writer.old) (W.contents writer.new) (self.lines ++ totals_text self.records self.faults)) }
-        ensures count { CountsCheck result (W.failed writer.old) (W.failed writer.new) }
+        ensures count { CountsOutput result (W.failed writer.old) (W.failed writer.new) }
     {
         self.text.clear();
         push_totals(&mut self.text, self.records, self.faults)?;

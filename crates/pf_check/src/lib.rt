@@ -4,6 +4,5 @@
 #![tactic(auto)]
 
 pub mod checker;
-pub mod fault;
 pub mod laws;
-mod report;
+pub mod report;

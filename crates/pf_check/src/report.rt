@@ -41,7 +41,7 @@ pub fn push_totals(text: &mut String, records: u64, faults: u64) -> Result<(), A
 }
 
 /// Which field is at fault, where it is not the one that names the record.
-fn push_field(text: &mut String, field: usize) -> Result<(), AllocError>
+pub fn push_field(text: &mut String, field: usize) -> Result<(), AllocError>
     ensures { OnOk result (string_bytes text.new ≡ string_bytes text.old ++ field_text field) }
 {
     if field == 1 {
@@ -108,7 +108,7 @@ fn event_words(version: Version) -> &'static str
 
 /// A field in quotes, cut.
 #[tactic(auto, unfolding(crate::specs::Reports::quoted))]
-fn push_quoted(text: &mut String, field: &[u8]) -> Result<(), AllocError>
+pub fn push_quoted(text: &mut String, field: &[u8]) -> Result<(), AllocError>
     ensures { OnOk result (string_bytes text.new ≡ string_bytes text.old ++ quoted field.now) }
 {
     text.push_str("\"")?;

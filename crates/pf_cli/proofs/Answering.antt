@@ -10,13 +10,15 @@ use Rattle.pf_script.specs.Told.{Told, told}
 use Rattle.pf_stream.specs.Written.{CountsOutput, TookFront}
 use Rattle.pf_stream.proofs.Sending.{none_written, took-after, took-before}
 use Rattle.pf_words.specs.declared.format.Format.{Format}
-use Rattle.pf_words.specs.declared.range_fault.RangeFault.{RangeFault}
+use Rattle.pf_fault.specs.declared.range_fault.RangeFault.{RangeFault}
 use Rattle.pf_words.specs.Formats.{has_replies, range_fault}
-use Rattle.pf_cli.specs.declared.fault.RunFault.{RunFault}
-use Rattle.pf_cli.specs.declared.fault.RunFault.TheVariants.{BadLine, ReadFault, WriteFault, ScriptTooLong, BadRange, NoMemory}
+use Rattle.pf_fault.specs.declared.fault.Fault.{Fault}
+use Rattle.pf_fault.specs.declared.fault.Fault.TheVariants as why
 use Rattle.pf_stream.specs.declared.output_fault.OutputFault.{OutputFault}
 use Rattle.pf_stream.specs.declared.output_fault.OutputFault.TheVariants.{Write, Memory}
-use Rattle.pf_cli.specs.Answers.{Answers, CountsWrites, IsPastReading, fault_of_output}
+use Rattle.pf_fault.specs.Faults.{CountsWrites, IsPastReading}
+use Rattle.pf_stream.specs.Faults.{fault_of_output}
+use Rattle.pf_cli.specs.Answers.{Answers}
 use Rattle.pf_cli.specs.Carried.{CarriesOut, EndsBy, OpensReplies}
 use Rattle.pf_cli.specs.Ended.{script_course}
 use Rattle.pf_formats.specs.Report.{report_text}
@@ -55,15 +57,17 @@ bad_end format t number is =
     ∙ ap (λ text. record { text = text; end = BadRecord number }) (append-nil (text_if_replies format (replies_told t)))
 
 -- Use: the settings were not read.
-pub unopened : (format : Format) (t : Told) (fault : RunFault) (x : Option (List ℕ)) → OpensReplies format t (Err fault) → CarriesOut format t (Err fault) x x
-unopened format t (BadLine number) x h =
+pub unopened : (format : Format) (t : Told) (fault : Fault) (x : Option (List ℕ)) → OpensReplies format t (Err fault) → CarriesOut format t (Err fault) x x
+unopened format t (why.BadRecord number) x h =
     let none : text_if_replies format (replies_told t) ≡ [] = ap (text_if_replies format) h.0 ∙ none_shown format in
-    subst (λ m. Answers {A = Shown} m (Err (BadLine number)) x x) (sym (bad_end format t number h.1)) (refl, subst (Appends x x) (sym none) (Appends-nil x))
-unopened format t NoMemory x h = none_written x _
-unopened format t ReadFault x h = absurd h
-unopened format t WriteFault x h = absurd h
-unopened format t ScriptTooLong x h = absurd h
-unopened format t (BadRange fault) x h = absurd h
+    subst (λ m. Answers {A = Shown} m (Err (why.BadRecord number)) x x) (sym (bad_end format t number h.1)) (refl, subst (Appends x x) (sym none) (Appends-nil x))
+unopened format t why.NoMemory x h = none_written x _
+unopened format t why.Read x h = absurd h
+unopened format t why.Write x h = absurd h
+unopened format t why.TooLong x h = absurd h
+unopened format t (why.BadRange fault) x h = absurd h
+unopened format t why.NoReader x h = absurd h
+unopened format t why.GateShut x h = absurd h
 
 -- Use: the writing of the replies was stopped.
 pub replies_stopped : (format : Format) (t : Told) (fault : OutputFault) (old new : Option (List ℕ)) (text : List ℕ)
@@ -76,33 +80,37 @@ replies_stopped format t fault old new text is h =
     replies_cut Memory took = took
 
 -- Use: the replies were written, and the script carried out.
-pub carried : (format : Format) (t : Told) (result : Result Shown RunFault) (outcome : Result ScriptCourse ℕ) (old new : Option (List ℕ)) (text : List ℕ)
+pub carried : (format : Format) (t : Told) (result : Result Shown Fault) (outcome : Result ScriptCourse ℕ) (old new : Option (List ℕ)) (text : List ℕ)
     → text ≡ text_if_replies format (replies_told t) → outcome ≡ outcome_told t → Appends old new text → EndsBy outcome result → CarriesOut format t result old new
 carried format t (Ok desk) outcome old new text is same wrote ends = (sym same ∙ ends, subst (Appends old new) is wrote)
-carried format t (Err (BadLine number)) outcome old new text is same wrote ends =
-    subst (λ m. Answers {A = Shown} m (Err (BadLine number)) old new) (sym (bad_end format t number (sym same ∙ ends)))
+carried format t (Err (why.BadRecord number)) outcome old new text is same wrote ends =
+    subst (λ m. Answers {A = Shown} m (Err (why.BadRecord number)) old new) (sym (bad_end format t number (sym same ∙ ends)))
     (refl, subst (Appends old new) is wrote)
-carried format t (Err NoMemory) outcome old new text is same wrote ends =
+carried format t (Err why.NoMemory) outcome old new text is same wrote ends =
     ((ended_meaning format (outcome_told t)).text, (text_if_replies format (replies_told t), subst (Appends old new) is wrote, refl))
-carried format t (Err ReadFault) outcome old new text is same wrote ends = absurd ends
-carried format t (Err WriteFault) outcome old new text is same wrote ends = absurd ends
-carried format t (Err ScriptTooLong) outcome old new text is same wrote ends = absurd ends
-carried format t (Err (BadRange fault)) outcome old new text is same wrote ends = absurd ends
+carried format t (Err why.Read) outcome old new text is same wrote ends = absurd ends
+carried format t (Err why.Write) outcome old new text is same wrote ends = absurd ends
+carried format t (Err why.TooLong) outcome old new text is same wrote ends = absurd ends
+carried format t (Err (why.BadRange fault)) outcome old new text is same wrote ends = absurd ends
+carried format t (Err why.NoReader) outcome old new text is same wrote ends = absurd ends
+carried format t (Err why.GateShut) outcome old new text is same wrote ends = absurd ends
 
 -- a text was written, and then what follows it
-behind_text : (m : Meaning) (result : Result Shown RunFault) (text : List ℕ) (old mid new : Option (List ℕ)) → Appends old mid text
+behind_text : (m : Meaning) (result : Result Shown Fault) (text : List ℕ) (old mid new : Option (List ℕ)) → Appends old mid text
     → IsPastReading result → Answers m result mid new → Answers (text_and_then text m) result old new
 behind_text m (Ok desk) text old mid new wrote past a = (a.0, Appends-trans old mid new text m.text wrote a.1)
-behind_text m (Err (BadLine number)) text old mid new wrote past a = (a.0, Appends-trans old mid new text m.text wrote a.1)
-behind_text m (Err ScriptTooLong) text old mid new wrote past a = (a.0, Appends-trans old mid new text m.text wrote a.1)
-behind_text m (Err (BadRange fault)) text old mid new wrote past a = (a.0, Appends-trans old mid new text m.text wrote a.1)
-behind_text m (Err ReadFault) text old mid new wrote past a = absurd past
-behind_text m (Err WriteFault) text old mid new wrote past a = took-after old mid new text m.text wrote a
-behind_text m (Err NoMemory) text old mid new wrote past a = took-after old mid new text m.text wrote a
+behind_text m (Err (why.BadRecord number)) text old mid new wrote past a = (a.0, Appends-trans old mid new text m.text wrote a.1)
+behind_text m (Err why.TooLong) text old mid new wrote past a = (a.0, Appends-trans old mid new text m.text wrote a.1)
+behind_text m (Err (why.BadRange fault)) text old mid new wrote past a = (a.0, Appends-trans old mid new text m.text wrote a.1)
+behind_text m (Err why.NoReader) text old mid new wrote past a = absurd a
+behind_text m (Err why.GateShut) text old mid new wrote past a = absurd a
+behind_text m (Err why.Read) text old mid new wrote past a = absurd past
+behind_text m (Err why.Write) text old mid new wrote past a = took-after old mid new text m.text wrote a
+behind_text m (Err why.NoMemory) text old mid new wrote past a = took-after old mid new text m.text wrote a
 
 -- Use: the script of these bytes was carried out, and its report written or stopped.
 module _ (format : Format) (bytes : List ℕ) (short : length bytes ≤ 16777216) where
-  pub stopped_carrying : (fault : RunFault) (old new : Option (List ℕ)) → CarriesOut format (told bytes) (Err fault) old new
+  pub stopped_carrying : (fault : Fault) (old new : Option (List ℕ)) → CarriesOut format (told bytes) (Err fault) old new
       → Answers {A = Shown} (script_meaning format bytes) (Err fault) old new
   stopped_carrying fault old new h = subst (λ m. Answers {A = Shown} m (Err fault) old new) (sym (short_meaning format bytes short)) h
 
@@ -112,7 +120,7 @@ module _ (format : Format) (bytes : List ℕ) (short : length bytes ≤ 16777216
         short_meaning format bytes short
         ∙ ap (λ o. text_and_then (text_if_replies format (replies_told (told bytes))) (ended_meaning format o)) h.0
 
-    pub reported : (result : Result Shown RunFault) (new : Option (List ℕ)) → IsPastReading result
+    pub reported : (result : Result Shown Fault) (new : Option (List ℕ)) → IsPastReading result
         → Answers (report_meaning format (course_at desk)) result mid new → Answers (script_meaning format bytes) result old new
     reported result new past a =
         subst (λ m. Answers m result old new) (sym ended_there)
@@ -148,66 +156,80 @@ module _ (format : Format) (desk : Shown) (fits : range_fault format desk.state.
 
 -- Use: the range can't be shown.
 pub outside_answered : (format : Format) (c : ScriptCourse) (fault : RangeFault) (x : Option (List ℕ)) → Some fault ≡ range_fault format c.state.now
-    → Answers {A = Unit {0}} (report_meaning format c) (Err (BadRange fault)) x x
+    → Answers {A = Unit {0}} (report_meaning format c) (Err (why.BadRange fault)) x x
 outside_answered format c fault x is = rw (← is) (refl, Appends-nil x)
 
 -- Use: a fault of one call is that of another.
 module _ (A B : Type 0) where
-  pub answers_as : (m : Meaning) (fault : RunFault) (old new : Option (List ℕ)) → Answers {A = A} m (Err fault) old new → Answers {A = B} m (Err fault) old new
-  answers_as m ReadFault old new h = h
-  answers_as m (BadLine number) old new h = h
-  answers_as m WriteFault old new h = h
-  answers_as m ScriptTooLong old new h = h
-  answers_as m (BadRange fault) old new h = h
-  answers_as m NoMemory old new h = h
+  pub answers_as : (m : Meaning) (fault : Fault) (old new : Option (List ℕ)) → Answers {A = A} m (Err fault) old new → Answers {A = B} m (Err fault) old new
+  answers_as m why.Read old new h = h
+  answers_as m (why.BadRecord number) old new h = h
+  answers_as m why.Write old new h = h
+  answers_as m why.TooLong old new h = h
+  answers_as m (why.BadRange fault) old new h = h
+  answers_as m why.NoReader old new h = h
+  answers_as m why.GateShut old new h = h
+  answers_as m why.NoMemory old new h = h
 
-  pub past_as : (fault : RunFault) → IsPastReading {A = A} (Err fault) → IsPastReading {A = B} (Err fault)
-  past_as ReadFault past = absurd past
-  past_as (BadLine number) past = tt
-  past_as WriteFault past = tt
-  past_as ScriptTooLong past = tt
-  past_as (BadRange fault) past = tt
-  past_as NoMemory past = tt
+  pub past_as : (fault : Fault) → IsPastReading {A = A} (Err fault) → IsPastReading {A = B} (Err fault)
+  past_as why.Read past = absurd past
+  past_as (why.BadRecord number) past = tt
+  past_as why.Write past = tt
+  past_as why.TooLong past = tt
+  past_as (why.BadRange fault) past = tt
+  past_as why.NoReader past = tt
+  past_as why.GateShut past = tt
+  past_as why.NoMemory past = tt
 
-  pub counts_as : (fault : RunFault) (old new : ℕ) → CountsWrites {A = A} (Err fault) old new → CountsWrites {A = B} (Err fault) old new
-  counts_as ReadFault old new h = h
-  counts_as (BadLine number) old new h = h
-  counts_as WriteFault old new h = h
-  counts_as ScriptTooLong old new h = h
-  counts_as (BadRange fault) old new h = h
-  counts_as NoMemory old new h = h
+  pub counts_as : (fault : Fault) (old new : ℕ) → CountsWrites {A = A} (Err fault) old new → CountsWrites {A = B} (Err fault) old new
+  counts_as why.Read old new h = h
+  counts_as (why.BadRecord number) old new h = h
+  counts_as why.Write old new h = h
+  counts_as why.TooLong old new h = h
+  counts_as (why.BadRange fault) old new h = h
+  counts_as why.NoReader old new h = h
+  counts_as why.GateShut old new h = h
+  counts_as why.NoMemory old new h = h
 
 -- Use: the replies that were not begun, and the end of a script, fail in few ways.
-pub opens_past : (format : Format) (t : Told) (fault : RunFault) → OpensReplies format t (Err fault) → IsPastReading {A = Shown} (Err fault)
-opens_past format t (BadLine number) h = tt
-opens_past format t NoMemory h = tt
-opens_past format t ReadFault h = absurd h
-opens_past format t WriteFault h = absurd h
-opens_past format t ScriptTooLong h = absurd h
-opens_past format t (BadRange fault) h = absurd h
+pub opens_past : (format : Format) (t : Told) (fault : Fault) → OpensReplies format t (Err fault) → IsPastReading {A = Shown} (Err fault)
+opens_past format t (why.BadRecord number) h = tt
+opens_past format t why.NoMemory h = tt
+opens_past format t why.Read h = absurd h
+opens_past format t why.Write h = absurd h
+opens_past format t why.TooLong h = absurd h
+opens_past format t (why.BadRange fault) h = absurd h
+opens_past format t why.NoReader h = absurd h
+opens_past format t why.GateShut h = absurd h
 
-pub opens_counts : (format : Format) (t : Told) (fault : RunFault) (n : ℕ) → OpensReplies format t (Err fault) → CountsWrites {A = Shown} (Err fault) n n
-opens_counts format t (BadLine number) n h = refl
-opens_counts format t NoMemory n h = refl
-opens_counts format t ReadFault n h = absurd h
-opens_counts format t WriteFault n h = absurd h
-opens_counts format t ScriptTooLong n h = absurd h
-opens_counts format t (BadRange fault) n h = absurd h
+pub opens_counts : (format : Format) (t : Told) (fault : Fault) (n : ℕ) → OpensReplies format t (Err fault) → CountsWrites {A = Shown} (Err fault) n n
+opens_counts format t (why.BadRecord number) n h = refl
+opens_counts format t why.NoMemory n h = refl
+opens_counts format t why.Read n h = absurd h
+opens_counts format t why.Write n h = absurd h
+opens_counts format t why.TooLong n h = absurd h
+opens_counts format t (why.BadRange fault) n h = absurd h
+opens_counts format t why.NoReader n h = absurd h
+opens_counts format t why.GateShut n h = absurd h
 
-pub ends_past : (outcome : Result ScriptCourse ℕ) (result : Result Shown RunFault) → EndsBy outcome result → IsPastReading result
+pub ends_past : (outcome : Result ScriptCourse ℕ) (result : Result Shown Fault) → EndsBy outcome result → IsPastReading result
 ends_past outcome (Ok desk) h = tt
-ends_past outcome (Err (BadLine number)) h = tt
-ends_past outcome (Err NoMemory) h = tt
-ends_past outcome (Err ReadFault) h = absurd h
-ends_past outcome (Err WriteFault) h = absurd h
-ends_past outcome (Err ScriptTooLong) h = absurd h
-ends_past outcome (Err (BadRange fault)) h = absurd h
+ends_past outcome (Err (why.BadRecord number)) h = tt
+ends_past outcome (Err why.NoMemory) h = tt
+ends_past outcome (Err why.Read) h = absurd h
+ends_past outcome (Err why.Write) h = absurd h
+ends_past outcome (Err why.TooLong) h = absurd h
+ends_past outcome (Err (why.BadRange fault)) h = absurd h
+ends_past outcome (Err why.NoReader) h = absurd h
+ends_past outcome (Err why.GateShut) h = absurd h
 
-pub ends_counts : (outcome : Result ScriptCourse ℕ) (result : Result Shown RunFault) (old new : ℕ) → new ≡ old → EndsBy outcome result → CountsWrites result old new
+pub ends_counts : (outcome : Result ScriptCourse ℕ) (result : Result Shown Fault) (old new : ℕ) → new ≡ old → EndsBy outcome result → CountsWrites result old new
 ends_counts outcome (Ok desk) old new same h = same
-ends_counts outcome (Err (BadLine number)) old new same h = same
-ends_counts outcome (Err NoMemory) old new same h = same
-ends_counts outcome (Err ReadFault) old new same h = absurd h
-ends_counts outcome (Err WriteFault) old new same h = absurd h
-ends_counts outcome (Err ScriptTooLong) old new same h = absurd h
-ends_counts outcome (Err (BadRange fault)) old new same h = absurd h
+ends_counts outcome (Err (why.BadRecord number)) old new same h = same
+ends_counts outcome (Err why.NoMemory) old new same h = same
+ends_counts outcome (Err why.Read) old new same h = absurd h
+ends_counts outcome (Err why.Write) old new same h = absurd h
+ends_counts outcome (Err why.TooLong) old new same h = absurd h
+ends_counts outcome (Err (why.BadRange fault)) old new same h = absurd h
+ends_counts outcome (Err why.NoReader) old new same h = absurd h
+ends_counts outcome (Err why.GateShut) old new same h = absurd h

@@ -12,7 +12,7 @@ use Rattle.pf_script.specs.Script.{script_records}
 use Rattle.pf_script.specs.Told.{FaultTold, Reading, Good, Bad, Missing, faults, faults_in, first_of, readings, settings_in, settings_or, told}
 use Rattle.pf_script.proofs.Opening.{AreUnopened, beginning}
 use Rattle.pf_words.specs.declared.format.Format.{Format}
-use Rattle.pf_words.specs.declared.range_fault.RangeFault.{RangeFault}
+use Rattle.pf_fault.specs.declared.range_fault.RangeFault.{RangeFault}
 use Rattle.pf_words.specs.Formats.{range_fault}
 use Rattle.pf_cli.specs.Laws.{RunsEndAtTheFirstFault, EndsAt, EndsWhole}
 use Rattle.pf_formats.specs.Report.{report_text}

@@ -7,13 +7,14 @@ use Rattle.std.proofs.lemmas.List.{append-nil}
 use Rattle.pf_script.specs.Told.{Told, told}
 use Rattle.pf_stream.specs.Reading.{longest_script}
 use Rattle.pf_words.specs.declared.format.Format.{Format}
-use Rattle.pf_words.specs.declared.format.Format.TheVariants.{Schedule, Quanta, Tables, Json, Report, Replies, Lags, Misses, Denials, Events, Script, Processors, Stats, Chart, Svg}
-use Rattle.pf_words.specs.declared.range_fault.RangeFault.{RangeFault}
+use Rattle.pf_words.specs.declared.format.Format.TheVariants.{Schedule, Quanta, Windows, Load, Jobs, C, Tables, Json, Report, Replies, Lags, Misses, Denials, Events, Script, Processors, Stats, Chart, Svg}
+use Rattle.pf_fault.specs.declared.range_fault.RangeFault.{RangeFault}
 use Rattle.pf_words.specs.Formats.{has_replies, range_fault}
 use Rattle.pf_words.specs.Ranges.{is_within, whole}
-use Rattle.pf_cli.specs.declared.fault.RunFault.{RunFault}
-use Rattle.pf_cli.specs.declared.fault.RunFault.TheVariants.{BadLine, ReadFault, WriteFault, ScriptTooLong, BadRange, NoMemory}
-use Rattle.pf_cli.specs.Answers.{Answers, IsOutside}
+use Rattle.pf_fault.specs.declared.fault.Fault.{Fault}
+use Rattle.pf_fault.specs.declared.fault.Fault.TheVariants as why
+use Rattle.pf_fault.specs.Faults.{IsOutside}
+use Rattle.pf_cli.specs.Answers.{Answers}
 use Rattle.pf_cli.specs.Laws.{NothingIsWrittenOutside}
 use Rattle.pf_formats.specs.Report.{report_text}
 use Rattle.pf_cli.specs.Meaning.{Meaning, Done, BadRecord, TooLong, Outside, ScriptCourse, ended_meaning, outcome_told, replies_told, script_meaning, seen_at, text_and_then, text_if_replies, text_unless, told_meaning}
@@ -26,6 +27,10 @@ whole_is_within now = rw (le-leb 0 now (omega arith), le-leb now now (omega arit
 silent : (format : Format) (now : ℕ) (fault : RangeFault) → range_fault format now ≡ Some fault → has_replies format ≡ false
 silent (Schedule range) now fault is = refl
 silent (Quanta range) now fault is = refl
+silent (Windows range) now fault is = refl
+silent (Load range) now fault is = refl
+silent Jobs now fault is = refl
+silent C now fault is = refl
 silent (Chart range) now fault is = refl
 silent (Svg range cell) now fault is = refl
 silent Report now fault is = refl
@@ -73,12 +78,14 @@ kept None new wrote = tt
 kept (Some xs) None wrote = absurd wrote
 kept (Some xs) (Some ys) wrote = wrote ∙ append-nil xs
 
-pub outside_keeps : {A : Type 0} (m : Meaning) (result : Result A RunFault) (old new : Option (List ℕ)) → ((fault : RangeFault) → IsSilent fault m)
-    → Answers m result old new → IsOutside result → Keeps old new
-outside_keeps m (Ok done) old new silent answers is = absurd is
-outside_keeps m (Err (BadLine number)) old new silent answers is = absurd is
-outside_keeps m (Err ScriptTooLong) old new silent answers is = absurd is
-outside_keeps m (Err (BadRange fault)) old new silent answers is = kept old new (subst (Appends old new) (silent fault answers.0) answers.1)
-outside_keeps m (Err ReadFault) old new silent answers is = absurd is
-outside_keeps m (Err WriteFault) old new silent answers is = absurd is
-outside_keeps m (Err NoMemory) old new silent answers is = absurd is
+-- Use: the answer to a script that can't be shown leaves the writer as it was.
+pub outside_keeps : (A B : Type 0) (m : Meaning) (fault : Fault) (old new : Option (List ℕ)) → ((range : RangeFault) → IsSilent range m)
+    → Answers {A = A} m (Err fault) old new → IsOutside {A = B} (Err fault) → Keeps old new
+outside_keeps A B m (why.BadRecord number) old new silent answers is = absurd is
+outside_keeps A B m why.TooLong old new silent answers is = absurd is
+outside_keeps A B m (why.BadRange range) old new silent answers is = kept old new (subst (Appends old new) (silent range answers.0) answers.1)
+outside_keeps A B m why.Read old new silent answers is = absurd is
+outside_keeps A B m why.Write old new silent answers is = absurd is
+outside_keeps A B m why.NoMemory old new silent answers is = absurd is
+outside_keeps A B m why.NoReader old new silent answers is = absurd is
+outside_keeps A B m why.GateShut old new silent answers is = absurd is

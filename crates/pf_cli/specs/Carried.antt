@@ -5,8 +5,8 @@ use Rattle.pf_desk.specs.Desk.{Shown}
 use Rattle.pf_script.specs.Told.{Told}
 use Rattle.pf_words.specs.declared.format.Format.{Format}
 use Rattle.pf_words.specs.Formats.{has_replies}
-use Rattle.pf_cli.specs.declared.fault.RunFault.{RunFault}
-use Rattle.pf_cli.specs.declared.fault.RunFault.TheVariants.{BadLine, NoMemory}
+use Rattle.pf_fault.specs.declared.fault.Fault.{Fault}
+use Rattle.pf_fault.specs.declared.fault.Fault.TheVariants as why
 use Rattle.pf_cli.specs.declared.script_replies.ScriptReplies.{ScriptReplies}
 use Rattle.pf_cli.specs.Answers.{Answers}
 use Rattle.pf_cli.specs.Batched.{course_to_be, lines_to_be, turns_left}
@@ -66,20 +66,20 @@ ShowsNext true text more before after = ShowsLine text more before after
 ShowsNext false text more before after = HasNoLine before × (after ≡ before) × (more ≡ text)
 
 -- replies in this format to a script that tells this; or it has no good settings
-abbrev pub OpensReplies : Format → Told → Result ScriptReplies RunFault → Type 0
+abbrev pub OpensReplies : Format → Told → Result ScriptReplies Fault → Type 0
 OpensReplies format t (Ok r) = (text_left r ≡ text_if_replies format (replies_told t)) × (outcome_left r ≡ outcome_told t)
-OpensReplies format t (Err (BadLine number)) = (replies_told t ≡ []) × (outcome_told t ≡ Err number)
-OpensReplies format t (Err NoMemory) = ⊤
+OpensReplies format t (Err (why.BadRecord number)) = (replies_told t ≡ []) × (outcome_told t ≡ Err number)
+OpensReplies format t (Err why.NoMemory) = ⊤
 OpensReplies format t (Err fault) = ⊥
 
 -- the desk where the commands leave the script, or its bad record
-abbrev pub EndsBy : Result ScriptCourse ℕ → Result Shown RunFault → Type 0
+abbrev pub EndsBy : Result ScriptCourse ℕ → Result Shown Fault → Type 0
 EndsBy outcome (Ok desk) = outcome ≡ Ok (course_at desk)
-EndsBy outcome (Err (BadLine number)) = outcome ≡ Err number
-EndsBy outcome (Err NoMemory) = ⊤
+EndsBy outcome (Err (why.BadRecord number)) = outcome ≡ Err number
+EndsBy outcome (Err why.NoMemory) = ⊤
 EndsBy outcome (Err fault) = ⊥
 
 -- the script was carried out and the writer took its replies; or the answer is one to the whole script
-abbrev pub CarriesOut : Format → Told → Result Shown RunFault → Option (List ℕ) → Option (List ℕ) → Type 0
+abbrev pub CarriesOut : Format → Told → Result Shown Fault → Option (List ℕ) → Option (List ℕ) → Type 0
 CarriesOut format t (Ok desk) old new = (outcome_told t ≡ Ok (course_at desk)) × Appends old new (text_if_replies format (replies_told t))
 CarriesOut format t (Err fault) old new = Answers {A = Shown} (told_meaning format t) (Err fault) old new

@@ -1,19 +1,27 @@
 -- What a check of a script comes to.
-use Rattle.std.specs.Prelude.{ℕ, ◌≡◌, nat_lt, if◌then◌else◌, List, [], length, Option, Result, IfOk}
+use Rattle.std.specs.Prelude.{ℕ, ◌≡◌, nat_lt, ◌==◌, if◌then◌else◌, List, [], length, Option, Result, IfOk}
 use Rattle.pf_stream.specs.Reading.{longest_script}
 use Rattle.pf_script.specs.Told.{faults}
 use Rattle.pf_check.specs.Reports.{check_text}
-use Rattle.pf_cli.specs.declared.fault.RunFault.{RunFault}
+use Rattle.pf_fault.specs.declared.ending.Ending.{Ending}
+use Rattle.pf_fault.specs.declared.fault.Fault.{Fault}
+use Rattle.pf_fault.specs.declared.status.Status.{Status}
+use Rattle.pf_fault.specs.declared.status.Status.TheVariants.{Done, BadScript}
+use Rattle.pf_fault.specs.Answers.{IsQuiet}
 use Rattle.pf_cli.specs.Answers.{Answers}
-use Rattle.pf_cli.specs.Meaning.{Meaning, Done, TooLong}
+use Rattle.pf_cli.specs.Meaning.{Meaning, Done as MeansDone, TooLong}
 
 -- the text of a check, whatever it finds; a script that is too long is not checked
 unfoldable pub check_meaning : List ℕ → Meaning
 check_meaning bytes =
     if nat_lt longest_script (length bytes) then record { text = []; end = TooLong }
-    else record { text = check_text bytes; end = Done }
+    else record { text = check_text bytes; end = MeansDone }
 
--- the answer to a check of these bytes, which is the number of faults, and what the writer took of its text
-pub record ChecksBytes (bytes : List ℕ) (answer : Result ℕ RunFault) (old new : Option (List ℕ)) : Type 0 where
+-- the status of a check, by how many faults it found
+abbrev pub check_status : ℕ → Status
+check_status faults = if faults == 0 then Done else BadScript
+
+-- the answer to a check of these bytes, whose status tells whether there are faults, and what the writer took of its text
+pub record ChecksBytes (bytes : List ℕ) (answer : Result Ending Fault) (old new : Option (List ℕ)) : Type 0 where
   pub text : Answers (check_meaning bytes) answer old new
-  pub faults : IfOk answer (λ n. n ≡ length (faults bytes))
+  pub status : IfOk answer (IsQuiet (check_status (length (faults bytes))))

@@ -5,6 +5,8 @@ use Rattle.pf_run.specs.Computed.{run_of}
 use Rattle.pf_run.specs.RunRows.{denials_in}
 use Rattle.pf_tally.specs.Misses.{misses_of}
 use Rattle.pf_script.specs.Told.{told}
+use Rattle.pf_fault.specs.declared.status.Status.{Status}
+use Rattle.pf_fault.specs.declared.status.Status.TheVariants.{Done, FailedOn}
 use Rattle.pf_stream.specs.Reading.{longest_script}
 use Rattle.pf_words.specs.declared.fail_on.FailOn.{FailOn}
 use Rattle.pf_cli.specs.Meaning.{ScriptCourse, outcome_told}
@@ -24,6 +26,10 @@ has_misses c = not (length (misses_of c.state.plan (run_of c.state.plan c.state.
 -- whether a run that ends at this course fails on it
 abbrev pub is_failing : FailOn → ScriptCourse → Bool
 is_failing on c = (on.refused && c.refused) || (on.denied && has_denials c) || (on.missed && has_misses c)
+
+-- the status of a run, by whether it fails
+abbrev pub run_status : Bool → Status
+run_status failing = if failing then FailedOn else Done
 
 -- whether a run of this script fails on that, where it is carried out to its end
 abbrev pub fails_on : FailOn → List ℕ → Option Bool

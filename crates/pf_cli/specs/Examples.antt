@@ -1,8 +1,9 @@
 -- Worked examples of what scripts mean.
 use Rattle.std.specs.Prelude.{◌≡◌, ℕ, List, [], ◌++◌, Option, Some, None, codes}
+use Rattle.pf_look.specs.Looks.{usual_look}
 use Rattle.pf_words.specs.declared.format.Format.{Format}
 use Rattle.pf_words.specs.declared.format.Format.TheVariants.{Schedule, Tables, Svg}
-use Rattle.pf_words.specs.declared.range_fault.RangeFault.TheVariants.{NotWithin}
+use Rattle.pf_fault.specs.declared.range_fault.RangeFault.TheVariants.{NotWithin}
 use Rattle.pf_words.specs.Ranges.{whole}
 use Rattle.pf_cli.specs.Meaning.{End, Done, BadRecord, Outside, script_meaning}
 
@@ -45,7 +46,7 @@ pub record Ranges : Type 0 where
   pub beyond : Means (schedule_of None (Some 4)) three_tasks_script [] (Outside (NotWithin 3))
   pub behind : Means (schedule_of (Some 4) None) three_tasks_script [] (Outside (NotWithin 3))
   pub turned : Means (schedule_of (Some 2) (Some 1)) three_tasks_script [] (Outside (NotWithin 3))
-  pub picture : Means (Svg (record { from = None; to = Some 4 }) 20) three_tasks_script [] (Outside (NotWithin 3))
+  pub picture : Means (Svg (record { from = None; to = Some 4 }) usual_look) three_tasks_script [] (Outside (NotWithin 3))
   -- a bad record comes first
   pub bad : Means (schedule_of None (Some 4)) (codes "settings,1,2,2,1\nstep\njoin,0,1") [] (BadRecord 3)
 

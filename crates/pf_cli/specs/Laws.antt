@@ -1,7 +1,7 @@
 -- The laws of checks and runs.
 use Rattle.std.specs.Prelude.{ℕ, ◌≡◌, ◌≤◌, ◌⊎◌, Some, List, [], ◌∷◌, length}
 use Rattle.pf_words.specs.declared.format.Format.{Format}
-use Rattle.pf_words.specs.declared.range_fault.RangeFault.{RangeFault}
+use Rattle.pf_fault.specs.declared.range_fault.RangeFault.{RangeFault}
 use Rattle.pf_words.specs.Formats.{range_fault}
 use Rattle.pf_stream.specs.Reading.{longest_script}
 use Rattle.pf_script.specs.Told.{FaultTold, faults}

@@ -11,7 +11,7 @@ use Rattle.pf_script.specs.declared.record.ScriptSettings.{ScriptSettings}
 use Rattle.pf_script.specs.Asked.{commands_in}
 use Rattle.pf_script.specs.Told.{FaultTold, Told, told}
 use Rattle.pf_words.specs.declared.format.Format.{Format}
-use Rattle.pf_words.specs.declared.range_fault.RangeFault.{RangeFault}
+use Rattle.pf_fault.specs.declared.range_fault.RangeFault.{RangeFault}
 use Rattle.pf_words.specs.Formats.{has_replies, range_fault}
 use Rattle.pf_formats.specs.Report.{report_text}
 use Rattle.pf_report.specs.Replies.{is_refusal, reply_line, line_end}

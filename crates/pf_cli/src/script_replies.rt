@@ -1,8 +1,8 @@
 use crate::batching_desk::BatchingDesk;
 use crate::commands::Commands;
-use crate::fault::RunFault;
 use csv::ByteRecord;
 use pf_desk::desk::Desk;
+use pf_fault::fault::Fault;
 use pf_script::opened::OpenedScript;
 use pf_text::pieces::{LONG_PIECE, Pieces};
 use pf_words::format::Format;
@@ -31,8 +31,8 @@ impl<'a> ScriptReplies<'a> {
     ///
     /// # Errors
     ///
-    /// `BadLine` at a bad record up to the settings, and `NoMemory` where memory is refused.
-    pub(crate) fn open(alloc: Global, bytes: &'a [u8], format: Format) -> Result<Self, RunFault>
+    /// `BadRecord` at a bad record up to the settings, and `NoMemory` where memory is refused.
+    pub(crate) fn open(alloc: Global, bytes: &'a [u8], format: Format) -> Result<Self, Fault>
         ensures { OpensReplies format (told bytes.now) result }
     {
         let mut row = ByteRecord::new(alloc);
@@ -92,14 +92,14 @@ impl<'a> ScriptReplies<'a> {
     ///
     /// # Errors
     ///
-    /// `BadLine` where a bad record ends the script, and `NoMemory` where memory is refused.
-    pub(crate) fn finish(mut self) -> Result<Desk, RunFault>
+    /// `BadRecord` where a bad record ends the script, and `NoMemory` where memory is refused.
+    pub(crate) fn finish(mut self) -> Result<Desk, Fault>
         ensures { EndsBy (outcome_left self.entry) result }
     {
         'rest: while self.carry_on()? {}
         let ScriptReplies { commands, desk, .. } = self;
         match commands.bad_record() {
-            Some(number) => Err(RunFault::BadLine(number)),
+            Some(number) => Err(Fault::BadRecord(number)),
             None => Ok(desk.into_desk()),
         }
     }

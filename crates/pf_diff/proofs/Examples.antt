@@ -17,7 +17,9 @@ use Rattle.pf_tally.specs.Lags.{lags_of}
 use Rattle.pf_tally.specs.Misses.{miss_cmp, misses_of}
 use Rattle.pf_diff.specs.Changes.{changes_of}
 use Rattle.pf_diff.specs.Diff.{diff_text_of}
-use Rattle.pf_diff.specs.Examples.{WorkedDiffs}
+use Rattle.pf_diff.specs.Summary.{summary_text}
+use Rattle.pf_diff.specs.Examples.{WorkedDiffs, WorkedSummaries}
+use Rattle.pf_tally.specs.Figures.{figures_of}
 
 pub worked_diffs : WorkedDiffs
 unfolding digits escaped fields_text is_blank release_of deadline_of bit_of group_of priority_cmp row_of run_cmp events_of done in_force inside load_of count_of shift_of member_of ready course_of rows_in denials_in clock_of lags_of miss_cmp misses_of changes_of diff_text_of
@@ -28,4 +30,14 @@ worked_diffs = record {
   met = refl;
   later = refl;
   denied = refl;
+}
+
+pub worked_summaries : WorkedSummaries
+unfolding digits escaped fields_text is_blank release_of deadline_of bit_of group_of priority_cmp row_of run_cmp events_of done in_force inside load_of count_of shift_of member_of ready course_of rows_in denials_in clock_of lags_of miss_cmp misses_of changes_of diff_text_of figures_of summary_text
+worked_summaries = record {
+  same = refl;
+  alike = refl;
+  capped = refl;
+  different = refl;
+  longer = refl;
 }

@@ -1,2 +1,4 @@
 pub mod SideBySide
 pub mod Examples
+pub mod Counted
+pub mod Pages

@@ -20,7 +20,7 @@ pub table_append : (xs ys : List (List (List ℕ))) → table_text (xs ++ ys) �
 table_append xs ys = flat_map-append (row_text default_writer) xs ys
 
 -- the processors from p on: p, and those behind it
-row_more : (t p : ℕ) (xs ys : List (Option Pick)) → p < length xs → p < length ys
+pub row_more : (t p : ℕ) (xs ys : List (Option Pick)) → p < length xs → p < length ys
     → row_changes t p (drop p xs) (drop p ys)
     ≡ sitter_changes t p (sitter xs p) (sitter ys p) ++ row_changes t (p + 1) (drop (p + 1) xs) (drop (p + 1) ys)
 row_more t p xs ys first second =
@@ -73,7 +73,7 @@ row_done text before t p xs ys over h =
     sym (append-nil text) ∙ sym (ap (λ records. text ++ table_text records) (row_end t p xs ys over)) ∙ h
 
 -- the slots from t on: t, and those behind it
-slot_more : (t : ℕ) (xs ys : List (List (Option Pick))) (x y : List (Option Pick)) → t < length xs → t < length ys
+pub slot_more : (t : ℕ) (xs ys : List (List (Option Pick))) (x y : List (Option Pick)) → t < length xs → t < length ys
     → Some x ≡ slice_get xs t → Some y ≡ slice_get ys t
     → slot_changes t (drop t xs) (drop t ys) ≡ row_changes t 0 x y ++ slot_changes (t + 1) (drop (t + 1) xs) (drop (t + 1) ys)
 slot_more t xs ys x y first second is-x is-y =

@@ -37,12 +37,19 @@ fn line_text(alloc: Global, texts: &[&str]) -> Result<Vec<u8>, AllocError>
 }
 
 /// The title of a table and its heading, a line each.
-fn head(alloc: Global, title: &str, heading: &[&str]) -> Result<Whole, AllocError>
-    ensures { IfOk result (λ head. head ≡ table_text ((title.now ∷ []) ∷ map (λ text. text.now) heading.now ∷ [])) }
+pub(crate) fn head_text(alloc: Global, title: &str, heading: &[&str]) -> Result<Vec<u8>, AllocError>
+    ensures { IfOk result (λ head. head.items ≡ table_text ((title.now ∷ []) ∷ map (λ text. text.now) heading.now ∷ [])) }
 {
     let mut text = line_text(alloc, &[title])?;
     text.extend_from_slice(&line_text(alloc, heading)?)?;
-    Ok(Whole::new(text))
+    Ok(text)
+}
+
+/// The same, in pieces.
+fn head(alloc: Global, title: &str, heading: &[&str]) -> Result<Whole, AllocError>
+    ensures { IfOk result (λ head. head ≡ table_text ((title.now ∷ []) ∷ map (λ text. text.now) heading.now ∷ [])) }
+{
+    Ok(Whole::new(head_text(alloc, title, heading)?))
 }
 
 /// What differs between two tables whose keys are two numbers, or else one.

@@ -4,10 +4,14 @@
 
 pub mod cell;
 mod cells;
+mod cells_changed;
 pub mod change;
 pub mod change_rows;
 pub mod changes;
 pub mod diff;
+pub mod differing;
 pub mod finding;
 pub mod laws;
 pub mod slots;
+pub mod summary;
+pub mod summary_text;

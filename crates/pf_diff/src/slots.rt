@@ -15,7 +15,7 @@ use std::alloc::{AllocError, Global};
 use std::marker::Model;
 
 /// Whether the same sits on a processor, or nobody does.
-fn is_same_sitter(before: Option<Pick>, after: Option<Pick>) -> bool
+pub(crate) fn is_same_sitter(before: Option<Pick>, after: Option<Pick>) -> bool
     ensures { result ≡ same_sitter before after }
 {
     match (before, after) {

@@ -3,8 +3,8 @@ use Rattle.std.proofs.Common.{◌≡◌, ℕ, zero, suc, ◌<◌, Bool, true, fa
 use Rattle.std.specs.Prelude.{All, IfSome, Result, Ok, Err, IfErr, option_to_list, slice_index_or, not, ◌||◌, ◌⊎◌}
 use Rattle.std.specs.List.{list_any}
 use Rattle.pf_board.specs.declared.quantum.Quantum.{Quantum}
-use Rattle.pf_drill.specs.declared.fault.DrillFault.{DrillFault}
-use Rattle.pf_drill.specs.declared.fault.DrillFault.TheVariants.{BadLine, ReadFault, WriteFault, ScriptTooLong, GateShut, NoViewer, Unread, NoMemory}
+use Rattle.pf_fault.specs.declared.fault.Fault.{Fault}
+use Rattle.pf_fault.specs.declared.fault.Fault.TheVariants as why
 use Rattle.pf_drill.specs.declared.worker.Worker.{Worker}
 use Rattle.pf_drill.specs.Drilled.{IsHalt}
 use Rattle.pf_drill.specs.Gates.{Arrived, Arrives, SomeArrived}
@@ -62,17 +62,17 @@ one_shut lets_in shuts_out (w ∷ ws) arrives some = elim (either w.is_shut (lis
 ]
 
 -- Use: a halt that is none of a gate.
-pub any_halt : (shut : Type 0) (fault : DrillFault) → IsHalt ⊥ fault → IsHalt shut fault
-any_halt shut (BadLine number) halt = absurd halt
-any_halt shut ReadFault halt = absurd halt
-any_halt shut WriteFault halt = absurd halt
-any_halt shut ScriptTooLong halt = absurd halt
-any_halt shut GateShut halt = absurd halt
-any_halt shut NoViewer halt = halt
-any_halt shut Unread halt = halt
-any_halt shut NoMemory halt = halt
+pub any_halt : (shut : Type 0) (fault : Fault) → IsHalt ⊥ fault → IsHalt shut fault
+any_halt shut (why.BadRecord number) halt = absurd halt
+any_halt shut why.Read halt = absurd halt
+any_halt shut why.Write halt = absurd halt
+any_halt shut why.TooLong halt = absurd halt
+any_halt shut (why.BadRange range) halt = absurd halt
+any_halt shut why.GateShut halt = absurd halt
+any_halt shut why.NoReader halt = halt
+any_halt shut why.NoMemory halt = halt
 
-pub any_halt_if : {V : Type 0} (shut : Type 0) (r : Result V DrillFault) → IfErr r (IsHalt ⊥) → IfErr r (IsHalt shut)
+pub any_halt_if : {V : Type 0} (shut : Type 0) (r : Result V Fault) → IfErr r (IsHalt ⊥) → IfErr r (IsHalt shut)
 any_halt_if shut (Ok v) halt = tt
 any_halt_if shut (Err fault) halt = any_halt shut fault halt
 

@@ -14,10 +14,11 @@ use Rattle.pf_script.specs.Answers.{ReadsLine}
 use Rattle.pf_script.specs.Asked.{Asked, BadRecord, Whole, asked_by, asked_up_to, commands_in, commands_of, lines_asked}
 use Rattle.pf_script.specs.Opened.{Opens}
 use Rattle.pf_script.specs.Told.{FaultTold, LinesTold, Told}
-use Rattle.pf_drill.specs.declared.fault.DrillFault.{DrillFault}
-use Rattle.pf_drill.specs.declared.fault.DrillFault.TheVariants.{BadLine, ReadFault, WriteFault, ScriptTooLong, GateShut, NoViewer, Unread, NoMemory}
+use Rattle.pf_fault.specs.declared.fault.Fault.{Fault}
+use Rattle.pf_fault.specs.declared.fault.Fault.TheVariants as why
 use Rattle.pf_drill.specs.declared.worker.Worker.{Worker}
-use Rattle.pf_drill.specs.Drilled.{Drills, IsDrill, IsDrilled, IsHalt, Stops, fault_of_script}
+use Rattle.pf_script.specs.Faults.{fault_of_script}
+use Rattle.pf_drill.specs.Drilled.{Drills, IsDrill, IsDrilled, IsHalt, Stops}
 use Rattle.pf_drill.specs.Gates.{Arrived}
 
 -- Use: a script that was read up to no settings is bad.
@@ -60,15 +61,15 @@ pub whole : (settings : System) (rest : LinesTold) (commands : List Command) →
 whole settings rest commands none are = rw (none, are) refl
 
 -- Use: a halt stops whatever was asked for.
-pub stopped : (shut : Type 0) (asked : Asked) (fault : DrillFault) → IsHalt shut fault → Stops shut asked fault
-stopped shut asked (BadLine number) halt = absurd halt
-stopped shut asked ReadFault halt = halt
-stopped shut asked WriteFault halt = halt
-stopped shut asked ScriptTooLong halt = halt
-stopped shut asked GateShut halt = halt
-stopped shut asked NoViewer halt = halt
-stopped shut asked Unread halt = halt
-stopped shut asked NoMemory halt = halt
+pub stopped : (shut : Type 0) (asked : Asked) (fault : Fault) → IsHalt shut fault → Stops shut asked fault
+stopped shut asked (why.BadRecord number) halt = absurd halt
+stopped shut asked why.Read halt = halt
+stopped shut asked why.Write halt = halt
+stopped shut asked why.TooLong halt = halt
+stopped shut asked why.GateShut halt = halt
+stopped shut asked (why.BadRange range) halt = absurd halt
+stopped shut asked why.NoReader halt = halt
+stopped shut asked why.NoMemory halt = halt
 
 -- Use: the rest of a drill, whose commands are all known.
 pub finished : {V F : Type 0} (lets_in : Worker → Quantum → Type 0) (items : V → List ℕ) (asked : Asked) (settings : System) (commands : List Command) (taken : List Quantum)
@@ -79,7 +80,7 @@ finished lets_in items asked settings commands taken (Ok v) is arrived drill =
     rw is drilled
 finished lets_in items asked settings commands taken (Err fault) is arrived drill = tt
 
-pub stopped_if : {V : Type 0} (shut : Type 0) (asked : Asked) (r : Result V DrillFault) → IfErr r (IsHalt shut) → IfErr r (Stops shut asked)
+pub stopped_if : {V : Type 0} (shut : Type 0) (asked : Asked) (r : Result V Fault) → IfErr r (IsHalt shut) → IfErr r (Stops shut asked)
 stopped_if shut asked (Ok v) halt = tt
 stopped_if shut asked (Err fault) halt = stopped shut asked fault halt
 
@@ -87,7 +88,7 @@ pub drills_same : {V F : Type 0} (lets_in : Worker → Quantum → Type 0) (item
     → IfOk r (λ v. Drills lets_in a (items v)) → IfOk r (λ v. Drills lets_in b (items v))
 drills_same lets_in items a b r is drills = subst (λ x. IfOk r (λ v. Drills lets_in x (items v))) is drills
 
-pub stops_same : {V : Type 0} (shut : Type 0) (a b : Asked) (r : Result V DrillFault) → a ≡ b → IfErr r (Stops shut a) → IfErr r (Stops shut b)
+pub stops_same : {V : Type 0} (shut : Type 0) (a b : Asked) (r : Result V Fault) → a ≡ b → IfErr r (Stops shut a) → IfErr r (Stops shut b)
 stops_same shut a b r is stops = subst (λ x. IfErr r (Stops shut x)) is stops
 
 -- Use: settings that are within their limits open a desk with a pass for each processor and the planner, and one viewer.

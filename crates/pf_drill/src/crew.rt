@@ -11,12 +11,12 @@ ghost use Rattle.pf_drill.specs.Drilled.{IsHalt};
 ghost use Rattle.pf_drill.specs.Gates.{Arrived, Arrives, SomeArrived};
 ghost use Rattle.pf_drill.specs.Rounds.{GoesOn, HasEntered, IsInStep, Works, commands_given, got_by, new_worker};
 
-use crate::fault::DrillFault;
 use crate::gate::Gate;
 use crate::worker::Worker;
 use pf_board::quantum::Quantum;
 use pf_desk::command::Command;
 use pf_desk::reply::Reply;
+use pf_fault::fault::Fault;
 use pf_place::row::Row;
 use pf_share::calls::DeskPass;
 use pf_share::done::Done;
@@ -44,7 +44,7 @@ impl Crew {
     ///
     /// # Errors
     ///
-    /// `GateShut` where a gate was shut to a worker, once all are back; `NoMemory` where memory is refused; `Unread` where
+    /// `GateShut` where a gate was shut to a worker, once all are back; `NoMemory` where memory is refused; `NoReader` where
     /// the history has other entries.
     pub fn answer<
         N: Naming + Send + Sync,
@@ -57,7 +57,7 @@ impl Crew {
         shared: &Shared<N, Locked<N, H>>,
         gate: &G,
         command: Command,
-    ) -> Result<(), DrillFault>
+    ) -> Result<(), Fault>
         requires scenario { IsScenario (opening_plan N.board.terms) }
         requires crew { IsInStep N.board.id N.board.terms self.old }
         requires arrived { All (Arrived (G.lets_in gate.now)) self.old.taken.items }
@@ -82,7 +82,7 @@ impl Crew {
         rt: &impl Wait,
         shared: &Shared<N, Locked<N, H>>,
         command: Command,
-    ) -> Result<Reply, DrillFault>
+    ) -> Result<Reply, Fault>
         requires { IsInStep N.board.id N.board.terms self.old }
         ensures entered { IfOk result (λ reply. HasEntered N.board.id N.board.terms reply self.new) }
         ensures commands { OnOk result (commands_given self.new ≡ commands_given self.old ++ command ∷ []) }
@@ -90,10 +90,10 @@ impl Crew {
         ensures halt { IfErr result (IsHalt ⊥) }
     {
         let Ok(done) = enter_as(rt, shared, &mut self.planner, command) else {
-            return Err(DrillFault::NoMemory);
+            return Err(Fault::NoMemory);
         };
         if done.front - 1 != self.answered {
-            return Err(DrillFault::Unread);
+            return Err(Fault::NoReader);
         }
         self.answered = done.front;
         Ok(done.reply)
@@ -105,13 +105,7 @@ impl Crew {
         H: Wait + Drop + Send,
         R: Threads + Wait + Sync,
         G: Gate + Sync,
-    >(
-        &mut self,
-        rt: &R,
-        shared: &Shared<N, Locked<N, H>>,
-        gate: &G,
-        row: &Row,
-    ) -> Result<(), DrillFault>
+    >(&mut self, rt: &R, shared: &Shared<N, Locked<N, H>>, gate: &G, row: &Row) -> Result<(), Fault>
         requires places { length row.now ≡ N.board.terms.processors }
         requires entered { (slot : ℕ) × HasEntered N.board.id N.board.terms (Stepped slot row.now) self.old }
         requires arrived { All (Arrived (G.lets_in gate.now)) self.old.taken.items }
@@ -122,14 +116,14 @@ impl Crew {
     {
         work_at_once(rt, shared, gate, &mut self.workers, row);
         if is_any_shut(&self.workers) {
-            return Err(DrillFault::GateShut);
+            return Err(Fault::GateShut);
         }
         meet(shared, &mut self.planner, &mut self.workers);
         if shared.look(&mut self.planner) != self.answered {
-            return Err(DrillFault::Unread);
+            return Err(Fault::NoReader);
         }
         let Ok(()) = collect(&mut self.taken, &self.workers) else {
-            return Err(DrillFault::NoMemory);
+            return Err(Fault::NoMemory);
         };
         Ok(())
     }

@@ -4,7 +4,6 @@
 
 pub mod crew;
 pub mod drill;
-pub mod fault;
 pub mod gate;
 mod lines;
 mod output;

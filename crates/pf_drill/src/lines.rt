@@ -12,12 +12,12 @@ ghost use Rattle.pf_share.specs.Locked.{origin_of};
 ghost use Rattle.pf_share.specs.Opening.{new_viewers};
 
 use crate::crew::{Crew, crew_of};
-use crate::fault::DrillFault;
 use crate::gate::Gate;
 use crate::output::drill_text;
 use csv::ByteRecord;
 use pf_desk::command::Command;
 use pf_desk::snapshot::Snapshot;
+use pf_fault::fault::Fault;
 use pf_script::line::Line;
 use pf_script::line_reader::LineReader;
 use pf_share::blank::Blank;
@@ -44,7 +44,7 @@ pub(crate) fn drill_lines<
     lines: LineReader,
     row: ByteRecord,
     gate: &G,
-) -> Result<Vec<u8>, DrillFault>
+) -> Result<Vec<u8>, Fault>
     requires name { (blank.board ≡ N.board) × (blank.book ≡ N.book) }
     requires passes { blank.passes ≡ new_passes N.board.id N.board.terms (N.board.terms.processors + 1) }
     requires viewers { blank.viewers ≡ new_viewers (origin_of N.board N.book) 1 }
@@ -58,10 +58,10 @@ pub(crate) fn drill_lines<
         mut viewers,
     } = blank.start::<N>();
     let Some(mut viewer) = viewers.pop() else {
-        return Err(DrillFault::NoViewer);
+        return Err(Fault::NoReader);
     };
     let Ok(mut crew) = crew_of::<N>(alloc, passes) else {
-        return Err(DrillFault::NoMemory);
+        return Err(Fault::NoMemory);
     };
     match take_lines(rt, &shared, gate, &mut crew, lines, row) {
         Ok(()) => (),
@@ -74,14 +74,14 @@ pub(crate) fn drill_lines<
 ///
 /// # Errors
 ///
-/// `Unread` and `NoMemory`.
+/// `NoReader` and `NoMemory`.
 fn finish<N: Naming, H: Wait + Drop>(
     rt: &impl Wait,
     alloc: Global,
     shared: &Shared<N, Locked<N, H>>,
     mut crew: Crew,
     viewer: &mut Viewer,
-) -> Result<Vec<u8>, DrillFault>
+) -> Result<Vec<u8>, Fault>
     requires crew { IsInStep N.board.id N.board.terms crew }
     requires viewer { viewer.old.origin ≡ origin_of N.board N.book }
     ensures drilled { IfOk result (λ text. IsDrill N.board.terms (commands_given crew) crew.taken.items text.items) }
@@ -93,7 +93,7 @@ fn finish<N: Naming, H: Wait + Drop>(
     };
     match drill_text(alloc, &snapshot, crew.taken) {
         Ok(text) => Ok(text),
-        Err(_) => Err(DrillFault::NoMemory),
+        Err(_) => Err(Fault::NoMemory),
     }
 }
 
@@ -110,7 +110,7 @@ fn take_lines<
     crew: &mut Crew,
     mut lines: LineReader,
     mut row: ByteRecord,
-) -> Result<(), DrillFault>
+) -> Result<(), Fault>
     requires scenario { IsScenario (opening_plan N.board.terms) }
     requires crew { IsInStep N.board.id N.board.terms crew.old }
     requires arrived { All (Arrived (G.lets_in gate.now)) crew.old.taken.items }
@@ -141,7 +141,7 @@ fn take_line<
     gate: &G,
     crew: &mut Crew,
     line: Line,
-) -> Result<(), DrillFault>
+) -> Result<(), Fault>
     requires scenario { IsScenario (opening_plan N.board.terms) }
     requires crew { IsInStep N.board.id N.board.terms crew.old }
     requires arrived { All (Arrived (G.lets_in gate.now)) crew.old.taken.items }
@@ -170,7 +170,7 @@ fn take_steps<
     gate: &G,
     crew: &mut Crew,
     count: u64,
-) -> Result<(), DrillFault>
+) -> Result<(), Fault>
     requires scenario { IsScenario (opening_plan N.board.terms) }
     requires crew { IsInStep N.board.id N.board.terms crew.old }
     requires arrived { All (Arrived (G.lets_in gate.now)) crew.old.taken.items }
@@ -192,13 +192,13 @@ fn take_steps<
 ///
 /// # Errors
 ///
-/// `Unread` where the readers' table gives no entry, the snapshot takes no further owner, or it is of a longer history.
+/// `NoReader` where the readers' table gives no entry, the snapshot takes no further owner, or it is of a longer history.
 fn last_snapshot<N: Naming, H: Wait + Drop>(
     rt: &impl Wait,
     shared: &Shared<N, Locked<N, H>>,
     crew: &mut Crew,
     viewer: &mut Viewer,
-) -> Result<Arc<Snapshot>, DrillFault>
+) -> Result<Arc<Snapshot>, Fault>
     requires crew { IsInStep N.board.id N.board.terms crew.old }
     requires viewer { viewer.old.origin ≡ origin_of N.board N.book }
     ensures crew { crew.new ≡ crew.old }
@@ -206,13 +206,13 @@ fn last_snapshot<N: Naming, H: Wait + Drop>(
     ensures halt { IfErr result (IsHalt ⊥) }
 {
     let Ok(()) = shared.tell(rt, &mut crew.planner, viewer) else {
-        return Err(DrillFault::Unread);
+        return Err(Fault::NoReader);
     };
     let Ok(snapshot) = shared.read(viewer) else {
-        return Err(DrillFault::Unread);
+        return Err(Fault::NoReader);
     };
     if snapshot.version() != crew.answered {
-        return Err(DrillFault::Unread);
+        return Err(Fault::NoReader);
     }
     Ok(snapshot)
 }

@@ -9,7 +9,12 @@ use crate::room::fill_text;
 use crate::status::{NO_MEMORY, NOT_OPEN, OUT_OF_RANGE};
 use pf_chart::chart::chart_text;
 use pf_desk::desk::Desk;
-use pf_picture::picture::{MOST_SLOTS, NARROWEST, WIDEST, picture_text};
+use pf_look::cell::Cell;
+use pf_look::look::Look;
+use pf_look::style::Style;
+use pf_look::wrap::{MOST_SLOTS, Wrap};
+use pf_names::titles::Titles;
+use pf_picture::picture::picture_text;
 use std::alloc::{AllocError, Global};
 
 /// Writes a chart in characters of the slots from `from` on and below `to`. `count` is how many bytes it has, where the
@@ -43,8 +48,8 @@ pub extern "C" fn pfair_chart(
     }
 }
 
-/// Writes a picture as SVG of the slots from `from` on and below `to`, at most `MOST_SLOTS` of pf_picture, each `cell`
-/// wide, `NARROWEST` to `WIDEST`. `count` is how many bytes it has, where the room is too short too.
+/// Writes a picture as SVG of the slots from `from` on and below `to`, at most `MOST_SLOTS` of pf_look, each `cell`
+/// wide, `NARROWEST` to `WIDEST` of pf_look. `count` is how many bytes it has, where the room is too short too.
 ///
 /// # Errors
 ///
@@ -118,20 +123,35 @@ fn fill_picture(
     ensures picture { TellsPart (CanBeDrawn from to cell desk.now) (picture_of desk.now from to cell) result count.new room.old room.new }
     ensures rest { (result ≡ OK → ⊥) → room.new ≡ room.old }
 {
-    if from > to || to > desk.now() || to - from > MOST_SLOTS || cell < NARROWEST || cell > WIDEST {
+    if from > to || to > desk.now() || to - from > MOST_SLOTS {
         return OUT_OF_RANGE;
     }
+    let Some(cell) = Cell::new(cell) else {
+        return OUT_OF_RANGE;
+    };
     match picture(alloc, desk, from, to, cell) {
         Ok(text) => fill_text(&text, room, count),
         Err(_) => NO_MEMORY,
     }
 }
 
-/// The picture of a range.
-fn picture(alloc: Global, desk: &Desk, from: u64, to: u64, cell: u64) -> Result<Vec<u8>, AllocError>
+/// The picture of a range, all slots side by side.
+fn picture(
+    alloc: Global,
+    desk: &Desk,
+    from: u64,
+    to: u64,
+    cell: Cell,
+) -> Result<Vec<u8>, AllocError>
     requires { CanBeDrawn from to cell desk.now }
     ensures { IfOk result (λ text. text.items ≡ picture_of desk.now from to cell) }
 {
     let snapshot = desk.snapshot()?;
-    picture_text(alloc, &snapshot, from, to, cell)
+    let titles = Titles::none(alloc);
+    let look = Look {
+        cell,
+        wrap: Wrap::usual(),
+        style: Style::Strips,
+    };
+    picture_text(alloc, &snapshot, &titles, from, to, &look)
 }

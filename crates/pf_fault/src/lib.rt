@@ -1,7 +1,9 @@
-//! Why the program's tasks end early. The one contract of this crate: a fault ends the program with its status, and a status
-//! has its number.
+//! What the program's tasks answer, and why they end early. The one contract of this crate: a fault ends the program with its
+//! status, and a status has its number.
 #![tactic(auto)]
 
+pub mod answer;
+pub mod ending;
 pub mod fault;
 pub mod range_fault;
 pub mod status;

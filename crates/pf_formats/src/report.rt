@@ -1,20 +1,30 @@
 ghost use Rattle.std.specs.Prelude.{◌≡◌, ◌≤◌, ◌++◌, true, None, IfOk};
+ghost use Rattle.pf_names.specs.Titled.{untitled};
 ghost use Rattle.pf_chart.specs.Chart.{chart_text_of};
+ghost use Rattle.pf_jobs.specs.Jobs.{jobs_text};
+ghost use Rattle.pf_jobs.specs.Load.{load_text};
 ghost use Rattle.pf_picture.specs.Picture.{picture_text_of};
 ghost use Rattle.pf_report.specs.Json.{json_text};
 ghost use Rattle.pf_report.specs.Part.{schedule_part_text};
 ghost use Rattle.pf_report.specs.Quanta.{quanta_text};
 ghost use Rattle.pf_report.specs.Replies.{line_end};
-ghost use Rattle.pf_words.specs.declared.format.TheConstants.{MOST_SLOTS};
+ghost use Rattle.pf_tasks.specs.Listed.{all_tasks};
+ghost use Rattle.pf_look.specs.declared.wrap.TheConstants.{MOST_SLOTS};
 ghost use Rattle.pf_words.specs.Formats.{range_fault};
 ghost use Rattle.pf_words.specs.Ranges.{end_of, first_of, is_within, slots_of};
+ghost use Rattle.pf_windows.specs.Windows.{windows_text};
 ghost use Rattle.pf_formats.specs.Left.{text_left};
 ghost use Rattle.pf_formats.specs.Report.{report_text};
 
 use crate::report_pieces::ReportPieces;
 use crate::tables::tables_pieces;
 use pf_chart::chart::{ChartPieces, chart_pieces};
+use pf_code::array::c_pieces;
 use pf_desk::snapshot::Snapshot;
+use pf_jobs::jobs::{JobPieces, job_pieces};
+use pf_jobs::load::{LoadPieces, load_pieces};
+use pf_look::look::Look;
+use pf_names::titles::Titles;
 use pf_picture::picture::{PicturePieces, picture_pieces};
 use pf_report::denials::denial_pieces;
 use pf_report::events::events_csv;
@@ -26,8 +36,9 @@ use pf_report::schedule_part::{PartPieces, schedule_part_pieces};
 use pf_report::script::script_pieces;
 use pf_stats::processors::processors_csv;
 use pf_stats::stats::stats_csv;
+use pf_tasks::task_list::TaskList;
 use pf_text::pieces::{Chain, Whole};
-use pf_words::cell::Cell;
+use pf_windows::windows::{WindowPieces, window_pieces};
 use pf_words::format::Format;
 use pf_words::slot_range::SlotRange;
 use std::alloc::{AllocError, Global};
@@ -61,10 +72,14 @@ pub fn report_pieces(
         Format::Processors => ReportPieces::Whole(Whole::new(processors_csv(alloc, snapshot)?)),
         Format::Stats => ReportPieces::Whole(Whole::new(stats_csv(alloc, snapshot)?)),
         Format::Chart(range) => ReportPieces::Chart(chart_of(alloc, snapshot, range)?),
-        Format::Svg(range, cell) => {
-            ReportPieces::Picture(picture_of(alloc, snapshot, range, cell)?)
+        Format::Svg(range, look) => {
+            ReportPieces::Picture(picture_of(alloc, snapshot, range, &look)?)
         }
         Format::Quanta(range) => ReportPieces::Quanta(quanta_of(alloc, snapshot, range)?),
+        Format::Windows(range) => ReportPieces::Windows(windows_of(alloc, snapshot, range)?),
+        Format::Jobs => ReportPieces::Jobs(jobs_of(alloc, snapshot)?),
+        Format::Load(range) => ReportPieces::Load(load_of(alloc, snapshot, range)?),
+        Format::C => ReportPieces::Code(c_pieces(alloc, snapshot)?),
     };
     Ok(pieces)
 }
@@ -96,19 +111,20 @@ fn chart_of(
 }
 
 /// The picture of a range of slots, in pieces.
-fn picture_of(
+fn picture_of<'a>(
     alloc: Global,
-    snapshot: &Snapshot,
+    snapshot: &'a Snapshot,
     range: SlotRange,
-    cell: Cell,
-) -> Result<PicturePieces<'_>, AllocError>
+    look: &Look,
+) -> Result<PicturePieces<'a>, AllocError>
     requires within { is_within range snapshot.now.state.now ≡ true }
     requires short { slots_of range snapshot.now.state.now ≤ MOST_SLOTS }
     ensures { IfOk result
-        (λ pieces. pieces ≡ picture_text_of snapshot.now (first_of range) (end_of range snapshot.now.state.now) cell) }
+        (λ pieces. pieces ≡ picture_text_of snapshot.now untitled (first_of range) (end_of range snapshot.now.state.now) look.now) }
 {
     let to = range.end(snapshot.now());
-    picture_pieces(alloc, snapshot, range.first(), to, cell.get())
+    let titles = Titles::none(alloc);
+    picture_pieces(alloc, snapshot, &titles, range.first(), to, look)
 }
 
 /// The quanta of a range of slots, in pieces.
@@ -122,6 +138,41 @@ fn quanta_of(
         (λ pieces. pieces ≡ quanta_text snapshot.now (first_of range) (end_of range snapshot.now.state.now)) }
 {
     quanta_pieces(alloc, snapshot, range.first(), range.end(snapshot.now()))
+}
+
+/// The windows of all tasks in a range of slots, in pieces.
+fn windows_of(
+    alloc: Global,
+    snapshot: &Snapshot,
+    range: SlotRange,
+) -> Result<WindowPieces, AllocError>
+    ensures { IfOk result
+        (λ pieces. pieces ≡ windows_text snapshot.now all_tasks (first_of range) (end_of range snapshot.now.state.now)) }
+{
+    let tasks = TaskList::all(alloc)?;
+    window_pieces(
+        alloc,
+        snapshot,
+        &tasks,
+        range.first(),
+        range.end(snapshot.now()),
+    )
+}
+
+/// The jobs of all tasks, in pieces.
+fn jobs_of(alloc: Global, snapshot: &Snapshot) -> Result<JobPieces, AllocError>
+    ensures { IfOk result (λ pieces. pieces ≡ jobs_text snapshot.now all_tasks) }
+{
+    job_pieces(alloc, snapshot, &TaskList::all(alloc)?)
+}
+
+/// Load and room of a range of slots, in pieces.
+fn load_of(alloc: Global, snapshot: &Snapshot, range: SlotRange) -> Result<LoadPieces, AllocError>
+    requires { is_within range snapshot.now.state.now ≡ true }
+    ensures { IfOk result
+        (λ pieces. pieces ≡ load_text snapshot.now (first_of range) (end_of range snapshot.now.state.now)) }
+{
+    load_pieces(alloc, snapshot, range.first(), range.end(snapshot.now()))
 }
 
 /// The JSON object, as a line, in pieces.

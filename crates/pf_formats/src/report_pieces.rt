@@ -1,5 +1,8 @@
 use crate::tables::TablesPieces;
 use pf_chart::chart::ChartPieces;
+use pf_code::array::ArrayPieces;
+use pf_jobs::jobs::JobPieces;
+use pf_jobs::load::LoadPieces;
 use pf_picture::picture::PicturePieces;
 use pf_report::denials::DenialPieces;
 use pf_report::json::JsonPieces;
@@ -9,6 +12,7 @@ use pf_report::quanta::QuantaPieces;
 use pf_report::schedule_part::PartPieces;
 use pf_report::script::ScriptPieces;
 use pf_text::pieces::{Chain, Pieces, Whole};
+use pf_windows::windows::WindowPieces;
 use std::alloc::{AllocError, Global};
 
 /// The pieces of a report: an arm for each kind that a format has.
@@ -36,6 +40,14 @@ pub enum ReportPieces<'a> {
     Picture(PicturePieces<'a>),
     /// The quanta of a range.
     Quanta(QuantaPieces<'a>),
+    /// Load and room of a range.
+    Load(LoadPieces),
+    /// The windows of a range.
+    Windows(WindowPieces),
+    /// The jobs.
+    Jobs(JobPieces),
+    /// The schedule as a C array.
+    Code(ArrayPieces<'a>),
 }
 
 impl Pieces for ReportPieces<'_> {
@@ -58,6 +70,10 @@ impl Pieces for ReportPieces<'_> {
             ReportPieces::Chart(pieces) => pieces.next_piece(alloc),
             ReportPieces::Picture(pieces) => pieces.next_piece(alloc),
             ReportPieces::Quanta(pieces) => pieces.next_piece(alloc),
+            ReportPieces::Load(pieces) => pieces.next_piece(alloc),
+            ReportPieces::Windows(pieces) => pieces.next_piece(alloc),
+            ReportPieces::Jobs(pieces) => pieces.next_piece(alloc),
+            ReportPieces::Code(pieces) => pieces.next_piece(alloc),
         }
     }
 }

@@ -4,4 +4,5 @@ pub mod Noted
 pub mod Parts
 pub mod Greatest
 pub mod Whole
+pub mod Sheets
 pub mod Examples

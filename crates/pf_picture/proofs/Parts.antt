@@ -1,6 +1,9 @@
 -- The rows of the processors and the parts of the tasks, one after another.
-use Rattle.std.proofs.Common.{◌≡◌, ℕ, ◌+◌, ◌-◌, ◌<◌, ◌≤◌, Option, Some, List, [], ◌++◌, length, get_or, sym, ap, ap₂, ◌∙◌, append_assoc, arith}
+use Rattle.std.proofs.Common.{◌≡◌, ℕ, suc, ◌+◌, ◌-◌, ◌<◌, ◌≤◌, Option, Some, List, [], ◌∷◌, ◌++◌, drop, length, get_or, sym, ap, ap₂, ◌∙◌, append_assoc, arith}
+use Rattle.std.specs.Prelude.{codes}
 use Rattle.std.specs.List.{flat_map, range_with_len, slice_get}
+use Rattle.std.proofs.Math.ListN.{drop_of_length-le}
+use Rattle.std.proofs.Math.Seq.{drop-cons}
 use Rattle.std.proofs.lemmas.List.{get_or_default}
 use Rattle.std.proofs.lemmas.List.FromFn.{get_or-map-range_with_len}
 use Rattle.pf_order.specs.declared.pick.Pick.{Pick}
@@ -8,8 +11,9 @@ use Rattle.pf_tally.proofs.Noting.{got_at}
 use Rattle.pf_desk.specs.Desk.{Seen}
 use Rattle.pf_chart.specs.Listing.{count_in, counts_of}
 use Rattle.pf_picture.specs.Drawing.{Drawing}
-use Rattle.pf_picture.specs.Picture.{processors_from, rows_text, task_at, tasks_from}
+use Rattle.pf_picture.specs.Picture.{processors_from, rows_text, tasks_from}
 use Rattle.pf_picture.specs.Processors.{cell_text, processor_name, processor_text, slot_text}
+use Rattle.pf_picture.specs.Rows.{height_of}
 use Rattle.pf_picture.specs.Scale.{Measures}
 use Rattle.pf_picture.specs.Shapes.{stretch_shape}
 use Rattle.pf_picture.specs.Task.{name_text, task_text_of}
@@ -23,6 +27,12 @@ slot_is seen s drawings counts p t count d row within of_counts of_count of_row 
     (of_count ∙ ap (λ cs. get_or cs t d) of_counts ∙ get_or-map-range_with_len (count_in seen) 0 (length seen.rows) t t d within (omega arith))
     (sym (get_or_default seen.rows t [] row within ∙ got_at seen.rows t row of_row))
 
+-- Use: the task of this place, and those behind it.
+pub task_and_others : (drawings : List Drawing) (place : ℕ) (d : Drawing) → place < length drawings →
+    drop place drawings ≡ get_or drawings place d ∷ drop (place + 1) drawings
+task_and_others drawings place d within =
+    drop-cons drawings place d within ∙ ap (λ k. get_or drawings place d ∷ drop k drawings) (let z : suc place ≡ place + 1 = omega arith in z)
+
 module _ (seen : Seen) (s : Measures) (drawings : List Drawing) where
   -- Use: the row of a processor has a line.
   pub processor_some : (p : ℕ) (text : List ℕ) → text ≡ processor_text seen s drawings p → 1 ≤ length text
@@ -30,28 +40,31 @@ module _ (seen : Seen) (s : Measures) (drawings : List Drawing) where
   processor_some p text is = omega (arith, ap length is)
 
   -- Use: the row of one processor, and what is left behind it.
-  pub processor_next : (p place : ℕ) → p < s.processors → rows_text seen s drawings p place ≡ processor_text seen s drawings p ++ rows_text seen s drawings (p + 1) place
-  processor_next p place some =
-      ap (λ xs. xs ++ tasks_from s drawings place) (first_and_others (processor_text seen s drawings) p s.processors some)
-      ∙ append_assoc (processor_text seen s drawings p) (processors_from seen s drawings (p + 1)) (tasks_from s drawings place)
+  pub processor_next : (p place top : ℕ) → p < s.processors →
+      rows_text seen s drawings p place top ≡ processor_text seen s drawings p ++ rows_text seen s drawings (p + 1) place top
+  processor_next p place top some =
+      ap (λ xs. xs ++ (tasks_from s place top (drop place drawings) ++ codes "</g>\n")) (first_and_others (processor_text seen s drawings) p s.processors some)
+      ∙ append_assoc (processor_text seen s drawings p) (processors_from seen s drawings (p + 1)) (tasks_from s place top (drop place drawings) ++ codes "</g>\n")
 
   -- Use: no processor is left.
-  pub processors_over : (p place : ℕ) → s.processors ≤ p → rows_text seen s drawings p place ≡ tasks_from s drawings place
-  processors_over p place over =
-      ap (λ n. flat_map (processor_text seen s drawings) (range_with_len p n) ++ tasks_from s drawings place) (let z : s.processors - p ≡ 0 = omega arith in z)
+  pub processors_over : (p place top : ℕ) → s.processors ≤ p → rows_text seen s drawings p place top ≡ tasks_from s place top (drop place drawings) ++ codes "</g>\n"
+  processors_over p place top over =
+      ap (λ n. flat_map (processor_text seen s drawings) (range_with_len p n) ++ (tasks_from s place top (drop place drawings) ++ codes "</g>\n")) (let z : s.processors - p ≡ 0 = omega arith in z)
 
   -- Use: the part of one task, and what is left behind it.
-  pub task_next : (p place : ℕ) → s.processors ≤ p → place < s.listed → rows_text seen s drawings p place ≡ task_at s drawings place ++ rows_text seen s drawings p (place + 1)
-  task_next p place over some =
-      processors_over p place over ∙ first_and_others (task_at s drawings) place s.listed some
-      ∙ ap (λ xs. task_at s drawings place ++ xs) (sym (processors_over p (place + 1) over))
+  pub task_next : (p place top : ℕ) (drawing : Drawing) → s.processors ≤ p → drop place drawings ≡ drawing ∷ drop (place + 1) drawings →
+      rows_text seen s drawings p place top ≡ task_text_of s top place drawing ++ rows_text seen s drawings p (place + 1) (top + height_of s drawing)
+  task_next p place top drawing over at =
+      processors_over p place top over ∙ ap (λ ds. tasks_from s place top ds ++ codes "</g>\n") at
+      ∙ append_assoc (task_text_of s top place drawing) (tasks_from s (place + 1) (top + height_of s drawing) (drop (place + 1) drawings)) (codes "</g>\n")
+      ∙ ap (λ xs. task_text_of s top place drawing ++ xs) (sym (processors_over p (place + 1) (top + height_of s drawing) over))
 
-  -- Use: nothing is left.
-  pub rows_over : (p place : ℕ) → s.processors ≤ p → s.listed ≤ place → rows_text seen s drawings p place ≡ []
-  rows_over p place over all =
-      processors_over p place over ∙ ap (λ n. flat_map (task_at s drawings) (range_with_len place n)) (let z : s.listed - place ≡ 0 = omega arith in z)
+  -- Use: nothing but the block's end is left.
+  pub rows_over : (p place top : ℕ) → s.processors ≤ p → length drawings ≤ place → rows_text seen s drawings p place top ≡ codes "</g>\n"
+  rows_over p place top over all =
+      processors_over p place top over ∙ ap (λ ds. tasks_from s place top ds ++ codes "</g>\n") (drop_of_length-le drawings all)
 
 -- Use: the part of a task has a line.
-pub task_some : (s : Measures) (rank : ℕ) (drawing : Drawing) (text : List ℕ) → text ≡ task_text_of s rank drawing → 1 ≤ length text
+pub task_some : (s : Measures) (top place : ℕ) (drawing : Drawing) (text : List ℕ) → text ≡ task_text_of s top place drawing → 1 ≤ length text
 unfolding task_text_of name_text stretch_shape
-task_some s rank drawing text is = omega (arith, ap length is)
+task_some s top place drawing text is = omega (arith, ap length is)

@@ -1,6 +1,6 @@
 -- What is drawn of one window: the slots before its release in which its subtask may run, a bracket over its slots, the
 -- slots behind its deadline in which it waited, and its quantum.
-use Rattle.std.specs.Prelude.{ℕ, ◌+◌, ◌-◌, ◌*◌, ◌/◌, ◌==◌, max, min, Bool, ◌&&◌, nat_le, nat_lt, if◌then◌else◌, List, [], ◌++◌, codes}
+use Rattle.std.specs.Prelude.{ℕ, ◌+◌, ◌-◌, ◌*◌, ◌/◌, ◌==◌, max, min, Bool, ◌&&◌, nat_le, nat_lt, if◌then◌else◌, Some, List, [], ◌++◌, codes}
 use Rattle.std.specs.Option.{option_map_or}
 use Rattle.pf_chart.specs.declared.quantum.Quantum.{Quantum}
 use Rattle.pf_chart.specs.declared.window.Window.{Window}
@@ -56,21 +56,22 @@ late_text lane z w =
 
 -- its quantum
 abbrev pub turn_of : Lane → Window → Quantum → Turn
-turn_of lane w q = record { rank = lane.rank; task = lane.task; sub = w.sub; window = w; quantum = q }
+turn_of lane w q = record { place = Some lane.place; sub = w.sub; window = w; quantum = q }
 
-unfoldable pub quantum_text : Lane → ℕ → Window → Quantum → List ℕ
-quantum_text lane z w q =
+unfoldable pub quantum_text : Lane → List ℕ → ℕ → Window → Quantum → List ℕ
+quantum_text lane label z w q =
     if nat_le lane.scale.from q.slot && nat_lt q.slot lane.scale.to
-    then box_text (turn_of lane w q) (x_of lane.scale q.slot + inset_of lane.scale) z (lane.scale.cell - 2 * inset_of lane.scale) 10
-    ++ number_if_room q.processor (lane.scale.cell - 2 * inset_of lane.scale) (x_of lane.scale q.slot + lane.scale.cell / 2) (z + 9)
+    then box_text label (turn_of lane w q) (x_of lane.scale q.slot + inset_of lane.scale) z (lane.scale.cell - 2 * inset_of lane.scale) 10
+    ++ number_if_room (turn_of lane w q) q.processor (lane.scale.cell - 2 * inset_of lane.scale) (x_of lane.scale q.slot + lane.scale.cell / 2) (z + 9)
     else []
 
-unfoldable pub ran_text : Lane → ℕ → Window → List ℕ
-ran_text lane z w = option_map_or (quantum_text lane z w) w.ran []
+unfoldable pub ran_text : Lane → List ℕ → ℕ → Window → List ℕ
+ran_text lane label z w = option_map_or (quantum_text lane label z w) w.ran []
 
-abbrev pub window_at : Lane → ℕ → Window → List ℕ
-window_at lane z w = early_text lane z w ++ bracket_text lane z w ++ late_text lane z w ++ ran_text lane z w
+-- what is drawn of a window at the level z
+unfoldable pub window_at : Lane → List ℕ → ℕ → Window → List ℕ
+window_at lane label z w = early_text lane z w ++ bracket_text lane z w ++ late_text lane z w ++ ran_text lane label z w
 
--- what is drawn of a window
-unfoldable pub window_text : Lane → Window → List ℕ
-window_text lane w = window_at lane (level_of lane w.sub) w
+-- that in a strip
+abbrev pub window_text : Lane → List ℕ → Window → List ℕ
+window_text lane label w = window_at lane label (level_of lane w.sub) w

@@ -2,13 +2,14 @@
 use Rattle.std.specs.Prelude.{◌≡◌, ℕ, ◌<◌, ◌==◌, Option, List, filter, find}
 use Rattle.std.specs.List.{AllPairs}
 use Rattle.std.specs.Option.{option_and_then}
+use Rattle.pf_names.specs.declared.named.Named.{Named}
 use Rattle.pf_scenario.specs.Event.{task_of}
 use Rattle.pf_scenario.specs.declared.event.Numbered.{Numbered}
 use Rattle.pf_run.specs.declared.denied.Denied.{Denied}
 use Rattle.pf_table.specs.Lists.{noted_of}
 use Rattle.pf_tally.specs.Own.{events_of_task}
 use Rattle.pf_chart.specs.Listing.{Listing}
-use Rattle.pf_picture.specs.Drawing.{Drawing, asked_of, is_denial_of}
+use Rattle.pf_picture.specs.Drawing.{Drawing, asked_of, drawing_asked, is_denial_of}
 
 -- the numbers of these events rise
 abbrev pub HaveRisingNumbers : List Numbered → Type 0
@@ -23,5 +24,5 @@ pub record AreDenialsByTask (events : List Numbered) (denials : List Denied) (ta
   pub each : (task : ℕ) → noted_of table task ≡ filter (is_denial_of (events_of_task task events)) denials
 
 -- a listed task with these events of its own, of which these are denied
-abbrev pub drawing_with : List Numbered → List Denied → ℕ → Listing → Drawing
-drawing_with own denied n l = record { listing = l; asked = asked_of own n l.task; denied = denied }
+abbrev pub drawing_with : List Named → List Numbered → List Denied → ℕ → Listing → Drawing
+drawing_with names own denied n l = drawing_asked names (asked_of own n l.task) denied l

@@ -1,7 +1,11 @@
 -- What a picture tells of a listed task, beside its listing.
-use Rattle.std.specs.Prelude.{ℕ, Bool, ◌&&◌, ◌==◌, nat_lt, Option, Some, None, List, map, filter, find}
+use Rattle.std.specs.Prelude.{ℕ, Bool, ◌&&◌, ◌==◌, nat_lt, Option, Some, None, List, [], ◌++◌, codes, map, filter, find}
+use Rattle.std.specs.Fmt.{decimal}
 use Rattle.std.specs.List.{list_any}
-use Rattle.std.specs.Option.{option_and_then}
+use Rattle.std.specs.Option.{option_and_then, option_map_or}
+use Rattle.pf_names.specs.Names.{name_of}
+use Rattle.pf_names.specs.Titled.{label_of}
+use Rattle.pf_names.specs.declared.named.Named.{Named}
 use Rattle.pf_scenario.specs.Event.{slot_of, is_join_of}
 use Rattle.pf_scenario.specs.declared.event.Event.{Event}
 use Rattle.pf_scenario.specs.declared.event.Event.TheVariants.{Join}
@@ -10,13 +14,32 @@ use Rattle.pf_run.specs.declared.denied.Denied.{Denied}
 use Rattle.pf_tally.specs.Own.{events_of_task}
 use Rattle.pf_desk.specs.Desk.{Seen}
 use Rattle.pf_chart.specs.Listing.{Listing, listings_of}
+use Rattle.pf_picture.specs.Element.{put}
 use Rattle.pf_picture.specs.declared.asked.Asked.{Asked}
 
--- a listed task, what its join asks for, and its denied events in run order
+-- a listed task, what it is called, the weight that its join asks for, by how many slots its subtasks may run before their
+-- release, and its denied events in run order
 pub record Drawing : Type 0 where
   pub listing : Listing
-  pub asked : Option Asked
+  pub label : List ℕ
+  pub weight : List ℕ
+  pub early : ℕ
   pub denied : List Denied
+
+-- the weight that is asked for, and a dash where no join is held
+unfoldable pub weight_text : Asked → List ℕ
+weight_text asked = put [] asked.cost (codes "/" ++ decimal asked.period)
+
+abbrev pub weight_of : Option Asked → List ℕ
+weight_of asked = option_map_or weight_text asked (codes "-")
+
+-- behind the number of a task that is called by its name
+unfoldable pub weight_behind : Option (List ℕ) → ℕ → List ℕ → List ℕ
+weight_behind None task weight = weight
+weight_behind (Some name) task weight = put [] task (codes ": " ++ weight)
+
+abbrev pub early_of : Option Asked → ℕ
+early_of asked = option_map_or (λ a. a.early) asked 0
 
 -- what a join asks for
 abbrev pub asked_by : Event → Option Asked
@@ -35,17 +58,23 @@ asked_of own n task = option_and_then (λ x. asked_by x.event) (find (is_join_be
 abbrev pub is_denial_of : List Numbered → Denied → Bool
 is_denial_of own denied = list_any (λ x. x.id == denied.id) own
 
--- a listed task with these events of its own
-abbrev pub drawing_by : List Numbered → ℕ → List Denied → Listing → Drawing
-drawing_by own n denials l = record {
+-- a listed task whose join asks for this, and whose denied events these are
+abbrev pub drawing_asked : List Named → Option Asked → List Denied → Listing → Drawing
+drawing_asked names asked denied l = record {
   listing = l;
-  asked = asked_of own n l.task;
-  denied = filter (is_denial_of own) denials;
+  label = label_of names l.task;
+  weight = weight_behind (name_of names l.task) l.task (weight_of asked);
+  early = early_of asked;
+  denied = denied;
 }
 
-abbrev pub drawing_of : List Numbered → ℕ → List Denied → Listing → Drawing
-drawing_of events n denials l = drawing_by (events_of_task l.task events) n denials l
+-- a listed task with these events of its own
+abbrev pub drawing_by : List Named → List Numbered → ℕ → List Denied → Listing → Drawing
+drawing_by names own n denials l = drawing_asked names (asked_of own n l.task) (filter (is_denial_of own) denials) l
+
+abbrev pub drawing_of : List Named → List Numbered → ℕ → List Denied → Listing → Drawing
+drawing_of names events n denials l = drawing_by names (events_of_task l.task events) n denials l
 
 -- the listed tasks, by number
-unfoldable pub drawings_of : Seen → List Drawing
-drawings_of seen = map (drawing_of seen.state.plan.events seen.state.now seen.denials) (listings_of seen)
+unfoldable pub drawings_of : Seen → List Named → List Drawing
+drawings_of seen names = map (drawing_of names seen.state.plan.events seen.state.now seen.denials) (listings_of seen)

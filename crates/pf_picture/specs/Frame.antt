@@ -1,62 +1,80 @@
--- What stands round the schedule in a picture: its size and its styles, its caption, its grid, and what its signs mean.
-use Rattle.std.specs.Prelude.{ℕ, ◌+◌, ◌-◌, ◌%◌, ◌==◌, if◌then◌else◌, List, ◌++◌, codes}
-use Rattle.std.specs.List.{flat_map, range_with_len}
+-- What stands before the blocks of a picture: its size, what it is in words, its styles, and its head.
+use Rattle.std.specs.Prelude.{ℕ, Option, List, [], ◌++◌, codes}
+use Rattle.std.specs.Fmt.{decimal}
+use Rattle.std.specs.Option.{option_map_or}
+use Rattle.pf_names.specs.Slots.{unit_word}
+use Rattle.pf_names.specs.declared.slot_length.SlotLength.{SlotLength}
+use Rattle.pf_look.specs.declared.style.Style.{Style}
+use Rattle.pf_look.specs.declared.style.Style.TheVariants.{Strips, Stairs}
 use Rattle.pf_picture.specs.Element.{put, put_word}
-use Rattle.pf_picture.specs.Scale.{Measures, height_of, step_of, width_of, x_of}
+use Rattle.pf_picture.specs.Scale.{Measures}
+use Rattle.pf_picture.specs.declared.summary.Summary.{Summary}
 
 unfoldable pub opening_text : ℕ → ℕ → List ℕ
 opening_text width height =
-    put (codes "<svg xmlns=\"http://www.w3.org/2000/svg\" viewBox=\"0 0 ") width (put (codes " ") height
+    put (codes "<svg xmlns=\"http://www.w3.org/2000/svg\" lang=\"en\" role=\"img\" viewBox=\"0 0 ") width (put (codes " ") height
     (put (codes "\" width=\"") width (put (codes "\" height=\"") height (codes "\">\n"))))
 
--- the styles by their classes; c0 to c11 are the colours of the tasks
+-- what a reader of the page's text is told
+unfoldable pub title_line : Summary → List ℕ
+title_line sum =
+    put (codes "<title>PD2 schedule, slots ") sum.from (put (codes " to ") sum.to (put (codes " of ") sum.stepped (codes "</title>\n")))
+
+unfoldable pub settings_words : Summary → List ℕ
+settings_words sum =
+    put (codes "<desc>Tasks ") sum.shown (put (codes " of ") sum.listed (put (codes "; processors ") sum.processors
+    (put (codes "; base ") sum.base (put (codes "; cap ") sum.cap (codes "; ")))))
+
+unfoldable pub counts_words : Summary → List ℕ
+counts_words sum = put (codes "missed windows ") sum.missed (put (codes "; denied events ") sum.denied (codes ".</desc>\n"))
+
+-- the styles by their classes; c0 to c11 are the colours of the tasks, light and dark ones in turn
 unfoldable pub style_text : List ℕ
 style_text =
-    codes "<style>text{font:10px monospace}.n{text-anchor:middle}.a{text-anchor:middle;fill:#555}.f{fill:#fff}"
-    ++ codes ".g{stroke:#eee}.h{stroke:#bbb}.w{fill:none;stroke:#456}.v{fill:none;stroke:#c00;stroke-width:2}"
-    ++ codes ".e{stroke:#456;stroke-dasharray:2 2}.q{stroke:#456}.t{stroke:#c00;stroke-width:2}"
-    ++ codes ".o{stroke:#c00;stroke-dasharray:1 1}.d{fill:#456}.s{fill:#ddd}.u{fill:#888}"
-    ++ codes ".z{stroke:#999;stroke-dasharray:1 2}.k{fill:none;stroke:#06c}.x{fill:none;stroke:#c00;stroke-width:2}"
-    ++ codes ".r{fill:#c00}.j{fill:#080}.c0{fill:#8dd3c7}.c1{fill:#ffffb3}.c2{fill:#bebada}.c3{fill:#fdb462}"
-    ++ codes ".c4{fill:#80b1d3}.c5{fill:#fccde5}.c6{fill:#b3de69}.c7{fill:#d9d9d9}.c8{fill:#bc80bd}.c9{fill:#ccebc5}"
-    ++ codes ".c10{fill:#ffed6f}.c11{fill:#fb8072}</style>\n"
+    codes "<style>text{font:10px monospace;fill:#222}.n{text-anchor:middle;fill:#000}.i{fill:#fff}.a{text-anchor:middle;fill:#555}"
+    ++ codes ".m{text-anchor:end}.f{fill:#fff}.g{stroke:#eee}.h{stroke:#bbb}.w{fill:none;stroke:#456}"
+    ++ codes ".v{fill:none;stroke:#c00;stroke-width:2}.e{stroke:#456;stroke-dasharray:2 2}.q{stroke:#456}"
+    ++ codes ".t{stroke:#c00;stroke-width:2}.o{stroke:#c00;stroke-dasharray:1 1}.d{fill:#456}.l{stroke:#456;stroke-dasharray:4 2}"
+    ++ codes ".b{fill:#cde}.s,.y{fill:#ddd}.u{fill:#888}.z{stroke:#999;stroke-dasharray:1 2}.k{fill:none;stroke:#06c}"
+    ++ codes ".x{fill:none;stroke:#c00;stroke-width:2}.r{fill:#b00}.j{fill:#080}.c0{fill:#fdb}.c1{fill:#755}.c2{fill:#3b3}"
+    ++ codes ".c3{fill:#00d}.c4{fill:#b99}.c5{fill:#035}.c6{fill:#b9f}.c7{fill:#570}.c8{fill:#ddf}.c9{fill:#37b}"
+    ++ codes ".c10{fill:#bf0}.c11{fill:#330}@media screen and (prefers-color-scheme:dark){text{fill:#ddd}.a{fill:#aaa}"
+    ++ codes ".f{fill:#16181d}.g{stroke:#26292f}.h{stroke:#50555d}.w,.e,.q,.l{stroke:#9ab}.d{fill:#9ab}.b{fill:#354a63}"
+    ++ codes ".s{fill:#3a3d44}.u{fill:#666}.z{stroke:#777}.k{stroke:#6bf}.v,.t,.o,.x{stroke:#f66}.r{fill:#f88}.j{fill:#5c5}}"
+    ++ codes "@media print{svg{max-width:100%;height:auto}}</style>\n"
 
 unfoldable pub background_text : ℕ → ℕ → List ℕ
 background_text width height = put (codes "<rect class=\"f\" width=\"") width (put (codes "\" height=\"") height (codes "\"/>\n"))
 
+-- how long a slot is, where that is told
+unfoldable pub length_words : SlotLength → List ℕ
+length_words slot = put (codes ", ") slot.length (put_word (codes " ") (unit_word slot.unit) (codes " each"))
+
+abbrev pub each_words : Option SlotLength → List ℕ
+each_words slot = option_map_or length_words slot []
+
 -- which of the slots are shown
-unfoldable pub range_text : ℕ → ℕ → ℕ → List ℕ
-range_text from to now = put (codes "<text x=\"8\" y=\"16\">slots ") from (put (codes " to ") to (put (codes " of ") now (codes "; ")))
+unfoldable pub range_line : Summary → List ℕ → List ℕ
+range_line sum each =
+    put (codes "<text x=\"8\" y=\"16\">slots ") sum.from (put (codes " to ") sum.to (put (codes " of ") sum.stepped
+    (put_word [] each (put (codes "; processors ") sum.processors (codes "</text>\n")))))
 
--- the settings, and how many quanta the strips of the lags have
-unfoldable pub settings_text : ℕ → ℕ → ℕ → ℕ → List ℕ
-settings_text processors base cap strips =
-    put (codes "processors ") processors (put (codes "; base ") base (put (codes "; cap ") cap (put (codes "; lag strips ") strips (codes "</text>\n"))))
+-- the settings, and how many quanta a strip of a lag has
+unfoldable pub strips_words : Style → ℕ → List ℕ
+strips_words Strips strips = codes "; lag strips " ++ decimal strips
+strips_words Stairs strips = []
 
--- a line down through the picture at the left end of a slot, and the slot's number over it
-unfoldable pub line_text : List ℕ → ℕ → ℕ → List ℕ
-line_text class x bottom = put_word (codes "<path class=\"") class (put (codes "\" d=\"M") x (put (codes " 40V") bottom (codes "\"/>\n")))
+unfoldable pub settings_line : Summary → List ℕ → List ℕ
+settings_line sum strips =
+    put (codes "<text x=\"8\" y=\"30\">base ") sum.base (put (codes "; cap ") sum.cap (put_word [] strips (codes "</text>\n")))
 
-unfoldable pub slot_number : ℕ → ℕ → List ℕ
-slot_number x t = put (codes "<text class=\"a\" x=\"") x (put (codes "\" y=\"36\">") t (codes "</text>\n"))
+unfoldable pub tasks_line : Summary → List ℕ
+tasks_line sum =
+    put (codes "<text x=\"8\" y=\"44\">tasks ") sum.shown (put (codes " of ") sum.listed (put (codes "; missed windows ") sum.missed
+    (put (codes "; denied events ") sum.denied (codes "</text>\n"))))
 
-abbrev pub grid_line : Measures → ℕ → List ℕ
-grid_line s t =
-    if t % step_of s == 0
-    then line_text (codes "h") (x_of s t) (height_of s - 24) ++ slot_number (x_of s t) t
-    else line_text (codes "g") (x_of s t) (height_of s - 24)
-
-unfoldable pub grid_text : Measures → List ℕ
-grid_text s = flat_map (grid_line s) (range_with_len s.from (s.to + 1 - s.from))
-
--- what stands before the rows
-unfoldable pub front_text : Measures → ℕ → ℕ → ℕ → List ℕ
-front_text s now base cap =
-    opening_text (width_of s) (height_of s) ++ style_text ++ background_text (width_of s) (height_of s)
-    ++ range_text s.from s.to now ++ settings_text s.processors base cap s.strips ++ grid_text s
-
--- what the signs mean, and the end
-unfoldable pub footer_text : Measures → List ℕ
-footer_text s =
-    put (codes "<text x=\"8\" y=\"") (height_of s - 8)
-    (codes "\">bracket: window; box: quantum and its processor; red: missed; triangle: group deadline; grey: stopped; blue: lag; x: denied</text>\n</svg>\n")
+-- what stands before the blocks of a picture of this height
+unfoldable pub front_text : Measures → ℕ → Summary → List ℕ
+front_text s height sum =
+    opening_text s.width height ++ title_line sum ++ settings_words sum ++ counts_words sum ++ style_text ++ background_text s.width height
+    ++ range_line sum (each_words s.slot) ++ settings_line sum (strips_words s.style s.strips) ++ tasks_line sum

@@ -7,9 +7,14 @@ pub mod Brackets
 pub mod Lines
 pub mod Drawing
 pub mod Denials
+pub mod Rows
+pub mod Stairs
 pub mod Task
 pub mod Frame
+pub mod Grid
+pub mod Legend
 pub mod Processors
 pub mod Strips
 pub mod Picture
+pub mod Left
 pub mod Examples

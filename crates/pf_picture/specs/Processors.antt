@@ -1,7 +1,7 @@
 -- The row of a processor: what runs on it in each slot.
-use Rattle.std.specs.Prelude.{ℕ, ◌+◌, ◌-◌, ◌/◌, ◌==◌, nat_le, if◌then◌else◌, Option, List, [], ◌++◌, codes, position, slice_index_or}
+use Rattle.std.specs.Prelude.{ℕ, ◌+◌, ◌-◌, ◌/◌, ◌==◌, nat_le, if◌then◌else◌, Option, Some, List, [], ◌++◌, codes, position, slice_index_or}
 use Rattle.std.specs.List.{flat_map, range_with_len, slice_get}
-use Rattle.std.specs.Option.{option_map, option_map_or, option_and_then}
+use Rattle.std.specs.Option.{option_map_or, option_and_then}
 use Rattle.pf_order.specs.declared.pick.Pick.{Pick}
 use Rattle.pf_place.specs.Occupancy.{sitter}
 use Rattle.pf_desk.specs.Desk.{Seen}
@@ -13,45 +13,41 @@ use Rattle.pf_picture.specs.Boxes.{box_text, number_if_room}
 use Rattle.pf_picture.specs.Drawing.{Drawing}
 use Rattle.pf_picture.specs.Element.{put}
 use Rattle.pf_picture.specs.Scale.{Measures, processor_top, x_of}
+use Rattle.pf_picture.specs.Shapes.{field_shape}
 use Rattle.pf_picture.specs.declared.turn.Turn.{Turn}
 
 unfoldable pub processor_name : ℕ → ℕ → List ℕ
 processor_name top p = put (codes "<text x=\"8\" y=\"") (top + 12) (put (codes "\">p") p (codes "</text>\n"))
 
--- a slot in which the processor is out of use
-unfoldable pub unused_text : ℕ → ℕ → ℕ → List ℕ
-unused_text x top width =
-    put (codes "<rect class=\"u\" x=\"") x (put (codes "\" y=\"") top (put (codes "\" width=\"") width (codes "\" height=\"16\"/>\n")))
-
 -- the window of the subtask that a listed task runs in slot t
 abbrev pub window_in : ℕ → Drawing → Option Window
 window_in t drawing = option_and_then (λ track. running_in track t) drawing.listing.track
 
--- the subtask with this window that runs, where its task has this place among the listed ones
+-- the subtask with this window that runs, whose task has this place among those shown
 abbrev pub turn_with : Pick → Quantum → ℕ → Window → Turn
-turn_with pick quantum place window = record { rank = place + 1; task = pick.task; sub = pick.sub; window = window; quantum = quantum }
-
-abbrev pub turn_at : List Drawing → Pick → Quantum → ℕ → Option Turn
-turn_at drawings pick quantum place = option_map (turn_with pick quantum place) (option_and_then (window_in quantum.slot) (slice_get drawings place))
-
--- the subtask that runs, by its pick
-abbrev pub turn_of_pick : List Drawing → Pick → Quantum → Option Turn
-turn_of_pick drawings pick quantum =
-    option_and_then (turn_at drawings pick quantum) (position (λ drawing. drawing.listing.task == pick.task) drawings)
+turn_with pick quantum place window = record { place = Some place; sub = pick.sub; window = window; quantum = quantum }
 
 -- the box of a subtask in a processor's row, and its task's number
-unfoldable pub turn_text : Measures → Turn → List ℕ
-turn_text s turn =
-    box_text turn (x_of s turn.quantum.slot + 1) (processor_top turn.quantum.processor) (s.cell - 2) 16
-    ++ number_if_room turn.task (s.cell - 2) (x_of s turn.quantum.slot + s.cell / 2) (processor_top turn.quantum.processor + 12)
+unfoldable pub turn_text : Measures → List ℕ → ℕ → Turn → List ℕ
+turn_text s label task turn =
+    box_text label turn (x_of s turn.quantum.slot + 1) (processor_top turn.quantum.processor) (s.cell - 2) 16
+    ++ number_if_room turn task (s.cell - 2) (x_of s turn.quantum.slot + s.cell / 2) (processor_top turn.quantum.processor + 12)
 
+-- that of a task of this place among those shown, if it runs
+abbrev pub run_text : Measures → Quantum → Pick → ℕ → Drawing → List ℕ
+run_text s quantum pick place drawing =
+    option_map_or (λ window. turn_text s drawing.label pick.task (turn_with pick quantum place window)) (window_in quantum.slot drawing) []
+
+-- that of the task of the pick
 abbrev pub pick_text : Measures → List Drawing → Quantum → Pick → List ℕ
-pick_text s drawings quantum pick = option_map_or (turn_text s) (turn_of_pick drawings pick quantum) []
+pick_text s drawings quantum pick =
+    option_map_or (λ place. option_map_or (run_text s quantum pick place) (slice_get drawings place) [])
+    (position (λ drawing. drawing.listing.task == pick.task) drawings) []
 
 -- slot t in the row of processor p, where so many are in use
 abbrev pub cell_text : Measures → List Drawing → ℕ → List (Option Pick) → ℕ → ℕ → List ℕ
 cell_text s drawings count row p t =
-    if nat_le count p then unused_text (x_of s t) (processor_top p) s.cell
+    if nat_le count p then field_shape (codes "u") (x_of s t) (processor_top p) s.cell 16
     else option_map_or (pick_text s drawings (record { slot = t; processor = p })) (sitter row p) []
 
 abbrev pub slot_text : Seen → Measures → List Drawing → ℕ → ℕ → List ℕ

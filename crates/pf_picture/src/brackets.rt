@@ -1,6 +1,6 @@
 ghost use Rattle.std.specs.Prelude.{◌≡◌, ◌++◌, ◌≤◌, ◌^◌, OnOk};
 ghost use Rattle.std.specs.List.{flat_map};
-ghost use Rattle.pf_picture.specs.Brackets.{bracket_class, bracket_text, early_text, end_at, late_text, quantum_text, ran_at, ran_text, window_text};
+ghost use Rattle.pf_picture.specs.Brackets.{bracket_class, bracket_text, early_text, eligible_at, end_at, late_text, quantum_text, ran_at, ran_text, window_at, window_text};
 ghost use Rattle.pf_picture.specs.Lane.{IsLane};
 
 use crate::boxes::{push_box, push_number_if_room};
@@ -11,21 +11,27 @@ use pf_chart::quantum::Quantum;
 use pf_chart::window::Window;
 use std::alloc::{AllocError, Global};
 
+/// The first slot in which the subtask of a window may run.
+pub(crate) fn eligible_at(lane: &Lane, window: Window) -> u64
+    ensures { result ≡ eligible_at lane.now window }
+{
+    lane.joined.max(window.release.saturating_sub(lane.early))
+}
+
 /// Appends the slots before the release of a window in which its subtask may run, at the level z.
 #[tactic(auto, unfolding(crate::specs::Brackets::early_text))]
 fn push_early(
     alloc: Global,
     text: &mut Vec<u8>,
     lane: &Lane,
-    z: u64,
+    z: u128,
     window: Window,
 ) -> Result<(), AllocError>
-    requires lane { IsLane lane.now }
-    requires level { z ≤ 2 ^ 21 }
+    requires { z ≤ 2 ^ 110 }
     ensures { OnOk result (text.new.items ≡ text.old.items ++ early_text lane.now z window) }
 {
     let scale = lane.scale;
-    let eligible = lane.joined.max(window.release.saturating_sub(lane.early));
+    let eligible = eligible_at(lane, window);
     if eligible < window.release && scale.from() < window.release && eligible < scale.to() {
         let x = scale.x(eligible.max(scale.from()));
         let to = scale.x(window.release.min(scale.to()));
@@ -36,8 +42,8 @@ fn push_early(
 }
 
 /// Where the end of a bracket at the level z begins, if it is whole or not.
-fn end_at(whole: bool, z: u64) -> u64
-    requires { z ≤ 2 ^ 21 }
+fn end_at(whole: bool, z: u128) -> u128
+    requires { z ≤ 2 ^ 110 }
     ensures { result ≡ end_at whole z }
 {
     if whole { z } else { z + 12 }
@@ -56,11 +62,10 @@ fn push_bracket_of(
     alloc: Global,
     text: &mut Vec<u8>,
     lane: &Lane,
-    z: u64,
+    z: u128,
     window: Window,
 ) -> Result<(), AllocError>
-    requires lane { IsLane lane.now }
-    requires level { z ≤ 2 ^ 21 }
+    requires { z ≤ 2 ^ 110 }
     ensures { OnOk result (text.new.items ≡ text.old.items ++ bracket_text lane.now z window) }
 {
     let scale = lane.scale;
@@ -101,11 +106,10 @@ fn push_late(
     alloc: Global,
     text: &mut Vec<u8>,
     lane: &Lane,
-    z: u64,
+    z: u128,
     window: Window,
 ) -> Result<(), AllocError>
-    requires lane { IsLane lane.now }
-    requires level { z ≤ 2 ^ 21 }
+    requires { z ≤ 2 ^ 110 }
     ensures { OnOk result (text.new.items ≡ text.old.items ++ late_text lane.now z window) }
 {
     let scale = lane.scale;
@@ -124,21 +128,20 @@ fn push_quantum(
     alloc: Global,
     text: &mut Vec<u8>,
     lane: &Lane,
-    z: u64,
+    label: &str,
+    z: u128,
     window: Window,
     quantum: Quantum,
 ) -> Result<(), AllocError>
-    requires lane { IsLane lane.now }
-    requires level { z ≤ 2 ^ 21 }
-    ensures { OnOk result (text.new.items ≡ text.old.items ++ quantum_text lane.now z window quantum) }
+    requires { z ≤ 2 ^ 110 }
+    ensures { OnOk result (text.new.items ≡ text.old.items ++ quantum_text lane.now label.now z window quantum) }
 {
     let scale = lane.scale;
     if quantum.slot < scale.from() || scale.to() <= quantum.slot {
         return Ok(());
     }
     let turn = Turn {
-        rank: lane.rank,
-        task: lane.task,
+        place: Some(lane.place),
         sub: window.sub,
         window,
         quantum,
@@ -146,15 +149,19 @@ fn push_quantum(
     let x = scale.x(quantum.slot);
     let inset = scale.inset();
     let width = scale.cell() - 2 * inset;
-    push_box(alloc, text, turn, x + inset, z, width, 10)?;
-    push_number_if_room(
+    let processor = u64::from(quantum.processor);
+    let middle = x + u128::from(scale.cell() / 2);
+    push_box(
         alloc,
         text,
-        u64::from(quantum.processor),
+        label,
+        turn,
+        x + u128::from(inset),
+        z,
         width,
-        x + scale.cell() / 2,
-        z + 9,
-    )
+        10,
+    )?;
+    push_number_if_room(alloc, text, turn, processor, width, middle, z + 9)
 }
 
 /// Appends the quantum of the subtask of a window, if it ran, at the level z.
@@ -163,49 +170,51 @@ fn push_ran(
     alloc: Global,
     text: &mut Vec<u8>,
     lane: &Lane,
-    z: u64,
+    label: &str,
+    z: u128,
     window: Window,
 ) -> Result<(), AllocError>
-    requires lane { IsLane lane.now }
-    requires level { z ≤ 2 ^ 21 }
-    ensures { OnOk result (text.new.items ≡ text.old.items ++ ran_text lane.now z window) }
+    requires { z ≤ 2 ^ 110 }
+    ensures { OnOk result (text.new.items ≡ text.old.items ++ ran_text lane.now label.now z window) }
 {
     match window.ran {
-        Some(quantum) => push_quantum(alloc, text, lane, z, window, quantum),
+        Some(quantum) => push_quantum(alloc, text, lane, label, z, window, quantum),
         None => Ok(()),
     }
 }
 
-/// Appends what is drawn of a window.
-#[tactic(auto, unfolding(crate::specs::Brackets::window_text))]
-fn push_window(
+/// Appends what is drawn of a window of a task with this label, at the level z.
+#[tactic(auto, unfolding(crate::specs::Brackets::window_at))]
+pub(crate) fn push_window(
     alloc: Global,
     text: &mut Vec<u8>,
     lane: &Lane,
+    label: &str,
+    z: u128,
     window: Window,
 ) -> Result<(), AllocError>
-    requires { IsLane lane.now }
-    ensures { OnOk result (text.new.items ≡ text.old.items ++ window_text lane.now window) }
+    requires { z ≤ 2 ^ 110 }
+    ensures { OnOk result (text.new.items ≡ text.old.items ++ window_at lane.now label.now z window) }
 {
-    let z = lane.level(window.sub);
     push_early(alloc, text, lane, z, window)?;
     push_bracket_of(alloc, text, lane, z, window)?;
     push_late(alloc, text, lane, z, window)?;
-    push_ran(alloc, text, lane, z, window)
+    push_ran(alloc, text, lane, label, z, window)
 }
 
-/// Appends what is drawn of these windows.
+/// Appends what is drawn of these windows in a strip.
 pub(crate) fn push_windows(
     alloc: Global,
     text: &mut Vec<u8>,
     lane: &Lane,
+    label: &str,
     windows: &[Window],
 ) -> Result<(), AllocError>
     requires { IsLane lane.now }
-    ensures { OnOk result (text.new.items ≡ text.old.items ++ flat_map (window_text lane.now) windows.now) }
+    ensures { OnOk result (text.new.items ≡ text.old.items ++ flat_map (window_text lane.now label.now) windows.now) }
 {
     for window in windows {
-        push_window(alloc, text, lane, *window)?;
+        push_window(alloc, text, lane, label, lane.level(window.sub), *window)?;
     }
     Ok(())
 }

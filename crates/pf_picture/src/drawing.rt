@@ -1,4 +1,3 @@
-use crate::asked::Asked;
 use pf_chart::listed::Listed;
 use pf_run::denied::Denied;
 use std::marker::Model;
@@ -7,28 +6,53 @@ use std::marker::Model;
 #[derive(Drop)]
 pub struct Drawing {
     listed: Listed,
-    asked: Option<Asked>,
+    label: String,
+    weight: String,
+    early: u64,
     denied: Vec<Denied>,
 }
 
 impl Model for Drawing {
+    ghost use Rattle.std.specs.String.{string_bytes};
     ghost use Rattle.pf_picture.specs.Drawing.{Drawing};
 
     ghost Value = { Drawing };
 
-    ghost view = { λ d. record { listing = d.listed; asked = d.asked; denied = d.denied.items } };
+    ghost view = { λ d. record {
+      listing = d.listed;
+      label = string_bytes d.label;
+      weight = string_bytes d.weight;
+      early = d.early;
+      denied = d.denied.items;
+    } };
 }
 
 impl Drawing {
     ghost use Rattle.std.specs.Prelude.{◌≡◌};
+    ghost use Rattle.std.specs.String.{string_bytes};
 
-    /// A listed task, what its join asks for, and its denied events in run order.
-    pub fn new(listed: Listed, asked: Option<Asked>, denied: Vec<Denied>) -> Self
-        ensures { result ≡ record { listing = listed; asked = asked; denied = denied.items } }
+    /// A listed task, what it is called, the weight that its join asks for, by how many slots its subtasks may run before
+    /// their release, and its denied events in run order.
+    pub fn new(
+        listed: Listed,
+        label: String,
+        weight: String,
+        early: u64,
+        denied: Vec<Denied>,
+    ) -> Self
+        ensures { result ≡ record {
+          listing = listed;
+          label = string_bytes label;
+          weight = string_bytes weight;
+          early = early;
+          denied = denied.items;
+        } }
     {
         Drawing {
             listed,
-            asked,
+            label,
+            weight,
+            early,
             denied,
         }
     }
@@ -40,11 +64,25 @@ impl Drawing {
         &self.listed
     }
 
-    /// What its join asks for, if one is held.
-    pub fn asked(&self) -> Option<Asked>
-        ensures { result ≡ self.now.asked }
+    /// What it is called.
+    pub fn label(&self) -> &str
+        ensures { result.now ≡ self.now.label }
     {
-        self.asked
+        &self.label
+    }
+
+    /// The weight that its join asks for, or a dash where none is held.
+    pub fn weight(&self) -> &str
+        ensures { result.now ≡ self.now.weight }
+    {
+        &self.weight
+    }
+
+    /// By how many slots its subtasks may run before their release.
+    pub fn early(&self) -> u64
+        ensures { result ≡ self.now.early }
+    {
+        self.early
     }
 
     /// Its denied events, in run order.

@@ -1,6 +1,7 @@
-ghost use Rattle.std.specs.Prelude.{◌≡◌, find, map, IfOk};
+ghost use Rattle.std.specs.Prelude.{◌≡◌, find, map, option_map, IfOk};
 ghost use Rattle.pf_table.specs.Lists.{noted_of};
-ghost use Rattle.pf_picture.specs.Drawing.{asked_by, asked_of, drawings_of, is_join_below};
+ghost use Rattle.std.specs.String.{string_bytes};
+ghost use Rattle.pf_picture.specs.Drawing.{asked_by, asked_of, drawings_of, early_of, is_join_below, weight_behind, weight_of, weight_text};
 ghost use Rattle.pf_picture.specs.Denials.{drawing_with};
 
 use crate::asked::Asked;
@@ -9,6 +10,9 @@ use crate::drawing::Drawing;
 use pf_chart::listed::Listed;
 use pf_chart::listings::listings;
 use pf_desk::snapshot::Snapshot;
+use pf_names::name::Name;
+use pf_names::names::Names;
+use pf_names::titles::label_of;
 use pf_run::denied::Denied;
 use pf_scenario::event::{Event, Numbered};
 use pf_table::lists::Lists;
@@ -67,35 +71,86 @@ fn asked_of(own: &[Numbered], now: u64, task: u64) -> Option<Asked>
     }
 }
 
+/// The weight that a join asks for.
+#[tactic(auto, unfolding(crate::specs::Drawing::weight_text))]
+fn weight_text(alloc: Global, asked: Asked) -> Result<String, AllocError>
+    ensures { IfOk result (λ words. string_bytes words ≡ weight_text asked) }
+{
+    let Asked { cost, period, .. } = asked;
+    format!(in alloc; "{cost}/{period}")
+}
+
+/// The weight that a task's join asks for, or a dash where none is held.
+fn weight_of(alloc: Global, asked: Option<Asked>) -> Result<String, AllocError>
+    ensures { IfOk result (λ words. string_bytes words ≡ weight_of asked) }
+{
+    match asked {
+        Some(asked) => weight_text(alloc, asked),
+        None => format!(in alloc; "-"),
+    }
+}
+
+/// A weight, behind the number of a task that is called by its name.
+#[tactic(auto, unfolding(crate::specs::Drawing::weight_behind))]
+fn weight_behind(
+    alloc: Global,
+    name: Option<&Name>,
+    task: u32,
+    weight: String,
+) -> Result<String, AllocError>
+    ensures { IfOk result (λ words. string_bytes words ≡ weight_behind (option_map (λ name. name.now) name.entry) task (string_bytes weight)) }
+{
+    match name {
+        Some(_) => format!(in alloc; "{task}: {weight}"),
+        None => Ok(weight),
+    }
+}
+
+/// By how many slots the subtasks of a task may run before their release.
+fn early_of(asked: Option<Asked>) -> u64
+    ensures { result ≡ early_of asked }
+{
+    match asked {
+        Some(asked) => asked.early,
+        None => 0,
+    }
+}
+
 /// What a picture tells of a listed task with these events of its own, of which these are denied.
 fn drawing_with(
     alloc: Global,
+    names: &Names,
     own: &[Numbered],
     denied: &[Denied],
     now: u64,
     listed: Listed,
 ) -> Result<Drawing, AllocError>
-    ensures { IfOk result (λ drawing. drawing ≡ drawing_with own.now denied.now now listed) }
+    ensures { IfOk result (λ drawing. drawing ≡ drawing_with names.now own.now denied.now now listed) }
 {
     let denied = Vec::from_slice(alloc, denied)?;
     let asked = asked_of(own, now, u64::from(listed.task()));
-    Ok(Drawing::new(listed, asked, denied))
+    let task = listed.task();
+    let label = label_of(alloc, names, u64::from(task))?;
+    let weight = weight_of(alloc, asked)?;
+    let weight = weight_behind(alloc, names.of_task(u64::from(task)), task, weight)?;
+    Ok(Drawing::new(listed, label, weight, early_of(asked), denied))
 }
 
 /// What a picture tells of these listed tasks, where of each task its own events and those of its denials are in the lists.
 fn drawings_by(
     alloc: Global,
+    names: &Names,
     listed: Vec<Listed>,
     own: &Lists<Numbered>,
     denied: &Lists<Denied>,
     now: u64,
 ) -> Result<Vec<Drawing>, AllocError>
-    ensures { IfOk result (λ v. v.items ≡ map (λ l. drawing_with (noted_of own.now l.task) (noted_of denied.now l.task) now l) listed.items) }
+    ensures { IfOk result (λ v. v.items ≡ map (λ l. drawing_with names.now (noted_of own.now l.task) (noted_of denied.now l.task) now l) listed.items) }
 {
     let mut drawings = Vec::new(alloc);
     for task in listed {
         let number = u64::from(task.task());
-        drawings.push(drawing_with(alloc, own.get(number), denied.get(number), now, task)?)?;
+        drawings.push(drawing_with(alloc, names, own.get(number), denied.get(number), now, task)?)?;
     }
     Ok(drawings)
 }
@@ -111,18 +166,22 @@ fn held_events(alloc: Global, snapshot: &Snapshot) -> Result<Vec<Numbered>, Allo
     Ok(held)
 }
 
-/// What a picture tells of the listed tasks, by number.
+/// What a picture tells of the listed tasks, by number, with these names.
 ///
 /// # Errors
 ///
 /// Where memory is refused.
-pub fn drawings(alloc: Global, snapshot: &Snapshot) -> Result<Vec<Drawing>, AllocError>
-    ensures { IfOk result (λ v. v.items ≡ drawings_of snapshot.now) }
+pub fn drawings(
+    alloc: Global,
+    snapshot: &Snapshot,
+    names: &Names,
+) -> Result<Vec<Drawing>, AllocError>
+    ensures { IfOk result (λ v. v.items ≡ drawings_of snapshot.now names.now) }
 {
     let now = snapshot.now();
     let listed = listings(alloc, snapshot)?;
     let held = held_events(alloc, snapshot)?;
     let own = diaries_by_task(alloc, &held)?;
     let denied = denials_by_task(alloc, &held, snapshot.denials())?;
-    drawings_by(alloc, listed, &own, &denied, now)
+    drawings_by(alloc, names, listed, &own, &denied, now)
 }

@@ -1,10 +1,11 @@
 ghost use Rattle.std.specs.Prelude.{◌≡◌, ◌++◌, ◌≤◌, IsTrue, OnOk};
 ghost use Rattle.pf_picture.specs.Lane.{IsLane};
-ghost use Rattle.pf_picture.specs.Lines.{group_if, groups_text, has_group_mark, last_drawn};
+ghost use Rattle.pf_picture.specs.Lines.{group_if, group_text, groups_text, has_group_mark, last_drawn};
 
 use crate::lane::Lane;
-use crate::shapes::push_mark;
+use crate::shapes::{push_drop, push_mark};
 use pf_chart::window::Window;
+use pf_look::style::Style;
 use std::alloc::{AllocError, Global};
 
 /// Whether the group deadline of a window is drawn, where the last one drawn is this.
@@ -20,8 +21,26 @@ fn has_group_mark(lane: &Lane, last: u64, window: Window) -> bool
         && window.group <= lane.last_shown()
 }
 
+/// Appends the mark of a group deadline.
+#[tactic(auto, unfolding(crate::specs::Lines::group_in))]
+fn push_group(alloc: Global, text: &mut Vec<u8>, lane: &Lane, due: u64) -> Result<(), AllocError>
+    requires lane { IsLane lane.now }
+    requires from { lane.now.scale.from ≤ due }
+    requires to { due ≤ lane.now.scale.to }
+    ensures { OnOk result (text.new.items ≡ text.old.items ++ group_text lane.now due) }
+{
+    let x = lane.scale.x(due);
+    match lane.scale.style() {
+        Style::Strips => push_mark(alloc, text, "d", x, lane.top + 29, "l-3 5h6z"),
+        Style::Stairs => {
+            push_drop(alloc, text, "l", x, lane.top + 13, lane.stairs_end())?;
+            push_mark(alloc, text, "d", x, lane.top + 8, "l-3 5h6z")
+        }
+    }
+}
+
 /// Appends the group deadline of a window, if it is drawn, where the last one drawn is this.
-#[tactic(auto, unfolding(crate::specs::Lines::group_if, crate::specs::Lines::group_text))]
+#[tactic(auto, unfolding(crate::specs::Lines::group_if))]
 fn push_group_if(
     alloc: Global,
     text: &mut Vec<u8>,
@@ -35,8 +54,7 @@ fn push_group_if(
     if !has_group_mark(lane, last, window) {
         return Ok(());
     }
-    let x = lane.scale.x(window.group);
-    push_mark(alloc, text, "d", x, lane.top() + 29, "l-3 5h6z")
+    push_group(alloc, text, lane, window.group)
 }
 
 /// The last group deadline that is drawn after that of a window, where it was this one before.

@@ -18,15 +18,16 @@ pub(crate) fn lag_at(course: &Course, t: u64) -> i64
 }
 
 /// Where a lag lies, where `unit` is the greatest that a strip has room for.
-fn lag_level(middle: u64, unit: u128, lag: i64) -> u128
+fn lag_level(middle: u128, unit: u128, lag: i64) -> u128
+    requires middle { middle ≤ 2 ^ 101 }
     requires some { 1 ≤ unit }
     ensures { result ≡ lag_level middle unit lag }
 {
     let height = 14 * u128::from(lag.unsigned_abs());
     if lag >= 0 {
-        u128::from(middle).saturating_sub(height / unit)
+        middle.saturating_sub(height / unit)
     } else {
-        u128::from(middle) + height.div_ceil(unit)
+        middle + height.div_ceil(unit)
     }
 }
 
@@ -39,7 +40,7 @@ fn lag_y(lane: &Lane, course: &Course, t: u64) -> u128
     ensures { result ≡ lag_y lane.now course.now t }
 {
     let unit = u128::from(course.weight().period()) * u128::from(lane.scale.strips());
-    lag_level(lane.top() + 50, unit, lag_at(course, t))
+    lag_level(lane.top + 50, unit, lag_at(course, t))
 }
 
 /// Appends the lag before slot t to its path.
@@ -158,7 +159,7 @@ pub(crate) fn push_lag(
         text,
         "z",
         scale.x(first),
-        lane.top() + 50,
+        lane.top + 50,
         scale.x(last),
     )?;
     push_path(alloc, text, lane, course, first, last)

@@ -1,17 +1,21 @@
 ghost use Rattle.std.specs.Prelude.{◌≡◌, ◌≤◌, ◌<◌, ◌^◌};
-ghost use Rattle.pf_picture.specs.Lane.{IsLane, first_shown, last_shown, level_of, top_of};
+ghost use Rattle.pf_look.specs.declared.style.Style.{Style};
+ghost use Rattle.pf_picture.specs.Lane.{IsLane, events_level, first_row, first_shown, last_shown, level_of, stairs_end, stop_height};
 
 use crate::scale::Scale;
+use pf_look::style::Style;
 
-/// Where a listed task that was admitted lies in a picture, and when it is inside.
+/// Where an admitted task lies in a block of a picture, and when it is inside.
 #[derive(Clone, Copy)]
 pub struct Lane {
-    /// How slots and tasks lie.
+    /// How the block is measured.
     pub scale: Scale,
-    /// Its rank, from 1.
-    pub rank: u64,
-    /// Its number.
-    pub task: u64,
+    /// Where its part begins.
+    pub top: u128,
+    /// How many of its windows have a row in stairs.
+    pub rows: u64,
+    /// Its place among the tasks shown, from 0.
+    pub place: u64,
     /// The slot of its join.
     pub joined: u64,
     /// The slot of its leave, or how many slots there are.
@@ -21,23 +25,42 @@ pub struct Lane {
 }
 
 impl Lane {
-    /// Where its part begins.
-    pub(crate) fn top(&self) -> u64
-        requires { IsLane self.now }
-        ensures value { result ≡ top_of self.now }
-        ensures below { 56 ≤ result }
-        ensures short { result < 2 ^ 19 }
-    {
-        self.scale.task_top(self.rank)
-    }
-
-    /// Where the window of subtask i begins.
-    pub(crate) fn level(&self, i: u64) -> u64
+    /// Where the window of subtask i begins in a strip.
+    pub(crate) fn level(&self, i: u64) -> u128
         requires { IsLane self.now }
         ensures value { result ≡ level_of self.now i }
-        ensures short { result < 2 ^ 20 }
+        ensures short { result ≤ 2 ^ 101 }
     {
-        self.top() + 2 + 14 * (i.saturating_sub(1) % 2)
+        self.top + 2 + 14 * u128::from(i.saturating_sub(1) % 2)
+    }
+
+    /// Where the first row of stairs begins.
+    pub(crate) fn first_row(&self) -> u128
+        requires { IsLane self.now }
+        ensures value { result ≡ first_row self.now }
+        ensures some { 20 ≤ result }
+        ensures short { result ≤ 2 ^ 101 }
+    {
+        self.top + 20
+    }
+
+    /// Where stairs end.
+    pub(crate) fn stairs_end(&self) -> u128
+        requires { IsLane self.now }
+        ensures { result ≡ stairs_end self.now }
+    {
+        self.top + 20 + 14 * u128::from(self.rows)
+    }
+
+    /// How high a stop of the task's clock is drawn.
+    pub(crate) fn stop_height(&self) -> u128
+        requires { IsLane self.now }
+        ensures { result ≡ stop_height self.now.scale.style self.now.rows }
+    {
+        match self.scale.style() {
+            Style::Strips => 64,
+            Style::Stairs => 20 + 14 * u128::from(self.rows),
+        }
     }
 
     /// The first slot in which it is inside and shown.
@@ -53,5 +76,17 @@ impl Lane {
         ensures early { result ≤ 2 ^ 22 }
     {
         self.end.min(self.scale.to())
+    }
+}
+
+/// Where joins, leaves and denied events are drawn of a part that begins at `top`.
+pub(crate) fn events_level(style: Style, top: u128) -> u128
+    requires { top ≤ 2 ^ 100 }
+    ensures value { result ≡ events_level style top }
+    ensures short { result ≤ 2 ^ 101 }
+{
+    match style {
+        Style::Strips => top + 29,
+        Style::Stairs => top + 6,
     }
 }

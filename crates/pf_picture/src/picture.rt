@@ -1,97 +1,128 @@
-ghost use Rattle.std.specs.Prelude.{◌≡◌, ◌≤◌, ◌-◌, ◌+◌, length, IfOk};
-ghost use Rattle.pf_picture.specs.Picture.{front_of, measures_of, picture_text_of};
+ghost use Rattle.std.specs.Prelude.{◌≡◌, ◌≤◌, ◌-◌, ◌^◌, length, IfOk};
+ghost use Rattle.std.specs.Fmt.{decimal};
+ghost use Rattle.pf_picture.specs.Picture.{measures_of, picture_text_of, summary_of};
+ghost use Rattle.pf_picture.specs.Scale.{time_in};
 
+use crate::blocks::{Blocks, end_of_blocks};
 use crate::drawing::Drawing;
 use crate::drawings::drawings;
-use crate::frame::{footer, front};
-use crate::rows::Rows;
-use crate::scale::Scale;
+use crate::frame::front;
+use crate::gutter::gutter_of;
+use crate::legend::legend;
+use crate::scale::{Scale, step_with, time_in, width_with};
 use crate::strips::strips;
+use crate::summary::Summary;
 use pf_chart::chart::counts;
 use pf_desk::snapshot::Snapshot;
+use pf_look::look::Look;
+use pf_names::slot_length::SlotLength;
+use pf_names::titles::Titles;
 use pf_text::pieces::{Chain, Pieces, Whole, gathered};
 use std::alloc::{AllocError, Global};
 
-/// The narrowest that a slot may be.
-pub const NARROWEST: u64 = 6;
+/// A picture in pieces: what stands before the blocks, the blocks, and what the signs mean.
+pub type PicturePieces<'a> = Chain<Whole, Chain<Blocks<'a>, Whole>>;
 
-/// The widest that a slot may be.
-pub const WIDEST: u64 = 40;
-
-/// The most slots that a picture may show.
-pub const MOST_SLOTS: u64 = 4_096;
-
-/// A picture in pieces: what stands before the rows, the rows and the parts of the tasks, and what the signs mean.
-pub type PicturePieces<'a> = Chain<Whole, Chain<Rows<'a>, Whole>>;
+/// How many digits the time of slot t has.
+fn digits_of(alloc: Global, slot: Option<SlotLength>, t: u64) -> Result<u64, AllocError>
+    ensures { IfOk result (λ digits. digits ≡ length (decimal (time_in slot t))) }
+{
+    let time = time_in(slot, t);
+    let digits = format!(in alloc; "{time}")?;
+    Ok(digits.len() as u64)
+}
 
 /// What the picture is measured by.
-fn scale_of(snapshot: &Snapshot, drawings: &[Drawing], from: u64, to: u64, cell: u64) -> Scale
+fn scale_of(
+    alloc: Global,
+    snapshot: &Snapshot,
+    slot: Option<SlotLength>,
+    drawings: &[Drawing],
+    from: u64,
+    to: u64,
+    look: &Look,
+) -> Result<Scale, AllocError>
     requires rising { from ≤ to }
     requires within { to ≤ snapshot.now.state.now }
     requires short { to - from ≤ 4096 }
-    requires least { 6 ≤ cell }
-    requires most { cell ≤ 40 }
-    requires listed { length drawings.now ≤ 4095 }
-    ensures value { result ≡ measures_of snapshot.now drawings.now from to cell }
-    ensures within { result.to ≤ length snapshot.now.rows }
+    ensures value { IfOk result (λ scale. scale ≡ measures_of snapshot.now slot drawings.now from to look.now) }
+    ensures within { IfOk result (λ scale. scale.to ≤ length snapshot.now.rows) }
 {
+    let digits = digits_of(alloc, slot, to)?;
     let processors = u64::from(snapshot.settings().processors());
     let now = snapshot.now();
     prove!(to <= now);
-    Scale::new(
+    let cell = look.cell.get();
+    let gutter = gutter_of(look.style, drawings);
+    let width = width_with(gutter, cell, look.wrap.get().min(to - from));
+    Ok(Scale::new(
         from,
         to,
         cell,
+        gutter,
+        width,
+        step_with(cell, digits),
         processors,
-        drawings.len() as u64,
         strips(drawings, from, to),
-    )
+        look.style,
+        slot,
+    ))
 }
 
-/// What stands before the rows.
-fn front_of(alloc: Global, snapshot: &Snapshot, scale: Scale) -> Result<Vec<u8>, AllocError>
-    ensures { IfOk result (λ text. text.items ≡ front_of snapshot.now scale) }
+/// What the head of the picture tells, where so many tasks are listed.
+fn summary_of(snapshot: &Snapshot, listed: u64, from: u64, to: u64) -> Result<Summary, AllocError>
+    ensures { IfOk result (λ summary. summary ≡ summary_of snapshot.now listed from to) }
 {
     let settings = snapshot.settings();
-    front(
-        alloc,
-        scale,
-        snapshot.now(),
-        settings.base().get(),
-        settings.cap(),
-    )
+    let missed = snapshot.misses()?.len() as u64;
+    Ok(Summary {
+        from,
+        to,
+        stepped: snapshot.now(),
+        processors: u64::from(settings.processors()),
+        base: settings.base().get(),
+        cap: settings.cap(),
+        shown: listed,
+        listed,
+        missed,
+        denied: snapshot.denials().len() as u64,
+    })
 }
 
-/// The picture of the slots from `from` on, below `to`, each `cell` wide, in pieces: each is the row of a processor or
-/// the part of a task at most. `is_range` of pf_chart tells whether the snapshot has these slots.
+/// The picture of the slots from `from` on, below `to`, in this look, with these names of tasks and this length of a slot,
+/// in pieces: each is the row of a processor or the part of a task in a block at most. `is_range` of pf_chart tells whether
+/// the snapshot has these slots.
 ///
 /// # Errors
 ///
 /// Where memory is refused.
-pub fn picture_pieces(
+pub fn picture_pieces<'a>(
     alloc: Global,
-    snapshot: &Snapshot,
+    snapshot: &'a Snapshot,
+    titles: &Titles,
     from: u64,
     to: u64,
-    cell: u64,
-) -> Result<PicturePieces<'_>, AllocError>
+    look: &Look,
+) -> Result<PicturePieces<'a>, AllocError>
     requires rising { from ≤ to }
     requires within { to ≤ snapshot.now.state.now }
     requires short { to - from ≤ 4096 }
-    requires least { 6 ≤ cell }
-    requires most { cell ≤ 40 }
-    ensures { IfOk result (λ pieces. pieces ≡ picture_text_of snapshot.now from to cell) }
+    ensures { IfOk result (λ pieces. pieces ≡ picture_text_of snapshot.now titles.now from to look.now) }
 {
-    let drawings = drawings(alloc, snapshot)?;
+    let drawings = drawings(alloc, snapshot, &titles.names)?;
     let counts = counts(alloc, snapshot)?;
-    let scale = scale_of(snapshot, &drawings, from, to, cell);
-    let front = front_of(alloc, snapshot, scale)?;
-    let footer = footer(alloc, scale)?;
-    let rows = Rows::new(snapshot, scale, drawings, counts);
-    Ok(Chain::new(Whole::new(front), Chain::new(rows, Whole::new(footer))))
+    let scale = scale_of(alloc, snapshot, titles.slot, &drawings, from, to, look)?;
+    let summary = summary_of(snapshot, drawings.len() as u64, from, to)?;
+    let wrap = look.wrap.get();
+    let end = end_of_blocks(scale, wrap, &drawings);
+    let front = front(alloc, scale, scale.page_height(end), &summary)?;
+    let legend = legend(alloc, scale, end)?;
+    let blocks = Blocks::new(snapshot, scale, wrap, drawings, counts);
+    Ok(Chain::new(Whole::new(front), Chain::new(blocks, Whole::new(legend))))
 }
 
-/// The picture of the slots from `from` on, below `to`, each `cell` wide, in whole.
+/// The picture of the slots from `from` on, below `to`, in this look, with these names of tasks and this length of a slot,
+/// in whole.
 ///
 /// # Errors
 ///
@@ -99,16 +130,18 @@ pub fn picture_pieces(
 pub fn picture_text(
     alloc: Global,
     snapshot: &Snapshot,
+    titles: &Titles,
     from: u64,
     to: u64,
-    cell: u64,
+    look: &Look,
 ) -> Result<Vec<u8>, AllocError>
     requires rising { from ≤ to }
     requires within { to ≤ snapshot.now.state.now }
     requires short { to - from ≤ 4096 }
-    requires least { 6 ≤ cell }
-    requires most { cell ≤ 40 }
-    ensures { IfOk result (λ text. text.items ≡ picture_text_of snapshot.now from to cell) }
+    ensures { IfOk result (λ text. text.items ≡ picture_text_of snapshot.now titles.now from to look.now) }
 {
-    gathered(alloc, picture_pieces(alloc, snapshot, from, to, cell)?)
+    gathered(
+        alloc,
+        picture_pieces(alloc, snapshot, titles, from, to, look)?,
+    )
 }

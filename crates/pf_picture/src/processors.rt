@@ -1,13 +1,14 @@
 ghost use Rattle.std.specs.Prelude.{◌≡◌, ◌==◌, ◌++◌, ◌+◌, ◌<◌, ◌≤◌, ◌^◌, length, slice_index_or, position, IfOk, OnOk};
 ghost use Rattle.pf_place.specs.Lent.{lent_row};
 ghost use Rattle.pf_chart.specs.Listing.{counts_of};
-ghost use Rattle.pf_picture.specs.Processors.{cell_text, pick_text, processor_name, processor_text, turn_of_pick, turn_text, unused_text, window_in};
+ghost use Rattle.pf_picture.specs.Processors.{cell_text, pick_text, processor_name, processor_text, run_text, turn_text, window_in};
 ghost use Rattle.pf_picture.specs.Scale.{x_of};
 
 use crate::boxes::{push_box, push_number_if_room};
 use crate::drawing::Drawing;
 use crate::element::push_element;
 use crate::scale::{Scale, processor_top};
+use crate::shapes::push_field;
 use crate::turn::Turn;
 use pf_chart::quantum::Quantum;
 use pf_chart::window::Window;
@@ -25,23 +26,6 @@ fn push_name(alloc: Global, text: &mut Vec<u8>, top: u64, p: u32) -> Result<(), 
 {
     let y = top + 12;
     let element = format!(in alloc; "<text x=\"8\" y=\"{y}\">p{p}</text>\n")?;
-    push_element(text, &element)
-}
-
-/// Appends a slot in which a processor is out of use.
-#[tactic(auto, unfolding(crate::specs::Processors::unused_text))]
-fn push_unused(
-    alloc: Global,
-    text: &mut Vec<u8>,
-    x: u64,
-    top: u64,
-    width: u64,
-) -> Result<(), AllocError>
-    ensures { OnOk result (text.new.items ≡ text.old.items ++ unused_text x top width) }
-{
-    let element = format!(in alloc;
-        "<rect class=\"u\" x=\"{x}\" y=\"{top}\" width=\"{width}\" height=\"16\"/>\n"
-    )?;
     push_element(text, &element)
 }
 
@@ -64,35 +48,66 @@ fn window_in(t: u64, drawing: &Drawing) -> Option<Window>
     }
 }
 
-/// The subtask that runs, by its pick.
-fn turn_of(drawings: &[Drawing], pick: Pick, quantum: Quantum) -> Option<Turn>
-    ensures { result ≡ turn_of_pick drawings.now pick quantum }
-{
-    let place = place_of(drawings, pick.task)?;
-    let window = window_in(quantum.slot, drawings.get(place)?)?;
-    Some(Turn {
-        rank: place as u64 + 1,
-        task: u64::from(pick.task),
-        sub: u64::from(pick.sub),
-        window,
-        quantum,
-    })
-}
-
-/// Appends the box of a subtask in a processor's row, and its task's number.
+/// Appends the box of a subtask of a task with this label in a processor's row, and the task's number.
 #[tactic(auto, unfolding(crate::specs::Processors::turn_text))]
-fn push_turn(alloc: Global, text: &mut Vec<u8>, scale: Scale, turn: Turn) -> Result<(), AllocError>
-    requires rank { 1 ≤ turn.rank }
+fn push_turn(
+    alloc: Global,
+    text: &mut Vec<u8>,
+    scale: Scale,
+    label: &str,
+    task: u64,
+    turn: Turn,
+) -> Result<(), AllocError>
     requires from { scale.from ≤ turn.quantum.slot }
     requires to { turn.quantum.slot ≤ scale.to }
     requires processor { turn.quantum.processor < 64 }
-    ensures { OnOk result (text.new.items ≡ text.old.items ++ turn_text scale turn) }
+    ensures { OnOk result (text.new.items ≡ text.old.items ++ turn_text scale label.now task turn) }
 {
     let x = scale.x(turn.quantum.slot);
-    let top = processor_top(u64::from(turn.quantum.processor));
+    let y = u128::from(processor_top(u64::from(turn.quantum.processor)));
     let cell = scale.cell();
-    push_box(alloc, text, turn, x + 1, top, cell - 2, 16)?;
-    push_number_if_room(alloc, text, turn.task, cell - 2, x + cell / 2, top + 12)
+    let to = scale.to();
+    prove!(turn.quantum.slot <= to);
+    push_box(alloc, text, label, turn, x + 1, y, cell - 2, 16)?;
+    push_number_if_room(
+        alloc,
+        text,
+        turn,
+        task,
+        cell - 2,
+        x + u128::from(cell / 2),
+        y + 12,
+    )
+}
+
+/// Appends what a listed task of this place runs, by its pick.
+fn push_run(
+    alloc: Global,
+    text: &mut Vec<u8>,
+    scale: Scale,
+    quantum: Quantum,
+    pick: Pick,
+    place: u64,
+    drawing: &Drawing,
+) -> Result<(), AllocError>
+    requires from { scale.from ≤ quantum.slot }
+    requires to { quantum.slot ≤ scale.to }
+    requires processor { quantum.processor < 64 }
+    ensures { OnOk result (text.new.items ≡ text.old.items ++ run_text scale quantum pick place drawing.now) }
+{
+    match window_in(quantum.slot, drawing) {
+        Some(window) => {
+            let turn = Turn {
+                place: Some(place),
+                sub: u64::from(pick.sub),
+                window,
+                quantum,
+            };
+            let task = u64::from(pick.task);
+            push_turn(alloc, text, scale, drawing.label(), task, turn)
+        }
+        None => Ok(()),
+    }
 }
 
 /// Appends a subtask in a processor's row, by its pick.
@@ -109,8 +124,11 @@ fn push_pick(
     requires processor { quantum.processor < 64 }
     ensures { OnOk result (text.new.items ≡ text.old.items ++ pick_text scale drawings.now quantum pick) }
 {
-    match turn_of(drawings, pick, quantum) {
-        Some(turn) => push_turn(alloc, text, scale, turn),
+    match place_of(drawings, pick.task) {
+        Some(place) => {
+            let drawing = &drawings[place];
+            push_run(alloc, text, scale, quantum, pick, place as u64, drawing)
+        }
         None => Ok(()),
     }
 }
@@ -132,13 +150,8 @@ fn push_cell(
     ensures { OnOk result (text.new.items ≡ text.old.items ++ cell_text scale drawings.now count (lent_row row.entry) p t) }
 {
     if count <= u64::from(p) {
-        return push_unused(
-            alloc,
-            text,
-            scale.x(t),
-            processor_top(u64::from(p)),
-            scale.cell(),
-        );
+        let y = u128::from(processor_top(u64::from(p)));
+        return push_field(alloc, text, "u", scale.x(t), y, scale.cell(), 16);
     }
     match row.get(p) {
         Some(pick) => push_pick(

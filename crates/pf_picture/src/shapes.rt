@@ -1,5 +1,5 @@
 ghost use Rattle.std.specs.Prelude.{◌≡◌, ◌++◌, OnOk};
-ghost use Rattle.pf_picture.specs.Shapes.{bracket_end, bracket_shape, bracket_start, denial_shape, label_shape, mark_shape, number_shape, pause_shape, stretch_shape};
+ghost use Rattle.pf_picture.specs.Shapes.{bracket_end, bracket_shape, bracket_start, drop_shape, field_shape, label_shape, mark_shape, stretch_shape, words_shape};
 
 use crate::element::push_element;
 use std::alloc::{AllocError, Global};
@@ -10,13 +10,29 @@ pub(crate) fn push_stretch(
     alloc: Global,
     text: &mut Vec<u8>,
     class: &str,
-    x: u64,
-    y: u64,
-    to: u64,
+    x: u128,
+    y: u128,
+    to: u128,
 ) -> Result<(), AllocError>
     ensures { OnOk result (text.new.items ≡ text.old.items ++ stretch_shape class.now x y to) }
 {
     let line = format!(in alloc; "<path class=\"{class}\" d=\"M{x} {y}H{to}\"/>\n")?;
+    push_element(text, &line)
+}
+
+/// Appends a line of this class from (x, y) down.
+#[tactic(auto, unfolding(crate::specs::Shapes::drop_shape))]
+pub(crate) fn push_drop(
+    alloc: Global,
+    text: &mut Vec<u8>,
+    class: &str,
+    x: u128,
+    y: u128,
+    to: u128,
+) -> Result<(), AllocError>
+    ensures { OnOk result (text.new.items ≡ text.old.items ++ drop_shape class.now x y to) }
+{
+    let line = format!(in alloc; "<path class=\"{class}\" d=\"M{x} {y}V{to}\"/>\n")?;
     push_element(text, &line)
 }
 
@@ -26,8 +42,8 @@ pub(crate) fn push_mark(
     alloc: Global,
     text: &mut Vec<u8>,
     class: &str,
-    x: u64,
-    y: u64,
+    x: u128,
+    y: u128,
     strokes: &str,
 ) -> Result<(), AllocError>
     ensures { OnOk result (text.new.items ≡ text.old.items ++ mark_shape class.now x y strokes.now) }
@@ -42,9 +58,9 @@ fn push_bracket_start(
     alloc: Global,
     text: &mut Vec<u8>,
     class: &str,
-    left: u64,
-    begin: u64,
-    base: u64,
+    left: u128,
+    begin: u128,
+    base: u128,
 ) -> Result<(), AllocError>
     ensures { OnOk result (text.new.items ≡ text.old.items ++ bracket_start class.now left begin base) }
 {
@@ -57,8 +73,8 @@ fn push_bracket_start(
 fn push_bracket_end(
     alloc: Global,
     text: &mut Vec<u8>,
-    right: u64,
-    end: u64,
+    right: u128,
+    end: u128,
 ) -> Result<(), AllocError>
     ensures { OnOk result (text.new.items ≡ text.old.items ++ bracket_end right end) }
 {
@@ -71,11 +87,11 @@ pub(crate) fn push_bracket(
     alloc: Global,
     text: &mut Vec<u8>,
     class: &str,
-    left: u64,
-    right: u64,
-    base: u64,
-    begin: u64,
-    end: u64,
+    left: u128,
+    right: u128,
+    base: u128,
+    begin: u128,
+    end: u128,
 ) -> Result<(), AllocError>
     ensures { OnOk result (text.new.items ≡ text.old.items ++ bracket_shape class.now left right base begin end) }
 {
@@ -83,19 +99,21 @@ pub(crate) fn push_bracket(
     push_bracket_end(alloc, text, right, end)
 }
 
-/// Appends slots in which a clock stands.
-#[tactic(auto, unfolding(crate::specs::Shapes::pause_shape))]
-pub(crate) fn push_pause(
+/// Appends a field of this class.
+#[tactic(auto, unfolding(crate::specs::Shapes::field_shape))]
+pub(crate) fn push_field(
     alloc: Global,
     text: &mut Vec<u8>,
-    x: u64,
-    y: u64,
+    class: &str,
+    x: u128,
+    y: u128,
     width: u64,
+    height: u128,
 ) -> Result<(), AllocError>
-    ensures { OnOk result (text.new.items ≡ text.old.items ++ pause_shape x y width) }
+    ensures { OnOk result (text.new.items ≡ text.old.items ++ field_shape class.now x y width height) }
 {
     let line = format!(in alloc;
-        "<rect class=\"s\" x=\"{x}\" y=\"{y}\" width=\"{width}\" height=\"64\"/>\n"
+        "<rect class=\"{class}\" x=\"{x}\" y=\"{y}\" width=\"{width}\" height=\"{height}\"/>\n"
     )?;
     push_element(text, &line)
 }
@@ -105,7 +123,7 @@ pub(crate) fn push_pause(
 pub(crate) fn push_label(
     alloc: Global,
     text: &mut Vec<u8>,
-    y: u64,
+    y: u128,
     words: &str,
 ) -> Result<(), AllocError>
     ensures { OnOk result (text.new.items ≡ text.old.items ++ label_shape y words.now) }
@@ -114,35 +132,18 @@ pub(crate) fn push_label(
     push_element(text, &line)
 }
 
-/// Appends a number in the middle of a box.
-#[tactic(auto, unfolding(crate::specs::Shapes::number_shape))]
-pub(crate) fn push_number(
+/// Appends words of this class at (x, y).
+#[tactic(auto, unfolding(crate::specs::Shapes::words_shape))]
+pub(crate) fn push_words(
     alloc: Global,
     text: &mut Vec<u8>,
-    x: u64,
-    y: u64,
-    n: u64,
+    class: &str,
+    x: u128,
+    y: u128,
+    words: &str,
 ) -> Result<(), AllocError>
-    ensures { OnOk result (text.new.items ≡ text.old.items ++ number_shape x y n) }
+    ensures { OnOk result (text.new.items ≡ text.old.items ++ words_shape class.now x y words.now) }
 {
-    let line = format!(in alloc; "<text class=\"n\" x=\"{x}\" y=\"{y}\">{n}</text>\n")?;
-    push_element(text, &line)
-}
-
-/// Appends the number and the name of a denial.
-#[tactic(auto, unfolding(crate::specs::Shapes::denial_shape))]
-pub(crate) fn push_denial(
-    alloc: Global,
-    text: &mut Vec<u8>,
-    x: u64,
-    y: u64,
-    id: u64,
-    name: &str,
-) -> Result<(), AllocError>
-    ensures { OnOk result (text.new.items ≡ text.old.items ++ denial_shape x y id name.now) }
-{
-    let line = format!(in alloc;
-        "<text class=\"r\" x=\"{x}\" y=\"{y}\">event {id} {name}</text>\n"
-    )?;
+    let line = format!(in alloc; "<text class=\"{class}\" x=\"{x}\" y=\"{y}\">{words}</text>\n")?;
     push_element(text, &line)
 }

@@ -4,10 +4,8 @@ use pf_chart::window::Window;
 /// The quantum of a subtask, as a picture shows it.
 #[derive(Clone, Copy)]
 pub struct Turn {
-    /// The rank of its task, from 1.
-    pub rank: u64,
-    /// The number of its task.
-    pub task: u64,
+    /// The place of its task among those shown, from 0, if it is shown.
+    pub place: Option<u64>,
     /// The number of the subtask, from 1.
     pub sub: u64,
     /// The subtask's window.

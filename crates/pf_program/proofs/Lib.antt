@@ -1,2 +1,2 @@
-mod Front
 mod WordsAnswered
+mod ThirdScripts

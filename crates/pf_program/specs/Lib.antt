@@ -9,4 +9,7 @@ pub use Rattle.pf_cli.specs.Checks
 pub use Rattle.pf_cli.specs.Ended
 pub use Rattle.pf_cli.specs.Meaning
 pub use Rattle.pf_change.specs.Change
+pub mod Source
 pub mod Status
+pub mod Tasks
+pub mod Versions

@@ -3,8 +3,11 @@
 //! that ask what its last records changed have it tell that, and those that ask for a drill have it drilled.
 #![tactic(auto)]
 
-mod file_bytes;
+mod answering;
 mod open_gate;
 pub mod program;
+mod script_source;
+mod tasks;
+mod versions;
 
 pub use pf_stream::{sink, source};

@@ -1,26 +1,22 @@
-ghost use Rattle.std.specs.Prelude.{None, ◌≡◌, ◌≢◌, ◌^◌, ◌-◌, ◌<◌, ◌+◌, ◌⊎◌, ◌==◌, if◌then◌else◌, map, IfSome, IsOk, IsSome};
+ghost use Rattle.std.specs.Prelude.{None, ◌≡◌, ◌≢◌, ◌^◌, ◌-◌, ◌<◌, ◌+◌, ◌⊎◌, ◌==◌, [], if◌then◌else◌, map, IfOk, IfSome, IsSome};
 ghost use Rattle.std.specs.IoError.{error_kind};
 ghost use Rattle.std.specs.Io.KnownBytes.{Appends, Keeps};
+ghost use Rattle.pf_fault.specs.Answers.{status_of};
 ghost use Rattle.pf_stream.specs.Written.{TookFront};
-ghost use Rattle.pf_words.specs.Asked.{file_asked, task_asked};
-ghost use Rattle.pf_program.specs.Status.{status_of, status_of_drill, status_of_words, seen_streams, told_of, AnswersWords, ChecksScript, DiffsScript, DrillsScript, RunsScript, Tells, WithFile};
+ghost use Rattle.pf_words.specs.Asked.{file_asked, name_of, task_asked};
+ghost use Rattle.pf_program.specs.Status.{AnswersWords, IsDone, Tells, seen_streams, status_of_words, told_of};
 
-use crate::file_bytes::file_bytes;
-use crate::open_gate::OpenGate;
-use pf_change::diff::diff;
-use pf_cli::check::check;
-use pf_cli::fault::RunFault;
-use pf_cli::run::run_judged;
-use pf_drill::drill::drill;
-use pf_drill::fault::DrillFault;
+use crate::script_source::read_source;
+use crate::versions::do_script;
+use pf_fault::ending::Ending;
+use pf_fault::fault::Fault;
+use pf_fault::status::Status;
 use pf_stream::sink::Sink;
-use pf_stream::source::{CountedReader, Source};
+use pf_stream::source::Source;
 use pf_stream::writing::write_out;
-use pf_words::fail_on::FailOn;
-use pf_words::format::Format;
 use pf_words::request::{Request, WordsFault};
+use pf_words::task::Task;
 use pf_words::words::read_words;
-use std::alloc::Global;
 use std::convert::AsStr;
 use std::fmt::Display;
 use std::io;
@@ -61,21 +57,39 @@ pub fn main_words<
     ensures unread { (task_asked (map S.text words.now) ≡ None) ⊎ IsSome (file_asked (map S.text words.now)) → reader.new ≡ reader.old }
     ensures quiet { result ≡ 0 → Keeps (F.contents faults.old) (F.contents faults.new) }
 {
-    let alloc = rt.alloc();
-    match read_words(alloc, words) {
-        Ok(Request::Run(format, fail_on, file)) => match file {
-            None => run_told(alloc, format, fail_on, reader, writer, faults),
-            Some(file) => run_file(rt, format, fail_on, file.as_str(), writer, faults),
-        },
-        Ok(Request::Check(None)) => check_told(alloc, reader, writer, faults),
-        Ok(Request::Check(Some(file))) => check_file(rt, file.as_str(), writer, faults),
-        Ok(Request::Diff(since, None)) => diff_told(alloc, since, reader, writer, faults),
-        Ok(Request::Diff(since, Some(file))) => {
-            diff_file(rt, since, file.as_str(), writer, faults)
+    match read_words(rt.alloc(), words) {
+        Ok(Request::Do(task, file)) => {
+            let outcome = do_asked(rt, task, &file, reader, writer);
+            end(outcome, faults)
         }
-        Ok(Request::Drill) => drill_told(rt, alloc, reader, writer, faults),
         Ok(Request::Show(text)) => show(text.as_str(), writer, faults),
         Err(fault) => refuse(&fault, faults),
+    }
+}
+
+/// Does a task with the script of a file, or of the reader where none is named.
+///
+/// # Errors
+///
+/// Those of reading and of the task.
+fn do_asked<H: AllocGlobal + Files + Threads + Wait + Sync, R: Source, W: Sink>(
+    rt: &H,
+    task: Task,
+    file: &Option<String>,
+    reader: &mut R,
+    writer: &mut W,
+) -> Result<Ending, Fault>
+    requires reads { R.failed reader.old < 2 ^ 64 - 1 }
+    requires writes { W.failed writer.old < 2 ^ 64 - 1 }
+    ensures done { IsDone task (name_of file.now) result
+        (seen_streams (R.remaining reader.old) (R.failed reader.old) (W.contents writer.old) (W.failed writer.old))
+        (seen_streams (R.remaining reader.new) (R.failed reader.new) (W.contents writer.new) (W.failed writer.new)) }
+    ensures unread { IsSome file.now → reader.new ≡ reader.old }
+    ensures quiet { IfOk result (λ ending. ending.notes.items ≡ []) }
+{
+    match read_source(rt, file, reader) {
+        Ok(script) => do_script(rt, task, &script, writer),
+        Err(fault) => Err(fault),
     }
 }
 
@@ -86,165 +100,11 @@ pub fn tell_unread<F: Write>(fault: &io::Error, faults: &mut F) -> u8
     ensures no_text { error_kind fault.now ≢ ErrorKind.OutOfMemory → result ≡ 2 }
 {
     if fault.kind() == ErrorKind::OutOfMemory {
-        tell(&RunFault::NoMemory, faults);
-        return 4;
+        tell(&Fault::NoMemory, faults);
+        return Status::NoMemory.number();
     }
     tell(&NO_TEXT, faults);
-    2
-}
-
-/// Runs the script, and answers the status: 6 where the run fails on this.
-fn run_told<R: Source, W: Sink, F: Sink>(
-    alloc: Global,
-    format: Format,
-    fail_on: FailOn,
-    reader: &mut R,
-    writer: &mut W,
-    faults: &mut F,
-) -> u8
-    requires reads { R.failed reader.old < 2 ^ 64 - 1 }
-    requires writes { W.failed writer.old < 2 ^ 64 - 1 }
-    ensures streams { RunsScript format fail_on result
-        (seen_streams (R.remaining reader.old) (R.failed reader.old) (W.contents writer.old) (W.failed writer.old))
-        (seen_streams (R.remaining reader.new) (R.failed reader.new) (W.contents writer.new) (W.failed writer.new)) }
-    ensures quiet { result ≡ 0 → Keeps (F.contents faults.old) (F.contents faults.new) }
-{
-    match run_judged(alloc, reader, writer, format, fail_on) {
-        Ok(false) => 0,
-        Ok(true) => 6,
-        Err(fault) => tell_outcome(Err(fault), faults),
-    }
-}
-
-/// Runs the script of a file, and answers the status: 6 where the run fails on this.
-fn run_file<H: AllocGlobal + Files, W: Sink, F: Sink>(
-    rt: &H,
-    format: Format,
-    fail_on: FailOn,
-    path: &str,
-    writer: &mut W,
-    faults: &mut F,
-) -> u8
-    requires { W.failed writer.old < 2 ^ 64 - 1 }
-    ensures streams { WithFile (RunsScript format fail_on result) (W.contents writer.old) (W.failed writer.old) (W.contents writer.new) (W.failed writer.new) }
-    ensures quiet { result ≡ 0 → Keeps (F.contents faults.old) (F.contents faults.new) }
-{
-    match file_bytes(rt, path) {
-        Ok(bytes) => run_told(
-            rt.alloc(),
-            format,
-            fail_on,
-            &mut CountedReader::new(bytes.as_slice()),
-            writer,
-            faults,
-        ),
-        Err(fault) => tell_outcome(Err(fault), faults),
-    }
-}
-
-/// Checks the script of a file, and answers the status.
-fn check_file<H: AllocGlobal + Files, W: Sink, F: Sink>(
-    rt: &H,
-    path: &str,
-    writer: &mut W,
-    faults: &mut F,
-) -> u8
-    requires { W.failed writer.old < 2 ^ 64 - 1 }
-    ensures streams { WithFile (ChecksScript result) (W.contents writer.old) (W.failed writer.old) (W.contents writer.new) (W.failed writer.new) }
-    ensures quiet { result ≡ 0 → Keeps (F.contents faults.old) (F.contents faults.new) }
-{
-    match file_bytes(rt, path) {
-        Ok(bytes) => check_told(
-            rt.alloc(),
-            &mut CountedReader::new(bytes.as_slice()),
-            writer,
-            faults,
-        ),
-        Err(fault) => tell_outcome(Err(fault), faults),
-    }
-}
-
-/// Checks the script, and answers the status.
-fn check_told<R: Source, W: Sink, F: Sink>(
-    alloc: Global,
-    reader: &mut R,
-    writer: &mut W,
-    faults: &mut F,
-) -> u8
-    requires reads { R.failed reader.old < 2 ^ 64 - 1 }
-    requires writes { W.failed writer.old < 2 ^ 64 - 1 }
-    ensures streams { ChecksScript result
-        (seen_streams (R.remaining reader.old) (R.failed reader.old) (W.contents writer.old) (W.failed writer.old))
-        (seen_streams (R.remaining reader.new) (R.failed reader.new) (W.contents writer.new) (W.failed writer.new)) }
-    ensures quiet { result ≡ 0 → Keeps (F.contents faults.old) (F.contents faults.new) }
-{
-    match check(alloc, reader, writer) {
-        Ok(0) => 0,
-        Ok(_) => 1,
-        Err(fault) => tell_outcome(Err(fault), faults),
-    }
-}
-
-/// Tells what the records of the script of a file changed, and answers the status.
-fn diff_file<H: AllocGlobal + Files, W: Sink, F: Sink>(
-    rt: &H,
-    since: Option<u64>,
-    path: &str,
-    writer: &mut W,
-    faults: &mut F,
-) -> u8
-    requires { W.failed writer.old < 2 ^ 64 - 1 }
-    ensures streams { WithFile (DiffsScript since result) (W.contents writer.old) (W.failed writer.old) (W.contents writer.new) (W.failed writer.new) }
-    ensures quiet { result ≡ 0 → Keeps (F.contents faults.old) (F.contents faults.new) }
-{
-    match file_bytes(rt, path) {
-        Ok(bytes) => diff_told(
-            rt.alloc(),
-            since,
-            &mut CountedReader::new(bytes.as_slice()),
-            writer,
-            faults,
-        ),
-        Err(fault) => tell_outcome(Err(fault), faults),
-    }
-}
-
-/// Tells what the records of the script from this one on changed, or the last one, and answers the status.
-fn diff_told<R: Source, W: Sink, F: Sink>(
-    alloc: Global,
-    since: Option<u64>,
-    reader: &mut R,
-    writer: &mut W,
-    faults: &mut F,
-) -> u8
-    requires reads { R.failed reader.old < 2 ^ 64 - 1 }
-    requires writes { W.failed writer.old < 2 ^ 64 - 1 }
-    ensures streams { DiffsScript since result
-        (seen_streams (R.remaining reader.old) (R.failed reader.old) (W.contents writer.old) (W.failed writer.old))
-        (seen_streams (R.remaining reader.new) (R.failed reader.new) (W.contents writer.new) (W.failed writer.new)) }
-    ensures quiet { result ≡ 0 → Keeps (F.contents faults.old) (F.contents faults.new) }
-{
-    let outcome = diff(alloc, reader, writer, since);
-    tell_outcome(outcome, faults)
-}
-
-/// Drills the script at gates that are always open, and answers the status.
-fn drill_told<H: Threads + Wait + Sync, R: Source, W: Sink, F: Sink>(
-    rt: &H,
-    alloc: Global,
-    reader: &mut R,
-    writer: &mut W,
-    faults: &mut F,
-) -> u8
-    requires reads { R.failed reader.old < 2 ^ 64 - 1 }
-    requires writes { W.failed writer.old < 2 ^ 64 - 1 }
-    ensures streams { DrillsScript result
-        (seen_streams (R.remaining reader.old) (R.failed reader.old) (W.contents writer.old) (W.failed writer.old))
-        (seen_streams (R.remaining reader.new) (R.failed reader.new) (W.contents writer.new) (W.failed writer.new)) }
-    ensures quiet { result ≡ 0 → Keeps (F.contents faults.old) (F.contents faults.new) }
-{
-    let outcome = drill(rt, alloc, reader, writer, &OpenGate);
-    tell_drill(outcome, faults)
+    Status::BadWords.number()
 }
 
 /// Writes a text that was asked for, and answers the status.
@@ -256,11 +116,11 @@ fn show<W: Sink, F: Sink>(text: &str, writer: &mut W, faults: &mut F) -> u8
     ensures status { (result ≡ 0) ⊎ (result ≡ 3) }
     ensures quiet { result ≡ 0 → Keeps (F.contents faults.old) (F.contents faults.new) }
 {
-    let outcome = match write_out(writer, text.as_bytes()) {
-        Ok(()) => Ok(()),
-        Err(_) => Err(RunFault::WriteFault),
-    };
-    tell_outcome(outcome, faults)
+    if write_out(writer, text.as_bytes()).is_ok() {
+        return Status::Done.number();
+    }
+    tell(&Fault::Write, faults);
+    Fault::Write.status().number()
 }
 
 /// Tells why the words ask for nothing, and answers the status.
@@ -270,55 +130,40 @@ fn refuse<F: Sink>(fault: &WordsFault, faults: &mut F) -> u8
     ensures told { IfSome (told_of fault.now) (Tells (F.contents faults.old) (F.contents faults.new) (F.failed faults.old) (F.failed faults.new)) }
 {
     match fault {
-        WordsFault::Refused(text) => tell_text(text.as_str(), faults),
-        WordsFault::Mistaken(mistake) => tell_text(mistake.line(), faults),
+        WordsFault::Refused(text) => tell_text(text.as_str().as_bytes(), faults),
+        WordsFault::Mistaken(mistake) => tell_text(mistake.line().as_bytes(), faults),
         WordsFault::NoMemory => {
             tell(fault, faults);
-            return 4;
+            return Status::NoMemory.number();
         }
     }
-    2
+    Status::BadWords.number()
 }
 
 /// Tells a text. A fault of writing it is passed over: it could be told nowhere.
-fn tell_text<F: Sink>(text: &str, faults: &mut F)
+fn tell_text<F: Sink>(text: &[u8], faults: &mut F)
     requires { F.failed faults.old < 2 ^ 64 - 1 }
     ensures { Tells (F.contents faults.old) (F.contents faults.new) (F.failed faults.old) (F.failed faults.new) text.now }
 {
-    let _ = write_out(faults, text.as_bytes());
+    let _ = write_out(faults, text);
 }
 
-/// Tells a fault, and answers the status.
-fn tell_outcome<F: Write>(outcome: Result<(), RunFault>, faults: &mut F) -> u8
+/// Tells what a task has to tell, or its fault, and answers the status.
+fn end<F: Sink>(outcome: Result<Ending, Fault>, faults: &mut F) -> u8
+    requires { F.failed faults.old < 2 ^ 64 - 1 }
     ensures status { result ≡ status_of outcome }
-    ensures quiet { IsOk outcome → Keeps (F.contents faults.old) (F.contents faults.new) }
+    ensures told { IfOk outcome (λ ending. Tells (F.contents faults.old) (F.contents faults.new) (F.failed faults.old) (F.failed faults.new) ending.notes.items) }
+    ensures quiet { IfOk outcome (λ ending. ending.notes.items ≡ []) → result ≡ 0 → Keeps (F.contents faults.old) (F.contents faults.new) }
 {
-    let Err(fault) = outcome else {
-        return 0;
-    };
-    tell(&fault, faults);
-    match fault {
-        RunFault::BadLine(_) | RunFault::ScriptTooLong => 1,
-        RunFault::BadRange(_) => 2,
-        RunFault::ReadFault | RunFault::WriteFault => 3,
-        RunFault::NoMemory => 4,
-    }
-}
-
-/// Tells a fault of a drill, and answers the status.
-fn tell_drill<F: Write>(outcome: Result<(), DrillFault>, faults: &mut F) -> u8
-    ensures status { result ≡ status_of_drill outcome }
-    ensures quiet { IsOk outcome → Keeps (F.contents faults.old) (F.contents faults.new) }
-{
-    let Err(fault) = outcome else {
-        return 0;
-    };
-    tell(&fault, faults);
-    match fault {
-        DrillFault::BadLine(_) | DrillFault::ScriptTooLong => 1,
-        DrillFault::ReadFault | DrillFault::WriteFault => 3,
-        DrillFault::NoMemory | DrillFault::NoViewer | DrillFault::Unread => 4,
-        DrillFault::GateShut => 5,
+    match outcome {
+        Ok(ending) => {
+            tell_text(&ending.notes, faults);
+            ending.status.number()
+        }
+        Err(fault) => {
+            tell(&fault, faults);
+            fault.status().number()
+        }
     }
 }
 

@@ -1,7 +1,9 @@
 ghost use Rattle.std.specs.Prelude.{◌≡◌};
 ghost use Rattle.pf_script.specs.declared.fault.ScriptFault.TheVariants as fault;
+ghost use Rattle.pf_script.specs.Faults.{fault_of_script};
 
 use crate::version::Version;
+use pf_fault::fault::Fault;
 use std::alloc::AllocError;
 
 /// Why a record is none of a script's.
@@ -70,5 +72,16 @@ impl From<AllocError> for ScriptFault {
 
     fn from(_error: AllocError) -> Self {
         ScriptFault::Memory
+    }
+}
+
+impl From<ScriptFault> for Fault {
+    ghost from_gives = { λ script f. f ≡ fault_of_script script };
+
+    fn from(fault: ScriptFault) -> Self {
+        match fault {
+            ScriptFault::Bad(bad) | ScriptFault::Missing(bad) => Fault::BadRecord(bad.number),
+            ScriptFault::Memory => Fault::NoMemory,
+        }
     }
 }

@@ -1,4 +1,5 @@
 pub mod Counted
 pub mod Failing
+pub mod Faults
 pub mod Reading
 pub mod Written

@@ -1,7 +1,9 @@
 ghost use Rattle.std.specs.Prelude.{◌≡◌};
 ghost use Rattle.pf_stream.specs.declared.output_fault.OutputFault.TheVariants as fault;
+ghost use Rattle.pf_stream.specs.Faults.{fault_of_output};
 
 use crate::writing::WriteFault;
+use pf_fault::fault::Fault;
 use std::alloc::AllocError;
 
 /// Why a text was not put or written.
@@ -26,5 +28,16 @@ impl From<AllocError> for OutputFault {
 
     fn from(_error: AllocError) -> Self {
         OutputFault::Memory
+    }
+}
+
+impl From<OutputFault> for Fault {
+    ghost from_gives = { λ output f. f ≡ fault_of_output output };
+
+    fn from(fault: OutputFault) -> Self {
+        match fault {
+            OutputFault::Write => Fault::Write,
+            OutputFault::Memory => Fault::NoMemory,
+        }
     }
 }

@@ -1,7 +1,9 @@
 ghost use Rattle.std.specs.Prelude.{◌≡◌, ◌+◌, ◌-◌, ◌^◌, ◌<◌, ◌≤◌, IfSome, IfOk, vec_len};
+ghost use Rattle.pf_stream.specs.Faults.{fault_of_reading};
 ghost use Rattle.pf_stream.specs.Reading.{longest_script, ReadsScript, TakesAtMost, CountsRead};
 
 use crate::source::Source;
+use pf_fault::fault::Fault;
 use std::alloc::Global;
 
 /// The greatest length of a script, in bytes.
@@ -19,6 +21,18 @@ pub enum ReadingFault {
     TooLong,
     /// Out of memory.
     Memory,
+}
+
+impl From<ReadingFault> for Fault {
+    ghost from_gives = { λ reading f. f ≡ fault_of_reading reading };
+
+    fn from(fault: ReadingFault) -> Self {
+        match fault {
+            ReadingFault::Read => Fault::Read,
+            ReadingFault::TooLong => Fault::TooLong,
+            ReadingFault::Memory => Fault::NoMemory,
+        }
+    }
 }
 
 /// All bytes that the reader has left, at most `LONGEST_SCRIPT` of them. The reader's count of failures must be below

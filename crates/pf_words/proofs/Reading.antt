@@ -9,7 +9,7 @@ use Rattle.clap.specs.Words.{IsAmong, Row, Text, fault_of, first_of, is_simple, 
 use Rattle.clap.specs.declared.error.kind.ErrorKind.{ErrorKind}
 use Rattle.clap.specs.declared.error.kind.ErrorKind.TheVariants.{DisplayHelp, DisplayVersion, OutOfMemory}
 use Rattle.pf_words.specs.declared.request.Request.{Request}
-use Rattle.pf_words.specs.declared.request.Request.TheVariants.{Run, Check, Diff, Drill, Show}
+use Rattle.pf_words.specs.declared.request.Request.TheVariants.{Do, Show}
 use Rattle.pf_words.specs.declared.request.WordsFault.{WordsFault}
 use Rattle.pf_words.specs.declared.request.WordsFault.TheVariants.{Refused, Mistaken, NoMemory}
 use Rattle.pf_words.specs.CommandLine.{file_behind, is_named, kinds_of, program, text_behind}
@@ -62,10 +62,7 @@ taken_file words found taken is = rw (taken, is) refl
 -- words that the grammar takes
 pub taken_words : (words : List Text) (found : Option (Text × List Row)) (answer : Result Request WordsFault) → kinds_of words ≡ []
     → found ≡ subcommand_of program words → IsRequest found answer → IsAsked words answer
-taken_words words found (Ok (Run format fail_on file)) taken is asks = (taken_task words found taken is ∙ ap result_ok asks.0, asks.1 ∙ taken_file words found taken is)
-taken_words words found (Ok (Check file)) taken is asks = (taken_task words found taken is ∙ ap result_ok asks.0, asks.1 ∙ taken_file words found taken is)
-taken_words words found (Ok (Diff since file)) taken is asks = (taken_task words found taken is ∙ ap result_ok asks.0, asks.1 ∙ taken_file words found taken is)
-taken_words words found (Ok Drill) taken is asks = (taken_task words found taken is ∙ ap result_ok asks.0, sym (taken_file words found taken is) ∙ asks.1)
+taken_words words found (Ok (Do task file)) taken is asks = (taken_task words found taken is ∙ ap result_ok asks.0, asks.1 ∙ taken_file words found taken is)
 taken_words words found (Ok (Show text)) taken is asks = absurd asks
 taken_words words found (Err (Refused text)) taken is asks = absurd asks
 taken_words words found (Err (Mistaken mistake)) taken is asks = (taken, ap task_of (sym is) ∙ asks)
@@ -100,10 +97,7 @@ kind_shown kind text (inr version) = inr version.0
 -- words that it does not take, by the kind of its error
 pub untaken_words : (words : List Text) (kind : ErrorKind) (answer : Result Request WordsFault)
     → (kind ≡ OutOfMemory) ⊎ IsAmong kind (kinds_of words) → ShowsError kind answer → IsAsked words answer
-untaken_words words kind (Ok (Run format fail_on file)) among shows = absurd shows
-untaken_words words kind (Ok (Check file)) among shows = absurd shows
-untaken_words words kind (Ok (Diff since file)) among shows = absurd shows
-untaken_words words kind (Ok Drill) among shows = absurd shows
+untaken_words words kind (Ok (Do task file)) among shows = absurd shows
 untaken_words words kind (Ok (Show text)) among shows = elim among [
   | inl memory ↦ absurd (not_shown kind memory (kind_shown kind (string_bytes text) shows))
   | inr here ↦ elim shows [

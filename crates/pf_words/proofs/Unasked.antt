@@ -8,7 +8,8 @@ use Rattle.clap.specs.Words.{IsAmong, Kinds, Text, subcommand_of}
 use Rattle.clap.specs.declared.error.kind.ErrorKind.{ErrorKind}
 use Rattle.pf_words.specs.CommandLine.{kinds_of, program}
 use Rattle.pf_words.specs.declared.mistake.Mistake.{Mistake}
-use Rattle.pf_words.specs.Asked.{AreMistaken, Task, task_asked, task_of}
+use Rattle.pf_words.specs.declared.task.Task.{Task}
+use Rattle.pf_words.specs.Asked.{AreMistaken, task_asked, task_of}
 
 -- where a kind may come, there is some
 none_among : (kinds : Kinds) (kind : ErrorKind) (task : Option Task) → IsAmong kind kinds → (if is_empty kinds then task else None) ≡ None

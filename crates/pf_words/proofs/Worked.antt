@@ -5,7 +5,7 @@ use Rattle.clap.specs.declared.error.kind.ErrorKind.TheVariants as kind
 use Rattle.pf_words.specs.CommandLine.{kinds_of}
 use Rattle.pf_words.specs.Asked.{IsShown, task_asked, file_asked}
 use Rattle.pf_script.specs.Fields.{number_of}
-use Rattle.pf_words.specs.Examples.{Runs, Ranged, Pictured, FailingRuns, Files, Drilled, Differences, Showable, WorkedWords}
+use Rattle.pf_words.specs.Examples.{Runs, Ranged, Pictured, Styled, FailingRuns, Files, Drilled, Differences, Showable, WorkedWords}
 
 runs : Runs
 unfolding clap_on_literals kinds_of task_asked
@@ -13,7 +13,7 @@ runs = record { none = refl; run = refl; tables = refl; json = refl; schedule = 
 
 ranged : Ranged
 unfolding clap_on_literals kinds_of task_asked number_of
-ranged = record { both = refl; from = refl; turned = refl; unranged = (refl, refl); tables = (refl, refl); no_number = (refl, refl) }
+ranged = record { both = refl; from = refl; turned = refl; unranged = (refl, refl); tables = (refl, refl); jobs = (refl, refl); no_number = (refl, refl) }
 
 pictured : Pictured
 unfolding clap_on_literals kinds_of task_asked number_of
@@ -27,6 +27,21 @@ pictured = record {
   no_number = (refl, refl);
   chart = (refl, refl);
   tables = (refl, refl);
+}
+
+styled : Styled
+unfolding clap_on_literals kinds_of task_asked number_of
+styled = record {
+  wrap = refl;
+  stairs = refl;
+  strips = refl;
+  none = (refl, refl);
+  many = (refl, refl);
+  paper = (refl, refl);
+  wrapped_chart = (refl, refl);
+  styled_chart = (refl, refl);
+  cell_first = (refl, refl);
+  wrap_next = (refl, refl);
 }
 
 unknown_is_not_shown : ¬ IsShown kind.UnknownArgument
@@ -86,6 +101,7 @@ worked_words = record {
   runs = runs;
   ranged = ranged;
   pictured = pictured;
+  styled = styled;
   failing = failing;
   files = files;
   drilled = drilled;

@@ -25,6 +25,17 @@ to_option = record (new_rule (codes "to")) { long = Some (codes "to"); value_nam
 abbrev pub cell_option : Rule
 cell_option = record (new_rule (codes "cell")) { long = Some (codes "cell"); value_names = 1; action = Some Set }
 
+-- the options `--wrap` and `--style`, each with one text
+abbrev pub wrap_option : Rule
+wrap_option = record (new_rule (codes "wrap")) { long = Some (codes "wrap"); value_names = 1; action = Some Set }
+
+abbrev pub style_option : Rule
+style_option = record (new_rule (codes "style")) { long = Some (codes "style"); value_names = 1; action = Some Set }
+
+-- how a picture is to look: these three options
+abbrev pub with_look : App → App
+with_look command = with_rule (with_rule (with_rule command cell_option) wrap_option) style_option
+
 -- the option `--fail-on`, with one text
 abbrev pub fail_on_option : Rule
 fail_on_option = record (new_rule (codes "fail-on")) { long = Some (codes "fail-on"); value_names = 1; action = Some Set }
@@ -36,7 +47,7 @@ file_argument = record (new_rule (codes "file")) { value_names = 1; action = Som
 -- `run`, which may have these options and FILE
 abbrev pub run_command : App
 run_command =
-    with_rule (with_rule (with_rule (with_rule (with_rule (with_rule (new_app (codes "run")) format_option) from_option) to_option) cell_option) fail_on_option) file_argument
+    with_rule (with_rule (with_look (with_rule (with_rule (with_rule (new_app (codes "run")) format_option) from_option) to_option)) fail_on_option) file_argument
 
 -- `check`, which may have FILE
 abbrev pub check_command : App

@@ -1,5 +1,4 @@
 pub mod Asked
-pub mod Cells
 pub mod CommandLine
 pub mod Examples
 pub mod FailLists

@@ -1,7 +1,7 @@
 ghost use Rattle.std.specs.Prelude.{◌≡◌, IfOk, false, codes};
 ghost use Rattle.clap.specs.Words.{app_of, new_app, with_rule, with_subcommand};
 ghost use Rattle.clap.specs.declared.builder.command.Command.TheViews.{out-Command};
-ghost use Rattle.pf_words.specs.CommandLine.{program, as_program, cell_option, check_command, diff_command, drill_command, fail_on_option, file_argument, format_option, from_option, run_command, since_option, to_option};
+ghost use Rattle.pf_words.specs.CommandLine.{program, as_program, cell_option, check_command, diff_command, drill_command, fail_on_option, file_argument, format_option, from_option, run_command, since_option, style_option, to_option, with_look, wrap_option};
 
 use crate::texts::VERSION;
 use clap::{Arg, ArgAction, Command};
@@ -61,7 +61,7 @@ fn run_command<'a>(alloc: Global) -> Result<Command<'a>, AllocError>
     ensures globals { IfOk result (λ c. (out-Command c).has_globals ≡ false) }
 {
     let ranged = with_range(alloc, bare_run(alloc)?)?;
-    let run = with_cell(alloc, ranged)?;
+    let run = with_look(alloc, ranged)?;
     let run = with_fail_on(alloc, run)?;
     with_file(alloc, run)
 }
@@ -101,7 +101,9 @@ fn with_from<'a>(alloc: Global, command: Command<'a>) -> Result<Command<'a>, All
     let from = Arg::new(alloc, "from")
         .long("from")
         .value_name("F")
-        .help("schedule, chart, svg, quanta: the first slot that is shown [default: 0]")
+        .help(
+            "schedule, chart, svg, windows, load, quanta: the first slot that is shown [default: 0]",
+        )
         .action(ArgAction::Set);
     command.arg(from)
 }
@@ -116,7 +118,7 @@ fn with_to<'a>(alloc: Global, command: Command<'a>) -> Result<Command<'a>, Alloc
         .long("to")
         .value_name("T")
         .help(
-            "schedule, chart, svg, quanta: the slots below T are shown [default: all that were stepped]",
+            "schedule, chart, svg, windows, load, quanta: the slots below T are shown [default: all that were stepped]",
         )
         .action(ArgAction::Set);
     command.arg(to)
@@ -134,6 +136,47 @@ fn with_cell<'a>(alloc: Global, command: Command<'a>) -> Result<Command<'a>, All
         .help("svg: how wide each slot is, 6 to 40 [default: 20]")
         .action(ArgAction::Set);
     command.arg(cell)
+}
+
+/// The command with `--wrap` and a text.
+fn with_wrap<'a>(alloc: Global, command: Command<'a>) -> Result<Command<'a>, AllocError>
+    requires { (out-Command command).has_globals ≡ false }
+    ensures shape { IfOk result (λ c. app_of c ≡ with_rule (app_of command.entry) wrap_option) }
+    ensures globals { IfOk result (λ c. (out-Command c).has_globals ≡ false) }
+{
+    let wrap = Arg::new(alloc, "wrap")
+        .long("wrap")
+        .value_name("V")
+        .help("svg: how many slots stand side by side, 1 to 4096 [default: all]")
+        .action(ArgAction::Set);
+    command.arg(wrap)
+}
+
+/// The command with `--style` and a text.
+fn with_style<'a>(alloc: Global, command: Command<'a>) -> Result<Command<'a>, AllocError>
+    requires { (out-Command command).has_globals ≡ false }
+    ensures shape { IfOk result (λ c. app_of c ≡ with_rule (app_of command.entry) style_option) }
+    ensures globals { IfOk result (λ c. (out-Command c).has_globals ≡ false) }
+{
+    let style = Arg::new(alloc, "style")
+        .long("style")
+        .value_name("NAME")
+        .help(
+            "svg: strips (lags below windows) or stairs (windows below one another) [default: strips]",
+        )
+        .action(ArgAction::Set);
+    command.arg(style)
+}
+
+/// The command with `--cell`, `--wrap` and `--style`, each with a text.
+fn with_look<'a>(alloc: Global, command: Command<'a>) -> Result<Command<'a>, AllocError>
+    requires { (out-Command command).has_globals ≡ false }
+    ensures shape { IfOk result (λ c. app_of c ≡ with_look (app_of command.entry)) }
+    ensures globals { IfOk result (λ c. (out-Command c).has_globals ≡ false) }
+{
+    let celled = with_cell(alloc, command)?;
+    let wrapped = with_wrap(alloc, celled)?;
+    with_style(alloc, wrapped)
 }
 
 /// The command with `--fail-on` and a text.

@@ -1,12 +1,13 @@
 ghost use Rattle.std.specs.Prelude.{◌≡◌};
-ghost use Rattle.pf_words.specs.Formats.{format_named, format_with_cell, format_within, has_replies, is_too_long, range_fault, range_of};
+ghost use Rattle.pf_words.specs.Formats.{format_named, format_with_cell, format_with_style, format_with_wrap, format_within, has_replies, is_too_long, range_fault, range_mistake, range_of};
 
-use crate::cell::Cell;
-use crate::range_fault::RangeFault;
+use crate::mistake::Mistake;
 use crate::slot_range::SlotRange;
-
-/// The most slots that a picture may show.
-pub const MOST_SLOTS: u64 = 4_096;
+use pf_fault::range_fault::RangeFault;
+use pf_look::cell::Cell;
+use pf_look::look::Look;
+use pf_look::style::Style;
+use pf_look::wrap::{MOST_SLOTS, Wrap};
 
 /// What stands behind the replies.
 #[derive(Clone, Copy, Debug, PartialEq, Eq)]
@@ -37,16 +38,24 @@ pub enum Format {
     Stats,
     /// The schedule of these slots as a chart in characters.
     Chart(SlotRange),
-    /// The schedule of these slots as a picture in SVG, each slot so wide.
-    Svg(SlotRange, Cell),
+    /// The schedule of these slots as a picture in SVG, in this look.
+    Svg(SlotRange, Look),
     /// The schedule of these slots as a table with a line for each quantum.
     Quanta(SlotRange),
+    /// The windows of each task that lie in these slots, as a table.
+    Windows(SlotRange),
+    /// The jobs of each task, as a table.
+    Jobs,
+    /// Load and room of these slots, where they change, as a table.
+    Load(SlotRange),
+    /// The schedule as a C array.
+    C,
 }
 
 impl Format {
     /// The format of this name: `schedule`, `tables`, `json`, `report`, `replies`, `lags`, `misses`, `denials`, `events`,
-    /// `script`, `processors`, `stats`, `chart`, `svg` or `quanta`, of all slots and of the usual width. `None` where the
-    /// text is none of these.
+    /// `script`, `processors`, `stats`, `chart`, `svg`, `windows`, `jobs`, `load`, `quanta` or `c`, of all slots and in the usual
+    /// look. `None` where the text is none of these.
     pub fn named(name: &str) -> Option<Format>
         ensures { result ≡ format_named name.now }
     {
@@ -64,22 +73,28 @@ impl Format {
             "processors" => Some(Format::Processors),
             "stats" => Some(Format::Stats),
             "chart" => Some(Format::Chart(SlotRange::whole())),
-            "svg" => Some(Format::Svg(SlotRange::whole(), Cell::usual())),
+            "svg" => Some(Format::Svg(SlotRange::whole(), Look::usual())),
+            "windows" => Some(Format::Windows(SlotRange::whole())),
+            "jobs" => Some(Format::Jobs),
+            "load" => Some(Format::Load(SlotRange::whole())),
             "quanta" => Some(Format::Quanta(SlotRange::whole())),
+            "c" => Some(Format::C),
             _ => None,
         }
     }
 
-    /// The same format of the slots of a range alone, where it is one of `schedule`, `chart`, `svg` and `quanta`. Any other
-    /// has no range: it is as before where both ends are left out, and else `None`.
+    /// The same format of the slots of a range alone, where it is one of `schedule`, `chart`, `svg`, `windows`, `load` and
+    /// `quanta`. Any other has no range: it is as before where both ends are left out, and else `None`.
     pub fn within(self, range: SlotRange) -> Option<Format>
         ensures { result ≡ format_within self range }
     {
         match self {
             Format::Schedule(_) => Some(Format::Schedule(range)),
             Format::Chart(_) => Some(Format::Chart(range)),
-            Format::Svg(_, cell) => Some(Format::Svg(range, cell)),
+            Format::Svg(_, look) => Some(Format::Svg(range, look)),
             Format::Quanta(_) => Some(Format::Quanta(range)),
+            Format::Windows(_) => Some(Format::Windows(range)),
+            Format::Load(_) => Some(Format::Load(range)),
             other => {
                 if !range.is_whole() {
                     return None;
@@ -89,12 +104,48 @@ impl Format {
         }
     }
 
+    /// What is told where a range is asked of it that it does not have.
+    pub fn range_mistake(self) -> Mistake
+        ensures { result ≡ range_mistake self }
+    {
+        match self {
+            Format::Jobs | Format::C => Mistake::Unranged,
+            _ => Mistake::NoRange,
+        }
+    }
+
     /// The same format in slots of this width, where it is `svg`; else `None`.
     pub fn with_cell(self, cell: Cell) -> Option<Format>
         ensures { result ≡ format_with_cell self cell }
     {
         match self {
-            Format::Svg(range, _) => Some(Format::Svg(range, cell)),
+            Format::Svg(range, Look { wrap, style, .. }) => {
+                Some(Format::Svg(range, Look { cell, wrap, style }))
+            }
+            _ => None,
+        }
+    }
+
+    /// The same format in blocks of so many slots, where it is `svg`; else `None`.
+    pub fn with_wrap(self, wrap: Wrap) -> Option<Format>
+        ensures { result ≡ format_with_wrap self wrap }
+    {
+        match self {
+            Format::Svg(range, Look { cell, style, .. }) => {
+                Some(Format::Svg(range, Look { cell, wrap, style }))
+            }
+            _ => None,
+        }
+    }
+
+    /// The same format in this style, where it is `svg`; else `None`.
+    pub fn with_style(self, style: Style) -> Option<Format>
+        ensures { result ≡ format_with_style self style }
+    {
+        match self {
+            Format::Svg(range, Look { cell, wrap, .. }) => {
+                Some(Format::Svg(range, Look { cell, wrap, style }))
+            }
             _ => None,
         }
     }
@@ -107,7 +158,9 @@ impl Format {
             Format::Schedule(range)
             | Format::Chart(range)
             | Format::Svg(range, _)
-            | Format::Quanta(range) => range,
+            | Format::Quanta(range)
+            | Format::Windows(range)
+            | Format::Load(range) => range,
             _ => SlotRange::whole(),
         }
     }

@@ -3,14 +3,13 @@
 //! `read_words` answers is what the words ask for, for all words; want of memory may come in its place.
 #![tactic(auto)]
 
-pub mod cell;
 mod command_line;
 pub mod fail_on;
 pub mod format;
 pub mod laws;
 pub mod mistake;
-pub mod range_fault;
 pub mod request;
 pub mod slot_range;
+pub mod task;
 pub mod texts;
 pub mod words;

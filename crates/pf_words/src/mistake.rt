@@ -9,12 +9,22 @@ pub enum Mistake {
     UnknownFormat,
     /// The text of `--from` or `--to` is no number of 1 to 15 digits.
     BadNumber,
-    /// `--from` or `--to` stands beside a format that has no range.
+    /// `--from` or `--to` stands beside one of the formats without a range that were there before `load`.
     NoRange,
+    /// `--from` or `--to` stands beside another format without a range.
+    Unranged,
     /// The text of `--cell` is no number of 6 to 40.
     BadCell,
     /// `--cell` stands beside a format other than `svg`.
     NoCell,
+    /// The text of `--wrap` is no number of 1 to 4096.
+    BadWrap,
+    /// `--wrap` stands beside a format other than `svg`.
+    NoWrap,
+    /// The text of `--style` names no style.
+    BadStyle,
+    /// `--style` stands beside a format other than `svg`.
+    NoStyle,
     /// The text of `--fail-on` is no list of what a run may fail on.
     BadFailOn,
     /// The text of `--since` is no number of a record.
@@ -33,8 +43,15 @@ impl Mistake {
             Mistake::UnknownFormat => "unknown format\n",
             Mistake::BadNumber => "--from and --to take a number of 1 to 15 digits\n",
             Mistake::NoRange => "--from and --to are for the formats schedule, chart and svg\n",
+            Mistake::Unranged => {
+                "--from and --to are for the formats schedule, chart, svg, windows, load and quanta\n"
+            }
             Mistake::BadCell => "--cell takes a number of 6 to 40\n",
             Mistake::NoCell => "--cell is for the format svg\n",
+            Mistake::BadWrap => "--wrap takes a number of 1 to 4096\n",
+            Mistake::NoWrap => "--wrap is for the format svg\n",
+            Mistake::BadStyle => "--style takes strips or stairs\n",
+            Mistake::NoStyle => "--style is for the format svg\n",
             Mistake::BadFailOn => "--fail-on takes refused, denied and missed, joined by commas\n",
             Mistake::BadSince => "--since takes a number of 1 to 15 digits, from 1 on\n",
         }

@@ -1,24 +1,16 @@
 ghost use Rattle.std.specs.Prelude.{◌≡◌};
 ghost use Rattle.pf_words.specs.declared.request.WordsFault.TheVariants.{Mistaken, NoMemory};
 
-use crate::fail_on::FailOn;
-use crate::format::Format;
 use crate::mistake::Mistake;
+use crate::task::Task;
 use std::alloc::AllocError;
 use thiserror::Error;
 
 /// What the words ask for.
 #[derive(Debug, Drop)]
 pub enum Request {
-    /// To run the script of this file, or of standard input, in this format, and to fail on this.
-    Run(Format, FailOn, Option<String>),
-    /// To check the script of this file, or of standard input.
-    Check(Option<String>),
-    /// To tell what the records of the script of this file, or of standard input, changed from this one on, or the last one
-    /// alone. They are counted from 1.
-    Diff(Option<u64>, Option<String>),
-    /// To drill the script of standard input.
-    Drill,
+    /// To do this with the script of this file, or of standard input.
+    Do(Task, Option<String>),
     /// To show this text: help, or the version.
     Show(String),
 }

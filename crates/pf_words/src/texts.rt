@@ -44,8 +44,12 @@ Formats:
   processors  how many quanta each processor gave, how long it was idle, how often its task changed
   stats       the figures of each task: how often it ran, moved and was put off, how soon, how late, its lag
   chart       a picture in characters: who runs where, each task's windows, its lag, what is late or denied
-  svg         the same as SVG, for a browser; --cell W (6 to 40) tells how wide each slot is
+  svg         the same as SVG, for a browser; --cell, --wrap and --style tell how it looks
+  windows     each task's windows: job, release, deadline, bit, group deadline, where each ran
+  jobs        each task's jobs: release, deadline, finish, response, tardiness
+  load        load and room, at each slot where one of them changes
   quanta      the schedule, a line for each quantum
+  c           the schedule as a C array
 
 `check` tells of each record that the format does not allow, and where and why, and carries nothing out.
 `diff` tells what the records from RECORD on changed, or the last one where --since is left out: the desk before it beside

@@ -1,29 +1,33 @@
 ghost use Rattle.std.specs.Prelude.{◌≡◌, codes, map, option_map, IfOk};
 ghost use Rattle.clap.specs.Words.{kind_of, subcommand_rows_of};
 ghost use Rattle.pf_words.specs.CommandLine.{file_behind, is_named, text_behind, text_behind_run};
-ghost use Rattle.pf_words.specs.Asked.{IsAsked, IsRequest, ShowsError, cell_given, fail_on_given, file_of, format_found, format_of, format_or_tables, name_of, number_given, range_given, since_given};
+ghost use Rattle.pf_words.specs.Asked.{IsAsked, IsRequest, ShowsError, cell_given, fail_on_given, file_found, format_celled, format_found, format_of, format_wrapped, format_or_tables, name_of, number_given, range_given, since_given, style_given, task_of, wrap_given};
 
-use crate::cell::Cell;
 use crate::command_line::program;
 use crate::fail_on::FailOn;
 use crate::format::Format;
 use crate::mistake::Mistake;
 use crate::request::{Request, WordsFault};
 use crate::slot_range::SlotRange;
+use crate::task::Task;
 use crate::texts::{help_text, refusal_text, version_text};
 use clap::ArgMatches;
 use clap::error::ErrorKind;
+use pf_look::cell::Cell;
+use pf_look::style::Style;
+use pf_look::wrap::Wrap;
 use pf_script::fields::parse_number;
 use std::alloc::{AllocError, Global};
 use std::convert::AsStr;
 
 /// What the program's words ask for, its own name not among them. No words ask for a run with tables, and so does `run`
 /// alone; `run --format NAME` asks for one in the format of that name, of the slots from `--from` on and below `--to`, in
-/// slots of the width `--cell`, to fail on what `--fail-on` lists, and `check` for a check. A file may stand behind each,
+/// slots of the width `--cell`, in blocks of `--wrap` slots and in the style `--style`, to fail on what `--fail-on` lists, and `check` for a check. A file may stand behind each,
 /// for the script to be read from; `-` is standard input, as no file is. `diff` asks what the records from `--since` on
 /// changed. `drill` asks for a drill of standard input. Answers `Refused` where the words are not the program's, `Mistaken`
 /// where the text of `--format` names no format, where that of `--from` or `--to` is no number, where the format has no
-/// range, where the text of `--cell` is no number of 6 to 40, where the format has no width, and where the text of
+/// range, where the text of `--cell` is no number of 6 to 40, `--wrap` no number of 1 to 4096 or `--style` no style, where the format has
+/// none of these, and where the text of
 /// `--fail-on` is no list of what a run may fail on, the first of these, and where the text of `--since` is no number above
 /// 0; and `NoMemory`, in place of any answer, where memory was refused.
 pub fn read_words<S: AsStr>(alloc: Global, words: &[S]) -> Result<Request, WordsFault>
@@ -39,24 +43,34 @@ pub fn read_words<S: AsStr>(alloc: Global, words: &[S]) -> Result<Request, Words
 fn read_matches(alloc: Global, matches: &ArgMatches<'_>) -> Result<Request, WordsFault>
     ensures { IsRequest (subcommand_rows_of matches.now) result }
 {
-    if is_asked(matches, "drill") {
-        return Ok(Request::Drill);
-    }
-    let file = read_file(alloc, matches)?;
-    if is_asked(matches, "check") {
-        return Ok(Request::Check(file));
-    }
-    if is_asked(matches, "diff") {
-        return Ok(Request::Diff(read_since(matches)?, file));
-    }
-    let format = read_format(matches)?;
-    Ok(Request::Run(format, read_fail_on(matches)?, file))
+    let task = read_task(matches)?;
+    Ok(Request::Do(task, read_file(alloc, matches)?))
 }
 
-/// The file behind a subcommand; none where standard input is meant.
-fn read_file(alloc: Global, matches: &ArgMatches<'_>) -> Result<Option<String>, AllocError>
-    ensures { IfOk result (λ file. name_of file ≡ file_of (file_behind (subcommand_rows_of matches.now))) }
+/// What they ask to be done with a script.
+fn read_task(matches: &ArgMatches<'_>) -> Result<Task, Mistake>
+    ensures { result ≡ task_of (subcommand_rows_of matches.now) }
 {
+    if is_asked(matches, "drill") {
+        return Ok(Task::Drill);
+    }
+    if is_asked(matches, "check") {
+        return Ok(Task::Check);
+    }
+    if is_asked(matches, "diff") {
+        return Ok(Task::Diff(read_since(matches)?));
+    }
+    let format = read_format(matches)?;
+    Ok(Task::Run(format, read_fail_on(matches)?))
+}
+
+/// The file behind a subcommand; none where standard input is meant, and for a drill.
+fn read_file(alloc: Global, matches: &ArgMatches<'_>) -> Result<Option<String>, AllocError>
+    ensures { IfOk result (λ file. name_of file ≡ file_found (subcommand_rows_of matches.now)) }
+{
+    if is_asked(matches, "drill") {
+        return Ok(None);
+    }
     let Some(name) = file_name(matches) else {
         return Ok(None);
     };
@@ -93,9 +107,37 @@ fn read_since(matches: &ArgMatches<'_>) -> Result<Option<u64>, Mistake>
     }
 }
 
-/// The format of a run, of the slots and of the width that they ask for.
+/// The format of a run, of the slots and in the look that they ask for.
 fn read_format(matches: &ArgMatches<'_>) -> Result<Format, Mistake>
     ensures { result ≡ format_of (subcommand_rows_of matches.now) }
+{
+    let format = read_wrapped(matches)?;
+    let Some(style) = read_style(matches)? else {
+        return Ok(format);
+    };
+    match format.with_style(style) {
+        Some(format) => Ok(format),
+        None => Err(Mistake::NoStyle),
+    }
+}
+
+/// The format of a run, of the slots, of the width and in the blocks that they ask for.
+fn read_wrapped(matches: &ArgMatches<'_>) -> Result<Format, Mistake>
+    ensures { result ≡ format_wrapped (subcommand_rows_of matches.now) }
+{
+    let format = read_celled(matches)?;
+    let Some(wrap) = read_wrap(matches)? else {
+        return Ok(format);
+    };
+    match format.with_wrap(wrap) {
+        Some(format) => Ok(format),
+        None => Err(Mistake::NoWrap),
+    }
+}
+
+/// The format of a run, of the slots and of the width that they ask for.
+fn read_celled(matches: &ArgMatches<'_>) -> Result<Format, Mistake>
+    ensures { result ≡ format_celled (subcommand_rows_of matches.now) }
 {
     let format = read_ranged(matches)?;
     let Some(cell) = read_cell(matches)? else {
@@ -116,7 +158,7 @@ fn read_ranged(matches: &ArgMatches<'_>) -> Result<Format, Mistake>
     };
     match format.within(read_range(matches)?) {
         Some(format) => Ok(format),
-        None => Err(Mistake::NoRange),
+        None => Err(format.range_mistake()),
     }
 }
 
@@ -153,6 +195,35 @@ fn read_cell(matches: &ArgMatches<'_>) -> Result<Option<Cell>, Mistake>
     match Cell::new(width) {
         Some(cell) => Ok(Some(cell)),
         None => Err(Mistake::BadCell),
+    }
+}
+
+/// How many slots stand side by side; none where `--wrap` is left out.
+fn read_wrap(matches: &ArgMatches<'_>) -> Result<Option<Wrap>, Mistake>
+    ensures { result ≡ wrap_given (text_behind_run (codes "wrap") (subcommand_rows_of matches.now)) }
+{
+    let Some(text) = option_text(matches, "run", "wrap") else {
+        return Ok(None);
+    };
+    let Some(slots) = parse_number(text.as_bytes()) else {
+        return Err(Mistake::BadWrap);
+    };
+    match Wrap::new(slots) {
+        Some(wrap) => Ok(Some(wrap)),
+        None => Err(Mistake::BadWrap),
+    }
+}
+
+/// How the tasks are drawn; none where `--style` is left out.
+fn read_style(matches: &ArgMatches<'_>) -> Result<Option<Style>, Mistake>
+    ensures { result ≡ style_given (text_behind_run (codes "style") (subcommand_rows_of matches.now)) }
+{
+    let Some(name) = option_text(matches, "run", "style") else {
+        return Ok(None);
+    };
+    match Style::named(name) {
+        Some(style) => Ok(Some(style)),
+        None => Err(Mistake::BadStyle),
     }
 }
 

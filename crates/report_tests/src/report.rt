@@ -6,6 +6,8 @@ use pf_chart::chart::chart_text;
 use pf_desk::command::Command::Step;
 use pf_desk::snapshot::Snapshot;
 use pf_diff::diff::diff_text;
+use pf_look::look::Look;
+use pf_names::titles::Titles;
 use pf_picture::picture::picture_text;
 use pf_report::denials::denials_csv;
 use pf_report::json::report_json;
@@ -206,7 +208,9 @@ fn chart(alloc: Global, snapshot: &Snapshot) -> Result<Vec<u8>, AllocError> {
 
 /// The picture of the first slots. A caller that needs no clause of `picture_text` calls this.
 fn picture(alloc: Global, snapshot: &Snapshot) -> Result<Vec<u8>, AllocError> {
-    picture_text(alloc, snapshot, 0, snapshot.now().min(4096), 20)
+    let titles = Titles::none(alloc);
+    let to = snapshot.now().min(4096);
+    picture_text(alloc, snapshot, &titles, 0, to, &Look::usual())
 }
 
 #[test]

@@ -1,5 +1,5 @@
 use Rattle.std.proofs.Common.{ap}
-use Rattle.pf_opening.specs.Commands.{commands_of}
+use Rattle.pf_script.specs.Asked.{commands_of}
 use Rattle.pf_cli.specs.Meaning.{course_at}
 use Rattle.pf_change.proofs.Courses.{edit_more, steps_behind}
 use Rattle.pf_change.proofs.taking.take_line.Goals as goal

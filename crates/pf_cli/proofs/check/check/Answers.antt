@@ -1,8 +1,12 @@
-use Rattle.std.proofs.lemmas.Result.{err_from_is_err_and}
-use Rattle.pf_cli.proofs.Checking.{unread_if}
+use Rattle.pf_cli.proofs.Checking.{checked, unwritten, without_memory}
 use Rattle.pf_cli.proofs.check.check.Goals as goal
 
-pub returns-in_err-text-clause-meaning : goal.returns-in_err-text-clause-meaning
-returns-in_err-text-clause-meaning g c =
-    let p = err_from_is_err_and c.from_residual.result c.from_residual.ensures.1 in
-    rw (p.1, p.2) (unread_if (g.R.Read.remaining c.args.reader.now) _ _ c.in_err-text.ensures.bytes)
+pub returns-in-Ok-clause-meaning : goal.returns-in-Ok-clause-meaning
+returns-in-Ok-clause-meaning g c =
+    checked c.args.script.now c.in-Ok.faults _ c.quiet.result _ _ c.requires.short c.in-Ok.ensures.text c.in-Ok.ensures.faults c.status_of.ensures c.quiet.ensures
+
+pub returns-in-Err-Write-clause-meaning : goal.returns-in-Err-Write-clause-meaning
+returns-in-Err-Write-clause-meaning g c = unwritten c.args.script.now _ _ c.requires.short c.in-Err-Write.ensures.front
+
+pub returns-in-Err-Memory-clause-meaning : goal.returns-in-Err-Memory-clause-meaning
+returns-in-Err-Memory-clause-meaning g c = without_memory c.args.script.now _ _ c.requires.short c.in-Err-Memory.ensures.front

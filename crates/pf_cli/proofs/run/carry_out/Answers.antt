@@ -1,6 +1,6 @@
 use Rattle.std.proofs.Common.{◌≡◌, Some, ap, subst, sym, ◌∙◌}
 use Rattle.std.proofs.lemmas.Result.{IfOk-weaker}
-use Rattle.pf_cli.specs.Answers.{CountsWrites}
+use Rattle.pf_fault.specs.Faults.{CountsWrites}
 use Rattle.pf_cli.specs.Ended.{script_course}
 use Rattle.pf_cli.specs.Meaning.{course_at}
 use Rattle.pf_cli.proofs.Answering.{course_there, reported, stopped_carrying}

@@ -19,5 +19,5 @@ returns c =
     let diaries = subst P (c.deref.ensures.value ∙ c.in_ok-held.ensures) c.in_ok-own.ensures in
     let denials = denials_are seen _ _ c.in_ok-denied.denied (c.deref-2.ensures.value ∙ c.in_ok-held.ensures) c.denials.ensures c.in_ok-denied.ensures in
     IfOk-weaker c.drawings_by.result _ _
-    (λ v h. h ∙ drawings_are seen c.in_ok-listed.listed.items own c.in_ok-denied.denied c.now-now.result diaries denials c.in_ok-listed.ensures c.now-now.ensures.value)
+    (λ v h. h ∙ drawings_are seen c.args.names.now c.in_ok-listed.listed.items own c.in_ok-denied.denied c.now-now.result diaries denials c.in_ok-listed.ensures c.now-now.ensures.value)
     c.drawings_by.ensures

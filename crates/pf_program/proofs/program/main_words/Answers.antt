@@ -5,8 +5,8 @@ use Rattle.pf_program.proofs.program.main_words.Goals as goal
 
 pub returns-in-Ok-Show-clause-streams : goal.returns-in-Ok-Show-clause-streams
 returns-in-Ok-Show-clause-streams g c =
-    text_answers (map g.S.AsStr.text c.args.words.now) c.as_str-in-Ok-Show.result.now c.show.result _ _ _
-    (subst (λ (t : List ℕ). IsShownTo (map g.S.AsStr.text c.args.words.now) t) (sym c.as_str-in-Ok-Show.ensures.value) (rw c.in-Ok-Show.field-0-is at c.in-Ok-Show.ensures))
+    text_answers (map g.S.AsStr.text c.args.words.now) c.as_str.result.now c.show.result _ _ _
+    (subst (λ (t : List ℕ). IsShownTo (map g.S.AsStr.text c.args.words.now) t) (sym c.as_str.ensures.value) (rw c.in-Ok-Show.field-0-is at c.in-Ok-Show.ensures))
     c.show.ensures.status refl refl c.show.ensures.writes c.show.ensures.shown c.show.ensures.cut
 
 pub returns-in-Err-clause-streams : goal.returns-in-Err-clause-streams

@@ -1,0 +1,7 @@
+pub mod Numbering
+pub mod Joins
+pub mod Bases
+pub mod Holding
+pub mod Rows
+pub mod Times
+pub mod Each

@@ -1,0 +1,12 @@
+pub use Rattle.pf_task_list.specs.List
+pub mod Answers
+pub mod Conversions
+pub mod Json
+pub mod Parts
+pub mod Planned
+pub mod Report
+pub mod Script
+pub mod Series
+pub mod Slots
+pub mod Summary
+pub mod Table

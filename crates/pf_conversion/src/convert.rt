@@ -1,0 +1,50 @@
+ghost use Rattle.std.specs.Prelude.{◌≡◌, ◌≤◌, ◌<◌, All, IfOk, IfSome, length};
+ghost use Rattle.pf_convert.specs.declared.quantum.TheConstants.{LONGEST_QUANTUM};
+ghost use Rattle.pf_convert_words.specs.declared.conversion.ConvertFormat.TheVariants.{Script};
+ghost use Rattle.pf_conversion.specs.Conversions.{MakesConversion};
+
+use crate::answer::{convert_to_json, convert_to_script, convert_to_table};
+use pf_convert::quantum::Quantum;
+use pf_convert_words::conversion::{Conversion, ConvertFormat};
+use pf_fault::answer::Answer;
+use std::alloc::{AllocError, Global};
+
+/// A list of tasks as what the words of a conversion ask for.
+///
+/// # Errors
+///
+/// Where memory is refused.
+pub fn convert(alloc: Global, list: &[u8], asked: &Conversion) -> Result<Answer, AllocError>
+    requires longer { All (λ q. asked.now.switch < q) asked.now.quanta }
+    requires short { All (λ q. q ≤ LONGEST_QUANTUM) asked.now.quanta }
+    requires few { IfSome asked.now.processors (λ m. m ≤ 64) }
+    requires one { asked.now.format ≡ Script → length asked.now.quanta ≡ 1 }
+    ensures { IfOk result (MakesConversion asked.now list.now) }
+{
+    let quanta = asked.quanta.all();
+    match asked.format {
+        ConvertFormat::Script => {
+            let quantum = Quantum {
+                length: quanta[0],
+                switch: asked.switch,
+            };
+            convert_to_script(alloc, list, asked.unit, quantum, asked.processors)
+        }
+        ConvertFormat::Table => convert_to_table(
+            alloc,
+            list,
+            asked.unit,
+            quanta,
+            asked.switch,
+            asked.processors,
+        ),
+        ConvertFormat::Json => convert_to_json(
+            alloc,
+            list,
+            asked.unit,
+            quanta,
+            asked.switch,
+            asked.processors,
+        ),
+    }
+}

@@ -1,0 +1,112 @@
+-- What the words of a conversion ask for.
+use Rattle.std.specs.Prelude.{ℕ, ◌==◌, ◌&&◌, Bool, true, false, nat_le, nat_lt, if◌then◌else◌, option_map, Option, None, Some, Result, Ok, Err, List, [], ◌∷◌, ◌++◌, length, codes}
+use Rattle.std.specs.Str.{bytes_eq}
+use Rattle.pf_convert.specs.declared.quantum.TheConstants.{LONGEST_QUANTUM}
+use Rattle.pf_names.specs.declared.unit.Unit.{Unit}
+use Rattle.pf_names.specs.declared.unit.Unit.TheVariants.{Millisecond}
+use Rattle.pf_names.specs.Slots.{unit_named}
+use Rattle.pf_scenario.specs.declared.settings.TheConstants.{MOST_PROCESSORS}
+use Rattle.pf_task_list.specs.declared.time.TimeFault.{TimeFault}
+use Rattle.pf_task_list.specs.Times.{◌>>=◌, few_digits, time_in}
+use Rattle.pf_convert_words.specs.declared.conversion.Conversion.{Conversion}
+use Rattle.pf_convert_words.specs.declared.conversion.ConvertFormat.{ConvertFormat}
+use Rattle.pf_convert_words.specs.declared.conversion.ConvertFormat.TheVariants.{Script, Table, Json}
+use Rattle.pf_convert_words.specs.declared.mistake.ConvertMistake.{ConvertMistake}
+use Rattle.pf_convert_words.specs.declared.mistake.ConvertMistake.TheVariants.{Format, Unit as BadUnit, Quantum, Switch, Processors, SwitchNotBelow, SeveralQuanta}
+use Rattle.pf_convert_words.specs.declared.quanta.TheConstants.{MOST_QUANTA}
+use Rattle.pf_convert_words.specs.declared.read.ConvertWords.{ConvertWords}
+
+-- the format of a name
+unfoldable pub format_named : List ℕ → Result (Option ConvertFormat) ConvertMistake
+format_named name =
+    if bytes_eq name (codes "script") then Ok (Some Script)
+    else if bytes_eq name (codes "table") then Ok (Some Table)
+    else if bytes_eq name (codes "json") then Ok (Some Json)
+    else Err Format
+
+abbrev pub format_given : Option (List ℕ) → Result (Option ConvertFormat) ConvertMistake
+format_given None = Ok None
+format_given (Some name) = format_named name
+
+-- the unit of a name, milliseconds where there is none
+abbrev pub unit_or_mistake : Option Unit → Result Unit ConvertMistake
+unit_or_mistake None = Err BadUnit
+unit_or_mistake (Some unit) = Ok unit
+
+abbrev pub unit_given : Option (List ℕ) → Result Unit ConvertMistake
+unit_given None = Ok Millisecond
+unit_given (Some name) = unit_or_mistake (unit_named name)
+
+-- the words of a text that commas join, behind a word so far
+unfoldable pub words_from : List ℕ → List ℕ → List (List ℕ)
+words_from word [] = word ∷ []
+words_from word (byte ∷ bytes) = if byte == 44 then word ∷ words_from [] bytes else words_from (word ++ byte ∷ []) bytes
+
+unfoldable pub has_quantum : ℕ → List ℕ → Bool
+has_quantum quantum [] = false
+has_quantum quantum (other ∷ quanta) = if other == quantum then true else has_quantum quantum quanta
+
+-- a time above 0 and up to a second, which none of these is, and of which there are not 64 yet
+abbrev pub fits_behind : List ℕ → ℕ → Bool
+fits_behind quanta quantum = nat_le 1 quantum && nat_le quantum LONGEST_QUANTUM && (if has_quantum quantum quanta then false else nat_lt (length quanta) MOST_QUANTA)
+
+abbrev pub time_added : List ℕ → Result ℕ TimeFault → Result (List ℕ) ConvertMistake
+time_added quanta (Ok quantum) = if fits_behind quanta quantum then Ok (quanta ++ quantum ∷ []) else Err Quantum
+time_added quanta (Err fault) = Err Quantum
+
+abbrev pub quantum_added : Unit → List ℕ → List ℕ → Result (List ℕ) ConvertMistake
+quantum_added unit quanta text = time_added quanta (time_in unit text)
+
+-- the quanta with those of these words behind them
+unfoldable pub quanta_from : Unit → List ℕ → List (List ℕ) → Result (List ℕ) ConvertMistake
+quanta_from unit quanta [] = Ok quanta
+quanta_from unit quanta (word ∷ words) = quantum_added unit quanta word >>= λ more. quanta_from unit more words
+
+abbrev pub quanta_given : Unit → List ℕ → Result (List ℕ) ConvertMistake
+quanta_given unit text = quanta_from unit [] (words_from [] text)
+
+-- how long a switch takes; nothing where it is left out
+abbrev pub switch_read : Result ℕ TimeFault → Result ℕ ConvertMistake
+switch_read (Ok time) = Ok time
+switch_read (Err fault) = Err Switch
+
+abbrev pub switch_given : Unit → Option (List ℕ) → Result ℕ ConvertMistake
+switch_given unit None = Ok 0
+switch_given unit (Some text) = switch_read (time_in unit text)
+
+-- 1 to 64 processors, where they are given
+abbrev pub processors_read : Option ℕ → Result (Option ℕ) ConvertMistake
+processors_read None = Err Processors
+processors_read (Some number) = if nat_le 1 number && nat_le number MOST_PROCESSORS then Ok (Some number) else Err Processors
+
+abbrev pub processors_given : Option (List ℕ) → Result (Option ℕ) ConvertMistake
+processors_given None = Ok None
+processors_given (Some text) = processors_read (few_digits text)
+
+-- the first quantum that the switch is not below
+unfoldable pub first_not_above : ℕ → List ℕ → Option ℕ
+first_not_above switch [] = None
+first_not_above switch (quantum ∷ quanta) = if nat_le quantum switch then Some quantum else first_not_above switch quanta
+
+abbrev pub longer_than : Option ℕ → Result ℕ ConvertMistake
+longer_than None = Ok 0
+longer_than (Some quantum) = Err (SwitchNotBelow quantum)
+
+-- a script of one quantum, and a table of several, where no format is named
+abbrev pub format_for : Option ConvertFormat → ℕ → Result ConvertFormat ConvertMistake
+format_for None count = if count == 1 then Ok Script else Ok Table
+format_for (Some Script) count = if count == 1 then Ok Script else Err SeveralQuanta
+format_for (Some Table) count = Ok Table
+format_for (Some Json) count = Ok Json
+
+-- what the words ask for, or the first of them that is mistaken
+unfoldable pub conversion_of : ConvertWords → Result Conversion ConvertMistake
+conversion_of w = do
+  named ← format_given (option_map (λ t. t.now) w.format)
+  unit ← unit_given (option_map (λ t. t.now) w.unit)
+  quanta ← quanta_given unit w.quantum.now
+  switch ← switch_given unit (option_map (λ t. t.now) w.switch)
+  processors ← processors_given (option_map (λ t. t.now) w.processors)
+  _ ← longer_than (first_not_above switch quanta)
+  format ← format_for named (length quanta)
+  Ok (record { format = format; unit = unit; quanta = quanta; switch = switch; processors = processors })

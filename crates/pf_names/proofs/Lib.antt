@@ -1,0 +1,2 @@
+mod TextExamples
+mod Texts

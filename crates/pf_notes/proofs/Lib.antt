@@ -1,0 +1,6 @@
+mod Finding
+mod Joining
+mod Quanta
+mod Bounds
+mod Standing
+mod Leaving

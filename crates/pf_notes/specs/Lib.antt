@@ -1,0 +1,13 @@
+pub use Rattle.pf_scenario.specs.Edit
+pub use Rattle.pf_run.specs.Computed
+pub use Rattle.pf_run.specs.Inside
+pub use Rattle.pf_desk.specs.Desk
+pub mod Subject
+pub mod Point
+pub mod Leavers
+pub mod Absence
+pub mod Grounds
+pub mod Refusal
+pub mod Walk
+pub mod Reasons
+pub mod Laws

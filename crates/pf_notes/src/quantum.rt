@@ -1,0 +1,8 @@
+/// A quantum of a task.
+#[derive(Clone, Copy, Debug, PartialEq, Eq)]
+pub(crate) struct Quantum {
+    /// Its slot.
+    pub slot: u64,
+    /// The number of the subtask that ran in it, from 1.
+    pub sub: u32,
+}

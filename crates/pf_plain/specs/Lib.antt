@@ -1,0 +1,4 @@
+pub mod Carried
+pub mod Plain
+pub mod Ways
+pub mod Written

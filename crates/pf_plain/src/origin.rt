@@ -1,0 +1,8 @@
+/// Where a record of a script of version 2 comes from: a record of the script of version 3.
+#[derive(Clone, Copy, Debug, PartialEq, Eq)]
+pub struct Origin {
+    /// Its number, counted from 1: the heading is 1.
+    pub number: u64,
+    /// The line of the file on which it begins, counted from 1.
+    pub line: u64,
+}

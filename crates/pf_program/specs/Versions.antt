@@ -1,0 +1,76 @@
+-- What the program answers to a task with a script of any version: with one of version 3 by the script of version 2 that belongs
+-- to it.
+use Rattle.std.specs.Prelude.{ℕ, ◌≡◌, ◌+◌, ◌-◌, ◌⊎◌, ◌<◌, ◌≤◌, ◌==◌, ◌||◌, nat_lt, if◌then◌else◌, List, [], ◌∷◌, length, Option, None, Some, Result, Ok, Err}
+use Rattle.std.specs.List.{slice_index_or}
+use Rattle.std.specs.Io.KnownBytes.{Keeps}
+use Rattle.pf_check3.specs.Checked.{ChecksThird}
+use Rattle.pf_fault.specs.declared.answer.Answer.{Answer}
+use Rattle.pf_fault.specs.declared.ending.Ending.{Ending}
+use Rattle.pf_fault.specs.declared.fault.Fault.{Fault}
+use Rattle.pf_fault.specs.declared.fault.Fault.TheVariants as why
+use Rattle.pf_plain.specs.declared.origin.Origin.{Origin}
+use Rattle.pf_plain.specs.Plain.{Plain, plain}
+use Rattle.pf_stream.specs.Reading.{longest_script}
+use Rattle.pf_text.specs.Page.{table_text}
+use Rattle.pf_words.specs.declared.task.Task.{Task}
+use Rattle.pf_words.specs.declared.task.Task.TheVariants.{Run, Check, Diff, Drill}
+use Rattle.pf_program.specs.Tasks.{AnswersMade, AnswersTask}
+
+-- how many come from a record before this one
+abbrev pub count_below : ℕ → List Origin → ℕ
+count_below number [] = 0
+count_below number (origin ∷ origins) = if nat_lt origin.number number then count_below number origins + 1 else count_below number origins
+
+-- the number of the first record that comes from this record or a later one, the last one where none is given
+abbrev pub since_in : Plain → Option ℕ → ℕ
+since_in p None = count_below p.last p.origins + 1
+since_in p (Some number) = count_below number p.origins + 1
+
+-- the task with the script of version 2
+abbrev pub task_in : Plain → Task → Task
+task_in p (Run format fail_on) = Run format fail_on
+task_in p Check = Check
+task_in p (Diff since) = Diff (Some (since_in p since))
+task_in p Drill = Drill
+
+-- the number of the record that the one of this number comes from
+abbrev pub number_from : List Origin → ℕ → ℕ
+number_from origins number =
+    if (number == 0) || nat_lt (length origins) number then number
+    else (slice_index_or origins (number - 1) (record { number = number; line = 0 })).number
+
+-- the same answer, with the number of the record that a bad one comes from
+abbrev pub numbered : List Origin → Result Ending Fault → Result Ending Fault
+numbered origins (Ok ending) = Ok ending
+numbered origins (Err (why.BadRecord number)) = Err (why.BadRecord (number_from origins number))
+numbered origins (Err fault) = Err fault
+
+-- the answer to a check
+abbrev pub IsChecked : List ℕ → Result Answer Fault → Type 0
+IsChecked script (Ok made) = ChecksThird script made
+IsChecked script (Err fault) = fault ≡ why.NoMemory
+
+-- the task was done with the script of version 2
+abbrev pub AnswersPlain : Plain → Task → Result Ending Fault → Option (List ℕ) → Option (List ℕ) → Type 0
+AnswersPlain p task answer old new =
+    (inner : Result Ending Fault) × AnswersTask (task_in p task) (table_text p.records) inner old new × (answer ≡ numbered p.origins inner)
+
+-- where that is short enough
+pub record AnswersShort (p : Plain) (task : Task) (answer : Result Ending Fault) (old new : Option (List ℕ)) : Type 0 where
+  pub short : length (table_text p.records) ≤ longest_script → AnswersPlain p task answer old new
+  pub long : longest_script < length (table_text p.records) → (answer ≡ Err why.TooLong) × Keeps old new
+
+-- the answer to a task with a script of version 3
+abbrev pub AnswersThird : Plain → Task → List ℕ → Result Ending Fault → Option (List ℕ) → Option (List ℕ) → Type 0
+AnswersThird p Check script answer old new = (made : Result Answer Fault) × IsChecked script made × AnswersMade made answer old new
+AnswersThird p (Run format fail_on) script answer old new = AnswersShort p (Run format fail_on) answer old new
+AnswersThird p (Diff since) script answer old new = AnswersShort p (Diff since) answer old new
+AnswersThird p Drill script answer old new = AnswersShort p Drill answer old new
+
+-- the answer to a task with a script of any version
+abbrev pub AnswersOf : Option Plain → Task → List ℕ → Result Ending Fault → Option (List ℕ) → Option (List ℕ) → Type 0
+AnswersOf None task script answer old new = AnswersTask task script answer old new
+AnswersOf (Some p) task script answer old new = AnswersThird p task script answer old new
+
+abbrev pub AnswersBytes : Task → List ℕ → Result Ending Fault → Option (List ℕ) → Option (List ℕ) → Type 0
+AnswersBytes task script answer old new = AnswersOf (plain script) task script answer old new ⊎ ((answer ≡ Err why.NoMemory) × Keeps old new)

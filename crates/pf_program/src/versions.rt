@@ -1,0 +1,152 @@
+ghost use Rattle.std.specs.Prelude.{◌≡◌, ◌-◌, ◌^◌, ◌<◌, ◌≤◌, [], length, IfOk, IfErr};
+ghost use Rattle.pf_fault.specs.Faults.{CountsWrites, IsUnwritten};
+ghost use Rattle.pf_stream.specs.Reading.{longest_script};
+ghost use Rattle.pf_plain.specs.Plain.{IsPlain, Plain};
+ghost use Rattle.pf_program.specs.Versions.{AnswersBytes, AnswersShort, AnswersThird, IsChecked, count_below, number_from, numbered, since_in, task_in};
+
+use crate::answering::write_answer;
+use crate::tasks::do_task;
+use pf_check3::check::third_check;
+use pf_fault::answer::Answer;
+use pf_fault::ending::Ending;
+use pf_fault::fault::Fault;
+use pf_plain::origin::Origin;
+use pf_plain::plain::{PlainScript, plain_script};
+use pf_stream::reading::LONGEST_SCRIPT;
+use pf_stream::sink::Sink;
+use pf_words::task::Task;
+use std::alloc::Global;
+use std::sync::Wait;
+use std::thread::Threads;
+
+/// Does a task with a script of these bytes, of any version: with one of version 3 by the script of version 2 that belongs to
+/// it. The writer's count of failures must be below `u64::MAX` before the call.
+///
+/// # Errors
+///
+/// Those of the task, and `Write` where the writer fails or takes nothing.
+pub(crate) fn do_script<H: AllocGlobal + Threads + Wait + Sync, W: Sink>(
+    rt: &H,
+    task: Task,
+    script: &[u8],
+    writer: &mut W,
+) -> Result<Ending, Fault>
+    requires short { length script.now ≤ longest_script }
+    requires writes { W.failed writer.old < 2 ^ 64 - 1 }
+    ensures answers { AnswersBytes task script.now result (W.contents writer.old) (W.contents writer.new) }
+    ensures quiet { IfOk result (λ ending. ending.notes.items ≡ []) }
+    ensures writes { CountsWrites result (W.failed writer.old) (W.failed writer.new) }
+{
+    match plain_script(rt.alloc(), script) {
+        Ok(Some(plain)) => do_third(rt, task, script, &plain, writer),
+        Ok(None) => do_task(rt, task, script, writer),
+        Err(_) => Err(Fault::NoMemory),
+    }
+}
+
+/// Does a task with a script of version 3, to which this one belongs.
+fn do_third<H: AllocGlobal + Threads + Wait + Sync, W: Sink>(
+    rt: &H,
+    task: Task,
+    script: &[u8],
+    plain: &PlainScript,
+    writer: &mut W,
+) -> Result<Ending, Fault>
+    requires writes { W.failed writer.old < 2 ^ 64 - 1 }
+    ensures answers { (p : Plain) → IsPlain plain.now p →
+        AnswersThird p task script.now result (W.contents writer.old) (W.contents writer.new) }
+    ensures quiet { IfOk result (λ ending. ending.notes.items ≡ []) }
+    ensures writes { CountsWrites result (W.failed writer.old) (W.failed writer.new) }
+{
+    match task {
+        Task::Check => write_answer(check_script(rt.alloc(), script), writer),
+        _ => do_plain(rt, task, plain, writer),
+    }
+}
+
+/// Does a task with this script of version 2, and tells records by their numbers in that of version 3.
+fn do_plain<H: AllocGlobal + Threads + Wait + Sync, W: Sink>(
+    rt: &H,
+    task: Task,
+    plain: &PlainScript,
+    writer: &mut W,
+) -> Result<Ending, Fault>
+    requires writes { W.failed writer.old < 2 ^ 64 - 1 }
+    ensures answers { (p : Plain) → IsPlain plain.now p → AnswersShort p task result (W.contents writer.old) (W.contents writer.new) }
+    ensures quiet { IfOk result (λ ending. ending.notes.items ≡ []) }
+    ensures writes { CountsWrites result (W.failed writer.old) (W.failed writer.new) }
+{
+    if plain.text.len() > LONGEST_SCRIPT {
+        return Err(Fault::TooLong);
+    }
+    let answer = do_task(rt, task_in(task, plain), &plain.text, writer);
+    numbered(&plain.origins, answer)
+}
+
+/// The answer to a check of a script of version 3.
+fn check_script(alloc: Global, script: &[u8]) -> Result<Answer, Fault>
+    ensures made { IsChecked script.now result }
+    ensures quiet { IfOk result (λ answer. answer.ending.notes.items ≡ []) }
+    ensures unwritten { IfErr result IsUnwritten }
+{
+    match third_check(alloc, script) {
+        Ok(answer) => Ok(answer),
+        Err(_) => Err(Fault::NoMemory),
+    }
+}
+
+/// The task with the script of version 2: what its records from one on changed, where the one is told by its number in the
+/// script of version 3.
+fn task_in(task: Task, plain: &PlainScript) -> Task
+    ensures value { (p : Plain) → IsPlain plain.now p → result ≡ task_in p task }
+{
+    match task {
+        Task::Diff(since) => Task::Diff(Some(since_in(plain, since))),
+        _ => task,
+    }
+}
+
+/// The number of the first record that comes from this record or a later one, the last one where none is given.
+fn since_in(plain: &PlainScript, since: Option<u64>) -> u64
+    ensures { (p : Plain) → IsPlain plain.now p → result ≡ since_in p since }
+{
+    let number = match since {
+        Some(number) => number,
+        None => plain.last,
+    };
+    count_below(&plain.origins, number) + 1
+}
+
+/// How many come from a record before this one.
+fn count_below(origins: &[Origin], number: u64) -> u64
+    ensures count { result ≡ count_below number origins.now }
+    ensures within { result ≤ length origins.now }
+{
+    let mut count = 0;
+    for origin in origins {
+        if origin.number < number {
+            count += 1;
+        }
+    }
+    count
+}
+
+/// The same answer, with the number of the record that a bad one comes from.
+fn numbered(origins: &[Origin], answer: Result<Ending, Fault>) -> Result<Ending, Fault>
+    ensures value { result ≡ numbered origins.now answer }
+{
+    match answer {
+        Err(Fault::BadRecord(number)) => Err(Fault::BadRecord(number_from(origins, number))),
+        answer => answer,
+    }
+}
+
+/// The number of the record that the one of this number comes from.
+fn number_from(origins: &[Origin], number: u64) -> u64
+    ensures { result ≡ number_from origins.now number }
+{
+    if number == 0 || number > origins.len() as u64 {
+        return number;
+    }
+    origins[number as usize - 1].number
+}

@@ -1,0 +1,4 @@
+mod Counting
+mod Lines
+mod Reading
+mod RowExamples

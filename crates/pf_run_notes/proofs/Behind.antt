@@ -1,0 +1,58 @@
+-- The notes behind a run, by their parts.
+use Rattle.std.proofs.Common.{◌≡◌, ℕ, ◌-◌, List, [], ◌∷◌, ◌++◌, length, take, refl, ap, ap₂, ◌∙◌, append_assoc}
+use Rattle.std.specs.List.{flat_map}
+use Rattle.pf_names.specs.declared.named.Named.{Named}
+use Rattle.pf_scenario.specs.Scenario.{Plan}
+use Rattle.pf_run.specs.Record.{Slot}
+use Rattle.pf_run.specs.Computed.{run_of}
+use Rattle.pf_table.specs.Grown.{Grown, value_of}
+use Rattle.pf_tally.specs.Misses.{misses_of}
+use Rattle.pf_tally.specs.declared.miss.Miss.{Miss}
+use Rattle.pf_desk.specs.Desk.{Seen}
+use Rattle.pf_notes.specs.Absence.{join_among}
+use Rattle.pf_run_notes.specs.Late.{count_of_task, firsts_of, AreLate}
+use Rattle.pf_run_notes.specs.Notes.{counts_text, denied_note, late_lines, lines_of, missed_note, missed_with, more_text, notes_text, notes_with}
+use Rattle.pf_run_notes.specs.Refusals.{Kept, more}
+use Rattle.pf_run_notes.specs.declared.place.Place.{Place}
+
+late_told : (file : List ℕ) (names : List Named) (made : List Place) (s : Plan) (misses : List Miss) (counts : Grown ℕ) (firsts : List Miss) →
+    ((task : ℕ) → value_of counts task ≡ count_of_task task misses) →
+    late_lines file names made s.events counts firsts ≡ flat_map (missed_note file names made s misses) firsts
+late_told file names made s misses counts [] each = refl
+late_told file names made s misses counts (miss ∷ firsts) each =
+    ap₂ (λ a b. a ++ b)
+    (ap (λ n. missed_with file names made miss n (join_among miss.task s.events)) (each miss.task))
+    (late_told file names made s misses counts firsts each)
+
+five : (a b c d e : List ℕ) → (((a ++ b) ++ c) ++ d) ++ e ≡ a ++ b ++ c ++ d ++ e
+five a b c d e = simp append_assoc refl
+
+-- Use: one part behind another.
+pub notes_told : (file : List ℕ) (names : List Named) (made : List Place) (kept : Kept) (seen : Seen) (r : List Slot) (misses firsts : List Miss)
+    (counts : Grown ℕ) (missed before lines : ℕ) (t u v w x : List ℕ) → AreLate misses firsts counts → missed ≡ length misses →
+    before ≡ more kept.records (length seen.denials) → lines ≡ more before (length firsts) → t ≡ kept.lines →
+    u ≡ t ++ flat_map (denied_note file names made seen.state.plan r) (take (kept.most - kept.records) seen.denials) →
+    v ≡ u ++ late_lines file names made seen.state.plan.events counts (take (kept.most - before) firsts) →
+    w ≡ v ++ more_text kept.most lines → x ≡ w ++ counts_text file lines kept.commands (length seen.denials) missed →
+    x ≡ notes_with file names made kept seen r misses
+notes_told file names made kept seen r misses firsts counts missed before lines t u v w x are of_missed of_before of_lines of_t of_u of_v of_w of_x =
+    let d = flat_map (denied_note file names made seen.state.plan r) (take (kept.most - kept.records) seen.denials) in
+    let l = late_lines file names made seen.state.plan.events counts (take (kept.most - before) firsts) in
+    let whole : lines ≡ lines_of kept seen misses =
+    of_lines ∙ ap₂ (λ b (fs : List Miss). more b (length fs)) of_before are.of_tasks in
+    let late : l ≡ flat_map (missed_note file names made seen.state.plan misses) (take (kept.most - more kept.records (length seen.denials)) (firsts_of misses)) =
+    late_told file names made seen.state.plan misses counts (take (kept.most - before) firsts) are.each
+    ∙ ap₂ (λ b (fs : List Miss). flat_map (missed_note file names made seen.state.plan misses) (take (kept.most - b) fs)) of_before are.of_tasks in
+    of_x ∙ ap (λ w. w ++ counts_text file lines kept.commands (length seen.denials) missed)
+    (of_w ∙ ap (λ v. v ++ more_text kept.most lines) (of_v ∙ ap (λ u. u ++ l) (of_u ∙ ap (λ t. t ++ d) of_t)))
+    ∙ five kept.lines d l (more_text kept.most lines) (counts_text file lines kept.commands (length seen.denials) missed)
+    ∙ ap (λ l. kept.lines ++ d ++ l ++ more_text kept.most lines ++ counts_text file lines kept.commands (length seen.denials) missed) late
+    ∙ ap₂ (λ n m. kept.lines ++ d ++ flat_map (missed_note file names made seen.state.plan misses) (take (kept.most - more kept.records (length seen.denials)) (firsts_of misses))
+    ++ more_text kept.most n ++ counts_text file n kept.commands (length seen.denials) m) whole of_missed
+
+-- Use: the misses are those of the run.
+pub notes_are : (file : List ℕ) (names : List Named) (made : List Place) (kept : Kept) (seen : Seen) (misses : List Miss) →
+    misses ≡ misses_of seen.state.plan (run_of seen.state.plan seen.state.now) →
+    notes_with file names made kept seen (run_of seen.state.plan seen.state.now) misses ≡ notes_text file names made kept seen
+unfolding notes_text
+notes_are file names made kept seen misses is = ap (notes_with file names made kept seen (run_of seen.state.plan seen.state.now)) is

@@ -1,0 +1,14 @@
+//! A list of tasks told in time. The one contract of this crate: what a list tells are its tasks, or the lines of its faults,
+//! each the first of its record.
+#![tactic(auto)]
+
+pub mod column;
+pub mod fault;
+pub mod heading;
+pub mod lines;
+pub mod list;
+pub mod listed;
+mod quoted;
+pub mod read;
+pub mod report;
+pub mod time;

@@ -1,0 +1,163 @@
+ghost use Rattle.std.specs.Prelude.{◌≡◌, ◌≤◌, IfOk, length};
+ghost use Rattle.pf_rows.specs.Rows.{rows};
+ghost use Rattle.pf_task_list.specs.List.{list_told, tasks_told};
+
+use crate::fault::ListFault;
+use crate::heading::{Heading, at_heading_fault};
+use crate::lines::Lines;
+use crate::listed::Listed;
+use crate::read::{at_fault, read_task};
+use crate::report::fault_line;
+use csv::ByteRecord;
+use pf_names::unit::Unit;
+use pf_rows::rows::{NextRow, Rows};
+use pf_weight::task::LARGEST_TASK;
+use std::alloc::{AllocError, Global};
+use std::marker::Model;
+
+/// What a list tells: its tasks, and the lines of its faults.
+#[derive(Drop)]
+pub struct TaskList {
+    tasks: Vec<Listed>,
+    faults: Lines,
+}
+
+impl Model for TaskList {
+    ghost use Rattle.std.specs.Prelude.{◌≤◌, All, length};
+    ghost use Rattle.pf_convert.specs.Slots.{IsTimed};
+    ghost use Rattle.pf_task_list.specs.List.{ListTold};
+
+    ghost Value = { ListTold };
+
+    ghost view = { λ l. record { tasks = l.tasks.items; faults = l.faults } };
+
+    ghost invariant = { λ l. All (λ t. IsTimed t.times) l.tasks.items × (length l.tasks.items ≤ 4095) };
+}
+
+impl TaskList {
+    ghost use Rattle.std.specs.Prelude.{◌≡◌, ◌≤◌, ◌<◌, ◌+◌, All, OnOk, length};
+    ghost use Rattle.csv.specs.Records.{fields_of};
+    ghost use Rattle.pf_convert.specs.Slots.{IsTimed};
+    ghost use Rattle.pf_weight.specs.declared.task.TheConstants.{LARGEST_TASK};
+    ghost use Rattle.pf_task_list.specs.Faults.{fault_line};
+    ghost use Rattle.pf_task_list.specs.List.{nothing_told, with_fault, with_row};
+
+    /// No tasks and no faults.
+    fn new(alloc: Global) -> Self
+        ensures { result ≡ nothing_told }
+    {
+        TaskList {
+            tasks: Vec::new(alloc),
+            faults: Lines::new(alloc),
+        }
+    }
+
+    /// The tasks, in the order of their records.
+    pub fn tasks(&self) -> &[Listed]
+        ensures tasks { result.now ≡ self.now.tasks }
+        ensures timed { All (λ t. IsTimed t.times) result.now }
+        ensures few { length result.now ≤ LARGEST_TASK }
+    {
+        &self.tasks
+    }
+
+    /// The lines of the faults, in the order of their records.
+    pub fn faults(&self) -> &Lines
+        ensures { result.now ≡ self.now.faults }
+    {
+        &self.faults
+    }
+
+    /// Adds the line of a fault.
+    fn push_fault(
+        &mut self,
+        alloc: Global,
+        line: u64,
+        at: &[u8],
+        fault: ListFault,
+    ) -> Result<(), AllocError>
+        ensures { OnOk result (self.new ≡ with_fault self.old (fault_line line at.now fault)) }
+    {
+        self.faults.push(fault_line(alloc, line, at, fault)?)
+    }
+
+    /// Adds the task that a row of this line is, or the line of its fault.
+    #[tactic(auto, unfolding(crate::specs::List::with_row))]
+    fn note(
+        &mut self,
+        alloc: Global,
+        unit: Unit,
+        heading: &Heading,
+        line: u64,
+        row: &ByteRecord,
+    ) -> Result<(), AllocError>
+        requires { length self.old.tasks < LARGEST_TASK }
+        ensures told { OnOk result (self.new ≡ with_row unit heading.now self.old (record { line = line; fields = fields_of row.now })) }
+        ensures few { OnOk result (length self.new.tasks ≤ length self.old.tasks + 1) }
+    {
+        match read_task(unit, heading, &self.tasks, line, row) {
+            Ok(task) => {
+                self.tasks.push(task)?;
+                Ok(())
+            }
+            Err(fault) => {
+                let at = at_fault(heading, row, fault);
+                self.push_fault(alloc, line, at, ListFault::Task(fault))
+            }
+        }
+    }
+}
+
+/// What a list tells whose times are told in a unit.
+///
+/// # Errors
+///
+/// Where memory is refused.
+pub fn read_list(alloc: Global, unit: Unit, text: &[u8]) -> Result<TaskList, AllocError>
+    ensures { IfOk result (λ list. list ≡ list_told unit (rows text.now)) }
+{
+    let mut rows = Rows::new(alloc, text);
+    let mut row = ByteRecord::new(alloc);
+    let mut list = TaskList::new(alloc);
+    match rows.next(&mut row)? {
+        NextRow::Found(line) => match Heading::read(&row) {
+            Ok(heading) => return read_tasks(alloc, unit, heading, rows, row, list),
+            Err(fault) => {
+                let at = at_heading_fault(&row, fault);
+                list.push_fault(alloc, line, at, ListFault::Heading(fault))?;
+            }
+        },
+        NextRow::End(line) => list.push_fault(alloc, line, &[], ListFault::NoHeading)?,
+    }
+    Ok(list)
+}
+
+/// What a list tells whose heading was read, of the rows that are left.
+fn read_tasks(
+    alloc: Global,
+    unit: Unit,
+    heading: Heading,
+    mut rows: Rows<'_>,
+    mut row: ByteRecord,
+    mut list: TaskList,
+) -> Result<TaskList, AllocError>
+    requires { length list.tasks ≡ 0 }
+    ensures { IfOk result (λ told. told ≡ tasks_told unit heading 0 list rows.entry.end rows.entry.rows) }
+{
+    for count in 0..LARGEST_TASK {
+        match rows.next(&mut row)? {
+            NextRow::Found(line) => list.note(alloc, unit, &heading, line, &row)?,
+            NextRow::End(line) => {
+                if count == 0 {
+                    list.push_fault(alloc, line, &[], ListFault::NoTask)?;
+                }
+                return Ok(list);
+            }
+        }
+    }
+    match rows.next(&mut row)? {
+        NextRow::Found(line) => list.push_fault(alloc, line, &[], ListFault::TooManyTasks)?,
+        NextRow::End(_line) => {}
+    }
+    Ok(list)
+}

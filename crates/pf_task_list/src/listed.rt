@@ -1,0 +1,13 @@
+use pf_convert::timed::Timed;
+use pf_names::name::Name;
+
+/// A task of a list.
+#[derive(Debug, Drop)]
+pub struct Listed {
+    /// The line on which its record begins, counted from 1.
+    pub line: u64,
+    /// Its name, which no other task of the list has.
+    pub name: Name,
+    /// Its times.
+    pub times: Timed,
+}

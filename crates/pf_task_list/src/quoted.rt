@@ -1,0 +1,64 @@
+ghost use Rattle.std.specs.Prelude.{◌≡◌, ◌++◌, ◌<◌, true, take, OnOk};
+ghost use Rattle.std.specs.Fmt.{digit_glyph};
+ghost use Rattle.std.specs.List.{flat_map};
+ghost use Rattle.pf_task_list.specs.Quoted.{quoted, shown_byte};
+
+use std::alloc::AllocError;
+
+/// The most bytes of a field that are shown.
+pub const MOST_SHOWN: usize = 40;
+
+/// Adds a field in quotes, cut.
+#[tactic(auto, unfolding(crate::specs::Quoted::quoted))]
+pub fn push_quoted(text: &mut Vec<u8>, field: &[u8]) -> Result<(), AllocError>
+    ensures { OnOk result (text.new.items ≡ text.old.items ++ quoted field.now) }
+{
+    text.push(b'"')?;
+    push_bytes(text, front(field))?;
+    text.push(b'"')?;
+    Ok(())
+}
+
+/// The bytes of a field that are shown.
+fn front(field: &[u8]) -> &[u8]
+    ensures { result.now ≡ take MOST_SHOWN field.now }
+{
+    let end = MOST_SHOWN.min(field.len());
+    &field[..end]
+}
+
+/// Bytes as they are shown.
+fn push_bytes(text: &mut Vec<u8>, bytes: &[u8]) -> Result<(), AllocError>
+    ensures { OnOk result (text.new.items ≡ text.old.items ++ flat_map shown_byte bytes.now) }
+{
+    for byte in bytes {
+        push_byte(text, *byte)?;
+    }
+    Ok(())
+}
+
+/// A byte as it is shown.
+fn push_byte(text: &mut Vec<u8>, byte: u8) -> Result<(), AllocError>
+    ensures { OnOk result (text.new.items ≡ text.old.items ++ shown_byte byte) }
+{
+    if byte >= 32 && byte <= 126 && byte != b'"' && byte != b'\\' {
+        text.push(byte)?;
+        return Ok(());
+    }
+    text.extend_from_slice(b"\\x")?;
+    text.push(digit(byte / 16))?;
+    text.push(digit(byte % 16))?;
+    Ok(())
+}
+
+/// The digit of a number below 16.
+fn digit(number: u8) -> u8
+    requires { number < 16 }
+    ensures { result ≡ digit_glyph true number }
+{
+    if number < 10 {
+        b'0' + number
+    } else {
+        b'A' + (number - 10)
+    }
+}

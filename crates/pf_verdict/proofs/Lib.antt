@@ -1,0 +1,9 @@
+pub mod Shown
+pub mod Stretched
+pub mod Strained
+pub mod Least
+pub mod Greatest
+pub mod Grown
+pub mod Found
+pub mod Tightest
+pub mod Periods

@@ -1,0 +1,17 @@
+use pf_names::name::Name;
+use pf_names::slot_length::SlotLength;
+use pf_script::line::Line;
+use pf_script::record::ScriptSettings;
+
+/// What a record behind the heading says: names of tasks and labels of events are put in place of by their numbers.
+#[derive(Debug, Drop)]
+pub enum Said {
+    /// The settings.
+    Settings(ScriptSettings),
+    /// How long a slot is.
+    Slot(SlotLength),
+    /// This task has this name.
+    Name(u64, Name),
+    /// After the settings, what a desk is asked for, and the label of the event that is inserted.
+    Asks(Line, Option<Name>),
+}

@@ -1,0 +1,5 @@
+pub mod Candidates
+pub mod Ranked
+pub mod First
+pub mod Lawful
+pub mod Examples

@@ -1,0 +1,6 @@
+pub mod Ranking
+pub mod Rule
+pub mod Seat
+pub mod Point
+pub mod Laws
+pub mod Examples

@@ -1,0 +1,6 @@
+pub mod Answer
+pub mod Head
+pub mod Ranks
+pub mod Events
+pub mod Slot
+pub mod Examples

@@ -1,0 +1,82 @@
+-- The windows of tasks, a line for each that is drawn.
+use Rattle.std.specs.Prelude.{ℕ, ◌+◌, ◌-◌, ◌/◌, min, max, Bool, false, ◌&&◌, ◌||◌, nat_le, nat_lt, if◌then◌else◌, Option, None, Some, List, [], ◌∷◌, ◌++◌, codes, length}
+use Rattle.std.specs.Fmt.{decimal}
+use Rattle.std.specs.List.{flat_map, range_with_len}
+use Rattle.std.specs.Option.{option_map, option_map_or}
+use Rattle.pf_order.specs.declared.pick.Pick.{Pick}
+use Rattle.pf_scenario.specs.Event.{slot_of}
+use Rattle.pf_scenario.specs.Scenario.{Plan}
+use Rattle.pf_scenario.specs.declared.event.Numbered.{Numbered}
+use Rattle.pf_run.specs.Record.{Slot}
+use Rattle.pf_run.specs.Inside.{Joined}
+use Rattle.pf_run.specs.Run.{events_in_force}
+use Rattle.pf_run.specs.Computed.{run_of}
+use Rattle.pf_tally.specs.Figures.{processors_in}
+use Rattle.pf_chart.specs.Course.{end_of, is_drawn, leave_in, window_of}
+use Rattle.pf_chart.specs.declared.quantum.Quantum.{Quantum}
+use Rattle.pf_chart.specs.declared.window.Window.{Window}
+use Rattle.pf_desk.specs.Desk.{Seen}
+use Rattle.pf_tasks.specs.declared.task_range.TaskRange.{TaskRange}
+use Rattle.pf_jobs.specs.Jobs.{admitted_of}
+use Rattle.pf_text.specs.Page.{table_text}
+use Rattle.pf_windows.specs.declared.slots.Slots.{Slots}
+
+-- the job that subtask i is of, where a job has so many subtasks
+abbrev pub job_of : ℕ → ℕ → ℕ
+job_of cost i = (i - 1) / cost + 1
+
+-- the first slot in which a subtask released in slot r may run, once the one before it has run
+abbrev pub eligible_from : Joined → ℕ → ℕ
+eligible_from j r = max j.slot (r - j.early)
+
+abbrev pub quantum_fields : Option Quantum → List (List ℕ)
+quantum_fields None = [] ∷ [] ∷ []
+quantum_fields (Some q) = decimal q.slot ∷ decimal q.processor ∷ []
+
+abbrev pub window_record : Joined → Window → List (List ℕ)
+window_record j w =
+    decimal j.task ∷ decimal w.sub ∷ decimal (job_of j.weight.cost w.sub) ∷ decimal (eligible_from j w.release) ∷ decimal w.release
+    ∷ decimal w.deadline ∷ decimal w.bit ∷ decimal w.group ∷ quantum_fields w.ran
+
+-- where the window ends: at its deadline, or at the task's leave, if it left before
+abbrev pub window_end : Option ℕ → Window → ℕ
+window_end leave w = option_map_or (λ t. min w.deadline t) leave w.deadline
+
+-- a slot of the window, or its quantum, is one of the slots from `from` on and below `to`
+abbrev pub lies_within : ℕ → ℕ → Option ℕ → Window → Bool
+lies_within from to leave w =
+    nat_lt (max w.release from) (min (window_end leave w) to)
+    || option_map_or (λ q. nat_le from q.slot && nat_lt q.slot to) w.ran false
+
+-- a window that is drawn and lies in the slots that are shown
+abbrev pub is_shown_of : Slots → ℕ → Option ℕ → Window → Bool
+is_shown_of slots end leave w = is_drawn end w && lies_within slots.from slots.to leave w
+
+-- its line
+abbrev pub window_records : Slots → Joined → ℕ → Option ℕ → Window → List (List (List ℕ))
+window_records slots j end leave w = if is_shown_of slots end leave w then window_record j w ∷ [] else []
+
+-- the slot of the task's leave, if it left
+abbrev pub leave_slot : List Numbered → Joined → Option ℕ
+leave_slot xs j = option_map (λ x. slot_of x.event) (leave_in xs j)
+
+-- those of a task that ran on these processors: no subtask is released before its number less one, so those up to the length
+-- are enough
+abbrev pub records_of_task : Slots → List Slot → List ℕ → List Numbered → Joined → List (List (List ℕ))
+records_of_task slots r on xs j =
+    flat_map (λ i. window_records slots j (end_of xs j (length r)) (leave_slot xs j) (window_of r on xs j i)) (range_with_len 1 (length r))
+
+abbrev pub windows_records : Plan → List Slot → List (List (Option Pick)) → List TaskRange → Slots → List (List (List ℕ))
+windows_records s r rows tasks slots =
+    flat_map (λ j. records_of_task slots r (processors_in rows j.task) (events_in_force s r (length r)) j) (admitted_of s r tasks)
+
+abbrev pub windows_heading : List (List ℕ)
+windows_heading =
+    codes "task" ∷ codes "sub" ∷ codes "job" ∷ codes "eligible" ∷ codes "release" ∷ codes "deadline" ∷ codes "bit" ∷ codes "group"
+    ∷ codes "ran" ∷ codes "processor" ∷ []
+
+-- the windows of these tasks, by task number, then by subtask, that lie in the slots from `from` on and below `to`
+unfoldable pub windows_text : Seen → List TaskRange → ℕ → ℕ → List ℕ
+windows_text seen tasks from to =
+    table_text (windows_heading
+    ∷ windows_records seen.state.plan (run_of seen.state.plan seen.state.now) seen.rows tasks (record { now = seen.state.now; from = from; to = to }))

@@ -1,0 +1,175 @@
+ghost use Rattle.std.specs.Prelude.{◌≡◌};
+ghost use Rattle.pf_windows.specs.Windows.{leave_slot, lies_within, window_end};
+
+use crate::line::push_window;
+use crate::slots::Slots;
+use pf_chart::end::end_of;
+use pf_chart::window::Window;
+use pf_chart::windows::window_of;
+use pf_scenario::event::Numbered;
+use pf_tally::admitted::Admitted;
+use pf_tally::held::{Held, held_delays};
+use pf_tally::late::leave_of;
+use pf_text::sheets::Sheet;
+use pf_text::table::Table;
+use std::alloc::{AllocError, Global};
+use std::marker::Model;
+
+/// Where the window of a task that left then ends.
+fn window_end(window: Window, leave: Option<u64>) -> u64
+    ensures { result ≡ window_end leave window }
+{
+    match leave {
+        Some(slot) => window.deadline.min(slot),
+        None => window.deadline,
+    }
+}
+
+/// Whether a slot of the window, or its quantum, is one of the slots from `from` on and below `to`.
+fn lies_within(window: Window, leave: Option<u64>, from: u64, to: u64) -> bool
+    ensures { result ≡ lies_within from to leave window }
+{
+    let lies = window.release.max(from) < window_end(window, leave).min(to);
+    match window.ran {
+        Some(quantum) => lies || (from <= quantum.slot && quantum.slot < to),
+        None => lies,
+    }
+}
+
+/// The slot of the task's leave, if it left.
+fn leave_slot(events: &[Numbered], task: Admitted) -> Option<u64>
+    ensures { result ≡ leave_slot events.now task }
+{
+    let left = leave_of(events, task.task)?;
+    Some(left.event.slot())
+}
+
+/// What a run tells of the windows of an admitted task in some slots.
+#[derive(Drop)]
+pub struct TaskWindows {
+    task: Admitted,
+    /// The slots in which it ran, rising.
+    ran: Vec<u64>,
+    /// The processors on which it did.
+    on: Vec<u32>,
+    /// What delayed it, one after another.
+    delays: Vec<Held>,
+    /// The slot of its leave, or how many slots there are where it did not leave.
+    end: u64,
+    /// The slot of its leave, if it left.
+    leave: Option<u64>,
+    /// The slots stepped, and those that are shown.
+    slots: Slots,
+}
+
+impl Model for TaskWindows {
+    ghost use Rattle.std.specs.Prelude.{◌≤◌, length};
+    ghost use Rattle.pf_tally.specs.Late.{CanMiss};
+    ghost use Rattle.pf_windows.specs.Told.{Told};
+
+    ghost Value = { Told };
+
+    ghost view = { λ t. record {
+      task = t.task;
+      ran = t.ran.items;
+      on = t.on.items;
+      held = t.delays.items;
+      end = t.end;
+      leave = t.leave;
+      slots = t.slots;
+    } };
+
+    ghost invariant = { λ t. CanMiss t.task t.delays.items t.slots.now × (t.end ≤ t.slots.now) × (length t.ran.items ≤ t.slots.now) };
+}
+
+impl TaskWindows {
+    ghost use Rattle.std.specs.Prelude.{◌≡◌, ◌≤◌, ◌&&◌, ◌^◌, IfOk};
+    ghost use Rattle.pf_tally.specs.Held.{CanTally};
+    ghost use Rattle.pf_chart.specs.Course.{is_drawn};
+    ghost use Rattle.pf_windows.specs.Told.{is_shown, sub_count, told_by, told_window};
+
+    /// Those of a task which ran in the slots `ran`, on these processors, and whose own events these are.
+    ///
+    /// # Errors
+    ///
+    /// Where memory is refused.
+    pub(crate) fn of(
+        alloc: Global,
+        task: Admitted,
+        ran: &[u64],
+        on: &[u32],
+        events: &[Numbered],
+        slots: Slots,
+    ) -> Result<Self, AllocError>
+        requires { CanTally task ran.now events.now slots.now }
+        ensures { IfOk result (λ t. t ≡ told_by task ran.now on.now events.now slots) }
+    {
+        let delays = held_delays(alloc, task, ran, events)?;
+        Ok(TaskWindows {
+            task,
+            ran: Vec::from_slice(alloc, ran)?,
+            on: Vec::from_slice(alloc, on)?,
+            delays,
+            end: end_of(events, task, slots.now),
+            leave: leave_slot(events, task),
+            slots,
+        })
+    }
+
+    /// How many subtasks are looked at: none of a greater number ran, or was released before the task's end.
+    fn sub_count(&self) -> u64
+        ensures value { result ≡ sub_count self.now }
+        ensures bound { result ≤ 2 ^ 22 }
+    {
+        let released = self.end * self.task.weight.cost() / self.task.weight.period() + 1;
+        released.max(self.ran.len() as u64).min(self.slots.now)
+    }
+
+    /// The window of a subtask.
+    fn window(&self, sub: u64) -> Window
+        requires first { 1 ≤ sub }
+        requires last { sub ≤ 2 ^ 22 }
+        ensures value { result ≡ told_window self.now sub }
+    {
+        window_of(
+            self.task,
+            &self.ran,
+            &self.on,
+            &self.delays,
+            self.end,
+            sub as u32,
+        )
+    }
+
+    /// Whether a window of it is shown: it is drawn, as its subtask ran or was released before the task's end, and lies in
+    /// the slots that are shown.
+    fn shows(&self, window: Window) -> bool
+        ensures { result ≡ is_shown self.now window }
+    {
+        let is_drawn = window.ran.is_some() || window.release < self.end;
+        is_drawn && lies_within(window, self.leave, self.slots.from, self.slots.to)
+    }
+}
+
+impl Sheet for TaskWindows {
+    ghost use Rattle.pf_windows.specs.Told.{records_behind_sub, sub_count};
+
+    ghost count = { sub_count };
+
+    ghost rest = { records_behind_sub };
+
+    fn count(&self) -> u64 {
+        self.sub_count()
+    }
+
+    fn push_place(&self, table: &mut Table, at: u64) -> Result<(), AllocError> {
+        // That a place behind this one can be counted is known from the count alone.
+        let _ = self.sub_count();
+        let window = self.window(at + 1);
+        if self.shows(window) {
+            push_window(table, self.task, window)
+        } else {
+            Ok(())
+        }
+    }
+}
