@@ -9,6 +9,7 @@ import io
 import json
 import re
 from dataclasses import dataclass, field, replace
+from fractions import Fraction
 from functools import cache, lru_cache
 from itertools import count
 
@@ -528,12 +529,15 @@ class View:
         if self.form == "drill":
             return ["drill"]
         if self.form == "diff":
-            return ["diff", "--since", str(self.since(records(script)))] if self.is_part else ["diff"]
+            flags = ["--summary", "--exit-code"]
+            return ["diff", *flags, "--since", str(self.since(records(script)))] if self.is_part else ["diff"]
         told, _ = answers(script)
         first, end = self.range(told.now if isinstance(told, Desk) else 0)
         part = ["--from", str(first), "--to", str(end)] if self.is_part else []
-        look = ["--cell", str(self.cell()), "--wrap", str(self.wrap()), "--style", self.style()]
-        return ["run", "--format", self.form, *part, *(look if self.is_part and self.form == "svg" else [])]
+        return ["run", "--format", self.form, *part, *(self.look() if self.is_part and self.form == "svg" else [])]
+
+    def look(self):
+        return ["--cell", str(self.cell()), "--wrap", str(self.wrap()), "--style", self.style()]
 
     def __str__(self):
         return f"{self.form}.part" if self.is_part else self.form
@@ -684,6 +688,37 @@ def diff(before, after):
     return text
 
 
+def sums(placed):
+    """What a run comes to, by the figures of the table of sums."""
+    settings = placed.run.scenario.settings
+    told = [(task.number, task.join.period, figures(task)) for task in listed_tasks(placed, NAMES) if task.was_admitted]
+    missed = misses(placed)
+    task, sub, deadline = missed[0][:3] if missed else (None, None, None)
+    number, period, worst = max(told, key=lambda one: Fraction(one[2][-1], one[1]), default=(None, None, [None]))
+    return {"processors": settings.processors, "base": settings.base, "cap": settings.cap, "slots": len(placed.rows),
+            "tasks": len(told), "denials": len(placed.run.denials), "misses": len(missed), "first_miss_task": task,
+            "first_miss_sub": sub, "first_miss_deadline": deadline, "worst_lag": worst[-1], "worst_lag_period": period,
+            "worst_lag_task": number, "preemptions": sum(one[2][2] for one in told),
+            "migrations": sum(one[2][1] for one in told), "cells": None}
+
+
+def cells(before, after):
+    """How many cells of the schedule differ, of those that both have."""
+    return sum(1 for rows in zip(before.rows, after.rows) for old, new in zip(*rows) if old != new)
+
+
+def summary(before, after):
+    old, new = sums(before), {**sums(after), "cells": cells(before, after)}
+    return "summary\n" + table(("figure", "before", "after"), [(figure, old[figure], new[figure]) for figure in old])
+
+
+def is_different(before, after):
+    """Whether a table of what differs has a line, or the slots, the processors, the base or the cap differ."""
+    settings = ("processors", "base", "cap", "slots")
+    return (any(sums(before)[it] != sums(after)[it] for it in settings) or cells(before, after) > 0
+            or any(old != new for old, new in zip(found(before), found(after))))
+
+
 def figures(task):
     """The figures of a task that was admitted, behind its number and weight."""
     quanta = [window for window in task.windows if window.ran is not None]
@@ -737,7 +772,10 @@ def meaning(script, view):
     text = "".join(line + "\n" for line in lines) if view.has_replies() else ""
     if isinstance(told, Desk):
         if view.form == "diff":
-            return diff_since(script, view.since(records(script))).encode(), b"", 0
+            runs = runs_since(script, view.since(records(script)))
+            if view.is_part:
+                return (summary(*runs) + diff(*runs)).encode(), b"", int(is_different(*runs))
+            return diff(*runs).encode(), b"", 0
         first, end = view.range(told.now)
         if view.form == "svg" and end - first > MOST_DRAWN:
             return b"", b"range too long\n", 2
@@ -745,13 +783,12 @@ def meaning(script, view):
     return text.encode(), f"bad record {told}\n".encode(), 1
 
 
-def diff_since(script, since):
-    """What the records of a good script from one on changed: the desk before it, which has its settings at least, beside
-    the desk at the end."""
+def runs_since(script, since):
+    """The run of a good script before one of its records, which has its settings at least, and the run at its end."""
     read = records(script)
     version = 2 if read[0] == ["pfair", "2"] else 1
     desks = (replies(read[:max(since - 1, version)], []), replies(read, []))
-    return diff(*(run_of(desk.scenario, desk.now) for desk in desks))
+    return [run_of(desk.scenario, desk.now) for desk in desks]
 
 
 @lru_cache(maxsize=1)

@@ -6,8 +6,8 @@ DIGITS = "0123456789"
 SMALL = "abcdefghijklmnopqrstuvwxyz"
 TASK_SYMBOLS = DIGITS + SMALL + SMALL.upper()
 PROCESSOR_SYMBOLS = TASK_SYMBOLS + "+/"
-BLOCK = 60
-LABEL = 12
+BLOCK, NARROW_BLOCK = 60, 50
+LABEL, WIDE_LABEL = 12, 20
 
 LEGEND = """
 processors: a task by its symbol, - idle, # out of use
@@ -158,18 +158,22 @@ def mark_cell(task, t):
     return "~" if task.is_stopped(t) else " "
 
 
-def line(label, cells):
-    return (label.ljust(LABEL) + "".join(cells)).rstrip(" ") + "\n"
+def line(label, cells, width=LABEL):
+    return (label.ljust(width) + "".join(cells)).rstrip(" ") + "\n"
 
 
-def task_lines(task, slots):
+def number_label(number):
+    return f"task {number}"
+
+
+def task_lines(task, slots, label_of, width):
     cells = [[cell(task, t) if task.was_admitted or cell is mark_cell else " " for t in slots]
              for cell in (task_cell, window_cell, lag_cell, mark_cell)]
     if all(set(each) <= {" "} for each in cells):
         return ""
     labels = ("  windows", "  lag", "  marks")
-    return line(f"{task.symbol()} task {task.number}", cells[0]) + "".join(
-        line(label, each) for label, each in zip(labels, cells[1:]) if set(each) - {" "})
+    return line(f"{task.symbol()} {label_of(task.number)}", cells[0], width) + "".join(
+        line(label, each, width) for label, each in zip(labels, cells[1:]) if set(each) - {" "})
 
 
 def head(placed, first, end):
@@ -178,15 +182,17 @@ def head(placed, first, end):
             f"base {settings.base}; cap {settings.cap}")
 
 
-def chart(placed, names, first, end):
-    """The chart of the slots from `first` on and below `end`."""
-    tasks, text = listed_tasks(placed, names), head(placed, first, end) + "\n"
-    for a in range(first, end, BLOCK):
-        slots = range(a, min(a + BLOCK, end))
-        text += "\n" + line("", [number_cell(a, t) for t in slots]) + line("", map(tick_cell, slots))
+def chart(placed, names, first, end, label_of=number_label, told=""):
+    """The chart of the slots from `first` on and below `end`, where tasks are called so, and this is told in its head."""
+    tasks, text = listed_tasks(placed, names), head(placed, first, end) + told + "\n"
+    width = max([LABEL, *(len(f"1 {label_of(task.number)}") + 1 for task in tasks)])
+    block = BLOCK if width <= WIDE_LABEL else NARROW_BLOCK
+    for a in range(first, end, block):
+        slots = range(a, min(a + block, end))
+        text += "\n" + line("", [number_cell(a, t) for t in slots], width) + line("", map(tick_cell, slots), width)
         for p in range(placed.run.scenario.settings.processors):
-            text += line(f"p{p}", [processor_cell(placed, tasks, p, t) for t in slots])
-        text += "".join(task_lines(task, slots) for task in tasks)
+            text += line(f"p{p}", [processor_cell(placed, tasks, p, t) for t in slots], width)
+        text += "".join(task_lines(task, slots, label_of, width) for task in tasks)
     return text + LEGEND
 
 
@@ -227,10 +233,11 @@ def rounded_up(a, b):
 
 class Picture:
     """A picture of the slots from `first` on and below `end`, in cells of this width, in blocks of so many slots, or in one,
-    and in a style."""
+    and in a style; of tasks with these names, where a slot is so long."""
 
-    def __init__(self, placed, names, missed, first, end, cell, wrap=None, style="strips"):
+    def __init__(self, placed, names, missed, first, end, cell, wrap=None, style="strips", called=None, slot=None):
         self.placed, self.first, self.end, self.cell, self.style = placed, first, end, cell, style
+        self.called, self.slot = called or {}, slot
         self.tasks, self.settings = listed_tasks(placed, names), placed.run.scenario.settings
         self.missed, self.denied = missed, len(placed.run.denials)
         self.wrap = wrap or max(1, end - first)
@@ -239,10 +246,17 @@ class Picture:
         widths = [16 + 6 * len(words) for task in self.tasks for words in self.words(task)]
         self.gutter = max([96, *widths])
         self.width = max(self.gutter + 16 + cell * min(self.wrap, end - first), 400)
-        self.step = next(s for s in (5, 10, 20, 50, 100) if s * cell >= max(40, 6 * len(str(end)) + 6))
+        self.step = next(s for s in (5, 10, 20, 50, 100) if s * cell >= max(40, 6 * len(str(self.time(end))) + 6))
+
+    def time(self, t):
+        return t * self.slot[0] if self.slot else t
+
+    def label(self, task):
+        return self.called.get(task.number) or number_label(task.number)
 
     def words(self, task):
-        label, weight = f"task {task.number}", f"{task.join.cost}/{task.join.period}" if task.join else "-"
+        label, weight = self.label(task), f"{task.join.cost}/{task.join.period}" if task.join else "-"
+        weight = f"{task.number}: {weight}" if task.number in self.called else weight
         return [label, weight] if self.style == "strips" else [f"{label}, {weight}"]
 
     def text(self):
@@ -268,7 +282,8 @@ class Picture:
         yield f"<style>{STYLE}</style>"
         yield f'<rect class="f" width="{b}" height="{h}"/>'
         strips = f"; lag strips {self.strips}" if self.style == "strips" else ""
-        for y, words in ((16, f"{slots}; processors {settings.processors}"),
+        each = ", %d %s each" % self.slot if self.slot else ""
+        for y, words in ((16, f"{slots}{each}; processors {settings.processors}"),
                          (30, f"base {settings.base}; cap {settings.cap}{strips}"),
                          (44, f"tasks {many} of {many}; missed windows {self.missed}; denied events {self.denied}")):
             yield f'<text x="8" y="{y}">{words}</text>'
@@ -299,12 +314,12 @@ class Block:
         return self.picture.gutter + self.cell * (t - self.a)
 
     def lines(self):
-        yield '<text x="8" y="36">slot</text>'
+        yield f'<text x="8" y="36">{self.picture.slot[1] if self.picture.slot else "slot"}</text>'
         for t in range(self.a, self.b + 1):
             numbered = t % self.picture.step == 0
             yield f'<path class="{"h" if numbered else "g"}" d="M{self.x(t)} 40V{self.height + 8}"/>'
             if numbered:
-                yield f'<text class="a" x="{self.x(t)}" y="36">{t}</text>'
+                yield f'<text class="a" x="{self.x(t)}" y="36">{self.picture.time(t)}</text>'
         for p in range(self.processors):
             yield from self.processor(p)
         y = 56 + 20 * self.processors
@@ -327,7 +342,7 @@ class Block:
     def box(self, task, window, x, y, width, height):
         group = f", group deadline {window.group}" if window.group else ""
         late = f", late by {window.ran + 1 - window.deadline}" if window.is_late else ""
-        told = (f"slot {window.ran}, p{window.on}: task {task.number}, subtask {window.i}, "
+        told = (f"slot {window.ran}, p{window.on}: {self.picture.label(task)}, subtask {window.i}, "
                 f"window {window.release} to {window.deadline}{group}{late}")
         return (f'<rect class="q{" t" if late else ""} c{(task.rank - 1) % 12}" x="{x}" y="{y}" width="{width}" '
                 f'height="{height}"><title>{told}</title></rect>')
@@ -421,9 +436,9 @@ class Block:
             yield from self.digits(task, window.on, room, x + self.cell // 2, z + 9)
 
 
-def picture(placed, names, missed, first, end, cell, wrap=None, style="strips"):
-    """The picture of a run in which so many windows are missed."""
-    return Picture(placed, names, missed, first, end, cell, wrap, style).text()
+def picture(placed, names, missed, first, end, cell, wrap=None, style="strips", called=None, slot=None):
+    """The picture of a run in which so many windows are missed, of tasks with these names, where a slot is so long."""
+    return Picture(placed, names, missed, first, end, cell, wrap, style, called, slot).text()
 
 
 # A chart, read back

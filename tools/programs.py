@@ -12,6 +12,8 @@ CASES = TOP / "crates" / "pfair" / "cases"
 FORMATS = ("schedule", "tables", "json", "events", "script", "processors", "stats", "chart", "svg", "windows", "jobs",
            "load", "quanta", "c")
 PARTS = ("replies", "lags", "misses", "denials", "report")
+# Those whose answers are told cases alone (tools/told-cases).
+TOLD = ("trace",)
 RANGED = ("schedule", "chart", "svg", "windows", "load", "quanta")
 
 # Seconds after which a run is stopped, and the tool with it.

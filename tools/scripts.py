@@ -4,6 +4,7 @@ import re
 from dataclasses import dataclass
 
 import model
+import thirds
 
 # The most slots that a script steps.
 MOST_SLOTS = 60
@@ -35,6 +36,8 @@ SMALL = Profile({"leave": 1, "delay": 2, "join": 1, "step": 4}, 10)
 EDITS = Profile({"join": 2, "leave": 2, "delay": 3, "alter": 4, "strike": 2, "strict": 5, "step": 5}, 24, 0.01)
 LIMITS = Profile({"join": 2, "leave": 2, "delay": 2, "limit": 4, "alter": 2, "strike": 1, "strict": 2, "step": 6}, 24,
                  0.01, version=2)
+THIRDS = Profile({"join": 2, "leave": 2, "delay": 3, "limit": 1, "alter": 4, "strike": 2, "strict": 3, "name": 2, "step": 5}, 24,
+                 0.01, version=3)
 EDGES_OF_LIMITS = Profile({"join": 4, "leave": 2, "delay": 2, "limit": 2, "alter": 2, "strict": 2, "step": 3}, 12, 0.1,
                           version=2)
 
@@ -121,6 +124,82 @@ class Drawing:
         return "".join(record + "\n" for record in self.records()).encode()
 
 
+class ThirdDrawing(Drawing):
+    """The script of a profile of version 3, while it is drawn: with names, labels, comments and blanks."""
+
+    TEXTS = ("camera", "lidar", "a", "rear left", "abcdefghijklmnopqrstuvwx", "x-1_y.z+", "step", "p0", "task 1")
+    FLAWS = ("label,x", "name,1", "name,1,9x", "slot,0,us", "slot,5,min", "# no record", "alter,no such,leave,0,1", "join,0,nobody,1,1")
+
+    def __init__(self, draw, profile):
+        super().__init__(draw, profile)
+        self.named, self.labels = {}, []
+
+    def called(self, task):
+        return self.named[task] if task in self.named and self.draw.random() < 0.7 else str(task)
+
+    def join(self, task=None):
+        task = task or self.task()
+        _, slot, _, *weight, early = super().join(task).split(",")
+        return ",".join(["join", slot, self.called(task), *weight, *([] if early == "0" and self.draw.random() < 0.8 else [early])])
+
+    def leave(self):
+        return f"leave,{self.slot()},{self.called(self.task())}"
+
+    def delay(self):
+        return f"delay,{self.slot()},{self.called(self.task())},{self.number(1, 5)}"
+
+    def held(self):
+        return self.draw.choice(self.labels) if self.labels and self.draw.random() < 0.6 else super().held()
+
+    def labelled(self, record):
+        """The event with a label before it, now and then."""
+        if self.draw.random() < 0.6:
+            return record
+        self.labels.append(f"l{len(self.labels)}")
+        return f"label,{self.labels[-1]},{record}"
+
+    def name(self):
+        free = [text for text in self.TEXTS if text not in self.named.values()]
+        task = self.number(1, self.tasks + 2)
+        if not free or task in self.named:
+            return "# all have names"
+        self.named[task] = self.draw.choice(free)
+        return f"name,{task},{self.named[task]}"
+
+    def settings(self):
+        _, processors, base, cap, every = super().settings().split(",")
+        return self.draw.choice((f"settings,{processors},{base}", f"settings,{processors},{base},{cap}",
+                                 f"settings,{processors},{base},full,{every}"))
+
+    def flaw(self):
+        return self.draw.choice(self.FLAWS)
+
+    def in_words(self, record):
+        """The record with blanks, and with lines behind it that are none."""
+        blank = lambda: self.draw.choice(("", "", "", "", " ", "\t"))
+        told = record if record.startswith("#") else ",".join(blank() + each + blank() for each in record.split(","))
+        return told + self.draw.choice(("", "", "", "", "\n", "\n# a comment, \"", "\n   "))
+
+    def records(self):
+        yield self.in_words("pfair,3")
+        yield self.in_words(self.settings())
+        if self.draw.random() < 0.5:
+            yield self.in_words(f"slot,{self.number(1, 900)},{self.draw.choice(thirds.UNITS)}")
+        for _ in range(self.draw.randint(0, self.tasks)):
+            yield self.in_words(self.name())
+        for task in self.draw.sample(range(1, self.tasks + 1), self.tasks):
+            yield self.in_words(self.labelled(self.join(task)))
+            self.inserts += 1
+        kinds, records = self.profile.kinds, self.draw.randint(1, self.profile.most_records)
+        for kind in self.draw.choices(list(kinds), list(kinds.values()), k=records):
+            record = getattr(self, kind)()
+            yield self.in_words(self.labelled(record) if kind in model.EVENTS else record)
+            self.inserts += kind in model.EVENTS
+        if self.draw.random() < 0.1:
+            yield self.in_words(self.flaw())
+        yield f"step,{max(1, min(9, MOST_SLOTS - self.slots))}"
+
+
 def one_of_all(draw, known):
     return draw.choice((draw.choice(known), *(Drawing(draw, each).script() for each in (SMALL, EDITS, LIMITS))))
 
@@ -153,7 +232,16 @@ def of_profile(profile):
     return lambda draw, known: Drawing(draw, profile).script()
 
 
-TURNS = (*map(of_profile, (SMALL, EDITS, LIMITS, EDGES_OF_LIMITS)), with_hostile_bytes, in_other_words)
+def of_version_3(draw, known):
+    """A script of version 3, now and then with some bytes taken out or put in."""
+    script = ThirdDrawing(draw, THIRDS).script()
+    if draw.random() < 0.8:
+        return script
+    place = draw.randint(len(b"pfair,3\n"), len(script))
+    return script[:place] + draw.choice(HOSTILE) + script[place + draw.choice((0, 0, 1, 2)):]
+
+
+TURNS = (*map(of_profile, (SMALL, EDITS, LIMITS, EDGES_OF_LIMITS)), of_version_3, with_hostile_bytes, in_other_words)
 
 
 def drawn(seed, nth, known):
@@ -167,7 +255,8 @@ def drawn(seed, nth, known):
 
 def is_short(script):
     """Whether the model answers soon: the numbers of steps are small."""
-    steps = [fields[1] for fields in model.records(script) if fields[0] == "step" and len(fields) > 1]
+    read = thirds.rows(script) if thirds.is_third(script) else model.records(script)
+    steps = [fields[1] for fields in read if fields[0] == "step" and len(fields) > 1]
     return sum(int(each) for each in steps if each.isdecimal() and int(each) <= model.HORIZONS[2]) <= 2 * MOST_SLOTS
 
 

@@ -6,7 +6,6 @@ use Rattle.pf_desk.specs.declared.command.Command.{Command}
 use Rattle.pf_desk.specs.declared.command.Command.TheVariants.{Step}
 use Rattle.pf_desk.specs.declared.reply.Reply.{Reply}
 use Rattle.pf_desk.specs.Desk.{Shown, AnswersAll, AnswersCaller, Seen, StandsForHistory}
-use Rattle.pf_diff.specs.Diff.{diff_text_of}
 use Rattle.pf_script.specs.declared.line.Line.{Line}
 use Rattle.pf_script.specs.declared.line.Line.TheVariants.{Steps}
 use Rattle.pf_cli.specs.Meaning.{ScriptCourse, course_behind, seen_at}
@@ -14,7 +13,9 @@ use Rattle.pf_script.specs.declared.record.LineTold.{LineTold}
 use Rattle.pf_script.specs.Asked.{commands_in, commands_of}
 use Rattle.pf_cli.specs.Meaning.{course_at}
 use Rattle.pf_cli.proofs.Courses.{answered_course, course_behind-append, one_answered, seen_there}
-use Rattle.pf_change.specs.Change.{change_text, lines_before, seen_behind}
+use Rattle.pf_options.specs.declared.diff_options.DiffOptions.{DiffOptions}
+use Rattle.pf_change.specs.Change.{change_behind, lines_before, seen_behind}
+use Rattle.pf_change.specs.Difference.{DiffTold, difference}
 
 -- what follows from what a call did
 pub on_ok : {A E : Type 0} (r : Result A E) (P Q : Type 0) → (P → Q) → OnOk r P → OnOk r Q
@@ -65,10 +66,10 @@ all_taken r caller given edits a b lines i whole same none left answered =
     on_ok r _ _ (λ h. answered_course caller given a b h ∙ ap (course_behind (course_at a)) same
     ∙ sym (at_drop_all (λ xs. course_behind (course_behind (course_at a) edits) (commands_in xs)) lines i none) ∙ left) answered
 
--- Use: an equal text in its place.
-pub made_at : {V F : Type 0} (items : V → List ℕ) (r : Result V F) (x y : List ℕ) → x ≡ y → IfOk r (λ v. items v ≡ x) → IfOk r (λ v. items v ≡ y)
-made_at items (Ok v) x y same h = h ∙ same
-made_at items (Err e) x y same h = tt
+-- Use: what is equal in its place.
+pub made_at : {V F : Type 0} (told : V → DiffTold) (r : Result V F) (x y : DiffTold) → x ≡ y → IfOk r (λ v. told v ≡ x) → IfOk r (λ v. told v ≡ y)
+made_at told (Ok v) x y same h = h ∙ same
+made_at told (Err e) x y same h = tt
 
 -- Use: what a snapshot of a desk shows that is there.
 pub shown_there : {E : Type 0} (r : Result Seen E) (d : Shown) (c : ScriptCourse) → course_at d ≡ c → IfOk r (λ s. StandsForHistory d.history s)
@@ -83,11 +84,11 @@ commands_in-append (x ∷ xs) ys =
     ap (λ (cs : List Command). commands_of x.asks ++ cs) (commands_in-append xs ys) ∙ sym (append_assoc (commands_of x.asks) (commands_in xs) (commands_in ys))
 
 -- Use: the desk before a record and at the end.
-module _ (since : Option ℕ) (k : ℕ) (start : ScriptCourse) (lines first rest : List LineTold) (c d : ScriptCourse) (before after : Seen)
+module _ (options : DiffOptions) (since : Option ℕ) (k : ℕ) (start : ScriptCourse) (lines first rest : List LineTold) (c d : ScriptCourse) (before after : Seen)
     (opened : c ≡ start) (is_first : first ≡ take k lines) (is_rest : rest ≡ drop k lines)
     (is_before : take k lines ≡ lines_before since lines) where
   pub both_shown : before ≡ seen_at (course_behind c (commands_in first)) → d ≡ course_behind c (commands_in first)
-      → after ≡ seen_at (course_behind d (commands_in rest)) → diff_text_of before after ≡ change_text since start lines
+      → after ≡ seen_at (course_behind d (commands_in rest)) → difference options before after ≡ change_behind options since start lines
   both_shown shown_before on shown_after =
       let front : before ≡ seen_behind start (lines_before since lines) =
       shown_before ∙ ap₂ (λ x xs. seen_at (course_behind x (commands_in xs))) opened (is_first ∙ is_before) in
@@ -97,4 +98,4 @@ module _ (since : Option ℕ) (k : ℕ) (start : ScriptCourse) (lines first rest
       ∙ sym (course_behind-append c (commands_in first) (commands_in rest))
       ∙ ap (course_behind c) (sym (commands_in-append first rest))
       ∙ ap₂ (λ x xs. course_behind x (commands_in xs)) opened whole in
-      ap₂ diff_text_of front (shown_after ∙ ap seen_at behind)
+      ap₂ (difference options) front (shown_after ∙ ap seen_at behind)

@@ -1,6 +1,5 @@
 -- What a script changed, by what it tells.
-use Rattle.std.proofs.Common.{◌≡◌, ◌≤◌, ℕ, false, List, [], ◌∷◌, ◌++◌, length, Option, Some, None, Result, Ok, Err, refl, ap, sym, subst, ◌∙◌, append_assoc, rules, tests}
-use Rattle.std.specs.Prelude.{nat_lt}
+use Rattle.std.proofs.Common.{◌≡◌, ℕ, List, [], ◌∷◌, ◌++◌, Option, Some, None, Ok, Err, refl, ap, sym, ◌∙◌, append_assoc}
 use Rattle.std.proofs.lemmas.List.{append-nil}
 use Rattle.pf_fault.specs.declared.fault.Fault.{Fault}
 use Rattle.pf_fault.specs.declared.fault.Fault.TheVariants as why
@@ -12,8 +11,10 @@ use Rattle.pf_script.specs.Answers.{ReadsLine}
 use Rattle.pf_script.specs.Faults.{fault_of_script}
 use Rattle.pf_script.specs.Opened.{Opens}
 use Rattle.pf_script.specs.Told.{FaultTold, LinesTold, Told, told}
-use Rattle.pf_cli.specs.Meaning.{Done, bad_record, fault_number, opening_course}
-use Rattle.pf_change.specs.Change.{change_meaning, change_of, change_text, change_told, change_unless}
+use Rattle.pf_options.specs.declared.diff_options.DiffOptions.{DiffOptions}
+use Rattle.pf_cli.specs.Meaning.{fault_number, opening_course}
+use Rattle.pf_change.specs.Change.{change_behind, change_meaning, change_of, change_told, change_unless}
+use Rattle.pf_change.specs.Difference.{DiffTold}
 use Rattle.pf_change.specs.Made.{Stops, StopsReading}
 
 -- Use: of the lines left one was read.
@@ -38,31 +39,31 @@ line_stops all left behind fields (script.Bad bad) same h = rw (← same, h) ref
 line_stops all left behind fields (script.Missing bad) same h = rw (← same, h) refl
 line_stops all left behind fields script.Memory same h = tt
 
-module _ (since : Option ℕ) (bytes : List ℕ) (short : length bytes ≤ 16777216) where
-  short_change : change_meaning since bytes ≡ change_told since (told bytes)
+module _ (options : DiffOptions) (since : Option ℕ) (bytes : List ℕ) where
+  change_is : change_meaning options since bytes ≡ change_told options since (told bytes)
   unfolding change_meaning
-  short_change = let fits : nat_lt 16777216 (length bytes) ≡ false = search (rules, tests) in rw fits refl
+  change_is = refl
 
-  bad_told : (fault : FaultTold) → (told bytes).rest.fault ≡ Some fault → change_meaning since bytes ≡ bad_record fault.bad.number
+  bad_told : (fault : FaultTold) → (told bytes).rest.fault ≡ Some fault → change_meaning options since bytes ≡ Err fault.bad.number
   bad_told fault is =
-      short_change ∙ ap (λ f. change_unless f (change_of since (told bytes).opening (told bytes).rest.lines)) is
+      change_is ∙ ap (λ f. change_unless f (change_of options since (told bytes).opening (told bytes).rest.lines)) is
 
   -- Use: the script was not read up to its settings.
-  pub opening_stops : (fields : List (List ℕ)) (fault : ScriptFault) → Opens (Err fault) fields (told bytes) → Stops (change_meaning since bytes) (fault_of_script fault)
+  pub opening_stops : (fields : List (List ℕ)) (fault : ScriptFault) → Opens (Err fault) fields (told bytes) → Stops (change_meaning options since bytes) (fault_of_script fault)
   opening_stops fields (script.Bad bad) h = bad_told _ (ap (λ (rest : LinesTold). rest.fault) h.1)
   opening_stops fields (script.Missing bad) h = bad_told _ (ap (λ (rest : LinesTold). rest.fault) h.1)
   opening_stops fields script.Memory h = tt
 
   module _ (opening : ScriptSettings) (lines : LinesTold) (is : told bytes ≡ record { opening = Some opening; rest = lines }) where
     -- Use: a line was not read.
-    pub lines_stop : (fault : Fault) → StopsReading lines.fault fault → Stops (change_meaning since bytes) fault
+    pub lines_stop : (fault : Fault) → StopsReading lines.fault fault → Stops (change_meaning options since bytes) fault
     lines_stop (why.BadRecord number) h = by lines.fault refl h
       where
-        by : (found : Option FaultTold) → lines.fault ≡ found → fault_number found ≡ Some number → change_meaning since bytes ≡ bad_record number
+        by : (found : Option FaultTold) → lines.fault ≡ found → fault_number found ≡ Some number → change_meaning options since bytes ≡ Err number
         by None none e = cc
         by (Some fault) some e =
             let same : fault.bad.number ≡ number = cc in
-            bad_told fault (ap (λ (t : Told). t.rest.fault) is ∙ some) ∙ ap bad_record same
+            bad_told fault (ap (λ (t : Told). t.rest.fault) is ∙ some) ∙ ap (λ (n : ℕ). Err n) same
     lines_stop why.NoMemory h = tt
     lines_stop why.Read h = absurd h
     lines_stop why.Write h = absurd h
@@ -71,9 +72,9 @@ module _ (since : Option ℕ) (bytes : List ℕ) (short : length bytes ≤ 16777
     lines_stop why.NoReader h = absurd h
     lines_stop why.GateShut h = absurd h
 
-    -- Use: the text was made.
-    pub lines_made : (read : List LineTold) (text : List ℕ) → lines ≡ record { lines = read; fault = None }
-        → text ≡ change_text since (opening_course opening.every opening.settings) read → change_meaning since bytes ≡ record { text = text; end = Done }
-    lines_made read text whole made =
-        short_change ∙ ap (change_told since) (is ∙ ap (λ rest. record { opening = Some opening; rest = rest }) whole)
-        ∙ ap (λ t. record { text = t; end = Done }) (sym made)
+    -- Use: it was told.
+    pub lines_made : (read : List LineTold) (made : DiffTold) → lines ≡ record { lines = read; fault = None }
+        → made ≡ change_behind options since (opening_course opening.every opening.settings) read → change_meaning options since bytes ≡ Ok made
+    lines_made read made whole is_made =
+        change_is ∙ ap (change_told options since) (is ∙ ap (λ rest. record { opening = Some opening; rest = rest }) whole)
+        ∙ ap (λ (t : DiffTold). Ok t) (sym is_made)

@@ -15,10 +15,12 @@ use Rattle.pf_run.specs.Inside.{inside, load_of, count_of, shift_of, member_of, 
 use Rattle.pf_run.specs.Computed.{course_of}
 use Rattle.pf_run.specs.RunRows.{rows_in, denials_in}
 use Rattle.pf_tally.specs.Clock.{clock_of}
+use Rattle.pf_tally.specs.Figures.{figures_of}
 use Rattle.pf_tally.specs.Lags.{lags_of}
 use Rattle.pf_tally.specs.Misses.{miss_cmp, misses_of}
 use Rattle.pf_diff.specs.Changes.{changes_of}
 use Rattle.pf_diff.specs.Diff.{diff_text_of}
+use Rattle.pf_diff.specs.Summary.{summary_text}
 use Rattle.pf_script.specs.Fields.{number_of, is_word}
 use Rattle.pf_script.specs.Parsing.{number_at, number_within, join_at, leave_at, event_at, strike_at, alter_at, change_at, edit_at, steps_at, line_at, settings_at, names_line, opening_at, heading_at, record_at}
 use Rattle.pf_script.specs.Places.{lines_from}
@@ -27,7 +29,7 @@ use Rattle.pf_change.specs.Change.{change_meaning}
 use Rattle.pf_change.specs.Examples.{WorkedChanges}
 
 pub worked_changes : WorkedChanges
-unfolding digits escaped fields_text is_blank next_record records_from strip_bom release_of deadline_of bit_of group_of priority_cmp row_of run_cmp events_of done in_force inside load_of count_of shift_of member_of ready course_of rows_in denials_in clock_of lags_of miss_cmp misses_of changes_of diff_text_of number_of is_word number_at number_within join_at leave_at event_at strike_at alter_at change_at edit_at steps_at line_at settings_at names_line opening_at heading_at record_at lines_from readings_from change_meaning
+unfolding digits escaped fields_text is_blank next_record records_from strip_bom release_of deadline_of bit_of group_of priority_cmp row_of run_cmp events_of done in_force inside load_of count_of shift_of member_of ready course_of rows_in denials_in clock_of lags_of miss_cmp misses_of figures_of changes_of diff_text_of summary_text number_of is_word number_at number_within join_at leave_at event_at strike_at alter_at change_at edit_at steps_at line_at settings_at names_line opening_at heading_at record_at lines_from readings_from change_meaning
 worked_changes = record {
   last = refl;
   sixth = refl;
@@ -39,4 +41,7 @@ worked_changes = record {
   alone = refl;
   bad = refl;
   empty = refl;
+  summed = refl;
+  differs = refl;
+  alike = refl;
 }

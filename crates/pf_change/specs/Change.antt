@@ -1,13 +1,13 @@
--- What a script's records from one of them on changed: a text and an end.
-use Rattle.std.specs.Prelude.{ℕ, ◌-◌, nat_lt, if◌then◌else◌, Option, None, Some, List, [], ◌∷◌, length, take}
+-- What a script's records from one of them on changed.
+use Rattle.std.specs.Prelude.{ℕ, ◌-◌, Option, None, Some, Result, Ok, Err, List, [], ◌∷◌, length, take}
 use Rattle.pf_desk.specs.Desk.{Seen}
-use Rattle.pf_diff.specs.Diff.{diff_text_of}
 use Rattle.pf_script.specs.declared.record.LineTold.{LineTold}
 use Rattle.pf_script.specs.declared.record.ScriptSettings.{ScriptSettings}
 use Rattle.pf_script.specs.Asked.{commands_in}
 use Rattle.pf_script.specs.Told.{FaultTold, Told, told}
-use Rattle.pf_stream.specs.Reading.{longest_script}
-use Rattle.pf_cli.specs.Meaning.{Meaning, Done, ScriptCourse, TooLong, bad_record, course_behind, opening_course, seen_at}
+use Rattle.pf_options.specs.declared.diff_options.DiffOptions.{DiffOptions}
+use Rattle.pf_cli.specs.Meaning.{ScriptCourse, course_behind, opening_course, seen_at}
+use Rattle.pf_change.specs.Difference.{DiffTold, difference}
 
 -- what a desk at this course shows once these lines are carried out
 abbrev pub seen_behind : ScriptCourse → List LineTold → Seen
@@ -24,25 +24,24 @@ abbrev pub lines_before : Option ℕ → List LineTold → List LineTold
 lines_before since lines = take (count_before since lines) lines
 
 -- the desk before the record beside the desk at the end
-abbrev pub change_text : Option ℕ → ScriptCourse → List LineTold → List ℕ
-change_text since c lines = diff_text_of (seen_behind c (lines_before since lines)) (seen_behind c lines)
+abbrev pub change_behind : DiffOptions → Option ℕ → ScriptCourse → List LineTold → DiffTold
+change_behind options since c lines = difference options (seen_behind c (lines_before since lines)) (seen_behind c lines)
 
--- what lines behind these settings changed; a script without settings has a fault
-abbrev pub change_of : Option ℕ → Option ScriptSettings → List LineTold → Meaning
-change_of since None lines = bad_record 1
-change_of since (Some s) lines = record { text = change_text since (opening_course s.every s.settings) lines; end = Done }
+-- what lines behind these settings changed; a script without settings has a fault, at this record
+abbrev pub change_of : DiffOptions → Option ℕ → Option ScriptSettings → List LineTold → Result DiffTold ℕ
+change_of options since None lines = Err 1
+change_of options since (Some s) lines = Ok (change_behind options since (opening_course s.every s.settings) lines)
 
 -- nothing where a record has a fault
-abbrev pub change_unless : Option FaultTold → Meaning → Meaning
-change_unless None m = m
-change_unless (Some fault) m = bad_record fault.bad.number
+abbrev pub change_unless : Option FaultTold → Result DiffTold ℕ → Result DiffTold ℕ
+change_unless None change = change
+change_unless (Some fault) change = Err fault.bad.number
 
 -- the same of a script that tells this
-abbrev pub change_told : Option ℕ → Told → Meaning
-change_told since t = change_unless t.rest.fault (change_of since t.opening t.rest.lines)
+abbrev pub change_told : DiffOptions → Option ℕ → Told → Result DiffTold ℕ
+change_told options since t = change_unless t.rest.fault (change_of options since t.opening t.rest.lines)
 
--- what the records of a script of these bytes changed, from this one on, counted from 1, or else the last alone
-unfoldable pub change_meaning : Option ℕ → List ℕ → Meaning
-change_meaning since bytes =
-    if nat_lt longest_script (length bytes) then record { text = []; end = TooLong }
-    else change_told since (told bytes)
+-- what the records of a script of these bytes changed, from this one on, counted from 1, or else the last alone; or else the
+-- number of the bad record that ends it
+unfoldable pub change_meaning : DiffOptions → Option ℕ → List ℕ → Result DiffTold ℕ
+change_meaning options since bytes = change_told options since (told bytes)

@@ -1,11 +1,20 @@
 -- Worked examples of what a script's records changed.
-use Rattle.std.specs.Prelude.{◌≡◌, ℕ, List, [], ◌++◌, Option, Some, None, codes}
-use Rattle.pf_cli.specs.Meaning.{End, Done, BadRecord}
+use Rattle.std.specs.Prelude.{◌≡◌, ℕ, Bool, true, false, List, [], ◌++◌, Option, Some, None, Ok, Err, codes}
+use Rattle.pf_fault.specs.declared.status.Status.{Status}
+use Rattle.pf_fault.specs.declared.status.Status.TheVariants.{BadScript, Done}
+use Rattle.pf_options.specs.declared.diff_options.DiffOptions.{DiffOptions}
 use Rattle.pf_change.specs.Change.{change_meaning}
 
--- from this record on the script changed this, and it ends so
-abbrev pub Changes : Option ℕ → List ℕ → List ℕ → End → Type 0
-Changes since script text end = change_meaning since script ≡ record { text = text; end = end }
+abbrev pub asked : Bool → Bool → DiffOptions
+asked summary exit_code = record { summary = summary; exit_code = exit_code }
+
+-- with these options a diff since this record tells this of the script, and ends so
+abbrev pub Tells : DiffOptions → Option ℕ → List ℕ → List ℕ → Status → Type 0
+Tells options since script text status = change_meaning options since script ≡ Ok (record { text = text; status = status })
+
+-- without any it tells this
+abbrev pub Changes : Option ℕ → List ℕ → List ℕ → Type 0
+Changes since script text = Tells (asked false false) since script text Done
 
 -- three tasks on two processors, for three slots, and then the third is taken out of the plan
 abbrev pub struck_script : List ℕ
@@ -29,19 +38,31 @@ same_text =
     codes "schedule\nslot,processor,before,after\nlags\ntask,before,after\nmisses\ntask,sub,before,after\n"
     ++ codes "denials\nevent,slot,before,after\n"
 
+-- what the two desks come to: a task fewer, whose lag was no worse than another's
+abbrev pub struck_summary : List ℕ
+struck_summary =
+    codes "summary\nfigure,before,after\nprocessors,2,2\nbase,3,3\ncap,6,6\nslots,3,3\ntasks,3,2\ndenials,0,0\nmisses,0,0\n"
+    ++ codes "first_miss_task,,\nfirst_miss_sub,,\nfirst_miss_deadline,,\nworst_lag,2,0\nworst_lag_period,3,3\nworst_lag_task,3,1\n"
+    ++ codes "preemptions,1,0\nmigrations,1,0\ncells,,3\n"
+
 pub record WorkedChanges : Type 0 where
-  pub last : Changes None struck_script struck_text Done
-  pub sixth : Changes (Some 6) struck_script struck_text Done
-  pub fifth : Changes (Some 5) struck_script stepped_text Done
+  pub last : Changes None struck_script struck_text
+  pub sixth : Changes (Some 6) struck_script struck_text
+  pub fifth : Changes (Some 5) struck_script stepped_text
   -- before the settings, and where no record is meant, the desk has done nothing
-  pub first : Changes (Some 1) struck_script stepped_text Done
-  pub none : Changes (Some 0) struck_script stepped_text Done
+  pub first : Changes (Some 1) struck_script stepped_text
+  pub none : Changes (Some 0) struck_script stepped_text
   -- no record is there
-  pub seventh : Changes (Some 7) struck_script same_text Done
+  pub seventh : Changes (Some 7) struck_script same_text
   -- a heading is a record more
-  pub headed : Changes (Some 7) (codes "pfair,2\n" ++ struck_script) struck_text Done
+  pub headed : Changes (Some 7) (codes "pfair,2\n" ++ struck_script) struck_text
   -- settings alone
-  pub alone : Changes None (codes "settings,2,3,6,2\n") same_text Done
+  pub alone : Changes None (codes "settings,2,3,6,2\n") same_text
   -- a bad record, whichever is asked for
-  pub bad : Changes (Some 2) (codes "settings,1,2,2,1\nstep\njoin,0,1") [] (BadRecord 3)
-  pub empty : Changes None [] [] (BadRecord 1)
+  pub bad : change_meaning (asked true true) (Some 2) (codes "settings,1,2,2,1\nstep\njoin,0,1") ≡ Err 3
+  pub empty : change_meaning (asked false false) None [] ≡ Err 1
+  -- the sums before the tables
+  pub summed : Tells (asked true false) None struck_script (struck_summary ++ struck_text) Done
+  -- the status where something differs, and where nothing does
+  pub differs : Tells (asked false true) None struck_script struck_text BadScript
+  pub alike : Tells (asked false true) (Some 7) struck_script same_text Done

@@ -2,5 +2,6 @@ pub use Rattle.pf_cli.specs.Answers
 pub use Rattle.pf_cli.specs.Meaning
 pub use Rattle.pf_diff.specs.Diff
 pub mod Change
-pub mod Made
+pub mod Difference
 pub mod Examples
+pub mod Made

@@ -1,55 +1,61 @@
-ghost use Rattle.std.specs.Prelude.{◌≡◌, ◌≤◌, length, take, IfOk, IfErr};
-ghost use Rattle.pf_fault.specs.declared.status.Status.TheVariants.{Done};
-ghost use Rattle.pf_fault.specs.Answers.{IsQuiet};
+ghost use Rattle.std.specs.Prelude.{◌≡◌, ◌≤◌, [], length, take, Ok, IfOk, IfErr};
 ghost use Rattle.pf_fault.specs.Faults.{IsUnwritten};
 ghost use Rattle.pf_timeline.specs.Checkpoints.{largest_distance};
 ghost use Rattle.pf_script.specs.Opened.{IsOpening};
-ghost use Rattle.pf_stream.specs.Reading.{longest_script};
 ghost use Rattle.pf_cli.specs.Meaning.{course_at, opening_course};
-ghost use Rattle.pf_cli.specs.Meaning as meaning;
-ghost use Rattle.pf_change.specs.Change.{change_meaning, change_text, lines_before};
+ghost use Rattle.pf_change.specs.Change.{change_behind, change_meaning, lines_before};
+ghost use Rattle.pf_change.specs.Difference.{told_by};
 ghost use Rattle.pf_change.specs.Made.{Stops};
 
+use crate::compare::compare;
 use crate::lines::read_lines;
 use crate::taking::show_behind;
 use csv::ByteRecord;
 use pf_desk::desk::Desk;
 use pf_desk::fault::OpenFault;
-use pf_diff::diff::diff_text;
 use pf_fault::answer::Answer;
 use pf_fault::fault::Fault;
+use pf_options::diff_options::DiffOptions;
 use pf_scenario::settings::Settings;
 use pf_script::opened::OpenedScript;
 use pf_script::record::{LineTold, ScriptSettings};
 use std::alloc::{AllocError, Global};
 
 /// Carries out a script of these bytes, and answers what its records from `since` on changed, the last one where none is
-/// given: the desk before that record beside the desk at the end, as four tables, each behind its title, of what differs
-/// alone. Records are counted from 1, and the heading and the settings are records too: before each of them, and where
-/// `since` is 0, the desk has its settings, and nothing was done on it. Above the number of records the desk at the end
-/// stands beside itself, so no table has a row.
+/// given: the desk before that record beside the desk at the end, as these options have it told. Records are counted from 1,
+/// and the heading and the settings are records too: before each of them, and where `since` is 0, the desk has its settings,
+/// and nothing was done on it. Above the number of records the desk at the end stands beside itself, so no table has a row.
 ///
 /// # Errors
 ///
 /// `BadRecord` at the first record that is none of the script's, and `NoMemory` where memory is refused.
-pub fn diff(alloc: Global, script: &[u8], since: Option<u64>) -> Result<Answer, Fault>
-    requires { length script.now ≤ longest_script }
-    ensures made { IfOk result (λ answer. change_meaning since script.now ≡ record { text = answer.text.items; end = meaning.Done }) }
-    ensures quiet { IfOk result (λ answer. IsQuiet Done answer.ending) }
-    ensures stopped { IfErr result (Stops (change_meaning since script.now)) }
+pub fn diff(
+    alloc: Global,
+    script: &[u8],
+    since: Option<u64>,
+    options: DiffOptions,
+) -> Result<Answer, Fault>
+    ensures made { IfOk result (λ answer. change_meaning options since script.now ≡ Ok (told_by answer)) }
+    ensures quiet { IfOk result (λ answer. answer.ending.notes.items ≡ []) }
+    ensures stopped { IfErr result (Stops (change_meaning options since script.now)) }
     ensures unwritten { IfErr result IsUnwritten }
 {
-    match diff_script(alloc, script, since) {
-        Ok(text) => Ok(Answer::done(alloc, text)),
+    match diff_script(alloc, script, since, options) {
+        Ok(answer) => Ok(answer),
         Err(fault) => Err(fault),
     }
 }
 
 /// What the records of a script of these bytes changed.
-fn diff_script(alloc: Global, bytes: &[u8], since: Option<u64>) -> Result<Vec<u8>, Fault>
-    requires { length bytes.now ≤ longest_script }
-    ensures made { IfOk result (λ text. change_meaning since bytes.now ≡ record { text = text.items; end = meaning.Done }) }
-    ensures stopped { IfErr result (Stops (change_meaning since bytes.now)) }
+fn diff_script(
+    alloc: Global,
+    bytes: &[u8],
+    since: Option<u64>,
+    options: DiffOptions,
+) -> Result<Answer, Fault>
+    ensures made { IfOk result (λ answer. change_meaning options since bytes.now ≡ Ok (told_by answer)) }
+    ensures quiet { IfOk result (λ answer. answer.ending.notes.items ≡ []) }
+    ensures stopped { IfErr result (Stops (change_meaning options since bytes.now)) }
 {
     let mut row = ByteRecord::new(alloc);
     let script = OpenedScript::open(alloc, bytes, &mut row)?;
@@ -58,8 +64,8 @@ fn diff_script(alloc: Global, bytes: &[u8], since: Option<u64>) -> Result<Vec<u8
         Ok(lines) => lines,
         Err(fault) => return Err(fault),
     };
-    match diff_lines(alloc, opening, &lines, since) {
-        Ok(text) => Ok(text),
+    match diff_lines(alloc, opening, &lines, since, options) {
+        Ok(answer) => Ok(answer),
         Err(AllocError) => Err(Fault::NoMemory),
     }
 }
@@ -70,15 +76,18 @@ fn diff_lines(
     opening: ScriptSettings,
     lines: &[LineTold],
     since: Option<u64>,
-) -> Result<Vec<u8>, AllocError>
+    options: DiffOptions,
+) -> Result<Answer, AllocError>
     requires { IsOpening opening }
-    ensures { IfOk result (λ text. text.items ≡ change_text since (opening_course opening.every opening.settings) lines.now) }
+    ensures told { IfOk result (λ answer.
+        told_by answer ≡ change_behind options since (opening_course opening.every opening.settings) lines.now) }
+    ensures quiet { IfOk result (λ answer. answer.ending.notes.items ≡ []) }
 {
     let mut desk = open_desk(alloc, opening.settings, opening.every)?;
     let (first, rest) = lines.split_at(count_before(lines, since));
     let before = show_behind(alloc, &mut desk, first)?;
     let after = show_behind(alloc, &mut desk, rest)?;
-    diff_text(alloc, &before, &after)
+    compare(alloc, &before, &after, options)
 }
 
 /// A desk that has answered no command.

@@ -1,5 +1,6 @@
 -- The blocks of a chart, one after another.
-use Rattle.std.proofs.Common.{◌≡◌, ℕ, zero, suc, ◌+◌, ◌-◌, ◌*◌, ◌<◌, ◌≤◌, min, Option, Some, List, [], ◌∷◌, ◌++◌, length, get_or, refl, sym, ap, ap₂, ◌∙◌, arith}
+use Rattle.std.proofs.Common.{◌≡◌, ℕ, zero, suc, ◌+◌, ◌-◌, ◌*◌, ◌<◌, ◌≤◌, min, nat_le, Bool, true, false, Option, Some, List, [], ◌∷◌, ◌++◌, length, get_or, refl, sym, ap, ap₂, ◌∙◌, arith}
+use Rattle.std.specs.Prelude.{if◌then◌else◌}
 use Rattle.std.specs.Int.{div_ceil}
 use Rattle.std.specs.List.{flat_map, range_with_len, slice_get}
 use Rattle.std.proofs.lemmas.List.{flat_map_more, get_or_default}
@@ -10,6 +11,7 @@ use Rattle.pf_tally.proofs.Chains.{range_more}
 use Rattle.pf_tally.proofs.Noting.{got_at}
 use Rattle.pf_desk.specs.Desk.{Seen}
 use Rattle.pf_chart.specs.Listing.{Listing, count_in, counts_of}
+use Rattle.pf_chart.specs.Labels.{Labels, block_length}
 use Rattle.pf_chart.specs.Chart.{block_of, block_text, blocks_text, processor_cell}
 
 flat_map_shift : {X : Type 0} (f g : ℕ → List X) (a b n : ℕ) → ((k : ℕ) → k < n → f (a + k) ≡ g (b + k)) → flat_map f (range_with_len a n) ≡ flat_map g (range_with_len b n)
@@ -20,29 +22,64 @@ flat_map_shift f g a b (suc n) same =
     ap f (let z : a + 1 + k ≡ a + suc k = omega arith in z) ∙ same (suc k) (omega arith) ∙ ap g (let z : b + suc k ≡ b + 1 + k = omega arith in z)) in
     flat_map-cons f a (range_with_len (a + 1) n) ∙ ap₂ (λ xs ys. xs ++ ys) first rest ∙ sym (flat_map-cons g b (range_with_len (b + 1) n))
 
-module _ (seen : Seen) (listed : List Listing) (from to : ℕ) where
+-- a block has 60 slots, or 50
+abbrev size_of : Bool → ℕ
+size_of wide = if wide then 60 else 50
+
+no_further : (wide : Bool) (from : ℕ) → from + size_of wide * 0 ≡ from
+no_further true from = omega arith
+no_further false from = omega arith
+
+this_long : (wide : Bool) (from to end : ℕ) → end ≡ from + min (to - from) (size_of wide) → min (size_of wide) (to - from) ≡ end - from
+this_long true from to end of_end = omega arith
+this_long false from to end of_end = omega arith
+
+one_more : (wide : Bool) (from to end : ℕ) → from < to → end ≡ from + min (to - from) (size_of wide)
+    → div_ceil (to - from) (size_of wide) ≡ suc (div_ceil (to - end) (size_of wide))
+one_more true from to end some of_end = omega arith
+one_more false from to end some of_end = omega arith
+
+further : (wide : Bool) (from to end k : ℕ) → end ≡ from + min (to - from) (size_of wide) → k < div_ceil (to - end) (size_of wide)
+    → from + size_of wide * (1 + k) ≡ end + size_of wide * (0 + k)
+further true from to end k of_end below = omega arith
+further false from to end k of_end below = omega arith
+
+none_more : (wide : Bool) (from to : ℕ) → to ≤ from → div_ceil (to - from) (size_of wide) ≡ 0
+none_more true from to over = omega arith
+none_more false from to over = omega arith
+
+module _ (seen : Seen) (labels : Labels) (listed : List Listing) (from to : ℕ) where
+  abbrev wide : Bool
+  wide = nat_le labels.places 20
+
+  abbrev size : ℕ
+  size = size_of wide
+
   -- Use: one block, and those behind it.
-  pub blocks_next : (end : ℕ) → from < to → end ≡ from + min (to - from) 60 →
-      blocks_text seen listed from to ≡ block_of seen listed from (range_with_len from (end - from)) ++ blocks_text seen listed end to
+  pub blocks_next : (end : ℕ) → from < to → end ≡ from + min (to - from) (block_length labels.places) →
+      blocks_text seen labels listed from to
+      ≡ block_of seen labels listed from (range_with_len from (end - from)) ++ blocks_text seen labels listed end to
   blocks_next end some of_end =
-      let f : ℕ → List ℕ = λ k. block_text seen listed to (from + 60 * k) in
-      let g : ℕ → List ℕ = λ k. block_text seen listed to (end + 60 * k) in
-      let n = div_ceil (to - end) 60 in
-      let count : div_ceil (to - from) 60 ≡ suc n = omega arith in
-      let first : f 0 ≡ block_of seen listed from (range_with_len from (end - from)) =
-      ap (block_text seen listed to) (let z : from + 60 * 0 ≡ from = omega arith in z)
-      ∙ ap (λ m. block_of seen listed from (range_with_len from m)) (let z : min 60 (to - from) ≡ end - from = omega arith in z) in
+      let f : ℕ → List ℕ = λ k. block_text seen labels listed size to (from + size * k) in
+      let g : ℕ → List ℕ = λ k. block_text seen labels listed size to (end + size * k) in
+      let n = div_ceil (to - end) size in
+      let first : f 0 ≡ block_of seen labels listed from (range_with_len from (end - from)) =
+      ap (block_text seen labels listed size to) (no_further wide from)
+      ∙ ap (λ m. block_of seen labels listed from (range_with_len from m)) (this_long wide from to end of_end) in
       let rest : flat_map f (range_with_len 1 n) ≡ flat_map g (range_with_len 0 n) =
-      flat_map_shift f g 1 0 n (λ k below. ap (block_text seen listed to) (let z : from + 60 * (1 + k) ≡ end + 60 * (0 + k) = omega arith in z)) in
-      ap (λ n. flat_map f (range_with_len 0 n)) count ∙ flat_map-cons f 0 (range_with_len 1 n) ∙ ap₂ (λ xs ys. xs ++ ys) first rest
+      flat_map_shift f g 1 0 n (λ k below. ap (block_text seen labels listed size to) (further wide from to end k of_end below)) in
+      ap (λ n. flat_map f (range_with_len 0 n)) (one_more wide from to end some of_end) ∙ flat_map-cons f 0 (range_with_len 1 n)
+      ∙ ap₂ (λ xs ys. xs ++ ys) first rest
 
   -- Use: none is left.
-  pub blocks_over : to ≤ from → blocks_text seen listed from to ≡ []
-  blocks_over over = ap (λ n. flat_map (λ k. block_text seen listed to (from + 60 * k)) (range_with_len 0 n)) (let z : div_ceil (to - from) 60 ≡ 0 = omega arith in z)
+  pub blocks_over : to ≤ from → blocks_text seen labels listed from to ≡ []
+  blocks_over over =
+      ap (λ n. flat_map (λ k. block_text seen labels listed size to (from + size * k)) (range_with_len 0 n)) (none_more wide from to over)
 
 -- Use: a block has a line.
-pub block_some : (seen : Seen) (listed : List Listing) (a : ℕ) (slots text : List ℕ) → text ≡ block_of seen listed a slots → 1 ≤ length text
-block_some seen listed a slots text is = omega (arith, ap length is)
+pub block_some : (seen : Seen) (labels : Labels) (listed : List Listing) (a : ℕ) (slots text : List ℕ) → text ≡ block_of seen labels listed a slots
+    → 1 ≤ length text
+block_some seen labels listed a slots text is = omega (arith, ap length is)
 
 -- one processor further
 pub processors_next : (f : ℕ → List ℕ) (p : ℕ) (old before after : List ℕ) → after ≡ before ++ f p → before ≡ old ++ flat_map f (range_with_len 0 p) →

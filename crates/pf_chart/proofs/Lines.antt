@@ -39,5 +39,5 @@ all_left_out xs end none same =
     ap (λ k. take k xs) z ∙ sym (ap (λ k. trimmed (take k xs)) z) ∙ same
 
 -- three words, each with a number, one behind another
-pub three_words : (old a p b q c r end : List ℕ) → (((old ++ (a ++ p)) ++ (b ++ q)) ++ (c ++ r)) ++ end ≡ old ++ (a ++ p ++ b ++ q ++ c ++ r ++ end)
-three_words old a p b q c r end = simp append_assoc refl
+pub three_words : (old a p b q c r : List ℕ) → ((old ++ (a ++ p)) ++ (b ++ q)) ++ (c ++ r) ≡ old ++ (a ++ p ++ b ++ q ++ c ++ r)
+three_words old a p b q c r = simp append_assoc refl

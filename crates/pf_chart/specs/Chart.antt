@@ -6,6 +6,9 @@ use Rattle.std.specs.List.{flat_map, list_all, list_any, range_with_len, slice_g
 use Rattle.std.specs.Option.{option_map_or, unwrap_or}
 use Rattle.pf_order.specs.declared.pick.Pick.{Pick}
 use Rattle.pf_place.specs.Occupancy.{sitter}
+use Rattle.pf_names.specs.Slots.{slot_text}
+use Rattle.pf_names.specs.declared.slot_length.SlotLength.{SlotLength}
+use Rattle.pf_names.specs.declared.titles.Titles.{Titles}
 use Rattle.pf_scenario.specs.System.{System}
 use Rattle.pf_desk.specs.Desk.{Seen}
 use Rattle.pf_chart.specs.Course.{Track}
@@ -13,6 +16,7 @@ use Rattle.pf_chart.specs.Cells.{task_cell, window_cell, lag_cell, mark_cell}
 use Rattle.pf_chart.specs.Listing.{Listing, listings_of, count_in}
 use Rattle.pf_chart.specs.declared.track_row.TrackRow.{TrackRow}
 use Rattle.pf_chart.specs.declared.track_row.TrackRow.TheVariants.{Runs, Windows, Lag, Marks}
+use Rattle.pf_chart.specs.Labels.{Labels, block_length, labels_of, task_label}
 use Rattle.pf_chart.specs.Symbols.{blank, rank_symbol}
 
 -- a line without the blanks at its end
@@ -24,16 +28,16 @@ abbrev pub trimmed : List ℕ → List ℕ
 trimmed [] = []
 trimmed (x ∷ xs) = with_first x (trimmed xs)
 
--- a line: its label in 12 places, then its cells
-abbrev pub line_text : List ℕ → List ℕ → List ℕ
-line_text label cells = trimmed (label ++ replicate (12 - length label) blank ++ cells) ++ codes "\n"
+-- a line: its label in so many places, then its cells
+abbrev pub line_text : ℕ → List ℕ → List ℕ → List ℕ
+line_text places label cells = trimmed (label ++ replicate (places - length label) blank ++ cells) ++ codes "\n"
 
 abbrev pub are_blank : List ℕ → Bool
 are_blank cells = list_all (λ cell. cell == blank) cells
 
 -- nothing where all cells are blank
-abbrev pub line_if_any : List ℕ → List ℕ → List ℕ
-line_if_any label cells = if are_blank cells then [] else line_text label cells
+abbrev pub line_if_any : ℕ → List ℕ → List ℕ → List ℕ
+line_if_any places label cells = if are_blank cells then [] else line_text places label cells
 
 -- the rulers, from slot a on: at each tenth slot its number, and a mark at each slot
 abbrev pub number_cell : ℕ → ℕ → ℕ
@@ -45,8 +49,8 @@ tick_cell t =
     if t % 10 == 0 then slice_index_or (codes "|") 0 0
     else if t % 5 == 0 then slice_index_or (codes ":") 0 0 else slice_index_or (codes ".") 0 0
 
-abbrev pub rulers_text : ℕ → List ℕ → List ℕ
-rulers_text a slots = line_text [] (map (number_cell a) slots) ++ line_text [] (map tick_cell slots)
+abbrev pub rulers_text : ℕ → ℕ → List ℕ → List ℕ
+rulers_text places a slots = line_text places [] (map (number_cell a) slots) ++ line_text places [] (map tick_cell slots)
 
 -- the symbol of a listed task, by its rank
 abbrev pub symbol_of : List Listing → ℕ → ℕ
@@ -70,53 +74,57 @@ row_cell Lag l t = track_cell lag_cell l t
 row_cell Marks l t = if list_any (λ u. u == t) l.denied then slice_index_or (codes "x") 0 0 else track_cell mark_cell l t
 
 -- the lines with these cells of a listed task of this rank; none where all of them are blank
-abbrev pub lines_with : ℕ → ℕ → List ℕ → List ℕ → List ℕ → List ℕ → List ℕ
-lines_with rank task run windows lag marks =
+abbrev pub lines_with : Labels → ℕ → ℕ → List ℕ → List ℕ → List ℕ → List ℕ → List ℕ
+lines_with labels rank task run windows lag marks =
     if are_blank run && are_blank windows && are_blank lag && are_blank marks then []
-    else line_text (rank_symbol rank ∷ codes " task " ++ decimal task) run ++ line_if_any (codes "  windows") windows
-    ++ line_if_any (codes "  lag") lag ++ line_if_any (codes "  marks") marks
+    else line_text labels.places (task_label labels.names rank task) run ++ line_if_any labels.places (codes "  windows") windows
+    ++ line_if_any labels.places (codes "  lag") lag ++ line_if_any labels.places (codes "  marks") marks
 
-abbrev pub task_lines : List ℕ → ℕ → Listing → List ℕ
-task_lines slots rank l =
-    lines_with rank l.task (map (row_cell Runs l) slots) (map (row_cell Windows l) slots)
+abbrev pub task_lines : Labels → List ℕ → ℕ → Listing → List ℕ
+task_lines labels slots rank l =
+    lines_with labels rank l.task (map (row_cell Runs l) slots) (map (row_cell Windows l) slots)
     (map (row_cell Lag l) slots) (map (row_cell Marks l) slots)
 
 -- of the listed tasks, the first of which has this rank
-abbrev pub all_task_lines : List ℕ → ℕ → List Listing → List ℕ
-all_task_lines slots rank [] = []
-all_task_lines slots rank (l ∷ ls) = task_lines slots rank l ++ all_task_lines slots (rank + 1) ls
+abbrev pub all_task_lines : Labels → List ℕ → ℕ → List Listing → List ℕ
+all_task_lines labels slots rank [] = []
+all_task_lines labels slots rank (l ∷ ls) = task_lines labels slots rank l ++ all_task_lines labels slots (rank + 1) ls
 
 -- a line for each processor: p, and its number
-abbrev pub processor_line : Seen → List Listing → List ℕ → ℕ → List ℕ
-processor_line seen listed slots p =
-    line_text (codes "p" ++ decimal p) (map (λ t. processor_cell listed (count_in seen t) (slice_index_or seen.rows t []) p) slots)
+abbrev pub processor_line : Seen → ℕ → List Listing → List ℕ → ℕ → List ℕ
+processor_line seen places listed slots p =
+    line_text places (codes "p" ++ decimal p) (map (λ t. processor_cell listed (count_in seen t) (slice_index_or seen.rows t []) p) slots)
 
--- a block: the slots from a on, which are at most 60
-abbrev pub block_of : Seen → List Listing → ℕ → List ℕ → List ℕ
-block_of seen listed a slots =
-    codes "\n" ++ rulers_text a slots
-    ++ flat_map (processor_line seen listed slots) (range_with_len 0 seen.state.plan.settings.processors)
-    ++ all_task_lines slots 1 listed
+-- a block: the slots from a on
+abbrev pub block_of : Seen → Labels → List Listing → ℕ → List ℕ → List ℕ
+block_of seen labels listed a slots =
+    codes "\n" ++ rulers_text labels.places a slots
+    ++ flat_map (processor_line seen labels.places listed slots) (range_with_len 0 seen.state.plan.settings.processors)
+    ++ all_task_lines labels slots 1 listed
 
--- the block of the slots from a on and below `to`
-abbrev pub block_text : Seen → List Listing → ℕ → ℕ → List ℕ
-block_text seen listed to a = block_of seen listed a (range_with_len a (min 60 (to - a)))
+-- the block of the slots from a on and below `to`, which are so many at most
+abbrev pub block_text : Seen → Labels → List Listing → ℕ → ℕ → ℕ → List ℕ
+block_text seen labels listed size to a = block_of seen labels listed a (range_with_len a (min size (to - a)))
 
 -- the range, and the settings
 abbrev pub range_text : ℕ → ℕ → ℕ → List ℕ
 range_text now from to = codes "slots " ++ decimal from ++ codes " to " ++ decimal to ++ codes " of " ++ decimal now ++ codes "; "
 
 abbrev pub settings_with : ℕ → ℕ → ℕ → List ℕ
-settings_with m base cap = codes "processors " ++ decimal m ++ codes "; base " ++ decimal base ++ codes "; cap " ++ decimal cap ++ codes "\n"
+settings_with m base cap = codes "processors " ++ decimal m ++ codes "; base " ++ decimal base ++ codes "; cap " ++ decimal cap
 
 abbrev pub settings_text : System → List ℕ
 settings_text system = settings_with system.processors system.base system.cap
 
-abbrev pub head_with : System → ℕ → ℕ → ℕ → List ℕ
-head_with system now from to = range_text now from to ++ settings_text system
+-- how long a slot is, where that is told
+abbrev pub length_text : Option SlotLength → List ℕ
+length_text slot = option_map_or (λ length. codes "; slot " ++ slot_text length) slot []
 
-abbrev pub head_text : Seen → ℕ → ℕ → List ℕ
-head_text seen from to = head_with seen.state.plan.settings seen.state.now from to
+abbrev pub head_with : System → Option SlotLength → ℕ → ℕ → ℕ → List ℕ
+head_with system slot now from to = range_text now from to ++ settings_text system ++ length_text slot ++ codes "\n"
+
+abbrev pub head_text : Seen → Option SlotLength → ℕ → ℕ → List ℕ
+head_text seen slot from to = head_with seen.state.plan.settings slot seen.state.now from to
 
 abbrev pub legend_text : List ℕ
 legend_text =
@@ -126,14 +134,18 @@ legend_text =
     ++ codes "lag: = none, + - owed or ahead by less than one quantum, 1-9 * owed, a-z ~ ahead\n"
     ++ codes "marks: > joins, < left, ~ clock stopped, ^ runs late, x denied\n"
 
--- a block for each 60 slots from `from` on, below `to`
-abbrev pub blocks_text : Seen → List Listing → ℕ → ℕ → List ℕ
-blocks_text seen listed from to =
-    flat_map (λ k. block_text seen listed to (from + 60 * k)) (range_with_len 0 (div_ceil (to - from) 60))
+-- a block for each so many slots from `from` on, below `to`
+abbrev pub blocks_by : ℕ → Seen → Labels → List Listing → ℕ → ℕ → List ℕ
+blocks_by size seen labels listed from to =
+    flat_map (λ k. block_text seen labels listed size to (from + size * k)) (range_with_len 0 (div_ceil (to - from) size))
 
-abbrev pub text_with : Seen → ℕ → ℕ → List Listing → List ℕ
-text_with seen from to listed = head_text seen from to ++ blocks_text seen listed from to ++ legend_text
+abbrev pub blocks_text : Seen → Labels → List Listing → ℕ → ℕ → List ℕ
+blocks_text seen labels listed from to = blocks_by (block_length labels.places) seen labels listed from to
 
--- the chart of the slots from `from` on and below `to`
-unfoldable pub chart_text_of : Seen → ℕ → ℕ → List ℕ
-chart_text_of seen from to = text_with seen from to (listings_of seen)
+abbrev pub text_with : Seen → Titles → ℕ → ℕ → List Listing → List ℕ
+text_with seen titles from to listed =
+    head_text seen titles.slot from to ++ blocks_text seen (labels_of titles.names listed) listed from to ++ legend_text
+
+-- the chart of the slots from `from` on and below `to`, with the names of tasks and the length of a slot
+unfoldable pub chart_text_of : Seen → Titles → ℕ → ℕ → List ℕ
+chart_text_of seen titles from to = text_with seen titles from to (listings_of seen)

@@ -5,5 +5,6 @@ pub mod Cells
 pub mod Cut
 pub mod Listing
 pub mod Built
+pub mod Labels
 pub mod Chart
 pub mod Examples

@@ -5,6 +5,7 @@ ghost use Rattle.pf_place.specs.Lent.{lent_row};
 ghost use Rattle.pf_chart.specs.Chart.{all_task_lines, block_of, line_text, processor_cell, processor_line};
 ghost use Rattle.pf_chart.specs.Listing.{count_in, counts_of};
 
+use crate::labels::Labels;
 use crate::line::push_line;
 use crate::listed::{Listed, symbol_of};
 use crate::ruler::push_rulers;
@@ -62,19 +63,21 @@ fn processor_cells(
 fn push_processor_line(
     alloc: Global,
     text: &mut Vec<u8>,
+    places: usize,
     processor: u32,
     cells: &[u8],
 ) -> Result<(), AllocError>
-    ensures { OnOk result (text.new.items ≡ text.old.items ++ line_text (codes "p" ++ decimal processor) cells.now) }
+    ensures { OnOk result (text.new.items ≡ text.old.items ++ line_text places (codes "p" ++ decimal processor) cells.now) }
 {
     let label = format!(in alloc; "p{processor}")?;
-    push_line(text, label.as_bytes(), cells)
+    push_line(text, places, label.as_bytes(), cells)
 }
 
 /// Appends the lines of the processors, with the slots from `from` on, below `to`.
 fn push_processors(
     alloc: Global,
     text: &mut Vec<u8>,
+    places: usize,
     snapshot: &Snapshot,
     listed: &[Listed],
     counts: &[u64],
@@ -84,11 +87,11 @@ fn push_processors(
     requires within { to ≤ length snapshot.now.rows }
     requires counts { counts.now ≡ counts_of snapshot.now }
     ensures { OnOk result (text.new.items ≡ text.old.items ++
-        flat_map (processor_line snapshot.now listed.now (range_with_len from (to - from))) (range_with_len 0 snapshot.now.state.plan.settings.processors)) }
+        flat_map (processor_line snapshot.now places listed.now (range_with_len from (to - from))) (range_with_len 0 snapshot.now.state.plan.settings.processors)) }
 {
     for processor in 0..snapshot.settings().processors() {
         let cells = processor_cells(alloc, snapshot, listed, counts, processor, from, to)?;
-        push_processor_line(alloc, text, processor, &cells)?;
+        push_processor_line(alloc, text, places, processor, &cells)?;
     }
     Ok(())
 }
@@ -97,22 +100,23 @@ fn push_processors(
 fn push_tasks(
     alloc: Global,
     text: &mut Vec<u8>,
+    labels: &Labels<'_>,
     listed: &[Listed],
     from: u64,
     to: u64,
 ) -> Result<(), AllocError>
-    ensures { OnOk result (text.new.items ≡ text.old.items ++ all_task_lines (range_with_len from (to - from)) 1 listed.now) }
+    ensures { OnOk result (text.new.items ≡ text.old.items ++ all_task_lines labels.now (range_with_len from (to - from)) 1 listed.now) }
 {
     let mut rank = 0;
     for listing in listed {
         rank += 1;
-        listing.push_lines(alloc, text, rank, from, to)?;
+        listing.push_lines(alloc, text, labels, rank, from, to)?;
     }
     Ok(())
 }
 
-/// A block: the slots from `from` on, below `to`, of a snapshot with these listed tasks, where so many processors are in
-/// use in each slot.
+/// A block: the slots from `from` on, below `to`, of a snapshot with these listed tasks and their labels, where so many
+/// processors are in use in each slot.
 ///
 /// # Errors
 ///
@@ -120,6 +124,7 @@ fn push_tasks(
 pub(crate) fn block_text(
     alloc: Global,
     snapshot: &Snapshot,
+    labels: &Labels<'_>,
     listed: &[Listed],
     counts: &[u64],
     from: u64,
@@ -127,11 +132,12 @@ pub(crate) fn block_text(
 ) -> Result<Vec<u8>, AllocError>
     requires within { to ≤ length snapshot.now.rows }
     requires counts { counts.now ≡ counts_of snapshot.now }
-    ensures { IfOk result (λ text. text.items ≡ block_of snapshot.now listed.now from (range_with_len from (to - from))) }
+    ensures { IfOk result (λ text. text.items ≡ block_of snapshot.now labels.now listed.now from (range_with_len from (to - from))) }
 {
     let mut text = Vec::from_slice(alloc, b"\n")?;
-    push_rulers(alloc, &mut text, from, to)?;
-    push_processors(alloc, &mut text, snapshot, listed, counts, from, to)?;
-    push_tasks(alloc, &mut text, listed, from, to)?;
+    let places = labels.places();
+    push_rulers(alloc, &mut text, places, from, to)?;
+    push_processors(alloc, &mut text, places, snapshot, listed, counts, from, to)?;
+    push_tasks(alloc, &mut text, labels, listed, from, to)?;
     Ok(text)
 }

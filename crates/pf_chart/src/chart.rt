@@ -5,20 +5,20 @@ ghost use Rattle.pf_chart.specs.Listing.{counts_of};
 use crate::block::block_text;
 use crate::counts::counts_in_use;
 use crate::frame::{head, legend};
+use crate::labels::Labels;
 use crate::listed::Listed;
 use crate::listings::listings;
 use pf_desk::snapshot::Snapshot;
+use pf_names::titles::Titles;
 use pf_text::pieces::{Chain, Pieces, Whole, gathered};
 use std::alloc::{AllocError, Global};
 use std::marker::Model;
-
-/// How many slots a block has, where so many are left.
-const BLOCK: u64 = 60;
 
 /// The blocks of a chart, from a slot on.
 #[derive(Drop)]
 pub struct Blocks<'a> {
     snapshot: &'a Snapshot,
+    labels: Labels<'a>,
     listed: Vec<Listed>,
     /// Of each slot below now, how many processors are in use in it.
     counts: Vec<u64>,
@@ -35,7 +35,7 @@ impl<'a> Model for Blocks<'a> {
 
     ghost Value = { List ℕ };
 
-    ghost view = { λ b. blocks_text b.snapshot.now b.listed.items b.from b.to };
+    ghost view = { λ b. blocks_text b.snapshot.now b.labels b.listed.items b.from b.to };
 
     ghost invariant = { λ b. (b.counts.items ≡ counts_of b.snapshot.now) × (b.to ≤ length b.snapshot.now.rows) };
 }
@@ -49,10 +49,11 @@ impl<'a> Pieces for Blocks<'a> {
         if self.from >= self.to {
             return Ok(None);
         }
-        let end = self.from + (self.to - self.from).min(BLOCK);
+        let end = self.from + (self.to - self.from).min(self.labels.block_length());
         let text = block_text(
             alloc,
             self.snapshot,
+            &self.labels,
             &self.listed,
             &self.counts,
             self.from,
@@ -78,27 +79,32 @@ pub fn counts(alloc: Global, snapshot: &Snapshot) -> Result<Vec<u64>, AllocError
 /// A chart in pieces: its head, its blocks, and the legend.
 pub type ChartPieces<'a> = Chain<Whole, Chain<Blocks<'a>, Whole>>;
 
-/// The chart of the slots from `from` on, below `to`, in pieces, each of which is a block at most. `is_range` tells
+/// The chart of the slots from `from` on, below `to`, in pieces, each of which is a block at most. A task is told by its name,
+/// where it has one, and else by its number. `is_range` tells
 /// whether the snapshot has these slots.
 ///
 /// # Errors
 ///
 /// Where memory is refused.
-pub fn chart_pieces(
+pub fn chart_pieces<'a>(
     alloc: Global,
-    snapshot: &Snapshot,
+    snapshot: &'a Snapshot,
+    titles: &'a Titles,
     from: u64,
     to: u64,
-) -> Result<ChartPieces<'_>, AllocError>
+) -> Result<ChartPieces<'a>, AllocError>
     requires { to ≤ snapshot.now.state.now }
-    ensures { IfOk result (λ pieces. pieces ≡ chart_text_of snapshot.now from to) }
+    ensures { IfOk result (λ pieces. pieces ≡ chart_text_of snapshot.now titles.now from to) }
 {
-    let head = head(alloc, snapshot.settings(), snapshot.now(), from, to)?;
+    let settings = snapshot.settings();
+    let head = head(alloc, settings, titles.slot, snapshot.now(), from, to)?;
     let legend = legend(alloc)?;
     let counts = counts(alloc, snapshot)?;
     let listed = listings(alloc, snapshot)?;
+    let labels = Labels::of(alloc, &titles.names, &listed)?;
     let blocks = Blocks {
         snapshot,
+        labels,
         listed,
         counts,
         from,
@@ -115,11 +121,12 @@ pub fn chart_pieces(
 pub fn chart_text(
     alloc: Global,
     snapshot: &Snapshot,
+    titles: &Titles,
     from: u64,
     to: u64,
 ) -> Result<Vec<u8>, AllocError>
     requires { to ≤ snapshot.now.state.now }
-    ensures { IfOk result (λ text. text.items ≡ chart_text_of snapshot.now from to) }
+    ensures { IfOk result (λ text. text.items ≡ chart_text_of snapshot.now titles.now from to) }
 {
-    gathered(alloc, chart_pieces(alloc, snapshot, from, to)?)
+    gathered(alloc, chart_pieces(alloc, snapshot, titles, from, to)?)
 }

@@ -1,7 +1,8 @@
 ghost use Rattle.std.specs.Prelude.{◌≡◌, ◌++◌, ◌&&◌, nat_le, IfOk, OnOk};
 ghost use Rattle.std.specs.Fmt.{decimal};
-ghost use Rattle.pf_chart.specs.Chart.{head_with, legend_text, range_text, settings_with};
+ghost use Rattle.pf_chart.specs.Chart.{head_with, legend_text, length_text, range_text, settings_with};
 
+use pf_names::slot_length::SlotLength;
 use pf_scenario::settings::Settings;
 use std::alloc::{AllocError, Global};
 
@@ -87,12 +88,25 @@ fn push_settings(
 {
     push_number(alloc, text, b"processors ", processors)?;
     push_number(alloc, text, b"; base ", base)?;
-    push_number(alloc, text, b"; cap ", cap)?;
-    text.push(b'\n')?;
-    Ok(())
+    push_number(alloc, text, b"; cap ", cap)
 }
 
-/// The head: the range of the `now` slots, and the settings.
+/// Appends how long a slot is, where that is told.
+fn push_length(
+    alloc: Global,
+    text: &mut Vec<u8>,
+    slot: Option<SlotLength>,
+) -> Result<(), AllocError>
+    ensures { OnOk result (text.new.items ≡ text.old.items ++ length_text slot) }
+{
+    let Some(length) = slot else {
+        return Ok(());
+    };
+    let told = format!(in alloc; "; slot {length}")?;
+    text.extend_from_slice(told.as_bytes())
+}
+
+/// The head: the range of the `now` slots, the settings, and how long a slot is, where that is told.
 ///
 /// # Errors
 ///
@@ -100,16 +114,19 @@ fn push_settings(
 pub fn head(
     alloc: Global,
     settings: Settings,
+    slot: Option<SlotLength>,
     now: u64,
     from: u64,
     to: u64,
 ) -> Result<Vec<u8>, AllocError>
-    ensures { IfOk result (λ text. text.items ≡ head_with settings now from to) }
+    ensures { IfOk result (λ text. text.items ≡ head_with settings slot now from to) }
 {
     let mut text = Vec::new(alloc);
     push_range(alloc, &mut text, now, from, to)?;
     let processors = u64::from(settings.processors());
     let base = settings.base().get();
     push_settings(alloc, &mut text, processors, base, settings.cap())?;
+    push_length(alloc, &mut text, slot)?;
+    text.push(b'\n')?;
     Ok(text)
 }

@@ -9,6 +9,7 @@ pub mod course;
 pub mod courses;
 pub mod end;
 pub mod frame;
+pub mod labels;
 mod lags;
 pub mod laws;
 pub mod line;

@@ -4,9 +4,6 @@ ghost use Rattle.pf_chart.specs.Chart.{are_blank, line_if_any, line_text, trimme
 use crate::symbols::BLANK;
 use std::alloc::AllocError;
 
-/// In how many places a label stands.
-const LABEL: usize = 12;
-
 /// The line without the blanks at its end.
 fn trimmed(line: &[u8]) -> &[u8]
     ensures { result.now ≡ trimmed line.now }
@@ -25,13 +22,18 @@ pub fn are_blank(cells: &[u8]) -> bool
     cells.iter().all(|cell| *cell == BLANK)
 }
 
-/// Appends a line: its label, and its cells from the 13th place on, without the blanks at its end. Where memory is
+/// Appends a line: its label in so many places, and its cells behind them, without the blanks at its end. Where memory is
 /// refused a part of it may stand there.
-pub fn push_line(text: &mut Vec<u8>, label: &[u8], cells: &[u8]) -> Result<(), AllocError>
-    ensures { OnOk result (text.new.items ≡ text.old.items ++ line_text label.now cells.now) }
+pub fn push_line(
+    text: &mut Vec<u8>,
+    places: usize,
+    label: &[u8],
+    cells: &[u8],
+) -> Result<(), AllocError>
+    ensures { OnOk result (text.new.items ≡ text.old.items ++ line_text places label.now cells.now) }
 {
     let mut line = Vec::from_slice(*text.allocator(), label)?;
-    for place in label.len()..LABEL {
+    for place in label.len()..places {
         line.push(BLANK)?;
     }
     line.extend_from_slice(cells)?;
@@ -41,11 +43,16 @@ pub fn push_line(text: &mut Vec<u8>, label: &[u8], cells: &[u8]) -> Result<(), A
 }
 
 /// Appends a line, unless its cells are blank.
-pub fn push_line_if_any(text: &mut Vec<u8>, label: &[u8], cells: &[u8]) -> Result<(), AllocError>
-    ensures { OnOk result (text.new.items ≡ text.old.items ++ line_if_any label.now cells.now) }
+pub fn push_line_if_any(
+    text: &mut Vec<u8>,
+    places: usize,
+    label: &[u8],
+    cells: &[u8],
+) -> Result<(), AllocError>
+    ensures { OnOk result (text.new.items ≡ text.old.items ++ line_if_any places label.now cells.now) }
 {
     if are_blank(cells) {
         return Ok(());
     }
-    push_line(text, label, cells)
+    push_line(text, places, label, cells)
 }

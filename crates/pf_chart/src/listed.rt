@@ -3,6 +3,7 @@ ghost use Rattle.std.specs.List.{position};
 ghost use Rattle.pf_chart.specs.Chart.{symbol_of};
 
 use crate::course::Course;
+use crate::labels::Labels;
 use crate::line::{are_blank, push_line, push_line_if_any};
 use crate::symbols::{BLANK, rank_symbol};
 use crate::track_row::TrackRow;
@@ -26,11 +27,9 @@ impl Model for Listed {
 }
 
 impl Listed {
-    ghost use Rattle.std.specs.Prelude.{◌≡◌, ◌++◌, ◌∷◌, ◌-◌, codes, map, IfOk, MatchOption, OnOk};
-    ghost use Rattle.std.specs.Fmt.{decimal};
+    ghost use Rattle.std.specs.Prelude.{◌≡◌, ◌++◌, ◌-◌, map, IfOk, MatchOption, OnOk};
     ghost use Rattle.std.specs.List.{range_with_len};
     ghost use Rattle.pf_chart.specs.Chart.{row_cell, task_lines};
-    ghost use Rattle.pf_chart.specs.Symbols.{rank_symbol};
 
     /// A listed task.
     pub fn new(task: u32, course: Option<Course>, denied: Vec<u64>) -> Self
@@ -94,27 +93,17 @@ impl Listed {
         Ok(cells)
     }
 
-    /// The label of its first line, where it has this rank.
-    fn label(&self, alloc: Global, rank: usize) -> Result<Vec<u8>, AllocError>
-        ensures { IfOk result (λ v. v.items ≡ rank_symbol rank ∷ codes " task " ++ decimal self.now.task) }
-    {
-        let number = format!(in alloc; " task {}", self.task)?;
-        let mut label = Vec::new(alloc);
-        label.push(rank_symbol(rank))?;
-        label.extend_from_slice(number.as_bytes())?;
-        Ok(label)
-    }
-
     /// Appends its lines, where it has this rank, with the slots from `from` on, below `to`: none where all are blank.
     pub fn push_lines(
         &self,
         alloc: Global,
         text: &mut Vec<u8>,
+        labels: &Labels<'_>,
         rank: usize,
         from: u64,
         to: u64,
     ) -> Result<(), AllocError>
-        ensures { OnOk result (text.new.items ≡ text.old.items ++ task_lines (range_with_len from (to - from)) rank self.now) }
+        ensures { OnOk result (text.new.items ≡ text.old.items ++ task_lines labels.now (range_with_len from (to - from)) rank self.now) }
     {
         let runs = self.cells(alloc, TrackRow::Runs, from, to)?;
         let windows = self.cells(alloc, TrackRow::Windows, from, to)?;
@@ -123,10 +112,12 @@ impl Listed {
         if are_blank(&runs) && are_blank(&windows) && are_blank(&lag) && are_blank(&marks) {
             return Ok(());
         }
-        push_line(text, &self.label(alloc, rank)?, &runs)?;
-        push_line_if_any(text, b"  windows", &windows)?;
-        push_line_if_any(text, b"  lag", &lag)?;
-        push_line_if_any(text, b"  marks", &marks)
+        let places = labels.places();
+        let label = labels.of_task(alloc, rank, self.task)?;
+        push_line(text, places, &label, &runs)?;
+        push_line_if_any(text, places, b"  windows", &windows)?;
+        push_line_if_any(text, places, b"  lag", &lag)?;
+        push_line_if_any(text, places, b"  marks", &marks)
     }
 }
 

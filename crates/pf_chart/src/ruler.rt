@@ -62,15 +62,21 @@ fn tick_cells(alloc: Global, from: u64, to: u64) -> Result<Vec<u8>, AllocError>
     Ok(cells)
 }
 
-/// Appends the two rulers over the slots from `from` on, below `to`. Where memory is refused a part of them may stand
+/// Appends the two rulers over the slots from `from` on, below `to`, behind so many places. Where memory is refused a part of them may stand
 /// there.
 ///
 /// # Errors
 ///
 /// Where memory is refused.
-pub fn push_rulers(alloc: Global, text: &mut Vec<u8>, from: u64, to: u64) -> Result<(), AllocError>
-    ensures { OnOk result (text.new.items ≡ text.old.items ++ rulers_text from (range_with_len from (to - from))) }
+pub fn push_rulers(
+    alloc: Global,
+    text: &mut Vec<u8>,
+    places: usize,
+    from: u64,
+    to: u64,
+) -> Result<(), AllocError>
+    ensures { OnOk result (text.new.items ≡ text.old.items ++ rulers_text places from (range_with_len from (to - from))) }
 {
-    push_line(text, b"", &number_cells(alloc, from, to)?)?;
-    push_line(text, b"", &tick_cells(alloc, from, to)?)
+    push_line(text, places, b"", &number_cells(alloc, from, to)?)?;
+    push_line(text, places, b"", &tick_cells(alloc, from, to)?)
 }

@@ -6,8 +6,8 @@ use Rattle.pf_desk.specs.declared.command.Command.{Command}
 use Rattle.pf_script.specs.declared.record.ScriptSettings.{ScriptSettings}
 use Rattle.pf_script.specs.Asked.{commands_in}
 use Rattle.pf_script.specs.Told.{LinesTold, Told}
-use Rattle.pf_words.specs.declared.format.Format.{Format}
-use Rattle.pf_words.specs.Formats.{has_replies}
+use Rattle.pf_options.specs.declared.format.Format.{Format}
+use Rattle.pf_options.specs.Formats.{has_replies}
 use Rattle.pf_cli.specs.declared.script_replies.ScriptReplies.{ScriptReplies}
 use Rattle.pf_cli.specs.Batched.{Batched, HasAnswered, HasTaken, course_to_be, entry_lines, lines_to_be, turns_left}
 use Rattle.pf_cli.specs.Batched as batched

@@ -11,23 +11,24 @@ use Rattle.pf_script.specs.Places.{record_lines}
 use Rattle.pf_script.specs.Script.{script_records}
 use Rattle.pf_script.specs.Told.{FaultTold, Reading, Good, Bad, Missing, faults, faults_in, first_of, readings, settings_in, settings_or, told}
 use Rattle.pf_script.proofs.Opening.{AreUnopened, beginning}
-use Rattle.pf_words.specs.declared.format.Format.{Format}
+use Rattle.pf_names.specs.declared.titles.Titles.{Titles}
+use Rattle.pf_options.specs.declared.format.Format.{Format}
 use Rattle.pf_fault.specs.declared.range_fault.RangeFault.{RangeFault}
-use Rattle.pf_words.specs.Formats.{range_fault}
+use Rattle.pf_options.specs.Formats.{range_fault}
 use Rattle.pf_cli.specs.Laws.{RunsEndAtTheFirstFault, EndsAt, EndsWhole}
 use Rattle.pf_formats.specs.Report.{report_text}
 use Rattle.pf_cli.specs.Meaning.{Meaning, ScriptCourse, course_behind, ended_meaning, fault_number, opening_course, outcome_of, report_meaning, script_meaning, seen_at, text_unless, told_meaning}
 
-pub short_meaning : (format : Format) (bytes : List ℕ) → length bytes ≤ 16777216 → script_meaning format bytes ≡ told_meaning format (told bytes)
+pub short_meaning : (format : Format) (titles : Titles) (bytes : List ℕ) → length bytes ≤ 16777216 → script_meaning format titles bytes ≡ told_meaning format titles (told bytes)
 unfolding script_meaning
-short_meaning format bytes short = let fits : nat_lt 16777216 (length bytes) ≡ false = search (rules, tests) in rw fits refl
+short_meaning format titles bytes short = let fits : nat_lt 16777216 (length bytes) ≡ false = search (rules, tests) in rw fits refl
 
 -- the report ends well, or its range can't be shown
-report_end : (format : Format) (c : ScriptCourse) → EndsWhole format (report_meaning format c).end
-report_end format c = by (range_fault format c.state.now) refl
+report_end : (format : Format) (titles : Titles) (c : ScriptCourse) → EndsWhole format (report_meaning format titles c).end
+report_end format titles c = by (range_fault format c.state.now) refl
   where
     by : (fault : Option RangeFault) → range_fault format c.state.now ≡ fault
-        → EndsWhole format (text_unless fault (report_text format c.every (seen_at c))).end
+        → EndsWhole format (text_unless fault (report_text format c.every (seen_at c) titles)).end
     by None fits = inl refl
     by (Some fault) is = inr (c.state.now, fault, refl, is)
 
@@ -44,16 +45,16 @@ has_settings (Bad fault ∷ rest) unopened none = cc
 has_settings (Missing fault ∷ rest) unopened none = cc
 has_settings (Good one ∷ rest) unopened none = good_then one rest one.says (has_settings rest) unopened none
 
-ends_at : (format : Format) (opening : Option ScriptSettings) (commands : List Command) (fs : List FaultTold) → (fs ≡ [] → IsSome opening)
-    → EndsAt format fs (ended_meaning format (outcome_of opening commands (fault_number (first_of fs)))).end
-ends_at format None commands [] some = let never : false ≡ true = some refl in cc
-ends_at format (Some s) commands [] some = report_end format (course_behind (opening_course s.every s.settings) commands)
-ends_at format None commands (fault ∷ fs) some = refl
-ends_at format (Some s) commands (fault ∷ fs) some = refl
+ends_at : (format : Format) (titles : Titles) (opening : Option ScriptSettings) (commands : List Command) (fs : List FaultTold) → (fs ≡ [] → IsSome opening)
+    → EndsAt format fs (ended_meaning format titles (outcome_of opening commands (fault_number (first_of fs)))).end
+ends_at format titles None commands [] some = let never : false ≡ true = some refl in cc
+ends_at format titles (Some s) commands [] some = report_end format titles (course_behind (opening_course s.every s.settings) commands)
+ends_at format titles None commands (fault ∷ fs) some = refl
+ends_at format titles (Some s) commands (fault ∷ fs) some = refl
 
 -- Use: a run ends at the first fault that a check finds.
 pub runs_end_at_first_fault : RunsEndAtTheFirstFault
-runs_end_at_first_fault format bytes short =
-    subst (λ (m : Meaning). EndsAt format (faults bytes) m.end) (sym (short_meaning format bytes short))
-    (ends_at format (settings_in (readings bytes)) (commands_in (told bytes).rest.lines) (faults bytes)
+runs_end_at_first_fault format titles bytes short =
+    subst (λ (m : Meaning). EndsAt format (faults bytes) m.end) (sym (short_meaning format titles bytes short))
+    (ends_at format titles (settings_in (readings bytes)) (commands_in (told bytes).rest.lines) (faults bytes)
     (has_settings (readings bytes) (beginning 1 (record_lines bytes) (script_records bytes))))

@@ -1,4 +1,5 @@
 pub mod Answering
+pub mod AtEnd
 pub mod Batches
 pub mod Carrying
 pub mod Checking

@@ -1,16 +1,17 @@
 -- A script that is carried out.
 use Rattle.std.specs.Prelude.{⊤, ℕ, ◌≡◌, ◌+◌, ◌*◌, ◌<◌, Bool, true, false, if◌then◌else◌, List, [], ◌++◌, length, Option, Result, Ok, Err}
 use Rattle.std.specs.Io.KnownBytes.{Appends}
-use Rattle.pf_desk.specs.Desk.{Shown}
+use Rattle.pf_desk.specs.Desk.{Seen, Shown}
+use Rattle.pf_names.specs.declared.titles.Titles.{Titles}
 use Rattle.pf_script.specs.Told.{Told}
-use Rattle.pf_words.specs.declared.format.Format.{Format}
-use Rattle.pf_words.specs.Formats.{has_replies}
+use Rattle.pf_options.specs.declared.format.Format.{Format}
+use Rattle.pf_options.specs.Formats.{has_replies}
 use Rattle.pf_fault.specs.declared.fault.Fault.{Fault}
 use Rattle.pf_fault.specs.declared.fault.Fault.TheVariants as why
 use Rattle.pf_cli.specs.declared.script_replies.ScriptReplies.{ScriptReplies}
 use Rattle.pf_cli.specs.Answers.{Answers}
 use Rattle.pf_cli.specs.Batched.{course_to_be, lines_to_be, turns_left}
-use Rattle.pf_cli.specs.Meaning.{ScriptCourse, course_at, course_behind, outcome_at, outcome_told, ready_line, replies_told, reply_lines, text_if_replies, told_meaning}
+use Rattle.pf_cli.specs.Meaning.{ScriptCourse, course_at, course_behind, outcome_at, outcome_told, ready_line, replies_told, reply_lines, seen_at, text_if_replies, told_meaning}
 
 -- the reply lines that are left, ..
 abbrev pub lines_left : ScriptReplies → List ℕ
@@ -72,14 +73,23 @@ OpensReplies format t (Err (why.BadRecord number)) = (replies_told t ≡ []) × 
 OpensReplies format t (Err why.NoMemory) = ⊤
 OpensReplies format t (Err fault) = ⊥
 
+-- a script was not carried out to its end: this record is bad, or memory was refused
+abbrev pub StopsAt : Result ScriptCourse ℕ → Fault → Type 0
+StopsAt outcome (why.BadRecord number) = outcome ≡ Err number
+StopsAt outcome why.NoMemory = ⊤
+StopsAt outcome fault = ⊥
+
 -- the desk where the commands leave the script, or its bad record
 abbrev pub EndsBy : Result ScriptCourse ℕ → Result Shown Fault → Type 0
 EndsBy outcome (Ok desk) = outcome ≡ Ok (course_at desk)
-EndsBy outcome (Err (why.BadRecord number)) = outcome ≡ Err number
-EndsBy outcome (Err why.NoMemory) = ⊤
-EndsBy outcome (Err fault) = ⊥
+EndsBy outcome (Err fault) = StopsAt outcome fault
+
+-- what is seen where they leave it, or its bad record
+abbrev pub ShowsEnd : Result ScriptCourse ℕ → Result Seen Fault → Type 0
+ShowsEnd outcome (Ok seen) = (c : ScriptCourse) × (outcome ≡ Ok c) × (seen ≡ seen_at c)
+ShowsEnd outcome (Err fault) = StopsAt outcome fault
 
 -- the script was carried out and the writer took its replies; or the answer is one to the whole script
-abbrev pub CarriesOut : Format → Told → Result Shown Fault → Option (List ℕ) → Option (List ℕ) → Type 0
-CarriesOut format t (Ok desk) old new = (outcome_told t ≡ Ok (course_at desk)) × Appends old new (text_if_replies format (replies_told t))
-CarriesOut format t (Err fault) old new = Answers {A = Shown} (told_meaning format t) (Err fault) old new
+abbrev pub CarriesOut : Format → Titles → Told → Result Shown Fault → Option (List ℕ) → Option (List ℕ) → Type 0
+CarriesOut format titles t (Ok desk) old new = (outcome_told t ≡ Ok (course_at desk)) × Appends old new (text_if_replies format (replies_told t))
+CarriesOut format titles t (Err fault) old new = Answers {A = Shown} (told_meaning format titles t) (Err fault) old new

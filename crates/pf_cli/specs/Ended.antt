@@ -8,7 +8,7 @@ use Rattle.pf_script.specs.Told.{told}
 use Rattle.pf_fault.specs.declared.status.Status.{Status}
 use Rattle.pf_fault.specs.declared.status.Status.TheVariants.{Done, FailedOn}
 use Rattle.pf_stream.specs.Reading.{longest_script}
-use Rattle.pf_words.specs.declared.fail_on.FailOn.{FailOn}
+use Rattle.pf_options.specs.declared.fail_on.FailOn.{FailOn}
 use Rattle.pf_cli.specs.Meaning.{ScriptCourse, outcome_told}
 
 -- how far the script of these bytes is at its end; none where a record is bad, and where it is too long

@@ -1,15 +1,16 @@
 -- Worked examples of what scripts mean.
 use Rattle.std.specs.Prelude.{◌≡◌, ℕ, List, [], ◌++◌, Option, Some, None, codes}
 use Rattle.pf_look.specs.Looks.{usual_look}
-use Rattle.pf_words.specs.declared.format.Format.{Format}
-use Rattle.pf_words.specs.declared.format.Format.TheVariants.{Schedule, Tables, Svg}
+use Rattle.pf_names.specs.Titled.{untitled}
+use Rattle.pf_options.specs.declared.format.Format.{Format}
+use Rattle.pf_options.specs.declared.format.Format.TheVariants.{Schedule, Tables, Svg}
 use Rattle.pf_fault.specs.declared.range_fault.RangeFault.TheVariants.{NotWithin}
-use Rattle.pf_words.specs.Ranges.{whole}
+use Rattle.pf_options.specs.Ranges.{whole}
 use Rattle.pf_cli.specs.Meaning.{End, Done, BadRecord, Outside, script_meaning}
 
--- in the format, the script is a text and ends so
+-- in the format, the script, which has no titles, is a text and ends so
 abbrev pub Means : Format → List ℕ → List ℕ → End → Type 0
-Means format script text end = script_meaning format script ≡ record { text = text; end = end }
+Means format script text end = script_meaning format untitled script ≡ record { text = text; end = end }
 
 -- three tasks on two processors
 abbrev pub three_tasks_script : List ℕ

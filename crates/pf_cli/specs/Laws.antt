@@ -1,8 +1,9 @@
 -- The laws of checks and runs.
 use Rattle.std.specs.Prelude.{ℕ, ◌≡◌, ◌≤◌, ◌⊎◌, Some, List, [], ◌∷◌, length}
-use Rattle.pf_words.specs.declared.format.Format.{Format}
+use Rattle.pf_names.specs.declared.titles.Titles.{Titles}
+use Rattle.pf_options.specs.declared.format.Format.{Format}
 use Rattle.pf_fault.specs.declared.range_fault.RangeFault.{RangeFault}
-use Rattle.pf_words.specs.Formats.{range_fault}
+use Rattle.pf_options.specs.Formats.{range_fault}
 use Rattle.pf_stream.specs.Reading.{longest_script}
 use Rattle.pf_script.specs.Told.{FaultTold, faults}
 use Rattle.pf_cli.specs.Meaning.{End, Done, BadRecord, Outside, script_meaning}
@@ -18,10 +19,10 @@ EndsAt format (fault ∷ others) end = end ≡ BadRecord fault.bad.number
 
 -- in every format a script that isn't too long ends at the first fault that a check finds in it
 abbrev pub RunsEndAtTheFirstFault : Type 0
-RunsEndAtTheFirstFault = (format : Format) (bytes : List ℕ) → length bytes ≤ longest_script →
-    EndsAt format (faults bytes) (script_meaning format bytes).end
+RunsEndAtTheFirstFault = (format : Format) (titles : Titles) (bytes : List ℕ) → length bytes ≤ longest_script →
+    EndsAt format (faults bytes) (script_meaning format titles bytes).end
 
 -- a script has no text where the range of its format can't be shown
 abbrev pub NothingIsWrittenOutside : Type 0
-NothingIsWrittenOutside = (format : Format) (bytes : List ℕ) (fault : RangeFault) → (script_meaning format bytes).end ≡ Outside fault →
-    (script_meaning format bytes).text ≡ []
+NothingIsWrittenOutside = (format : Format) (titles : Titles) (bytes : List ℕ) (fault : RangeFault) → (script_meaning format titles bytes).end ≡ Outside fault →
+    (script_meaning format titles bytes).text ≡ []

@@ -2,8 +2,8 @@ pub use Rattle.pf_stream.specs.Counted
 pub use Rattle.pf_stream.specs.Failing
 pub use Rattle.pf_stream.specs.Written
 pub use Rattle.pf_stream.specs.Reading
-pub use Rattle.pf_words.specs.FailLists
-pub use Rattle.pf_words.specs.Formats
+pub use Rattle.pf_options.specs.FailLists
+pub use Rattle.pf_options.specs.Formats
 pub use Rattle.pf_script.specs.Fields
 pub use Rattle.pf_script.specs.Script
 pub use Rattle.pf_script.specs.Told

@@ -10,9 +10,10 @@ use Rattle.pf_stream.specs.Reading.{longest_script}
 use Rattle.pf_script.specs.declared.record.ScriptSettings.{ScriptSettings}
 use Rattle.pf_script.specs.Asked.{commands_in}
 use Rattle.pf_script.specs.Told.{FaultTold, Told, told}
-use Rattle.pf_words.specs.declared.format.Format.{Format}
+use Rattle.pf_names.specs.declared.titles.Titles.{Titles}
+use Rattle.pf_options.specs.declared.format.Format.{Format}
 use Rattle.pf_fault.specs.declared.range_fault.RangeFault.{RangeFault}
-use Rattle.pf_words.specs.Formats.{has_replies, range_fault}
+use Rattle.pf_options.specs.Formats.{has_replies, range_fault}
 use Rattle.pf_formats.specs.Report.{report_text}
 use Rattle.pf_report.specs.Replies.{is_refusal, reply_line, line_end}
 
@@ -92,9 +93,9 @@ abbrev pub text_unless : Option RangeFault → List ℕ → Meaning
 text_unless None text = record { text = text; end = Done }
 text_unless (Some fault) text = record { text = []; end = Outside fault }
 
--- the report, where the format can be shown of the slots stepped, and else nothing
-abbrev pub report_meaning : Format → ScriptCourse → Meaning
-report_meaning format c = text_unless (range_fault format c.state.now) (report_text format c.every (seen_at c))
+-- the report, with the script's titles, where the format can be shown of the slots stepped, and else nothing
+abbrev pub report_meaning : Format → Titles → ScriptCourse → Meaning
+report_meaning format titles c = text_unless (range_fault format c.state.now) (report_text format c.every (seen_at c) titles)
 
 -- where the commands of a script leave it: at a course, or at a bad record of this number
 abbrev pub outcome_at : ScriptCourse → Option ℕ → Result ScriptCourse ℕ
@@ -129,16 +130,16 @@ abbrev pub outcome_told : Told → Result ScriptCourse ℕ
 outcome_told t = outcome_of t.opening (commands_in t.rest.lines) (fault_number t.rest.fault)
 
 -- behind the replies: the report at the course where the script ends well, else nothing
-abbrev pub ended_meaning : Format → Result ScriptCourse ℕ → Meaning
-ended_meaning format (Ok c) = report_meaning format c
-ended_meaning format (Err number) = bad_record number
+abbrev pub ended_meaning : Format → Titles → Result ScriptCourse ℕ → Meaning
+ended_meaning format titles (Ok c) = report_meaning format titles c
+ended_meaning format titles (Err number) = bad_record number
 
 -- what a script means in a format that tells this: its replies, where the format has some, and its end
-abbrev pub told_meaning : Format → Told → Meaning
-told_meaning format t = text_and_then (text_if_replies format (replies_told t)) (ended_meaning format (outcome_told t))
+abbrev pub told_meaning : Format → Titles → Told → Meaning
+told_meaning format titles t = text_and_then (text_if_replies format (replies_told t)) (ended_meaning format titles (outcome_told t))
 
--- what a script's bytes mean
-unfoldable pub script_meaning : Format → List ℕ → Meaning
-script_meaning format bytes =
+-- what a script's bytes mean, where its titles are these
+unfoldable pub script_meaning : Format → Titles → List ℕ → Meaning
+script_meaning format titles bytes =
     if nat_lt longest_script (length bytes) then record { text = []; end = TooLong }
-    else told_meaning format (told bytes)
+    else told_meaning format titles (told bytes)

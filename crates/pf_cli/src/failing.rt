@@ -6,7 +6,7 @@ ghost use Rattle.pf_report.specs.Replies.{is_refusal};
 
 use pf_desk::desk::Desk;
 use pf_desk::reply_view::ReplyView;
-use pf_words::fail_on::FailOn;
+use pf_options::fail_on::FailOn;
 use std::alloc::AllocError;
 
 /// Whether a run fails on this that ends with this desk. The missed windows are in memory only where they are asked for, and

@@ -3,6 +3,7 @@
 //! how it ends, is what the script's bytes mean, or a front of that text where the writer failed or memory was refused.
 #![tactic(auto)]
 
+pub mod at_end;
 mod batching_desk;
 pub mod check;
 mod commands;

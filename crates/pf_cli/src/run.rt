@@ -4,8 +4,9 @@ ghost use Rattle.pf_fault.specs.declared.status.Status.TheVariants.{Done};
 ghost use Rattle.pf_fault.specs.Faults.{CountsWrites, IsOutside, IsPastReading};
 ghost use Rattle.pf_stream.specs.Reading.{longest_script};
 ghost use Rattle.pf_stream.specs.Written.{CountsOutput, TookFront};
+ghost use Rattle.pf_names.specs.declared.titles.Titles.{Titles};
 ghost use Rattle.pf_script.specs.Told.{told};
-ghost use Rattle.pf_words.specs.FailLists.{on_nothing};
+ghost use Rattle.pf_options.specs.FailLists.{on_nothing};
 ghost use Rattle.pf_cli.specs.Answers.{Answers};
 ghost use Rattle.pf_cli.specs.Carried.{CarriesOut};
 ghost use Rattle.pf_cli.specs.Ended.{fails_on, is_failing, run_status, script_course};
@@ -18,17 +19,19 @@ use pf_fault::ending::Ending;
 use pf_fault::fault::Fault;
 use pf_fault::status::Status;
 use pf_formats::report::report_pieces;
+use pf_names::titles::Titles;
+use pf_options::fail_on::FailOn;
+use pf_options::format::Format;
 use pf_stream::output_fault::OutputFault;
 use pf_stream::sink::Sink;
 use pf_stream::writing::write_pieces;
 use pf_text::pieces::Pieces;
-use pf_words::fail_on::FailOn;
-use pf_words::format::Format;
 use std::alloc::{AllocError, Global};
 
 /// Carries out a script of these bytes, and writes its replies and its report in the format: what it writes, and how it
-/// ends, is what the script's bytes mean. Plain edits that follow one another, from the first of them that touches a slot
-/// that was stepped, are replayed together, 1,024 at most. The status is `FailedOn` where the run fails on what is listed: a
+/// ends, is what the script's bytes mean. The titles are those that the report tells of: of a script of version 1 or 2 none.
+/// Plain edits that follow one another, from the first of them that touches a slot that was stepped, are replayed together,
+/// 1,024 at most. The status is `FailedOn` where the run fails on what is listed: a
 /// command that was refused, an event that is denied in the run of the scenario as it stands at the end, a window that is
 /// missed in it; else `Done`. In no format is anything else written. What the missed windows take of memory is taken only
 /// where they are asked for, and nothing else is met. The writer's count of failures must be below `u64::MAX` before the call.
@@ -44,11 +47,12 @@ pub fn run<W: Sink>(
     script: &[u8],
     writer: &mut W,
     format: Format,
+    titles: &Titles,
     fail_on: FailOn,
 ) -> Result<Ending, Fault>
     requires short { length script.now ≤ longest_script }
     requires writes { W.failed writer.old < 2 ^ 64 - 1 }
-    ensures meaning { Answers (script_meaning format script.now) result (W.contents writer.old) (W.contents writer.new) }
+    ensures meaning { Answers (script_meaning format titles.now script.now) result (W.contents writer.old) (W.contents writer.new) }
     ensures failing { IfOk result (λ ending. option_map run_status (fails_on fail_on script.now) ≡ Some ending.status) }
     ensures unasked { fail_on ≡ on_nothing → IfOk result (λ ending. ending.status ≡ Done) }
     ensures quiet { IfOk result (λ ending. ending.notes.items ≡ []) }
@@ -56,7 +60,7 @@ pub fn run<W: Sink>(
     ensures read { IsPastReading result }
     ensures writes { CountsWrites result (W.failed writer.old) (W.failed writer.new) }
 {
-    match carry_out(alloc, script, writer, format) {
+    match carry_out(alloc, script, writer, format, titles) {
         Ok(desk) => Ok(Ending::quiet(alloc, judge(desk, fail_on)?)),
         Err(fault) => Err(fault),
     }
@@ -83,10 +87,11 @@ fn carry_out<W: Sink>(
     bytes: &[u8],
     writer: &mut W,
     format: Format,
+    titles: &Titles,
 ) -> Result<Desk, Fault>
     requires short { length bytes.now ≤ longest_script }
     requires writes { W.failed writer.old < 2 ^ 64 - 1 }
-    ensures meaning { Answers (script_meaning format bytes.now) result (W.contents writer.old) (W.contents writer.new) }
+    ensures meaning { Answers (script_meaning format titles.now bytes.now) result (W.contents writer.old) (W.contents writer.new) }
     ensures course { IfOk result (λ desk. script_course bytes.now ≡ Some (course_at desk)) }
     ensures read { IsPastReading result }
     ensures writes { CountsWrites result (W.failed writer.old) (W.failed writer.new) }
@@ -94,7 +99,7 @@ fn carry_out<W: Sink>(
     // A copy of its own for each call: so the check follows both.
     let shown = format;
     match write_replies(alloc, bytes, writer, format) {
-        Ok(desk) => end(alloc, desk, writer, shown),
+        Ok(desk) => end(alloc, desk, writer, shown, titles),
         Err(fault) => Err(fault),
     }
 }
@@ -107,7 +112,7 @@ fn write_replies<W: Sink>(
     format: Format,
 ) -> Result<Desk, Fault>
     requires { W.failed writer.old < 2 ^ 64 - 1 }
-    ensures replies { CarriesOut format (told bytes.now) result (W.contents writer.old) (W.contents writer.new) }
+    ensures replies { (titles : Titles) → CarriesOut format titles (told bytes.now) result (W.contents writer.old) (W.contents writer.new) }
     ensures read { IsPastReading result }
     ensures writes { CountsWrites result (W.failed writer.old) (W.failed writer.new) }
 {
@@ -117,14 +122,20 @@ fn write_replies<W: Sink>(
 }
 
 /// Writes the report of a desk, where the format can be shown of the slots stepped, and answers the desk.
-fn end<W: Sink>(alloc: Global, desk: Desk, writer: &mut W, format: Format) -> Result<Desk, Fault>
+fn end<W: Sink>(
+    alloc: Global,
+    desk: Desk,
+    writer: &mut W,
+    format: Format,
+    titles: &Titles,
+) -> Result<Desk, Fault>
     requires { W.failed writer.old < 2 ^ 64 - 1 }
-    ensures report { Answers (report_meaning format (course_at desk)) result (W.contents writer.old) (W.contents writer.new) }
+    ensures report { Answers (report_meaning format titles.now (course_at desk)) result (W.contents writer.old) (W.contents writer.new) }
     ensures desk { IfOk result (λ d. d ≡ desk) }
     ensures read { IsPastReading result }
     ensures writes { CountsWrites result (W.failed writer.old) (W.failed writer.new) }
 {
-    match write_report(alloc, &desk, writer, format) {
+    match write_report(alloc, &desk, writer, format, titles) {
         Ok(()) => Ok(desk),
         Err(fault) => Err(fault),
     }
@@ -136,9 +147,10 @@ fn write_report<W: Sink>(
     desk: &Desk,
     writer: &mut W,
     format: Format,
+    titles: &Titles,
 ) -> Result<(), Fault>
     requires { W.failed writer.old < 2 ^ 64 - 1 }
-    ensures report { Answers (report_meaning format (course_at desk.now)) result (W.contents writer.old) (W.contents writer.new) }
+    ensures report { Answers (report_meaning format titles.now (course_at desk.now)) result (W.contents writer.old) (W.contents writer.new) }
     ensures read { IsPastReading result }
     ensures writes { CountsWrites result (W.failed writer.old) (W.failed writer.new) }
 {
@@ -146,7 +158,7 @@ fn write_report<W: Sink>(
         return Err(Fault::BadRange(fault));
     }
     let snapshot = desk.snapshot()?;
-    let report = report_pieces(alloc, &snapshot, desk.distance(), format)?;
+    let report = report_pieces(alloc, &snapshot, desk.distance(), format, titles)?;
     write_whole(alloc, report, writer)?;
     Ok(())
 }

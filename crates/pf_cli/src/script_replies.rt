@@ -3,9 +3,9 @@ use crate::commands::Commands;
 use csv::ByteRecord;
 use pf_desk::desk::Desk;
 use pf_fault::fault::Fault;
+use pf_options::format::Format;
 use pf_script::opened::OpenedScript;
 use pf_text::pieces::{LONG_PIECE, Pieces};
-use pf_words::format::Format;
 use std::alloc::{AllocError, Global};
 
 // The bytes of a piece behind its greatest length: room for a last line.

@@ -6,21 +6,22 @@ use Rattle.std.specs.List.{flat_map, range_with_len, slice_get}
 use Rattle.std.proofs.lemmas.Bool.{eq-eqb, ne_eqb}
 use Rattle.std.proofs.lemmas.List.{append-nil, at_drop_more, flat_map_more, length-append}
 use Rattle.std.proofs.lemmas.List.Concat.{flat_map-cons}
+use Rattle.pf_names.specs.declared.named.Named.{Named}
 use Rattle.pf_order.specs.declared.pick.Pick.{Pick}
 use Rattle.pf_place.specs.Occupancy.{sitter}
 use Rattle.pf_tally.proofs.Chains.{range_more}
 use Rattle.pf_tally.proofs.Noting.{got_at}
-use Rattle.pf_code.specs.Array.{array_text, constants_text, declaration_text, head_text, row_text, seat_with, title_text}
+use Rattle.pf_code.specs.Array.{array_text, constants_text, declaration_text, front_text, head_text, row_text, seat_with}
 
 -- Use: what stands before the rows, these, and the end.
-pub array_parts : (m n base : ℕ) (rows : List (List (Option Pick))) → n ≡ length rows →
-    head_text m n base ++ (flat_map (row_text m) rows ++ codes "};\n") ≡ array_text m n base rows
-array_parts m n base [] is =
-    let front = title_text m n base ++ constants_text m n ++ declaration_text m n in
+pub array_parts : (names : List Named) (m n base : ℕ) (rows : List (List (Option Pick))) → n ≡ length rows →
+    head_text names m n base ++ (flat_map (row_text m) rows ++ codes "};\n") ≡ array_text names m n base rows
+array_parts names m n base [] is =
+    let front = front_text names m n base ++ constants_text m n ++ declaration_text m n in
     ap (λ b. (front ++ cond b (row_text m []) []) ++ codes "};\n") (eq-eqb n 0 is)
     ∙ ap (λ t. (front ++ t) ++ codes "};\n") (sym (append-nil (row_text m [])) ∙ sym (flat_map-cons (row_text m) [] []))
-array_parts m n base (row ∷ rows) is =
-    let front = title_text m n base ++ constants_text m n ++ declaration_text m n in
+array_parts names m n base (row ∷ rows) is =
+    let front = front_text names m n base ++ constants_text m n ++ declaration_text m n in
     let lines = flat_map (row_text m) (row ∷ rows) in
     ap (λ b. (front ++ cond b (row_text m []) []) ++ (lines ++ codes "};\n")) (ne_eqb n 0 (λ e. omega (arith, e, is)))
     ∙ ap (λ t. t ++ (lines ++ codes "};\n")) (append-nil front)
@@ -66,3 +67,7 @@ two_words old a p b q end = simp append_assoc refl
 pub three_words : (old a p b q c r end : List ℕ) →
     (((old ++ (a ++ p)) ++ (b ++ q)) ++ (c ++ r)) ++ end ≡ old ++ (a ++ p ++ b ++ q ++ c ++ r ++ end)
 three_words old a p b q c r end = simp append_assoc refl
+
+-- texts, one behind another
+pub three_texts : (old a b c : List ℕ) → ((old ++ a) ++ b) ++ c ≡ old ++ (a ++ b ++ c)
+three_texts old a b c = simp append_assoc refl

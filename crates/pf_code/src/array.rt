@@ -3,6 +3,7 @@ ghost use Rattle.pf_code.specs.Array.{c_text};
 
 use crate::lines::{head, push_row};
 use pf_desk::snapshot::Snapshot;
+use pf_names::titles::Titles;
 use pf_report::rows::{row_at, row_count};
 use pf_text::pieces::{Chain, LONG_PIECE, Pieces, Whole};
 use std::alloc::{AllocError, Global};
@@ -55,18 +56,23 @@ impl<'a> Pieces for RowLines<'a> {
 pub type ArrayPieces<'a> = Chain<Whole, Chain<RowLines<'a>, Whole>>;
 
 /// The schedule as a C array, in pieces: a row for each slot below now, in it of each processor the number of the task that
-/// it gives the slot to, and 0 where it gives it to nobody. Where no slot was stepped there is one row of nobody, as C has no
+/// it gives the slot to, and 0 where it gives it to nobody; before them what the script calls its tasks. Where no slot was stepped there is one row of nobody, as C has no
 /// array without a row.
 ///
 /// # Errors
 ///
 /// Where memory is refused.
-pub fn c_pieces(alloc: Global, snapshot: &Snapshot) -> Result<ArrayPieces<'_>, AllocError>
-    ensures { IfOk result (λ pieces. pieces ≡ c_text snapshot.now) }
+pub fn c_pieces<'a>(
+    alloc: Global,
+    snapshot: &'a Snapshot,
+    titles: &Titles,
+) -> Result<ArrayPieces<'a>, AllocError>
+    ensures { IfOk result (λ pieces. pieces ≡ c_text snapshot.now titles.now) }
 {
     let settings = snapshot.settings();
     let base = settings.base().get();
-    let head = head(alloc, settings.processors(), snapshot.now(), base)?;
+    let names = &titles.names;
+    let head = head(alloc, names, settings.processors(), snapshot.now(), base)?;
     let end = Vec::from_slice(alloc, b"};\n")?;
     let rows = RowLines { snapshot, at: 0 };
     Ok(Chain::new(Whole::new(head), Chain::new(rows, Whole::new(end))))

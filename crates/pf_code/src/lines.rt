@@ -1,9 +1,12 @@
 ghost use Rattle.std.specs.Prelude.{◌≡◌, ◌++◌, [], IfOk, OnOk};
 ghost use Rattle.std.specs.Fmt.{decimal};
 ghost use Rattle.pf_place.specs.Lent.{lent_row};
-ghost use Rattle.pf_code.specs.Array.{constants_text, declaration_text, head_text, row_text, seat_with, title_text};
+ghost use Rattle.std.specs.List.{flat_map};
+ghost use Rattle.pf_code.specs.Array.{constants_text, declaration_text, front_text, head_text, name_line, row_text, seat_with, title_text};
 
 use itoa::Buffer;
+use pf_names::named::Named;
+use pf_names::names::Names;
 use pf_order::pick::Pick;
 use pf_place::row_view::RowView;
 use std::alloc::{AllocError, Global};
@@ -63,9 +66,42 @@ fn push_title(text: &mut Vec<u8>, processors: u64, slots: u64, base: u64) -> Res
     push_number(text, b"/* PD2 schedule: ", processors)?;
     push_number(text, b" processors, ", slots)?;
     push_number(text, b" slots, base ", base)?;
-    text.extend_from_slice(
-        b". One row a slot, one task a processor; 0 is nobody. */\n#include <stdint.h>\n",
-    )
+    text.extend_from_slice(b". One row a slot, one task a processor; 0 is nobody. */\n")
+}
+
+/// Appends the line of what a task is called.
+fn push_name(text: &mut Vec<u8>, named: &Named) -> Result<(), AllocError>
+    ensures { OnOk result (text.new.items ≡ text.old.items ++ name_line named.now) }
+{
+    push_number(text, b"/* task ", named.task)?;
+    text.extend_from_slice(b": ")?;
+    text.extend_from_slice(named.name.as_bytes())?;
+    text.extend_from_slice(b" */\n")
+}
+
+/// Appends the lines of what the tasks are called, by task.
+fn push_names(text: &mut Vec<u8>, names: &[Named]) -> Result<(), AllocError>
+    ensures { OnOk result (text.new.items ≡ text.old.items ++ flat_map name_line names.now) }
+{
+    for named in names {
+        push_name(text, named)?;
+    }
+    Ok(())
+}
+
+/// Appends what stands before the constants: what the array is, what its tasks are called, and the types.
+fn push_front(
+    text: &mut Vec<u8>,
+    names: &Names,
+    processors: u64,
+    slots: u64,
+    base: u64,
+) -> Result<(), AllocError>
+    ensures { OnOk result (text.new.items ≡ text.old.items ++ front_text names.now processors slots base) }
+{
+    push_title(text, processors, slots, base)?;
+    push_names(text, names.all())?;
+    text.extend_from_slice(b"#include <stdint.h>\n")
 }
 
 /// Appends the line of the two constants.
@@ -89,14 +125,15 @@ fn push_declaration(text: &mut Vec<u8>, processors: u64, slots: u64) -> Result<(
 /// What stands before the first row; of no slot a row with nobody stands behind it.
 pub(crate) fn head(
     alloc: Global,
+    names: &Names,
     processors: u32,
     slots: u64,
     base: u64,
 ) -> Result<Vec<u8>, AllocError>
-    ensures { IfOk result (λ text. text.items ≡ head_text processors slots base) }
+    ensures { IfOk result (λ text. text.items ≡ head_text names.now processors slots base) }
 {
     let mut text = Vec::new(alloc);
-    push_title(&mut text, u64::from(processors), slots, base)?;
+    push_front(&mut text, names, u64::from(processors), slots, base)?;
     push_constants(&mut text, u64::from(processors), slots)?;
     push_declaration(&mut text, u64::from(processors), slots)?;
     if slots == 0 {

@@ -1,3 +1,4 @@
+mod Agreeing
 pub mod Numbering
 pub mod Joins
 pub mod Bases

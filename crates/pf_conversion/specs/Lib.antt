@@ -2,6 +2,7 @@ pub use Rattle.pf_task_list.specs.List
 pub mod Answers
 pub mod Conversions
 pub mod Json
+pub mod Laws
 pub mod Parts
 pub mod Planned
 pub mod Report

@@ -14,16 +14,19 @@ use Rattle.pf_task_list.specs.declared.listed.Listed.{Listed}
 use Rattle.pf_task_list.specs.Times.{time_text}
 use Rattle.pf_conversion.specs.Parts.{joined}
 
+-- the line that tells which number of a column is above its limit
+abbrev pub excess_text : ℕ → List ℕ → ℕ → List ℕ → ℕ → List ℕ
+excess_text line column number above limit = joined (codes "line " ∷ decimal line ∷ column ∷ decimal number ∷ above ∷ decimal limit ∷ [])
+
 -- the line that tells why a task has no slots
 abbrev pub fault_text : Unit → Quantum → Listed → SlotFault → List ℕ
 fault_text unit q task EveryBelowQuantum =
     joined (codes "line " ∷ decimal task.line ∷ codes ", column every: " ∷ time_text unit task.times.every ∷ codes " is below the quantum " ∷ time_text unit q.length ∷ [])
 fault_text unit q task (CostAbovePeriod cost period) =
-    joined (codes "line " ∷ decimal task.line ∷ codes ", column work: " ∷ decimal cost ∷ codes " quanta are above the period of " ∷ decimal period ∷ [])
+    excess_text task.line (codes ", column work: ") cost (codes " quanta are above the period of ") period
 fault_text unit q task (JoinBeyondHorizon join) =
-    joined (codes "line " ∷ decimal task.line ∷ codes ", column first: slot " ∷ decimal join ∷ codes " is not below the horizon " ∷ decimal WIDE_HORIZON ∷ [])
-fault_text unit q task (TooEarly early) =
-    joined (codes "line " ∷ decimal task.line ∷ codes ", column early: " ∷ decimal early ∷ codes " slots are above " ∷ decimal MOST_EARLY ∷ [])
+    excess_text task.line (codes ", column first: slot ") join (codes " is not below the horizon ") WIDE_HORIZON
+fault_text unit q task (TooEarly early) = excess_text task.line (codes ", column early: ") early (codes " slots are above ") MOST_EARLY
 
 -- the task in slots, or the line of its fault
 abbrev pub slots_told : Result Slotted SlotFault → List Slotted

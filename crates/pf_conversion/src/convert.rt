@@ -1,6 +1,5 @@
-ghost use Rattle.std.specs.Prelude.{◌≡◌, ◌≤◌, ◌<◌, All, IfOk, IfSome, length};
-ghost use Rattle.pf_convert.specs.declared.quantum.TheConstants.{LONGEST_QUANTUM};
-ghost use Rattle.pf_convert_words.specs.declared.conversion.ConvertFormat.TheVariants.{Script};
+ghost use Rattle.std.specs.Prelude.{IfOk};
+ghost use Rattle.pf_convert_words.specs.Reading.{IsConversion};
 ghost use Rattle.pf_conversion.specs.Conversions.{MakesConversion};
 
 use crate::answer::{convert_to_json, convert_to_script, convert_to_table};
@@ -15,10 +14,7 @@ use std::alloc::{AllocError, Global};
 ///
 /// Where memory is refused.
 pub fn convert(alloc: Global, list: &[u8], asked: &Conversion) -> Result<Answer, AllocError>
-    requires longer { All (λ q. asked.now.switch < q) asked.now.quanta }
-    requires short { All (λ q. q ≤ LONGEST_QUANTUM) asked.now.quanta }
-    requires few { IfSome asked.now.processors (λ m. m ≤ 64) }
-    requires one { asked.now.format ≡ Script → length asked.now.quanta ≡ 1 }
+    requires { IsConversion asked.now }
     ensures { IfOk result (MakesConversion asked.now list.now) }
 {
     let quanta = asked.quanta.all();

@@ -5,6 +5,7 @@
 pub mod answer;
 pub mod convert;
 pub mod json;
+pub mod laws;
 pub mod parts;
 pub mod planned;
 pub mod report;

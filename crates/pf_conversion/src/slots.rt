@@ -1,5 +1,6 @@
 ghost use Rattle.std.specs.Prelude.{◌≡◌, ◌++◌, IfOk, OnOk};
-ghost use Rattle.pf_conversion.specs.Slots.{fault_text};
+ghost use Rattle.pf_convert.specs.declared.slot_fault.SlotFault.TheVariants.{EveryBelowQuantum};
+ghost use Rattle.pf_conversion.specs.Slots.{excess_text, fault_text};
 
 use crate::parts::{Part, push_parts};
 use pf_convert::quantum::Quantum;
@@ -105,53 +106,81 @@ fn push_slot_fault(
 ) -> Result<(), AllocError>
     ensures { OnOk result (text.new.items ≡ text.old.items ++ fault_text unit quantum task.now fault) }
 {
-    let line = Part::Number(task.line);
+    let line = task.line;
+    match fault {
+        SlotFault::EveryBelowQuantum => push_short(text, unit, quantum, task),
+        SlotFault::CostAbovePeriod { cost, period } => {
+            let above = " quanta are above the period of ";
+            push_excess(text, line, ", column work: ", cost, above, period)
+        }
+        SlotFault::JoinBeyondHorizon { join } => {
+            let not_below = " is not below the horizon ";
+            push_excess(
+                text,
+                line,
+                ", column first: slot ",
+                join,
+                not_below,
+                WIDE_HORIZON,
+            )
+        }
+        SlotFault::TooEarly { early } => {
+            push_excess(
+                text,
+                line,
+                ", column early: ",
+                early,
+                " slots are above ",
+                MOST_EARLY,
+            )
+        }
+    }
+}
+
+/// Adds the line that tells that a task comes again before a quantum has passed.
+fn push_short(
+    text: &mut Vec<u8>,
+    unit: Unit,
+    quantum: Quantum,
+    task: &Listed,
+) -> Result<(), AllocError>
+    ensures { OnOk result (text.new.items ≡ text.old.items ++ fault_text unit quantum task.now EveryBelowQuantum) }
+{
     let every = u128::from(task.times.every);
     let length = u128::from(quantum.length);
-    match fault {
-        SlotFault::EveryBelowQuantum => push_parts(
-            text,
-            &[
-                Part::Words("line "),
-                line,
-                Part::Words(", column every: "),
-                Part::Time(unit, every),
-                Part::Words(" is below the quantum "),
-                Part::Time(unit, length),
-            ],
-        ),
-        SlotFault::CostAbovePeriod { cost, period } => push_parts(
-            text,
-            &[
-                Part::Words("line "),
-                line,
-                Part::Words(", column work: "),
-                Part::Number(cost),
-                Part::Words(" quanta are above the period of "),
-                Part::Number(period),
-            ],
-        ),
-        SlotFault::JoinBeyondHorizon { join } => push_parts(
-            text,
-            &[
-                Part::Words("line "),
-                line,
-                Part::Words(", column first: slot "),
-                Part::Number(join),
-                Part::Words(" is not below the horizon "),
-                Part::Number(WIDE_HORIZON),
-            ],
-        ),
-        SlotFault::TooEarly { early } => push_parts(
-            text,
-            &[
-                Part::Words("line "),
-                line,
-                Part::Words(", column early: "),
-                Part::Number(early),
-                Part::Words(" slots are above "),
-                Part::Number(MOST_EARLY),
-            ],
-        ),
-    }
+    push_parts(
+        text,
+        &[
+            Part::Words("line "),
+            Part::Number(task.line),
+            Part::Words(", column every: "),
+            Part::Time(unit, every),
+            Part::Words(" is below the quantum "),
+            Part::Time(unit, length),
+        ],
+    )
+}
+
+/// Adds the line that tells which number of a column is above its limit.
+fn push_excess<'a>(
+    text: &mut Vec<u8>,
+    line: u64,
+    column: &'a str,
+    number: u64,
+    above: &'a str,
+    limit: u64,
+) -> Result<(), AllocError>
+    ensures { OnOk result (text.new.items ≡ text.old.items ++ excess_text line column.now number above.now limit) }
+{
+    push_parts(
+        text,
+        &[
+            Part::Words("line "),
+            Part::Number(line),
+            Part::Words(column),
+            Part::Number(number),
+            Part::Words(above),
+            Part::Number(limit),
+        ],
+    )
 }

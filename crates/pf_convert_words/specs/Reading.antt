@@ -1,5 +1,5 @@
 -- What the words of a conversion ask for.
-use Rattle.std.specs.Prelude.{ℕ, ◌==◌, ◌&&◌, Bool, true, false, nat_le, nat_lt, if◌then◌else◌, option_map, Option, None, Some, Result, Ok, Err, List, [], ◌∷◌, ◌++◌, length, codes}
+use Rattle.std.specs.Prelude.{ℕ, ◌≡◌, ◌<◌, ◌≤◌, All, IfSome, ◌==◌, ◌&&◌, Bool, true, false, nat_le, nat_lt, if◌then◌else◌, option_map, Option, None, Some, Result, Ok, Err, List, [], ◌∷◌, ◌++◌, length, codes}
 use Rattle.std.specs.Str.{bytes_eq}
 use Rattle.pf_convert.specs.declared.quantum.TheConstants.{LONGEST_QUANTUM}
 use Rattle.pf_names.specs.declared.unit.Unit.{Unit}
@@ -88,9 +88,9 @@ unfoldable pub first_not_above : ℕ → List ℕ → Option ℕ
 first_not_above switch [] = None
 first_not_above switch (quantum ∷ quanta) = if nat_le quantum switch then Some quantum else first_not_above switch quanta
 
-abbrev pub longer_than : Option ℕ → Result ℕ ConvertMistake
-longer_than None = Ok 0
-longer_than (Some quantum) = Err (SwitchNotBelow quantum)
+abbrev pub longer_than : Unit → Option ℕ → Result ℕ ConvertMistake
+longer_than unit None = Ok 0
+longer_than unit (Some quantum) = Err (SwitchNotBelow unit quantum)
 
 -- a script of one quantum, and a table of several, where no format is named
 abbrev pub format_for : Option ConvertFormat → ℕ → Result ConvertFormat ConvertMistake
@@ -99,14 +99,38 @@ format_for (Some Script) count = if count == 1 then Ok Script else Err SeveralQu
 format_for (Some Table) count = Ok Table
 format_for (Some Json) count = Ok Json
 
--- what the words ask for, or the first of them that is mistaken
-unfoldable pub conversion_of : ConvertWords → Result Conversion ConvertMistake
-conversion_of w = do
-  named ← format_given (option_map (λ t. t.now) w.format)
-  unit ← unit_given (option_map (λ t. t.now) w.unit)
-  quanta ← quanta_given unit w.quantum.now
-  switch ← switch_given unit (option_map (λ t. t.now) w.switch)
-  processors ← processors_given (option_map (λ t. t.now) w.processors)
-  _ ← longer_than (first_not_above switch quanta)
+-- the texts of a conversion's words
+pub record ConvertTexts : Type 0 where
+  pub format : Option (List ℕ)
+  pub unit : Option (List ℕ)
+  pub quantum : List ℕ
+  pub switch : Option (List ℕ)
+  pub processors : Option (List ℕ)
+
+abbrev pub texts_of : ConvertWords → ConvertTexts
+texts_of w = record {
+  format = option_map (λ t. t.now) w.format;
+  unit = option_map (λ t. t.now) w.unit;
+  quantum = w.quantum.now;
+  switch = option_map (λ t. t.now) w.switch;
+  processors = option_map (λ t. t.now) w.processors;
+}
+
+-- the switch is below each quantum, which is up to a second long, there are 64 processors at most, and a script has one quantum
+pub record IsConversion (c : Conversion) : Type 0 where
+  pub longer : All (λ q. c.switch < q) c.quanta
+  pub short : All (λ q. q ≤ LONGEST_QUANTUM) c.quanta
+  pub few : IfSome c.processors (λ m. m ≤ 64)
+  pub one : c.format ≡ Script → length c.quanta ≡ 1
+
+-- what these texts ask for, or the first of them that is mistaken
+unfoldable pub conversion_of : ConvertTexts → Result Conversion ConvertMistake
+conversion_of t = do
+  named ← format_given t.format
+  unit ← unit_given t.unit
+  quanta ← quanta_given unit t.quantum
+  switch ← switch_given unit t.switch
+  processors ← processors_given t.processors
+  _ ← longer_than unit (first_not_above switch quanta)
   format ← format_for named (length quanta)
   Ok (record { format = format; unit = unit; quanta = quanta; switch = switch; processors = processors })

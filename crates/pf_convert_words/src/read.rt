@@ -2,7 +2,7 @@ ghost use Rattle.std.specs.Prelude.{◌≡◌, ◌≤◌, ◌<◌, ◌^◌, All,
 ghost use Rattle.pf_convert.specs.declared.quantum.TheConstants.{LONGEST_QUANTUM};
 ghost use Rattle.pf_convert.specs.declared.timed.TheConstants.{TIME_LIMIT};
 ghost use Rattle.pf_convert_words.specs.declared.conversion.ConvertFormat.TheVariants.{Script};
-ghost use Rattle.pf_convert_words.specs.Reading.{conversion_of, first_not_above, format_for, format_given, processors_given, quanta_from, quanta_given, quantum_added, switch_given, unit_given, words_from};
+ghost use Rattle.pf_convert_words.specs.Reading.{IsConversion, conversion_of, first_not_above, format_for, format_given, processors_given, quanta_from, quanta_given, quantum_added, switch_given, texts_of, unit_given, words_from};
 
 use crate::conversion::{Conversion, ConvertFormat};
 use crate::mistake::ConvertMistake;
@@ -150,11 +150,8 @@ fn format_for(named: Option<ConvertFormat>, quanta: &[u64]) -> Result<ConvertFor
 /// The first of them that is mistaken.
 #[tactic(auto, unfolding(crate::specs::Reading::conversion_of))]
 pub fn read_conversion(words: &ConvertWords<'_>) -> Result<Conversion, ConvertMistake>
-    ensures value { result ≡ conversion_of words.now }
-    ensures longer { IfOk result (λ c. All (λ q. c.switch < q) c.quanta) }
-    ensures short { IfOk result (λ c. All (λ q. q ≤ LONGEST_QUANTUM) c.quanta) }
-    ensures few { IfOk result (λ c. IfSome c.processors (λ m. m ≤ 64)) }
-    ensures one { IfOk result (λ c. c.format ≡ Script → length c.quanta ≡ 1) }
+    ensures value { result ≡ conversion_of (texts_of words.now) }
+    ensures sound { IfOk result IsConversion }
 {
     let format = read_format(words.format)?;
     let unit = read_unit(words.unit)?;
@@ -162,7 +159,7 @@ pub fn read_conversion(words: &ConvertWords<'_>) -> Result<Conversion, ConvertMi
     let switch = read_switch(unit, words.switch)?;
     let processors = read_processors(words.processors)?;
     if let Some(quantum) = first_not_above(switch, quanta.all()) {
-        return Err(ConvertMistake::SwitchNotBelow(quantum));
+        return Err(ConvertMistake::SwitchNotBelow(unit, quantum));
     }
     let format = format_for(format, quanta.all())?;
     Ok(Conversion {

@@ -16,7 +16,7 @@ abbrev pub CanBeDrawn : ℕ → ℕ → ℕ → Shown → Type 0
 CanBeDrawn from to cell d = IsRange from to d × (to - from ≤ MOST_SLOTS) × (NARROWEST ≤ cell) × (cell ≤ WIDEST)
 
 abbrev pub chart_of : Shown → ℕ → ℕ → List ℕ
-chart_of d from to = chart_text_of (seen_of d) from to
+chart_of d from to = chart_text_of (seen_of d) untitled from to
 
 -- all slots side by side, each so wide, in strips
 abbrev pub look_of : ℕ → Look

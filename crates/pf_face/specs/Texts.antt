@@ -2,6 +2,7 @@
 use Rattle.std.specs.Prelude.{ℕ, ◌≡◌, ◌==◌, if◌then◌else◌, Option, None, Some, List}
 use Rattle.pf_desk.specs.Desk.{Seen, Shown, seen_of}
 use Rattle.pf_report.specs.Events.{events_text}
+use Rattle.pf_names.specs.Titled.{untitled}
 use Rattle.pf_report.specs.Json.{json_text}
 use Rattle.pf_report.specs.Script.{script_text_of}
 use Rattle.pf_report.specs.Tables.{schedule_text, lags_text, misses_text, denials_text}
@@ -29,14 +30,14 @@ kind_numbered number =
 -- the text of what is seen of a desk with such a distance of checkpoints
 abbrev pub text_seen : TextKind → ℕ → Seen → List ℕ
 text_seen Schedule every seen = schedule_text seen
-text_seen Lags every seen = lags_text seen
+text_seen Lags every seen = lags_text seen untitled
 text_seen Misses every seen = misses_text seen
 text_seen Denials every seen = denials_text seen
 text_seen Events every seen = events_text seen
-text_seen Script every seen = script_text_of every seen
-text_seen Json every seen = json_text seen
+text_seen Script every seen = script_text_of every seen untitled
+text_seen Json every seen = json_text seen untitled
 text_seen Processors every seen = processors_text seen
-text_seen Stats every seen = stats_text seen
+text_seen Stats every seen = stats_text seen untitled
 
 -- the text of a desk
 abbrev pub text_of : TextKind → Shown → List ℕ

@@ -107,7 +107,7 @@ fn chart(alloc: Global, desk: &Desk, from: u64, to: u64) -> Result<Vec<u8>, Allo
     ensures { IfOk result (λ text. text.items ≡ chart_of desk.now from to) }
 {
     let snapshot = desk.snapshot()?;
-    chart_text(alloc, &snapshot, from, to)
+    chart_text(alloc, &snapshot, &Titles::none(alloc), from, to)
 }
 
 /// Writes the picture of a range, where that can be drawn.

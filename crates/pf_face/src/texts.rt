@@ -9,6 +9,7 @@ use crate::status::{NO_MEMORY, NOT_OPEN, UNKNOWN_KIND};
 use crate::text_kind::TextKind;
 use pf_desk::desk::Desk;
 use pf_desk::snapshot::Snapshot;
+use pf_names::titles::Titles;
 use pf_report::denials::denials_csv;
 use pf_report::events::events_csv;
 use pf_report::json::report_json;
@@ -85,15 +86,16 @@ pub(crate) fn text_of_snapshot(
 ) -> Result<Vec<u8>, AllocError>
     ensures { IfOk result (λ text. text.items ≡ text_seen kind every snapshot.now) }
 {
+    let titles = Titles::none(alloc);
     match kind {
         TextKind::Schedule => schedule_csv(alloc, snapshot),
-        TextKind::Lags => lags_csv(alloc, snapshot),
+        TextKind::Lags => lags_csv(alloc, snapshot, &titles),
         TextKind::Misses => misses_csv(alloc, snapshot),
         TextKind::Denials => denials_csv(alloc, snapshot),
         TextKind::Events => events_csv(alloc, snapshot),
-        TextKind::Script => script_text(alloc, snapshot, every),
-        TextKind::Json => report_json(alloc, snapshot),
+        TextKind::Script => script_text(alloc, snapshot, every, &titles),
+        TextKind::Json => report_json(alloc, snapshot, &titles),
         TextKind::Processors => processors_csv(alloc, snapshot),
-        TextKind::Stats => stats_csv(alloc, snapshot),
+        TextKind::Stats => stats_csv(alloc, snapshot, &titles),
     }
 }

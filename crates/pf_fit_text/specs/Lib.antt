@@ -1,6 +1,7 @@
 pub mod Cells
 pub mod Elements
 pub mod Examples
+pub mod FitFormats
 pub mod Json
 pub mod Lines
 pub mod Rows

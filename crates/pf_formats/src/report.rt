@@ -1,5 +1,4 @@
 ghost use Rattle.std.specs.Prelude.{◌≡◌, ◌≤◌, ◌++◌, true, None, IfOk};
-ghost use Rattle.pf_names.specs.Titled.{untitled};
 ghost use Rattle.pf_chart.specs.Chart.{chart_text_of};
 ghost use Rattle.pf_jobs.specs.Jobs.{jobs_text};
 ghost use Rattle.pf_jobs.specs.Load.{load_text};
@@ -10,8 +9,9 @@ ghost use Rattle.pf_report.specs.Quanta.{quanta_text};
 ghost use Rattle.pf_report.specs.Replies.{line_end};
 ghost use Rattle.pf_tasks.specs.Listed.{all_tasks};
 ghost use Rattle.pf_look.specs.declared.wrap.TheConstants.{MOST_SLOTS};
-ghost use Rattle.pf_words.specs.Formats.{range_fault};
-ghost use Rattle.pf_words.specs.Ranges.{end_of, first_of, is_within, slots_of};
+ghost use Rattle.pf_options.specs.Formats.{range_fault};
+ghost use Rattle.pf_options.specs.Ranges.{end_of, first_of, is_within, slots_of};
+ghost use Rattle.pf_trace.specs.Trace.{trace_text};
 ghost use Rattle.pf_windows.specs.Windows.{windows_text};
 ghost use Rattle.pf_formats.specs.Left.{text_left};
 ghost use Rattle.pf_formats.specs.Report.{report_text};
@@ -25,6 +25,8 @@ use pf_jobs::jobs::{JobPieces, job_pieces};
 use pf_jobs::load::{LoadPieces, load_pieces};
 use pf_look::look::Look;
 use pf_names::titles::Titles;
+use pf_options::format::Format;
+use pf_options::slot_range::SlotRange;
 use pf_picture::picture::{PicturePieces, picture_pieces};
 use pf_report::denials::denial_pieces;
 use pf_report::events::events_csv;
@@ -38,48 +40,51 @@ use pf_stats::processors::processors_csv;
 use pf_stats::stats::stats_csv;
 use pf_tasks::task_list::TaskList;
 use pf_text::pieces::{Chain, Whole};
+use pf_trace::trace::trace_pieces;
 use pf_windows::windows::{WindowPieces, window_pieces};
-use pf_words::format::Format;
-use pf_words::slot_range::SlotRange;
 use std::alloc::{AllocError, Global};
 
-/// What stands behind all replies in a format, in pieces. The format can be shown of the slots stepped, and `every` is the
-/// distance of checkpoints in slots.
+/// What stands behind all replies in a format, in pieces. The format can be shown of the slots stepped, `every` is the distance
+/// of checkpoints in slots, and of a script of version 1 or 2 there are no titles.
 ///
 /// # Errors
 ///
 /// Where memory is refused.
 #[tactic(auto, unfolding(crate::specs::Report::report_text))]
-pub fn report_pieces(
+pub fn report_pieces<'a>(
     alloc: Global,
-    snapshot: &Snapshot,
+    snapshot: &'a Snapshot,
     every: u64,
     format: Format,
-) -> Result<ReportPieces<'_>, AllocError>
+    titles: &'a Titles,
+) -> Result<ReportPieces<'a>, AllocError>
     requires { range_fault format snapshot.now.state.now ≡ None }
-    ensures { IfOk result (λ pieces. text_left pieces ≡ report_text format every snapshot.now) }
+    ensures { IfOk result (λ pieces. text_left pieces ≡ report_text format every snapshot.now titles.now) }
 {
     let pieces = match format {
         Format::Schedule(range) => ReportPieces::Part(schedule_of(alloc, snapshot, range)?),
-        Format::Tables => ReportPieces::Tables(tables_pieces(alloc, snapshot)?),
-        Format::Json | Format::Report => ReportPieces::Json(json_line(alloc, snapshot)?),
+        Format::Tables => ReportPieces::Tables(tables_pieces(alloc, snapshot, titles)?),
+        Format::Json | Format::Report => ReportPieces::Json(json_line(alloc, snapshot, titles)?),
         Format::Replies => ReportPieces::Whole(Whole::new(Vec::new(alloc))),
-        Format::Lags => ReportPieces::Lags(lag_pieces(alloc, snapshot)?),
+        Format::Lags => ReportPieces::Lags(lag_pieces(alloc, snapshot, titles)?),
         Format::Misses => ReportPieces::Misses(miss_pieces(alloc, snapshot)?),
         Format::Denials => ReportPieces::Denials(denial_pieces(alloc, snapshot)?),
         Format::Events => ReportPieces::Whole(Whole::new(events_csv(alloc, snapshot)?)),
-        Format::Script => ReportPieces::Script(script_pieces(alloc, snapshot, every)?),
+        Format::Script => ReportPieces::Script(script_pieces(alloc, snapshot, every, titles)?),
         Format::Processors => ReportPieces::Whole(Whole::new(processors_csv(alloc, snapshot)?)),
-        Format::Stats => ReportPieces::Whole(Whole::new(stats_csv(alloc, snapshot)?)),
-        Format::Chart(range) => ReportPieces::Chart(chart_of(alloc, snapshot, range)?),
+        Format::Stats => ReportPieces::Whole(Whole::new(stats_csv(alloc, snapshot, titles)?)),
+        Format::Chart(range) => ReportPieces::Chart(chart_of(alloc, snapshot, titles, range)?),
         Format::Svg(range, look) => {
-            ReportPieces::Picture(picture_of(alloc, snapshot, range, &look)?)
+            ReportPieces::Picture(picture_of(alloc, snapshot, titles, range, &look)?)
         }
         Format::Quanta(range) => ReportPieces::Quanta(quanta_of(alloc, snapshot, range)?),
-        Format::Windows(range) => ReportPieces::Windows(windows_of(alloc, snapshot, range)?),
-        Format::Jobs => ReportPieces::Jobs(jobs_of(alloc, snapshot)?),
+        Format::Windows(range) => ReportPieces::Windows(windows_of(
+            alloc, snapshot, titles, range,
+        )?),
+        Format::Jobs => ReportPieces::Jobs(jobs_of(alloc, snapshot, titles)?),
         Format::Load(range) => ReportPieces::Load(load_of(alloc, snapshot, range)?),
-        Format::C => ReportPieces::Code(c_pieces(alloc, snapshot)?),
+        Format::Trace => ReportPieces::Trace(trace_pieces(alloc, snapshot, titles)?),
+        Format::C => ReportPieces::Code(c_pieces(alloc, snapshot, titles)?),
     };
     Ok(pieces)
 }
@@ -98,33 +103,40 @@ fn schedule_of(
 }
 
 /// The chart of a range of slots, in pieces.
-fn chart_of(
+fn chart_of<'a>(
     alloc: Global,
-    snapshot: &Snapshot,
+    snapshot: &'a Snapshot,
+    titles: &'a Titles,
     range: SlotRange,
-) -> Result<ChartPieces<'_>, AllocError>
+) -> Result<ChartPieces<'a>, AllocError>
     requires { is_within range snapshot.now.state.now ≡ true }
     ensures { IfOk result
-        (λ pieces. pieces ≡ chart_text_of snapshot.now (first_of range) (end_of range snapshot.now.state.now)) }
+        (λ pieces. pieces ≡ chart_text_of snapshot.now titles.now (first_of range) (end_of range snapshot.now.state.now)) }
 {
-    chart_pieces(alloc, snapshot, range.first(), range.end(snapshot.now()))
+    chart_pieces(
+        alloc,
+        snapshot,
+        titles,
+        range.first(),
+        range.end(snapshot.now()),
+    )
 }
 
 /// The picture of a range of slots, in pieces.
 fn picture_of<'a>(
     alloc: Global,
     snapshot: &'a Snapshot,
+    titles: &Titles,
     range: SlotRange,
     look: &Look,
 ) -> Result<PicturePieces<'a>, AllocError>
     requires within { is_within range snapshot.now.state.now ≡ true }
     requires short { slots_of range snapshot.now.state.now ≤ MOST_SLOTS }
     ensures { IfOk result
-        (λ pieces. pieces ≡ picture_text_of snapshot.now untitled (first_of range) (end_of range snapshot.now.state.now) look.now) }
+        (λ pieces. pieces ≡ picture_text_of snapshot.now titles.now (first_of range) (end_of range snapshot.now.state.now) look.now) }
 {
     let to = range.end(snapshot.now());
-    let titles = Titles::none(alloc);
-    picture_pieces(alloc, snapshot, &titles, range.first(), to, look)
+    picture_pieces(alloc, snapshot, titles, range.first(), to, look)
 }
 
 /// The quanta of a range of slots, in pieces.
@@ -141,29 +153,35 @@ fn quanta_of(
 }
 
 /// The windows of all tasks in a range of slots, in pieces.
-fn windows_of(
+fn windows_of<'a>(
     alloc: Global,
     snapshot: &Snapshot,
+    titles: &'a Titles,
     range: SlotRange,
-) -> Result<WindowPieces, AllocError>
+) -> Result<WindowPieces<'a>, AllocError>
     ensures { IfOk result
-        (λ pieces. pieces ≡ windows_text snapshot.now all_tasks (first_of range) (end_of range snapshot.now.state.now)) }
+        (λ pieces. pieces ≡ windows_text snapshot.now all_tasks titles.now (first_of range) (end_of range snapshot.now.state.now)) }
 {
     let tasks = TaskList::all(alloc)?;
     window_pieces(
         alloc,
         snapshot,
         &tasks,
+        titles,
         range.first(),
         range.end(snapshot.now()),
     )
 }
 
 /// The jobs of all tasks, in pieces.
-fn jobs_of(alloc: Global, snapshot: &Snapshot) -> Result<JobPieces, AllocError>
-    ensures { IfOk result (λ pieces. pieces ≡ jobs_text snapshot.now all_tasks) }
+fn jobs_of<'a>(
+    alloc: Global,
+    snapshot: &Snapshot,
+    titles: &'a Titles,
+) -> Result<JobPieces<'a>, AllocError>
+    ensures { IfOk result (λ pieces. pieces ≡ jobs_text snapshot.now all_tasks titles.now) }
 {
-    job_pieces(alloc, snapshot, &TaskList::all(alloc)?)
+    job_pieces(alloc, snapshot, &TaskList::all(alloc)?, titles)
 }
 
 /// Load and room of a range of slots, in pieces.
@@ -176,9 +194,13 @@ fn load_of(alloc: Global, snapshot: &Snapshot, range: SlotRange) -> Result<LoadP
 }
 
 /// The JSON object, as a line, in pieces.
-fn json_line(alloc: Global, snapshot: &Snapshot) -> Result<Chain<JsonPieces<'_>, Whole>, AllocError>
-    ensures { IfOk result (λ pieces. pieces ≡ json_text snapshot.now ++ line_end) }
+fn json_line<'a>(
+    alloc: Global,
+    snapshot: &'a Snapshot,
+    titles: &Titles,
+) -> Result<Chain<JsonPieces<'a>, Whole>, AllocError>
+    ensures { IfOk result (λ pieces. pieces ≡ json_text snapshot.now titles.now ++ line_end) }
 {
     let end = Whole::new(Vec::from_slice(alloc, b"\n")?);
-    Ok(Chain::new(json_pieces(alloc, snapshot)?, end))
+    Ok(Chain::new(json_pieces(alloc, snapshot, titles)?, end))
 }

@@ -12,6 +12,7 @@ use pf_report::quanta::QuantaPieces;
 use pf_report::schedule_part::PartPieces;
 use pf_report::script::ScriptPieces;
 use pf_text::pieces::{Chain, Pieces, Whole};
+use pf_trace::trace::TracePieces;
 use pf_windows::windows::WindowPieces;
 use std::alloc::{AllocError, Global};
 
@@ -27,7 +28,7 @@ pub enum ReportPieces<'a> {
     /// The JSON object, as a line.
     Json(Chain<JsonPieces<'a>, Whole>),
     /// The lags.
-    Lags(LagPieces),
+    Lags(LagPieces<'a>),
     /// The missed windows.
     Misses(MissPieces),
     /// The denials.
@@ -43,9 +44,11 @@ pub enum ReportPieces<'a> {
     /// Load and room of a range.
     Load(LoadPieces),
     /// The windows of a range.
-    Windows(WindowPieces),
+    Windows(WindowPieces<'a>),
     /// The jobs.
-    Jobs(JobPieces),
+    Jobs(JobPieces<'a>),
+    /// The trace events.
+    Trace(TracePieces<'a>),
     /// The schedule as a C array.
     Code(ArrayPieces<'a>),
 }
@@ -73,6 +76,7 @@ impl Pieces for ReportPieces<'_> {
             ReportPieces::Load(pieces) => pieces.next_piece(alloc),
             ReportPieces::Windows(pieces) => pieces.next_piece(alloc),
             ReportPieces::Jobs(pieces) => pieces.next_piece(alloc),
+            ReportPieces::Trace(pieces) => pieces.next_piece(alloc),
             ReportPieces::Code(pieces) => pieces.next_piece(alloc),
         }
     }

@@ -2,6 +2,7 @@ ghost use Rattle.std.specs.Prelude.{◌≡◌, ◌++◌, IfOk};
 ghost use Rattle.pf_formats.specs.Report.{tables_text};
 
 use pf_desk::snapshot::Snapshot;
+use pf_names::titles::Titles;
 use pf_report::denials::{DenialPieces, denial_pieces};
 use pf_report::lags::{LagPieces, lag_pieces};
 use pf_report::misses::{MissPieces, miss_pieces};
@@ -14,7 +15,7 @@ type Titled<T> = Chain<Whole, T>;
 
 /// The four tables, each behind a line with its name, in pieces.
 pub type TablesPieces<'a> = Chain<
-    Chain<Chain<Titled<SchedulePieces<'a>>, Titled<LagPieces>>, Titled<MissPieces>>,
+    Chain<Chain<Titled<SchedulePieces<'a>>, Titled<LagPieces<'a>>>, Titled<MissPieces>>,
     Titled<DenialPieces<'a>>,
 >;
 
@@ -28,14 +29,15 @@ fn titled<T: Pieces + Drop>(alloc: Global, line: &[u8], table: T) -> Result<Titl
 
 /// The four tables, each behind a line with its name, in pieces. The lags and the missed windows are in memory until they
 /// are written.
-pub(crate) fn tables_pieces(
+pub(crate) fn tables_pieces<'a>(
     alloc: Global,
-    snapshot: &Snapshot,
-) -> Result<TablesPieces<'_>, AllocError>
-    ensures { IfOk result (λ pieces. pieces ≡ tables_text snapshot.now) }
+    snapshot: &'a Snapshot,
+    titles: &'a Titles,
+) -> Result<TablesPieces<'a>, AllocError>
+    ensures { IfOk result (λ pieces. pieces ≡ tables_text snapshot.now titles.now) }
 {
     let schedule = titled(alloc, b"schedule\n", schedule_pieces(alloc, snapshot)?)?;
-    let lags = titled(alloc, b"lags\n", lag_pieces(alloc, snapshot)?)?;
+    let lags = titled(alloc, b"lags\n", lag_pieces(alloc, snapshot, titles)?)?;
     let misses = titled(alloc, b"misses\n", miss_pieces(alloc, snapshot)?)?;
     let denials = titled(alloc, b"denials\n", denial_pieces(alloc, snapshot)?)?;
     Ok(Chain::new(Chain::new(Chain::new(schedule, lags), misses), denials))

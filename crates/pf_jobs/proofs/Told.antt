@@ -35,10 +35,12 @@ use Rattle.pf_tally.proofs.Own.{shift_own}
 use Rattle.pf_tally.proofs.Subs.{ran_is}
 use Rattle.pf_tasks.specs.Listed.{is_listed}
 use Rattle.pf_tasks.specs.declared.task_range.TaskRange.{TaskRange}
+use Rattle.pf_names.specs.declared.titles.Titles.{Titles}
+use Rattle.pf_name_column.specs.Column.{name_fields, with_name}
 use Rattle.pf_text.specs.Page.{Page, with_record}
 use Rattle.pf_text.specs.Sheets.{AddsAtMostOne}
-use Rattle.pf_jobs.specs.Ran.{Ran, ran_by}
-use Rattle.pf_jobs.specs.Jobs.{first_of, last_of, job_of, job_by, job_count, job_record, job_records, is_told, jobs_records, records_behind_job, records_of_task}
+use Rattle.pf_jobs.specs.Ran.{NamedRan, Ran, ran_by}
+use Rattle.pf_jobs.specs.Jobs.{first_of, last_of, job_of, job_by, job_count, job_record, job_records, is_told, jobs_records, named_behind_job, records_behind_job, records_of_task}
 use Rattle.pf_jobs.specs.declared.job.Job.{Job}
 
 flat_map_agree : {X : Type 0} (f g : ℕ → List X) (a k : ℕ) → ((i : ℕ) → a ≤ i → f i ≡ g i) →
@@ -62,10 +64,13 @@ pub some_subs : (k cost : ℕ) → 1 ≤ k → cost ≤ k * cost
 some_subs k cost some = omega (arith, mul-le-mul_right cost some)
 
 -- Use: behind all jobs none is left.
-pub none_left : (ran : Ran) → records_behind_job ran (job_count ran) ≡ []
-none_left ran =
-    ap (λ n. flat_map (λ i. job_records ran.end (job_by ran i)) (range_with_len (job_count ran + 1) n))
-    (let z : job_count ran - job_count ran ≡ 0 = omega arith in z)
+pub none_left : (x : NamedRan) → named_behind_job x (job_count x.ran) ≡ []
+none_left x = ap (with_name x.titles x.ran.task.task) (none_behind x.ran)
+  where
+    none_behind : (ran : Ran) → records_behind_job ran (job_count ran) ≡ []
+    none_behind ran =
+        ap (λ n. flat_map (λ i. job_records ran.end (job_by ran i)) (range_with_len (job_count ran + 1) n))
+        (let z : job_count ran - job_count ran ≡ 0 = omega arith in z)
 
 -- Use: the subtasks of the next job are within the slots.
 pub within_slots : (ran : Ran) (k : ℕ) → k ≤ job_count ran → k * ran.task.weight.cost ≤ ran.slot_count
@@ -86,15 +91,24 @@ module _ (ran : Ran) (at : ℕ) (within : at < job_count ran) where
       first_place ∙ ap (λ x. job_records ran.end x ++ records_behind_job ran (at + 1)) (sym is)
       ∙ ap (λ x. cond x (job_record job ∷ []) [] ++ records_behind_job ran (at + 1)) told
 
-  pub told_added : {A E : Type 0} (r : Result A E) (job : Job) (old new : Page) → job ≡ job_by ran (at + 1) → is_told ran.end job ≡ true →
-      OnOk r (new ≡ with_record old (job_record job)) →
-      OnOk r (AddsAtMostOne (records_behind_job ran at) (records_behind_job ran (at + 1)) old new)
-  told_added (Ok x) job old new is told h = record { added = job_record job ∷ []; of_was = by_test job true is told; is = (refl, h) }
-  told_added (Err e) job old new is told h = tt
+  module _ (titles : Titles) where
+    abbrev left : ℕ → List (List (List ℕ))
+    left k = named_behind_job (record { ran = ran; titles = titles }) k
 
-  pub none_added : (job : Job) (page : Page) → job ≡ job_by ran (at + 1) → is_told ran.end job ≡ false →
-      AddsAtMostOne (records_behind_job ran at) (records_behind_job ran (at + 1)) page page
-  none_added job page is told = record { added = []; of_was = by_test job false is told; is = refl }
+    pub told_added : {A E : Type 0} (r : Result A E) (job : Job) (old new : Page) → job ≡ job_by ran (at + 1) → is_told ran.end job ≡ true →
+        OnOk r (new ≡ with_record old (job_record job ++ name_fields titles job.task)) →
+        OnOk r (AddsAtMostOne (left at) (left (at + 1)) old new)
+    told_added (Ok x) job old new is told h = record {
+      added = (job_record job ++ name_fields titles job.task) ∷ [];
+      of_was = ap (with_name titles ran.task.task) (by_test job true is told)
+          ∙ ap (λ task. (job_record job ++ name_fields titles task) ∷ left (at + 1)) (sym (ap (λ x. x.task) is));
+      is = (refl, h);
+    }
+    told_added (Err e) job old new is told h = tt
+
+    pub none_added : (job : Job) (page : Page) → job ≡ job_by ran (at + 1) → is_told ran.end job ≡ false →
+        AddsAtMostOne (left at) (left (at + 1)) page page
+    none_added job page is told = record { added = []; of_was = ap (with_name titles ran.task.task) (by_test job false is told); is = refl }
 
 -- a task's own events are enough
 pub own_records : (r : List Slot) (xs : List Numbered) (j : Joined) → records_of_task r (events_of_task j.task xs) j ≡ records_of_task r xs j
@@ -135,12 +149,15 @@ module _ (s : Plan) (n : ℕ) (scenario : IsScenario s) (long : length (run_of s
 
 -- a step over the admitted tasks, by number, of which those of a list are taken
 module _ (s : Plan) (n : ℕ) (ledger : Ledger) (known : IsLedger s n ledger) (tasks : List Joined)
-    (of_tasks : tasks ≡ by_task (filter_map (join_of ledger.settings.base) ledger.events.items)) (ranges : List TaskRange) where
+    (of_tasks : tasks ≡ by_task (filter_map (join_of ledger.settings.base) ledger.events.items)) (ranges : List TaskRange) (titles : Titles) where
   abbrev listed : Joined → Bool
   listed j = is_listed ranges j.task
 
   abbrev records : Joined → List (List (List ℕ))
-  records j = records_of_task (run_of s n) ledger.events.items j
+  records j = with_name titles j.task (records_of_task (run_of s n) ledger.events.items j)
+
+  abbrev kept : NamedRan → List (List (List ℕ))
+  kept x = named_behind_job x 0
 
   listed_more : (k : ℕ) (j : Joined) → k < length tasks → j ≡ get_or tasks k j → (b : Bool) → is_listed ranges j.task ≡ b →
       flat_map records (filter listed (take (k + 1) tasks)) ≡ flat_map records (filter listed (take k tasks)) ++ cond b (records j) []
@@ -170,38 +187,41 @@ module _ (s : Plan) (n : ℕ) (ledger : Ledger) (known : IsLedger s n ledger) (t
         let P : List ℕ → Type 0 = All (λ q. q < WIDE_HORIZON) in
         subst P (sym ran_is_of_run) (λ i d below. omega (arith, all i d below, short, known.slots))
 
-    sheet_is : (run : Ran) → run ≡ ran_by j ran diary ledger.now → records_behind_job run 0 ≡ records j
-    sheet_is run run_is =
-        ap (λ x. records_behind_job x 0) (run_is ∙ ap (λ m. ran_by j ran diary m) known.now)
+    behind_is : records_behind_job (ran_by j ran diary ledger.now) 0 ≡ records_of_task (run_of s n) ledger.events.items j
+    behind_is =
+        ap (λ m. records_behind_job (ran_by j ran diary m) 0) known.now
         ∙ records_are s n known.scenario known.slots diary j ran (subst (λ m. CanTally j ran diary m) known.now can_tally) ran_is_of_run
         ∙ ap (λ xs. records_of_task (run_of s n) xs j)
         (task_diary s n ledger known j (sorted_at s n ledger known tasks of_tasks k j within is) diary of_diary)
         ∙ own_records (run_of s n) ledger.events.items j
 
-    pub sheet_added : (run : Ran) (before after : List Ran) → run ≡ ran_by j ran diary ledger.now → is_listed ranges j.task ≡ true →
-        after ≡ before ++ run ∷ [] →
-        flat_map (λ x. records_behind_job x 0) before ≡ flat_map records (filter listed (take k tasks)) →
-        flat_map (λ x. records_behind_job x 0) after ≡ flat_map records (filter listed (take (k + 1) tasks))
+    sheet_is : (run : Ran) → run ≡ ran_by j ran diary ledger.now → kept (record { ran = run; titles = titles }) ≡ records j
+    sheet_is run run_is = ap (λ x. kept (record { ran = x; titles = titles })) run_is ∙ ap (with_name titles j.task) behind_is
+
+    pub sheet_added : (run : Ran) (before after : List NamedRan) → run ≡ ran_by j ran diary ledger.now → is_listed ranges j.task ≡ true →
+        after ≡ before ++ record { ran = run; titles = titles } ∷ [] →
+        flat_map (λ x. named_behind_job x 0) before ≡ flat_map records (filter listed (take k tasks)) →
+        flat_map (λ x. named_behind_job x 0) after ≡ flat_map records (filter listed (take (k + 1) tasks))
     sheet_added run before after run_is has push so_far =
-        let g : Ran → List (List (List ℕ)) = λ x. records_behind_job x 0 in
-        ap (flat_map g) push ∙ flat_map-append g before (run ∷ [])
-        ∙ ap₂ (λ xs ys. xs ++ ys) so_far (flat_map-cons g run [] ∙ append-nil (g run) ∙ sheet_is run run_is)
+        let sheet : NamedRan = record { ran = run; titles = titles } in
+        ap (flat_map kept) push ∙ flat_map-append kept before (sheet ∷ [])
+        ∙ ap₂ (λ xs ys. xs ++ ys) so_far (flat_map-cons kept sheet [] ∙ append-nil (kept sheet) ∙ sheet_is run run_is)
         ∙ sym (listed_more k j within is true has)
 
-  pub sheet_left : (k : ℕ) (j : Joined) (before after : List Ran) → k < length tasks → j ≡ get_or tasks k j → is_listed ranges j.task ≡ false →
+  pub sheet_left : (k : ℕ) (j : Joined) (before after : List NamedRan) → k < length tasks → j ≡ get_or tasks k j → is_listed ranges j.task ≡ false →
       after ≡ before →
-      flat_map (λ x. records_behind_job x 0) before ≡ flat_map records (filter listed (take k tasks)) →
-      flat_map (λ x. records_behind_job x 0) after ≡ flat_map records (filter listed (take (k + 1) tasks))
+      flat_map (λ x. named_behind_job x 0) before ≡ flat_map records (filter listed (take k tasks)) →
+      flat_map (λ x. named_behind_job x 0) after ≡ flat_map records (filter listed (take (k + 1) tasks))
   sheet_left k j before after within is has same so_far =
-      ap (flat_map (λ x. records_behind_job x 0)) same ∙ so_far
+      ap (flat_map kept) same ∙ so_far
       ∙ sym (listed_more k j within is false has ∙ append-nil (flat_map records (filter listed (take k tasks))))
 
-  pub sheets_all : (k : ℕ) (sheets : List Ran) → length tasks ≤ k →
-      flat_map (λ x. records_behind_job x 0) sheets ≡ flat_map records (filter listed (take k tasks)) →
-      flat_map (λ x. records_behind_job x 0) sheets ≡ jobs_records s (run_of s n) ranges
+  pub sheets_all : (k : ℕ) (sheets : List NamedRan) → length tasks ≤ k →
+      flat_map (λ x. named_behind_job x 0) sheets ≡ flat_map records (filter listed (take k tasks)) →
+      flat_map (λ x. named_behind_job x 0) sheets ≡ jobs_records s (run_of s n) ranges titles
   sheets_all k sheets over so_far =
       let events = known.events ∙ ap (events_in_force s (run_of s n)) (sym known.slots) in
       so_far
       ∙ ap (λ js. flat_map records (filter listed js)) (take_all k tasks over ∙ of_tasks)
-      ∙ ap₂ (λ (xs : List Numbered) base. flat_map (records_of_task (run_of s n) xs) (filter listed (by_task (filter_map (join_of base) xs))))
+      ∙ ap₂ (λ (xs : List Numbered) base. flat_map (λ j. with_name titles j.task (records_of_task (run_of s n) xs j)) (filter listed (by_task (filter_map (join_of base) xs))))
       events (ap (λ z. z.base) known.settings)

@@ -5,6 +5,7 @@ use Rattle.pf_scenario.specs.declared.event.Event.TheVariants.{Join, Leave, Dela
 use Rattle.pf_run.specs.RunRows.{rows_in, denials_in}
 use Rattle.pf_run.specs.Examples.{plan_with}
 use Rattle.pf_desk.specs.Desk.{Seen}
+use Rattle.pf_names.specs.Titled.{untitled}
 use Rattle.pf_tasks.specs.Listed.{all_tasks}
 use Rattle.pf_jobs.specs.Jobs.{jobs_text}
 use Rattle.pf_jobs.specs.Load.{load_text}
@@ -28,10 +29,10 @@ pub record WorkedLoads : Type 0 where
 
 pub record WorkedJobs : Type 0 where
   -- jobs that work ahead of their release, and one whose release a delay moves
-  pub whole : jobs_text busy all_tasks ≡
+  pub whole : jobs_text busy all_tasks untitled ≡
       codes "task,job,release,deadline,finish,response,tardiness\n1,1,0,4,3,3,0\n1,2,6,10,10,4,0\n1,3,10,14,13,3,0\n"
       ++ codes "2,1,0,3,2,2,0\n2,2,3,6,5,2,0\n2,3,6,9,9,3,0\n3,1,1,7,4,3,0\n3,2,7,13,5,-2,0\n3,3,14,20,12,-2,0\n4,1,2,15,13,11,0\n"
   -- more is asked for than there is: one is overdue, one is not finished; of task 2 alone
   pub late : jobs_text (seen_after (plan_with 2 4 12 (Join 0 1 3 4 0 ∷ Join 0 2 3 4 0 ∷ Join 0 3 3 4 0 ∷ [])) 12)
-      (record { first = 2; last = 2 } ∷ []) ≡
+      (record { first = 2; last = 2 } ∷ []) untitled ≡
       codes "task,job,release,deadline,finish,response,tardiness\n2,1,0,4,4,4,0\n2,2,4,8,9,5,1\n2,3,8,12,,,\n"

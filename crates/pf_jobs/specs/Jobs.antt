@@ -1,5 +1,5 @@
 -- The jobs of the tasks: job k of a task is its subtasks (k - 1) * cost + 1 to k * cost.
-use Rattle.std.specs.Prelude.{ℕ, ◌+◌, ◌-◌, ◌*◌, ◌/◌, Bool, ◌||◌, nat_le, if◌then◌else◌, pos, ◌-ℤ◌, Option, None, Some, is_some, List, [], ◌∷◌, codes, length, map, filter, filter_map}
+use Rattle.std.specs.Prelude.{ℕ, ◌+◌, ◌-◌, ◌*◌, ◌/◌, Bool, ◌||◌, nat_le, if◌then◌else◌, pos, ◌-ℤ◌, Option, None, Some, is_some, List, [], ◌∷◌, ◌++◌, codes, length, map, filter, filter_map}
 use Rattle.std.specs.Fmt.{decimal, signed_decimal}
 use Rattle.std.specs.List.{flat_map, range_with_len, slice_get}
 use Rattle.std.specs.Option.{option_map}
@@ -15,11 +15,13 @@ use Rattle.pf_tally.specs.Lags.{by_task}
 use Rattle.pf_tally.specs.Late.{due_at, released_at}
 use Rattle.pf_tally.specs.Misses.{due_of, ran_in}
 use Rattle.pf_desk.specs.Desk.{Seen}
+use Rattle.pf_names.specs.declared.titles.Titles.{Titles}
+use Rattle.pf_name_column.specs.Column.{name_heading, with_name}
 use Rattle.pf_tasks.specs.Listed.{is_listed}
 use Rattle.pf_tasks.specs.declared.task_range.TaskRange.{TaskRange}
 use Rattle.pf_tally.specs.declared.held.Held.{Held}
 use Rattle.pf_text.specs.Page.{table_text}
-use Rattle.pf_jobs.specs.Ran.{Ran}
+use Rattle.pf_jobs.specs.Ran.{NamedRan, Ran}
 use Rattle.pf_jobs.specs.declared.job.Job.{Job}
 
 -- the last and the first subtask of job k
@@ -71,13 +73,16 @@ abbrev pub admitted_of : Plan → List Slot → List TaskRange → List Joined
 admitted_of s r tasks =
     filter (λ j. is_listed tasks j.task) (by_task (filter_map (join_of s.settings.base) (events_in_force s r (length r))))
 
-abbrev pub jobs_records : Plan → List Slot → List TaskRange → List (List (List ℕ))
-jobs_records s r tasks = flat_map (records_of_task r (events_in_force s r (length r))) (admitted_of s r tasks)
+-- those of the tasks, with their names
+abbrev pub jobs_records : Plan → List Slot → List TaskRange → Titles → List (List (List ℕ))
+jobs_records s r tasks titles =
+    flat_map (λ j. with_name titles j.task (records_of_task r (events_in_force s r (length r)) j)) (admitted_of s r tasks)
 
 -- the jobs of these tasks, by task number, then by their own
-unfoldable pub jobs_text : Seen → List TaskRange → List ℕ
-jobs_text seen tasks =
-    table_text (jobs_heading ∷ jobs_records seen.state.plan (run_of seen.state.plan seen.state.now) tasks)
+unfoldable pub jobs_text : Seen → List TaskRange → Titles → List ℕ
+jobs_text seen tasks titles =
+    table_text ((jobs_heading ++ name_heading titles)
+    ∷ jobs_records seen.state.plan (run_of seen.state.plan seen.state.now) tasks titles)
 
 -- the same by what is told of a task
 abbrev pub job_count : Ran → ℕ
@@ -98,3 +103,7 @@ job_by ran k = job_with ran.task ran.slots ran.held k
 -- the lines of the jobs behind the first k
 abbrev pub records_behind_job : Ran → ℕ → List (List (List ℕ))
 records_behind_job ran k = flat_map (λ i. job_records ran.end (job_by ran i)) (range_with_len (k + 1) (job_count ran - k))
+
+-- the same with the name of the task
+abbrev pub named_behind_job : NamedRan → ℕ → List (List (List ℕ))
+named_behind_job x k = with_name x.titles x.ran.task.task (records_behind_job x.ran k)

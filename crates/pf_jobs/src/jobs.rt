@@ -2,11 +2,14 @@ ghost use Rattle.std.specs.Prelude.{◌≡◌, ◌++◌, ◌^◌, ◌<◌, [], I
 ghost use Rattle.std.specs.List.{flat_map};
 ghost use Rattle.pf_run.specs.Computed.{run_of};
 ghost use Rattle.pf_text.specs.Page.{with_record};
-ghost use Rattle.pf_jobs.specs.Jobs.{finish_fields, job_record, jobs_records, jobs_text, records_behind_job};
+ghost use Rattle.pf_name_column.specs.Column.{name_fields};
+ghost use Rattle.pf_jobs.specs.Jobs.{finish_fields, job_record, jobs_records, jobs_text, named_behind_job};
 
 use crate::job::Job;
 use crate::task_run::TaskRun;
 use pf_desk::snapshot::Snapshot;
+use pf_name_column::column::{push_heading, show_name};
+use pf_names::titles::Titles;
 use pf_tally::admitted::admitted_by_number;
 use pf_tally::ledger::make_ledger;
 use pf_tasks::task_list::TaskList;
@@ -37,40 +40,42 @@ fn show_finish(table: &mut Table, job: Job) -> Result<(), AllocError>
 }
 
 /// Adds the record of a job.
-fn push_job(table: &mut Table, job: Job) -> Result<(), AllocError>
+fn push_job(table: &mut Table, job: Job, titles: &Titles) -> Result<(), AllocError>
     requires start { table.old.fields ≡ [] }
     requires release { job.release < 2 ^ 56 }
     requires finish { IfSome job.finish (λ t. t < 2 ^ 32) }
-    ensures { OnOk result (table.new ≡ with_record table.old (job_record job)) }
+    ensures { OnOk result (table.new ≡ with_record table.old (job_record job ++ name_fields titles.now job.task)) }
 {
     table.show_number(job.task)?;
     table.show_number(job.number)?;
     table.show_number(job.release)?;
     table.show_number(job.deadline)?;
     show_finish(table, job)?;
+    show_name(table, titles, job.task)?;
     table.end_record()
 }
 
-/// The jobs of a task.
+/// The jobs of a task, and what the script calls it.
 #[derive(Drop)]
-pub struct JobSheet {
+pub struct JobSheet<'a> {
     run: TaskRun,
+    titles: &'a Titles,
 }
 
-impl Model for JobSheet {
-    ghost use Rattle.pf_jobs.specs.Ran.{Ran};
+impl<'a> Model for JobSheet<'a> {
+    ghost use Rattle.pf_jobs.specs.Ran.{NamedRan};
 
-    ghost Value = { Ran };
+    ghost Value = { NamedRan };
 
-    ghost view = { λ s. s.run };
+    ghost view = { λ s. record { ran = s.run; titles = s.titles.now } };
 }
 
-impl Sheet for JobSheet {
-    ghost use Rattle.pf_jobs.specs.Jobs.{job_count, records_behind_job};
+impl Sheet for JobSheet<'_> {
+    ghost use Rattle.pf_jobs.specs.Jobs.{job_count, named_behind_job};
 
-    ghost count = { job_count };
+    ghost count = { λ s. job_count s.ran };
 
-    ghost rest = { records_behind_job };
+    ghost rest = { named_behind_job };
 
     fn count(&self) -> u64 {
         self.run.job_count()
@@ -81,7 +86,7 @@ impl Sheet for JobSheet {
         let _ = self.run.job_count();
         let job = self.run.job(at + 1);
         if self.run.tells(job) {
-            push_job(table, job)
+            push_job(table, job, self.titles)
         } else {
             Ok(())
         }
@@ -89,13 +94,14 @@ impl Sheet for JobSheet {
 }
 
 /// The jobs that a snapshot shows, of each task of a list that was admitted, by its number.
-fn job_sheets(
+fn job_sheets<'a>(
     alloc: Global,
     snapshot: &Snapshot,
     tasks: &TaskList,
-) -> Result<Vec<JobSheet>, AllocError>
-    ensures { IfOk result (λ v. flat_map (λ ran. records_behind_job ran 0) v.items
-        ≡ jobs_records snapshot.now.state.plan (run_of snapshot.now.state.plan snapshot.now.state.now) tasks.now) }
+    titles: &'a Titles,
+) -> Result<Vec<JobSheet<'a>>, AllocError>
+    ensures { IfOk result (λ v. flat_map (λ sheet. named_behind_job sheet 0) v.items
+        ≡ jobs_records snapshot.now.state.plan (run_of snapshot.now.state.plan snapshot.now.state.now) tasks.now titles.now) }
 {
     // That the rows are those of the scenario's run is known from its calls alone.
     let _ = snapshot.now();
@@ -112,32 +118,33 @@ fn job_sheets(
             let ran = ledger.quanta(*task);
             let diary = ledger.diary(*task);
             let run = TaskRun::of(alloc, *task, ran, diary, ledger.now)?;
-            sheets.push(JobSheet { run })?;
+            sheets.push(JobSheet { run, titles })?;
         }
     }
     Ok(sheets)
 }
 
 /// The jobs of tasks as a table, in pieces: the heading, and then the records.
-pub type JobPieces = Chain<Whole, SheetPieces<JobSheet>>;
+pub type JobPieces<'a> = Chain<Whole, SheetPieces<JobSheet<'a>>>;
 
 /// The jobs of the tasks of a list as a table, in pieces, by task number, then by their own: of each job that is finished, or
 /// whose deadline the task did not leave before, its release and its deadline, the slot behind the one in which it was
 /// finished, how long it took from its release to there, 0 or less where it worked ahead of it, and by how many slots it was
-/// overdue.
+/// overdue. In version 3 the name of the task stands last, or nothing where it has none.
 ///
 /// # Errors
 ///
 /// Where memory is refused.
-pub fn job_pieces(
+pub fn job_pieces<'a>(
     alloc: Global,
     snapshot: &Snapshot,
     tasks: &TaskList,
-) -> Result<JobPieces, AllocError>
-    ensures { IfOk result (λ pieces. pieces ≡ jobs_text snapshot.now tasks.now) }
+    titles: &'a Titles,
+) -> Result<JobPieces<'a>, AllocError>
+    ensures { IfOk result (λ pieces. pieces ≡ jobs_text snapshot.now tasks.now titles.now) }
 {
     let mut table = Table::new(alloc);
-    table.push_texts(&[
+    let texts = [
         "task",
         "job",
         "release",
@@ -145,8 +152,9 @@ pub fn job_pieces(
         "finish",
         "response",
         "tardiness",
-    ])?;
+    ];
+    push_heading(&mut table, &texts, titles)?;
     let heading = Whole::new(table.finish()?);
-    let sheets = job_sheets(alloc, snapshot, tasks)?;
+    let sheets = job_sheets(alloc, snapshot, tasks, titles)?;
     Ok(Chain::new(heading, SheetPieces::new(sheets)))
 }

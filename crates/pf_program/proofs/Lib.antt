@@ -1,2 +1,4 @@
+mod Comparing
+pub mod Quiet
 mod WordsAnswered
 mod ThirdScripts

@@ -1,37 +1,80 @@
 -- A task with a script of version 3.
 use Rattle.std.proofs.Common.{◌≡◌, ◌≤◌, ◌<◌, List, [], ℕ, length, Option, Some, None, Result, Ok, Err, inl, refl, sym, subst, ap, ◌∙◌, arith}
-use Rattle.std.specs.Prelude.{IfOk}
+use Rattle.std.specs.Prelude.{⊤, IfOk}
 use Rattle.std.specs.Io.KnownBytes.{Keeps}
 use Rattle.pf_fault.specs.declared.ending.Ending.{Ending}
 use Rattle.pf_fault.specs.declared.fault.Fault.{Fault}
 use Rattle.pf_fault.specs.declared.fault.Fault.TheVariants as why
 use Rattle.pf_fault.specs.Faults.{CountsWrites}
+use Rattle.pf_fault.specs.declared.answer.Answer.{Answer}
+use Rattle.pf_fit_text.specs.declared.fit_format.FitFormat.{FitFormat}
+use Rattle.pf_names.specs.Titled.{untitled}
 use Rattle.pf_plain.specs.declared.origin.Origin.{Origin}
 use Rattle.pf_plain.specs.declared.plain.PlainScript.{PlainScript}
 use Rattle.pf_plain.specs.Plain.{IsPlain, MakesPlain, Plain, plain}
 use Rattle.pf_stream.specs.Reading.{longest_script}
 use Rattle.pf_text.specs.Page.{table_text}
+use Rattle.pf_convert_words.specs.declared.conversion.Conversion.{Conversion}
 use Rattle.pf_words.specs.declared.task.Task.{Task}
-use Rattle.pf_program.specs.Tasks.{AnswersTask}
-use Rattle.pf_program.specs.Versions.{AnswersBytes, AnswersOf, AnswersShort, AnswersThird, numbered, task_in}
+use Rattle.pf_words.specs.declared.task.Task.TheVariants.{Run, Check, Diff, Drill, Convert, Fit, Why}
+use Rattle.pf_words.specs.Asked.{IsSound}
+use Rattle.pf_program.specs.Tasks.{AnswersMade, AnswersTask, FitMade, IsOfScript, IsQuietIfDone}
+use Rattle.pf_program.specs.Versions.{AnswersBytes, AnswersOf, AnswersRecords, AnswersShort, AnswersThird, numbered, since_in, task_in}
+
+-- the task is another than a fit
+abbrev pub IsNoFit : Task → Type 0
+IsNoFit (Fit format) = ⊥
+IsNoFit task = ⊤
+
+-- Use: the text and the titles are those of the records.
+text_of_records : (p : Plain) (s : PlainScript) (task : Task) (file : List ℕ) (inner : Result Ending Fault) (old new : Option (List ℕ)) → IsPlain s p
+    → AnswersTask s.titles task file s.text.items inner old new → AnswersTask p.titles task file (table_text p.records) inner old new
+text_of_records p s task file inner old new is h =
+    subst (λ x. AnswersTask p.titles task file x inner old new) is.text
+    (subst (λ t. AnswersTask t task file s.text.items inner old new) is.titles h)
+
+-- Use: the task that is another with the script of version 2.
+pub task_answered : (p : Plain) (s : PlainScript) (task other : Task) (file : List ℕ) (inner : Result Ending Fault) (old new : Option (List ℕ)) → IsPlain s p
+    → IsNoFit task → other ≡ task_in p task → AnswersTask s.titles other file s.text.items inner old new → AnswersRecords p task file inner old new
+task_answered p s (Run format fail_on) other file inner old new is other_task same h =
+    text_of_records p s (Run format fail_on) file inner old new is (subst (λ t. AnswersTask s.titles t file s.text.items inner old new) same h)
+task_answered p s Check other file inner old new is other_task same h =
+    text_of_records p s Check file inner old new is (subst (λ t. AnswersTask s.titles t file s.text.items inner old new) same h)
+task_answered p s (Diff since options) other file inner old new is other_task same h =
+    text_of_records p s (Diff (Some (since_in p since)) options) file inner old new is
+    (subst (λ t. AnswersTask s.titles t file s.text.items inner old new) same h)
+task_answered p s Drill other file inner old new is other_task same h =
+    text_of_records p s Drill file inner old new is (subst (λ t. AnswersTask s.titles t file s.text.items inner old new) same h)
+task_answered p s (Convert conversion) other file inner old new is other_task same h =
+    text_of_records p s (Convert conversion) file inner old new is (subst (λ t. AnswersTask s.titles t file s.text.items inner old new) same h)
+task_answered p s (Why question) other file inner old new is other_task same h =
+    text_of_records p s (Why question) file inner old new is (subst (λ t. AnswersTask s.titles t file s.text.items inner old new) same h)
+task_answered p s (Fit format) other file inner old new is other_task same h = absurd other_task
+
+-- Use: whether the script fits was told by the records of version 3.
+pub fit_answered : (p : Plain) (s : PlainScript) (format : FitFormat) (file : List ℕ) (made : Result Answer Fault) (inner : Result Ending Fault) (old new : Option (List ℕ)) → IsPlain s p
+    → FitMade format file (Some s.origins.items) s.titles s.text.items made → AnswersMade made inner old new → AnswersRecords p (Fit format) file inner old new
+fit_answered p s format file made inner old new is h answers = (
+  made,
+  subst (λ x. FitMade format file (Some p.origins) p.titles x made) is.text
+      (subst (λ t. FitMade format file (Some p.origins) t s.text.items made) is.titles
+      (subst (λ o. FitMade format file (Some o) s.titles s.text.items made) is.origins h)),
+  answers,
+)
 
 -- Use: the script of version 2 was short enough.
-pub short_enough : (p : Plain) (s : PlainScript) (task other : Task) (inner answer : Result Ending Fault) (old new : Option (List ℕ)) → IsPlain s p
-    → other ≡ task_in p task → length s.text.items ≤ longest_script → AnswersTask other s.text.items inner old new
-    → answer ≡ numbered s.origins.items inner → AnswersShort p task answer old new
-short_enough p s task other inner answer old new is same short answers told = record {
-  short = λ h. (
-    inner,
-    subst (λ t. AnswersTask t (table_text p.records) inner old new) same (subst (λ x. AnswersTask other x inner old new) is.text answers),
-    told ∙ ap (λ o. numbered o inner) is.origins,
-  );
+pub short_enough : (p : Plain) (s : PlainScript) (task : Task) (file : List ℕ) (inner answer : Result Ending Fault) (old new : Option (List ℕ)) → IsPlain s p
+    → length s.text.items ≤ longest_script → AnswersRecords p task file inner old new
+    → answer ≡ numbered s.origins.items inner → AnswersShort p task file answer old new
+short_enough p s task file inner answer old new is short answers told = record {
+  short = λ h. (inner, answers, told ∙ ap (λ o. numbered o inner) is.origins);
   long = λ h. absurd (omega (arith, ap length is.text));
 }
 
 -- Use: it was too long.
-pub too_long : (p : Plain) (s : PlainScript) (task : Task) (old new : Option (List ℕ)) → IsPlain s p → longest_script < length s.text.items
-    → Keeps old new → AnswersShort p task (Err why.TooLong) old new
-too_long p s task old new is long kept = record { short = λ h. absurd (omega (arith, ap length is.text)); long = λ h. (refl, kept) }
+pub too_long : (p : Plain) (s : PlainScript) (task : Task) (file : List ℕ) (old new : Option (List ℕ)) → IsPlain s p → longest_script < length s.text.items
+    → Keeps old new → AnswersShort p task file (Err why.TooLong) old new
+too_long p s task file old new is long kept = record { short = λ h. absurd (omega (arith, ap length is.text)); long = λ h. (refl, kept) }
 
 -- Use: another number of a record leaves what was written.
 pub numbered_writes : (origins : List Origin) (inner : Result Ending Fault) (old new : ℕ) → CountsWrites inner old new
@@ -47,8 +90,7 @@ numbered_writes origins (Err why.NoReader) old new h = h
 numbered_writes origins (Err why.GateShut) old new h = h
 
 -- Use: and what is told behind an answer.
-pub numbered_quiet : (origins : List Origin) (inner : Result Ending Fault) → IfOk inner (λ ending. ending.notes.items ≡ [])
-    → IfOk (numbered origins inner) (λ ending. ending.notes.items ≡ [])
+pub numbered_quiet : (origins : List Origin) (inner : Result Ending Fault) → IfOk inner IsQuietIfDone → IfOk (numbered origins inner) IsQuietIfDone
 numbered_quiet origins (Ok ending) h = h
 numbered_quiet origins (Err (why.BadRecord number)) h = tt
 numbered_quiet origins (Err why.TooLong) h = tt
@@ -59,22 +101,42 @@ numbered_quiet origins (Err why.NoMemory) h = tt
 numbered_quiet origins (Err why.NoReader) h = tt
 numbered_quiet origins (Err why.GateShut) h = tt
 
-third_of : (q : Option Plain) (s : PlainScript) (task : Task) (script : List ℕ) (answer : Result Ending Fault) (old new : Option (List ℕ)) → MakesPlain (Some s) q
-    → ((p : Plain) → IsPlain s p → AnswersThird p task script answer old new) → AnswersOf q task script answer old new
-third_of None s task script answer old new made h = absurd made
-third_of (Some p) s task script answer old new made h = h p made
+third_of : (q : Option Plain) (s : PlainScript) (task : Task) (file script : List ℕ) (answer : Result Ending Fault) (old new : Option (List ℕ)) → MakesPlain (Some s) q
+    → ((p : Plain) → IsPlain s p → AnswersThird p task file script answer old new) → AnswersOf q task file script answer old new
+third_of None s task file script answer old new made h = absurd made
+third_of (Some p) s task file script answer old new made h = h p made
 
 -- Use: the script is of version 3.
-pub third_answers : (s : PlainScript) (task : Task) (script : List ℕ) (answer : Result Ending Fault) (old new : Option (List ℕ)) → MakesPlain (Some s) (plain script)
-    → ((p : Plain) → IsPlain s p → AnswersThird p task script answer old new) → AnswersBytes task script answer old new
-third_answers s task script answer old new made h = inl (third_of (plain script) s task script answer old new made h)
+pub third_answers : (s : PlainScript) (task : Task) (file script : List ℕ) (answer : Result Ending Fault) (old new : Option (List ℕ)) → MakesPlain (Some s) (plain script)
+    → ((p : Plain) → IsPlain s p → AnswersThird p task file script answer old new) → AnswersBytes task file script answer old new
+third_answers s task file script answer old new made h = inl (third_of (plain script) s task file script answer old new made h)
 
-before_third : (q : Option Plain) (task : Task) (script : List ℕ) (answer : Result Ending Fault) (old new : Option (List ℕ)) → MakesPlain None q
-    → AnswersTask task script answer old new → AnswersOf q task script answer old new
-before_third None task script answer old new made h = h
-before_third (Some p) task script answer old new made h = absurd made
+before_third : (q : Option Plain) (task : Task) (file script : List ℕ) (answer : Result Ending Fault) (old new : Option (List ℕ)) → MakesPlain None q
+    → AnswersTask untitled task file script answer old new → AnswersOf q task file script answer old new
+before_third None task file script answer old new made h = h
+before_third (Some p) task file script answer old new made h = absurd made
 
 -- Use: it is of another version.
-pub other_answers : (task : Task) (script : List ℕ) (answer : Result Ending Fault) (old new : Option (List ℕ)) → MakesPlain None (plain script)
-    → AnswersTask task script answer old new → AnswersBytes task script answer old new
-other_answers task script answer old new made h = inl (before_third (plain script) task script answer old new made h)
+pub other_answers : (task : Task) (file script : List ℕ) (answer : Result Ending Fault) (old new : Option (List ℕ)) → MakesPlain None (plain script)
+    → AnswersTask untitled task file script answer old new → AnswersBytes task file script answer old new
+other_answers task file script answer old new made h = inl (before_third (plain script) task file script answer old new made h)
+
+list_of : (q : Option Plain) (conversion : Conversion) (file list : List ℕ) (answer : Result Ending Fault) (old new : Option (List ℕ))
+    → AnswersTask untitled (Convert conversion) file list answer old new → AnswersOf q (Convert conversion) file list answer old new
+list_of None conversion file list answer old new h = h
+list_of (Some p) conversion file list answer old new h = h
+
+-- Use: it is a list of tasks.
+pub list_answers : (conversion : Conversion) (file list : List ℕ) (answer : Result Ending Fault) (old new : Option (List ℕ))
+    → AnswersTask untitled (Convert conversion) file list answer old new → AnswersBytes (Convert conversion) file list answer old new
+list_answers conversion file list answer old new h = inl (list_of (plain list) conversion file list answer old new h)
+
+-- Use: a task with a script asks for nothing that could be out of order.
+pub script_is_sound : (task : Task) → IsOfScript task → IsSound task
+script_is_sound (Run format fail_on) h = tt
+script_is_sound Check h = tt
+script_is_sound (Diff since options) h = tt
+script_is_sound Drill h = tt
+script_is_sound (Convert conversion) h = absurd h
+script_is_sound (Fit format) h = tt
+script_is_sound (Why question) h = tt

@@ -1,5 +1,5 @@
--- What the program answers to a task with a script, and what it writes.
-use Rattle.std.specs.Prelude.{ℕ, ⊤, ◌≡◌, List, [], length, Option, Some, option_map, IfOk, IfErr, Result, Ok, Err}
+-- What the program answers to a task with a script, or with a list of tasks, and what it writes.
+use Rattle.std.specs.Prelude.{ℕ, ⊤, ◌≡◌, List, [], length, Option, None, Some, option_map, IfOk, IfErr, Result, Ok, Err}
 use Rattle.std.specs.Io.KnownBytes.{Appends, Keeps}
 use Rattle.pf_fault.specs.declared.answer.Answer.{Answer}
 use Rattle.pf_fault.specs.declared.ending.Ending.{Ending}
@@ -9,27 +9,37 @@ use Rattle.pf_fault.specs.declared.status.Status.TheVariants.{Done}
 use Rattle.pf_fault.specs.Answers.{IsQuiet}
 use Rattle.pf_fault.specs.Faults.{IsOutside}
 use Rattle.pf_stream.specs.Written.{TookFront}
+use Rattle.pf_names.specs.declared.titles.Titles.{Titles}
 use Rattle.pf_script.specs.Asked.{script_asked}
-use Rattle.pf_words.specs.declared.fail_on.FailOn.{FailOn}
-use Rattle.pf_words.specs.declared.format.Format.{Format}
+use Rattle.pf_options.specs.declared.diff_options.DiffOptions.{DiffOptions}
+use Rattle.pf_options.specs.declared.fail_on.FailOn.{FailOn}
+use Rattle.pf_options.specs.declared.format.Format.{Format}
 use Rattle.pf_words.specs.declared.task.Task.{Task}
-use Rattle.pf_words.specs.declared.task.Task.TheVariants.{Run, Check, Diff, Drill}
-use Rattle.pf_words.specs.FailLists.{on_nothing}
+use Rattle.pf_words.specs.declared.task.Task.TheVariants.{Run, Check, Diff, Drill, Convert, Fit, Why}
+use Rattle.pf_options.specs.FailLists.{on_nothing}
 use Rattle.pf_cli.specs.Answers.{Answers}
 use Rattle.pf_cli.specs.Checks.{ChecksBytes}
 use Rattle.pf_cli.specs.Ended.{fails_on, run_status}
 use Rattle.pf_cli.specs.Meaning.{script_meaning}
-use Rattle.pf_cli.specs.Meaning as meaning
 use Rattle.pf_change.specs.Change.{change_meaning}
+use Rattle.pf_change.specs.Difference.{told_by}
 use Rattle.pf_change.specs.Made as change
+use Rattle.pf_why_answer.specs.Answer.{WhyMade}
+use Rattle.pf_carry.specs.Carried as carried
+use Rattle.pf_fit_command.specs.Fit as fit
+use Rattle.pf_fit_text.specs.declared.fit_format.FitFormat.{FitFormat}
+use Rattle.pf_plain.specs.declared.origin.Origin.{Origin}
+use Rattle.pf_script.specs.Told.{told}
 use Rattle.pf_drill.specs.Drilled.{Drills}
 use Rattle.pf_drill.specs.Drilled as drill
 use Rattle.pf_drill.specs.Gates.{SomeArrived}
+use Rattle.pf_convert_words.specs.declared.conversion.Conversion.{Conversion}
+use Rattle.pf_conversion.specs.Conversions.{MakesConversion}
 
--- the script was run in this format: the writer took what it means, or a front of that, and the status tells whether the run
+-- the script, which has these titles, was run in this format: the writer took what it means, or a front of that, and the status tells whether the run
 -- fails on what is listed, which it never does on nothing; where the range can't be shown the writer is as it was
-pub record RunsScript (format : Format) (fail_on : FailOn) (script : List ℕ) (answer : Result Ending Fault) (old new : Option (List ℕ)) : Type 0 where
-  pub meaning : Answers (script_meaning format script) answer old new
+pub record RunsScript (format : Format) (titles : Titles) (fail_on : FailOn) (script : List ℕ) (answer : Result Ending Fault) (old new : Option (List ℕ)) : Type 0 where
+  pub meaning : Answers (script_meaning format titles script) answer old new
   pub failing : IfOk answer (λ ending. option_map run_status (fails_on fail_on script) ≡ Some ending.status)
   pub unasked : fail_on ≡ on_nothing → IfOk answer (λ ending. ending.status ≡ Done)
   pub outside : IsOutside answer → Keeps old new
@@ -42,10 +52,10 @@ AnswersMade (Ok made) (Err fault) old new = ⊥
 AnswersMade (Err fault) answer old new = (answer ≡ Err fault) × Keeps old new
 
 -- the answer to what the script's records from one on changed, or the last one
-pub record ChangeMade (since : Option ℕ) (script : List ℕ) (made : Result Answer Fault) : Type 0 where
-  pub text : IfOk made (λ answer. change_meaning since script ≡ record { text = answer.text.items; end = meaning.Done })
-  pub quiet : IfOk made (λ answer. IsQuiet Done answer.ending)
-  pub stopped : IfErr made (change.Stops (change_meaning since script))
+pub record ChangeMade (since : Option ℕ) (options : DiffOptions) (script : List ℕ) (made : Result Answer Fault) : Type 0 where
+  pub tells : IfOk made (λ answer. change_meaning options since script ≡ Ok (told_by answer))
+  pub quiet : IfOk made (λ answer. answer.ending.notes.items ≡ [])
+  pub stopped : IfErr made (change.Stops (change_meaning options since script))
 
 -- the answer to a drill of the script at gates that are open
 pub record DrillMade (script : List ℕ) (made : Result Answer Fault) : Type 0 where
@@ -53,9 +63,34 @@ pub record DrillMade (script : List ℕ) (made : Result Answer Fault) : Type 0 w
   pub quiet : IfOk made (λ answer. IsQuiet Done answer.ending)
   pub stopped : IfErr made (drill.Stops (SomeArrived (λ worker quantum. ⊥)) (script_asked script))
 
--- the answer to a task with a script, and what the writer took
-abbrev pub AnswersTask : Task → List ℕ → Result Ending Fault → Option (List ℕ) → Option (List ℕ) → Type 0
-AnswersTask (Run format fail_on) script answer old new = RunsScript format fail_on script answer old new
-AnswersTask Check script answer old new = ChecksBytes script answer old new
-AnswersTask (Diff since) script answer old new = (made : Result Answer Fault) × ChangeMade since script made × AnswersMade made answer old new
-AnswersTask Drill script answer old new = (made : Result Answer Fault) × DrillMade script made × AnswersMade made answer old new
+-- the answer to a list of tasks that is converted
+abbrev pub ListConverted : Conversion → List ℕ → Result Answer Fault → Type 0
+ListConverted conversion list (Ok made) = MakesConversion conversion list made
+ListConverted conversion list (Err fault) = fault ≡ why.NoMemory
+
+-- the answer to whether the script in the file of this name fits; origins where it belongs to a script of version 3
+pub record FitMade (format : FitFormat) (file : List ℕ) (origins : Option (List Origin)) (titles : Titles) (script : List ℕ) (made : Result Answer Fault) : Type 0 where
+  pub answer : IfOk made (fit.FitMade format file origins titles script)
+  pub stopped : IfErr made (carried.Stops (told script).rest.fault)
+
+-- the answer to a task with a script that has these titles, or with a list, in the file of this name, and what the writer took
+abbrev pub AnswersTask : Titles → Task → List ℕ → List ℕ → Result Ending Fault → Option (List ℕ) → Option (List ℕ) → Type 0
+AnswersTask titles (Run format fail_on) file script answer old new = RunsScript format titles fail_on script answer old new
+AnswersTask titles Check file script answer old new = ChecksBytes script answer old new
+AnswersTask titles (Diff since options) file script answer old new = (made : Result Answer Fault) × ChangeMade since options script made × AnswersMade made answer old new
+AnswersTask titles Drill file script answer old new = (made : Result Answer Fault) × DrillMade script made × AnswersMade made answer old new
+AnswersTask titles (Convert conversion) file list answer old new =
+    (made : Result Answer Fault) × ListConverted conversion list made × AnswersMade made answer old new
+AnswersTask titles (Fit format) file script answer old new =
+    (made : Result Answer Fault) × FitMade format file None titles script made × AnswersMade made answer old new
+AnswersTask titles (Why question) file script answer old new =
+    (made : Result Answer Fault) × WhyMade titles.names question script made × AnswersMade made answer old new
+
+-- a task with a script, and not with a list
+abbrev pub IsOfScript : Task → Type 0
+IsOfScript (Convert conversion) = ⊥
+IsOfScript task = ⊤
+
+-- where the status is `Done`, there is nothing to tell on standard error
+abbrev pub IsQuietIfDone : Ending → Type 0
+IsQuietIfDone ending = ending.status ≡ Done → ending.notes.items ≡ []

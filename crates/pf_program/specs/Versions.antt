@@ -8,13 +8,14 @@ use Rattle.pf_fault.specs.declared.answer.Answer.{Answer}
 use Rattle.pf_fault.specs.declared.ending.Ending.{Ending}
 use Rattle.pf_fault.specs.declared.fault.Fault.{Fault}
 use Rattle.pf_fault.specs.declared.fault.Fault.TheVariants as why
+use Rattle.pf_names.specs.Titled.{untitled}
 use Rattle.pf_plain.specs.declared.origin.Origin.{Origin}
 use Rattle.pf_plain.specs.Plain.{Plain, plain}
 use Rattle.pf_stream.specs.Reading.{longest_script}
 use Rattle.pf_text.specs.Page.{table_text}
 use Rattle.pf_words.specs.declared.task.Task.{Task}
-use Rattle.pf_words.specs.declared.task.Task.TheVariants.{Run, Check, Diff, Drill}
-use Rattle.pf_program.specs.Tasks.{AnswersMade, AnswersTask}
+use Rattle.pf_words.specs.declared.task.Task.TheVariants.{Run, Check, Diff, Drill, Convert, Fit, Why}
+use Rattle.pf_program.specs.Tasks.{AnswersMade, AnswersTask, FitMade}
 
 -- how many come from a record before this one
 abbrev pub count_below : ℕ → List Origin → ℕ
@@ -30,8 +31,11 @@ since_in p (Some number) = count_below number p.origins + 1
 abbrev pub task_in : Plain → Task → Task
 task_in p (Run format fail_on) = Run format fail_on
 task_in p Check = Check
-task_in p (Diff since) = Diff (Some (since_in p since))
+task_in p (Diff since options) = Diff (Some (since_in p since)) options
 task_in p Drill = Drill
+task_in p (Convert conversion) = Convert conversion
+task_in p (Fit format) = Fit format
+task_in p (Why question) = Why question
 
 -- the number of the record that the one of this number comes from
 abbrev pub number_from : List Origin → ℕ → ℕ
@@ -39,38 +43,50 @@ number_from origins number =
     if (number == 0) || nat_lt (length origins) number then number
     else (slice_index_or origins (number - 1) (record { number = number; line = 0 })).number
 
--- the same answer, with the number of the record that a bad one comes from
-abbrev pub numbered : List Origin → Result Ending Fault → Result Ending Fault
-numbered origins (Ok ending) = Ok ending
-numbered origins (Err (why.BadRecord number)) = Err (why.BadRecord (number_from origins number))
-numbered origins (Err fault) = Err fault
+-- the same fault, with the number of the record that a bad one comes from
+abbrev pub numbered_fault : List Origin → Fault → Fault
+numbered_fault origins (why.BadRecord number) = why.BadRecord (number_from origins number)
+numbered_fault origins fault = fault
+
+abbrev pub numbered : {A : Type 0} → List Origin → Result A Fault → Result A Fault
+numbered origins (Ok answer) = Ok answer
+numbered origins (Err fault) = Err (numbered_fault origins fault)
 
 -- the answer to a check
 abbrev pub IsChecked : List ℕ → Result Answer Fault → Type 0
 IsChecked script (Ok made) = ChecksThird script made
 IsChecked script (Err fault) = fault ≡ why.NoMemory
 
--- the task was done with the script of version 2
-abbrev pub AnswersPlain : Plain → Task → Result Ending Fault → Option (List ℕ) → Option (List ℕ) → Type 0
-AnswersPlain p task answer old new =
-    (inner : Result Ending Fault) × AnswersTask (task_in p task) (table_text p.records) inner old new × (answer ≡ numbered p.origins inner)
+-- the task was done with the script of version 2, whose records come from those of version 3
+abbrev pub AnswersRecords : Plain → Task → List ℕ → Result Ending Fault → Option (List ℕ) → Option (List ℕ) → Type 0
+AnswersRecords p (Fit format) file inner old new =
+    (made : Result Answer Fault) × FitMade format file (Some p.origins) p.titles (table_text p.records) made × AnswersMade made inner old new
+AnswersRecords p task file inner old new = AnswersTask p.titles (task_in p task) file (table_text p.records) inner old new
+
+abbrev pub AnswersPlain : Plain → Task → List ℕ → Result Ending Fault → Option (List ℕ) → Option (List ℕ) → Type 0
+AnswersPlain p task file answer old new =
+    (inner : Result Ending Fault) × AnswersRecords p task file inner old new × (answer ≡ numbered p.origins inner)
 
 -- where that is short enough
-pub record AnswersShort (p : Plain) (task : Task) (answer : Result Ending Fault) (old new : Option (List ℕ)) : Type 0 where
-  pub short : length (table_text p.records) ≤ longest_script → AnswersPlain p task answer old new
+pub record AnswersShort (p : Plain) (task : Task) (file : List ℕ) (answer : Result Ending Fault) (old new : Option (List ℕ)) : Type 0 where
+  pub short : length (table_text p.records) ≤ longest_script → AnswersPlain p task file answer old new
   pub long : longest_script < length (table_text p.records) → (answer ≡ Err why.TooLong) × Keeps old new
 
--- the answer to a task with a script of version 3
-abbrev pub AnswersThird : Plain → Task → List ℕ → Result Ending Fault → Option (List ℕ) → Option (List ℕ) → Type 0
-AnswersThird p Check script answer old new = (made : Result Answer Fault) × IsChecked script made × AnswersMade made answer old new
-AnswersThird p (Run format fail_on) script answer old new = AnswersShort p (Run format fail_on) answer old new
-AnswersThird p (Diff since) script answer old new = AnswersShort p (Diff since) answer old new
-AnswersThird p Drill script answer old new = AnswersShort p Drill answer old new
+-- the answer to a task with a script of version 3; a list of tasks is no script, however it begins
+abbrev pub AnswersThird : Plain → Task → List ℕ → List ℕ → Result Ending Fault → Option (List ℕ) → Option (List ℕ) → Type 0
+AnswersThird p Check file script answer old new = (made : Result Answer Fault) × IsChecked script made × AnswersMade made answer old new
+AnswersThird p (Run format fail_on) file script answer old new = AnswersShort p (Run format fail_on) file answer old new
+AnswersThird p (Diff since options) file script answer old new = AnswersShort p (Diff since options) file answer old new
+AnswersThird p Drill file script answer old new = AnswersShort p Drill file answer old new
+AnswersThird p (Convert conversion) file list answer old new = AnswersTask untitled (Convert conversion) file list answer old new
+AnswersThird p (Fit format) file script answer old new = AnswersShort p (Fit format) file answer old new
+AnswersThird p (Why question) file script answer old new = AnswersShort p (Why question) file answer old new
 
--- the answer to a task with a script of any version
-abbrev pub AnswersOf : Option Plain → Task → List ℕ → Result Ending Fault → Option (List ℕ) → Option (List ℕ) → Type 0
-AnswersOf None task script answer old new = AnswersTask task script answer old new
-AnswersOf (Some p) task script answer old new = AnswersThird p task script answer old new
+-- the answer to a task with a script of any version, in the file of this name
+abbrev pub AnswersOf : Option Plain → Task → List ℕ → List ℕ → Result Ending Fault → Option (List ℕ) → Option (List ℕ) → Type 0
+AnswersOf None task file script answer old new = AnswersTask untitled task file script answer old new
+AnswersOf (Some p) task file script answer old new = AnswersThird p task file script answer old new
 
-abbrev pub AnswersBytes : Task → List ℕ → Result Ending Fault → Option (List ℕ) → Option (List ℕ) → Type 0
-AnswersBytes task script answer old new = AnswersOf (plain script) task script answer old new ⊎ ((answer ≡ Err why.NoMemory) × Keeps old new)
+abbrev pub AnswersBytes : Task → List ℕ → List ℕ → Result Ending Fault → Option (List ℕ) → Option (List ℕ) → Type 0
+AnswersBytes task file script answer old new =
+    AnswersOf (plain script) task file script answer old new ⊎ ((answer ≡ Err why.NoMemory) × Keeps old new)

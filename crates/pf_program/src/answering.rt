@@ -1,6 +1,6 @@
 ghost use Rattle.std.specs.Prelude.{◌≡◌, ◌-◌, ◌^◌, ◌<◌, [], IfOk, IfErr};
 ghost use Rattle.pf_fault.specs.Faults.{CountsWrites, IsUnwritten};
-ghost use Rattle.pf_program.specs.Tasks.{AnswersMade};
+ghost use Rattle.pf_program.specs.Tasks.{AnswersMade, IsQuietIfDone};
 
 use pf_fault::answer::Answer;
 use pf_fault::ending::Ending;
@@ -22,6 +22,7 @@ pub(crate) fn write_answer<W: Sink>(
     requires unwritten { IfErr made IsUnwritten }
     ensures made { AnswersMade made result (W.contents writer.old) (W.contents writer.new) }
     ensures quiet { IfOk made (λ answer. answer.ending.notes.items ≡ []) → IfOk result (λ ending. ending.notes.items ≡ []) }
+    ensures done { IfOk made (λ answer. IsQuietIfDone answer.ending) → IfOk result IsQuietIfDone }
     ensures writes { CountsWrites result (W.failed writer.old) (W.failed writer.new) }
 {
     match made {

@@ -1,6 +1,6 @@
 //! The program's words carried out. The one contract of this crate: words that ask for a run, and no others, have
 //! `main_words` run the script, in the format that they ask for; words that ask for a check have it check the script, those
-//! that ask what its last records changed have it tell that, and those that ask for a drill have it drilled.
+//! that ask what its last records changed have it tell that, those that name two scripts have it tell what differs between them, and those that ask for a drill have it drilled.
 #![tactic(auto)]
 
 mod answering;
@@ -8,6 +8,7 @@ mod open_gate;
 pub mod program;
 mod script_source;
 mod tasks;
+mod two_scripts;
 mod versions;
 
 pub use pf_stream::{sink, source};

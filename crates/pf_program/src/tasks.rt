@@ -1,22 +1,31 @@
-ghost use Rattle.std.specs.Prelude.{◌≡◌, ◌-◌, ◌^◌, ◌<◌, ◌≤◌, [], length, IfOk};
-ghost use Rattle.pf_fault.specs.Faults.{CountsWrites};
+ghost use Rattle.std.specs.Prelude.{◌≡◌, ◌-◌, ◌^◌, ◌<◌, ◌≤◌, [], length, IfOk, IfErr};
+ghost use Rattle.pf_fault.specs.Faults.{CountsWrites, IsUnwritten};
 ghost use Rattle.pf_stream.specs.Reading.{longest_script};
-ghost use Rattle.pf_program.specs.Tasks.{AnswersTask};
+ghost use Rattle.pf_convert_words.specs.Reading.{IsConversion};
+ghost use Rattle.pf_words.specs.Asked.{IsSound};
+ghost use Rattle.pf_program.specs.Tasks.{AnswersTask, ListConverted, IsOfScript, IsQuietIfDone};
 
 use crate::answering::write_answer;
 use crate::open_gate::OpenGate;
 use pf_change::diff::diff;
 use pf_cli::check::check;
 use pf_cli::run::run;
+use pf_conversion::convert::convert;
+use pf_convert_words::conversion::Conversion;
 use pf_drill::drill::drill;
+use pf_fault::answer::Answer;
 use pf_fault::ending::Ending;
 use pf_fault::fault::Fault;
+use pf_fit_command::fit::fit;
+use pf_names::titles::Titles;
 use pf_stream::sink::Sink;
+use pf_why_answer::why::why;
 use pf_words::task::Task;
+use std::alloc::Global;
 use std::sync::Wait;
 use std::thread::Threads;
 
-/// Does a task with a script of these bytes, and writes what it answers. Threads are started for a drill alone, and the call
+/// Does a task with a script of these bytes, which has these titles, or with a list of tasks, in the file of this name, and writes what it answers. Threads are started for a drill alone, and the call
 /// waits for them. The writer's count of failures must be below `u64::MAX` before the call.
 ///
 /// # Errors
@@ -25,20 +34,38 @@ use std::thread::Threads;
 pub(crate) fn do_task<H: AllocGlobal + Threads + Wait + Sync, W: Sink>(
     rt: &H,
     task: Task,
+    file: &[u8],
     script: &[u8],
+    titles: &Titles,
     writer: &mut W,
 ) -> Result<Ending, Fault>
     requires short { length script.now ≤ longest_script }
+    requires sound { IsSound task }
     requires writes { W.failed writer.old < 2 ^ 64 - 1 }
-    ensures answers { AnswersTask task script.now result (W.contents writer.old) (W.contents writer.new) }
-    ensures quiet { IfOk result (λ ending. ending.notes.items ≡ []) }
+    ensures answers { AnswersTask titles.now task file.now script.now result (W.contents writer.old) (W.contents writer.new) }
+    ensures quiet { IsOfScript task → IfOk result IsQuietIfDone }
     ensures writes { CountsWrites result (W.failed writer.old) (W.failed writer.new) }
 {
     let alloc = rt.alloc();
     match task {
-        Task::Run(format, fail_on) => run(alloc, script, writer, format, fail_on),
+        Task::Run(format, fail_on) => run(alloc, script, writer, format, titles, fail_on),
         Task::Check => check(alloc, script, writer),
-        Task::Diff(since) => write_answer(diff(alloc, script, since), writer),
+        Task::Diff(since, options) => write_answer(diff(alloc, script, since, options), writer),
         Task::Drill => write_answer(drill(rt, alloc, script, &OpenGate), writer),
+        Task::Convert(asked) => write_answer(convert_list(alloc, script, &asked), writer),
+        Task::Fit(format) => write_answer(fit(alloc, format, file, script, None, titles), writer),
+        Task::Why(question) => write_answer(why(alloc, script, &titles.names, &question), writer),
+    }
+}
+
+/// The answer to a list of tasks that is converted.
+fn convert_list(alloc: Global, list: &[u8], asked: &Conversion) -> Result<Answer, Fault>
+    requires { IsConversion asked.now }
+    ensures made { ListConverted asked.now list.now result }
+    ensures unwritten { IfErr result IsUnwritten }
+{
+    match convert(alloc, list, asked) {
+        Ok(answer) => Ok(answer),
+        Err(_) => Err(Fault::NoMemory),
     }
 }

@@ -1,8 +1,10 @@
-ghost use Rattle.std.specs.Prelude.{◌≡◌, ◌-◌, ◌^◌, ◌<◌, ◌≤◌, [], length, IfOk, IfErr};
+ghost use Rattle.std.specs.Prelude.{◌≡◌, ◌-◌, ◌^◌, ◌<◌, ◌≤◌, [], length, Some, IfOk, IfErr};
 ghost use Rattle.pf_fault.specs.Faults.{CountsWrites, IsUnwritten};
 ghost use Rattle.pf_stream.specs.Reading.{longest_script};
 ghost use Rattle.pf_plain.specs.Plain.{IsPlain, Plain};
-ghost use Rattle.pf_program.specs.Versions.{AnswersBytes, AnswersShort, AnswersThird, IsChecked, count_below, number_from, numbered, since_in, task_in};
+ghost use Rattle.pf_words.specs.Asked.{IsSound};
+ghost use Rattle.pf_program.specs.Tasks.{FitMade, IsOfScript, IsQuietIfDone};
+ghost use Rattle.pf_program.specs.Versions.{AnswersBytes, AnswersRecords, AnswersShort, AnswersThird, IsChecked, count_below, number_from, numbered, numbered_fault, since_in, task_in};
 
 use crate::answering::write_answer;
 use crate::tasks::do_task;
@@ -10,6 +12,9 @@ use pf_check3::check::third_check;
 use pf_fault::answer::Answer;
 use pf_fault::ending::Ending;
 use pf_fault::fault::Fault;
+use pf_fit_command::fit::fit;
+use pf_fit_text::fit_format::FitFormat;
+use pf_names::titles::Titles;
 use pf_plain::origin::Origin;
 use pf_plain::plain::{PlainScript, plain_script};
 use pf_stream::reading::LONGEST_SCRIPT;
@@ -20,7 +25,7 @@ use std::sync::Wait;
 use std::thread::Threads;
 
 /// Does a task with a script of these bytes, of any version: with one of version 3 by the script of version 2 that belongs to
-/// it. The writer's count of failures must be below `u64::MAX` before the call.
+/// it; or with a list of tasks of these bytes, however it begins. The writer's count of failures must be below `u64::MAX` before the call.
 ///
 /// # Errors
 ///
@@ -28,18 +33,41 @@ use std::thread::Threads;
 pub(crate) fn do_script<H: AllocGlobal + Threads + Wait + Sync, W: Sink>(
     rt: &H,
     task: Task,
+    file: &[u8],
     script: &[u8],
     writer: &mut W,
 ) -> Result<Ending, Fault>
     requires short { length script.now ≤ longest_script }
+    requires sound { IsSound task }
     requires writes { W.failed writer.old < 2 ^ 64 - 1 }
-    ensures answers { AnswersBytes task script.now result (W.contents writer.old) (W.contents writer.new) }
-    ensures quiet { IfOk result (λ ending. ending.notes.items ≡ []) }
+    ensures answers { AnswersBytes task file.now script.now result (W.contents writer.old) (W.contents writer.new) }
+    ensures quiet { IsOfScript task → IfOk result IsQuietIfDone }
+    ensures writes { CountsWrites result (W.failed writer.old) (W.failed writer.new) }
+{
+    match task {
+        Task::Convert(_) => do_task(rt, task, file, script, &Titles::none(rt.alloc()), writer),
+        _ => do_version(rt, task, file, script, writer),
+    }
+}
+
+/// The same with a script alone.
+fn do_version<H: AllocGlobal + Threads + Wait + Sync, W: Sink>(
+    rt: &H,
+    task: Task,
+    file: &[u8],
+    script: &[u8],
+    writer: &mut W,
+) -> Result<Ending, Fault>
+    requires short { length script.now ≤ longest_script }
+    requires script { IsOfScript task }
+    requires writes { W.failed writer.old < 2 ^ 64 - 1 }
+    ensures answers { AnswersBytes task file.now script.now result (W.contents writer.old) (W.contents writer.new) }
+    ensures quiet { IfOk result IsQuietIfDone }
     ensures writes { CountsWrites result (W.failed writer.old) (W.failed writer.new) }
 {
     match plain_script(rt.alloc(), script) {
-        Ok(Some(plain)) => do_third(rt, task, script, &plain, writer),
-        Ok(None) => do_task(rt, task, script, writer),
+        Ok(Some(plain)) => do_third(rt, task, file, script, &plain, writer),
+        Ok(None) => do_task(rt, task, file, script, &Titles::none(rt.alloc()), writer),
         Err(_) => Err(Fault::NoMemory),
     }
 }
@@ -48,19 +76,21 @@ pub(crate) fn do_script<H: AllocGlobal + Threads + Wait + Sync, W: Sink>(
 fn do_third<H: AllocGlobal + Threads + Wait + Sync, W: Sink>(
     rt: &H,
     task: Task,
+    file: &[u8],
     script: &[u8],
     plain: &PlainScript,
     writer: &mut W,
 ) -> Result<Ending, Fault>
+    requires script { IsOfScript task }
     requires writes { W.failed writer.old < 2 ^ 64 - 1 }
     ensures answers { (p : Plain) → IsPlain plain.now p →
-        AnswersThird p task script.now result (W.contents writer.old) (W.contents writer.new) }
-    ensures quiet { IfOk result (λ ending. ending.notes.items ≡ []) }
+        AnswersThird p task file.now script.now result (W.contents writer.old) (W.contents writer.new) }
+    ensures quiet { IfOk result IsQuietIfDone }
     ensures writes { CountsWrites result (W.failed writer.old) (W.failed writer.new) }
 {
     match task {
         Task::Check => write_answer(check_script(rt.alloc(), script), writer),
-        _ => do_plain(rt, task, plain, writer),
+        _ => do_plain(rt, task, file, plain, writer),
     }
 }
 
@@ -68,19 +98,67 @@ fn do_third<H: AllocGlobal + Threads + Wait + Sync, W: Sink>(
 fn do_plain<H: AllocGlobal + Threads + Wait + Sync, W: Sink>(
     rt: &H,
     task: Task,
+    file: &[u8],
     plain: &PlainScript,
     writer: &mut W,
 ) -> Result<Ending, Fault>
+    requires script { IsOfScript task }
     requires writes { W.failed writer.old < 2 ^ 64 - 1 }
-    ensures answers { (p : Plain) → IsPlain plain.now p → AnswersShort p task result (W.contents writer.old) (W.contents writer.new) }
-    ensures quiet { IfOk result (λ ending. ending.notes.items ≡ []) }
+    ensures answers { (p : Plain) → IsPlain plain.now p → AnswersShort p task file.now result (W.contents writer.old) (W.contents writer.new) }
+    ensures quiet { IfOk result IsQuietIfDone }
     ensures writes { CountsWrites result (W.failed writer.old) (W.failed writer.new) }
 {
     if plain.text.len() > LONGEST_SCRIPT {
         return Err(Fault::TooLong);
     }
-    let answer = do_task(rt, task_in(task, plain), &plain.text, writer);
+    let answer = do_records(rt, task, file, plain, writer);
     numbered(&plain.origins, answer)
+}
+
+/// The same by the numbers that records have in this script.
+fn do_records<H: AllocGlobal + Threads + Wait + Sync, W: Sink>(
+    rt: &H,
+    task: Task,
+    file: &[u8],
+    plain: &PlainScript,
+    writer: &mut W,
+) -> Result<Ending, Fault>
+    requires short { length plain.now.text.items ≤ longest_script }
+    requires script { IsOfScript task }
+    requires writes { W.failed writer.old < 2 ^ 64 - 1 }
+    ensures answers { (p : Plain) → IsPlain plain.now p → AnswersRecords p task file.now result (W.contents writer.old) (W.contents writer.new) }
+    ensures quiet { IfOk result IsQuietIfDone }
+    ensures writes { CountsWrites result (W.failed writer.old) (W.failed writer.new) }
+{
+    match task {
+        Task::Fit(format) => write_answer(fit_titled(rt.alloc(), format, file, plain), writer),
+        _ => {
+            let told = task_in(task, plain);
+            do_task(rt, told, file, &plain.text, &plain.titles, writer)
+        }
+    }
+}
+
+/// The answer to whether this script of version 2 fits, by the records and the names of that of version 3.
+fn fit_titled(
+    alloc: Global,
+    format: FitFormat,
+    file: &[u8],
+    plain: &PlainScript,
+) -> Result<Answer, Fault>
+    ensures made { FitMade format file.now (Some plain.now.origins.items) plain.now.titles plain.now.text.items result }
+    ensures unwritten { IfErr result IsUnwritten }
+    ensures quiet { IfOk result (λ answer. answer.ending.notes.items ≡ []) }
+{
+    let origins = plain.origins.as_slice();
+    fit(
+        alloc,
+        format,
+        file,
+        &plain.text,
+        Some(origins),
+        &plain.titles,
+    )
 }
 
 /// The answer to a check of a script of version 3.
@@ -98,10 +176,12 @@ fn check_script(alloc: Global, script: &[u8]) -> Result<Answer, Fault>
 /// The task with the script of version 2: what its records from one on changed, where the one is told by its number in the
 /// script of version 3.
 fn task_in(task: Task, plain: &PlainScript) -> Task
+    requires { IsOfScript task }
+    ensures script { IsOfScript result }
     ensures value { (p : Plain) → IsPlain plain.now p → result ≡ task_in p task }
 {
     match task {
-        Task::Diff(since) => Task::Diff(Some(since_in(plain, since))),
+        Task::Diff(since, options) => Task::Diff(Some(since_in(plain, since)), options),
         _ => task,
     }
 }
@@ -136,8 +216,18 @@ fn numbered(origins: &[Origin], answer: Result<Ending, Fault>) -> Result<Ending,
     ensures value { result ≡ numbered origins.now answer }
 {
     match answer {
-        Err(Fault::BadRecord(number)) => Err(Fault::BadRecord(number_from(origins, number))),
-        answer => answer,
+        Ok(ending) => Ok(ending),
+        Err(fault) => Err(numbered_fault(origins, fault)),
+    }
+}
+
+/// The same fault, with the number of the record that a bad one comes from.
+pub(crate) fn numbered_fault(origins: &[Origin], fault: Fault) -> Fault
+    ensures { result ≡ numbered_fault origins.now fault }
+{
+    match fault {
+        Fault::BadRecord(number) => Fault::BadRecord(number_from(origins, number)),
+        fault => fault,
     }
 }
 

@@ -30,6 +30,7 @@ use Rattle.pf_script.specs.declared.version.Version.TheVariants.{First, Second}
 use Rattle.pf_script.specs.declared.line.Line.{Line}
 use Rattle.pf_script.specs.declared.line.Line.TheVariants.{Edit, Steps}
 use Rattle.pf_text.specs.Page.{table_text}
+use Rattle.pf_names.specs.Titled.{untitled}
 use Rattle.pf_report.specs.Script.{settings_record, insert_record, insert_records, step_records, script_rows, script_text_of}
 use Rattle.pf_reopen.specs.Reopen.{CanBeWritten, insert_lines, lines_told, step_lines, told_of, ScriptsAreReadAgain}
 use Rattle.pf_reopen.proofs.Lines.{AreShort, IsAllowed, short_from, insert_again, steps_again, settings_again}
@@ -87,14 +88,14 @@ unmarked true s every rows = refl
 unmarked false s every rows = refl
 
 -- the records of a script are read as they were written
-pub records_again : (every : ℕ) (seen : Seen) → script_records (script_text_of every seen) ≡ script_rows every seen
+pub records_again : (every : ℕ) (seen : Seen) → script_records (script_text_of every seen untitled) ≡ script_rows every seen untitled
 unfolding script_text_of
 records_again every seen =
     let s = seen.state.plan.settings in
     let b = s.horizon == near_horizon in
-    let text = table_text (script_rows every seen) in
+    let text = table_text (script_rows every seen untitled) in
     ap (records default_config) (unmarked b s every (insert_records seen.state.plan.events ++ step_records seen.state.now))
-    ∙ table_again (length text + 1) (script_rows every seen) (omega arith)
+    ∙ table_again (length text + 1) (script_rows every seen untitled) (omega arith)
     ∙ script_kept b s every seen.state.plan.events seen.state.now
 
 -- the inserts are read as such
@@ -197,10 +198,10 @@ module _ (every : ℕ) (seen : Seen) (can : CanBeWritten every seen) where
       rw (settings_again Second settings every limits can.distance (of_version false is))
       (opening_read Second settings every 2 (lines_behind (lines_behind places)) rows lines (lines_again false is))
 
-  pub told_again : told (script_text_of every seen) ≡ told_of every settings lines
+  pub told_again : told (script_text_of every seen untitled) ≡ told_of every settings lines
   told_again =
-      ap (λ records. told_in (readings_from Beginning 1 (record_lines (script_text_of every seen)) records)) (records_again every seen)
-      ∙ told_from (settings.horizon == near_horizon) refl (record_lines (script_text_of every seen))
+      ap (λ records. told_in (readings_from Beginning 1 (record_lines (script_text_of every seen untitled)) records)) (records_again every seen)
+      ∙ told_from (settings.horizon == near_horizon) refl (record_lines (script_text_of every seen untitled))
 
 pub scripts_are_read_again : ScriptsAreReadAgain
 scripts_are_read_again every seen can = told_again every seen can

@@ -12,6 +12,7 @@ use Rattle.pf_desk.specs.declared.command.Command.TheVariants as command
 use Rattle.pf_desk.specs.Desk.{Seen}
 use Rattle.pf_script.specs.declared.line.Line.{Line}
 use Rattle.pf_script.specs.Asked.{Whole, asked_by, commands_in, commands_of, script_asked}
+use Rattle.pf_names.specs.Titled.{untitled}
 use Rattle.pf_report.specs.Script.{script_text_of}
 use Rattle.pf_reopen.specs.Reopen.{CanBeWritten, first_number, insert_lines, lines_told, step_lines}
 use Rattle.pf_reopen.specs.Whole.{script_commands}
@@ -40,7 +41,7 @@ of_lines number xs n =
     ∙ ap₂ (λ (cs ds : List Command). cs ++ ds) (of_inserts xs) (of_steps n)
 
 pub asked_whole : (every : ℕ) (seen : Seen) → CanBeWritten every seen
-    → script_asked (script_text_of every seen) ≡ Whole seen.state.plan.settings (script_commands seen.state)
+    → script_asked (script_text_of every seen untitled) ≡ Whole seen.state.plan.settings (script_commands seen.state)
 asked_whole every seen can =
     let s : System = seen.state.plan.settings in
     ap asked_by (told_again every seen can) ∙ ap (Whole s) (of_lines (first_number s) seen.state.plan.events seen.state.now)

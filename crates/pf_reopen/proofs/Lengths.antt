@@ -13,6 +13,7 @@ use Rattle.pf_scenario.specs.declared.event.Numbered.{Numbered}
 use Rattle.pf_desk.specs.Desk.{Seen}
 use Rattle.pf_stream.specs.Reading.{longest_script}
 use Rattle.pf_text.specs.Page.{table_text}
+use Rattle.pf_names.specs.Titled.{untitled}
 use Rattle.pf_report.specs.Script.{heading_records, settings_record, insert_record, insert_records, step_records, script_rows, script_text_of}
 use Rattle.pf_reopen.specs.Reopen.{CanBeWritten}
 use Rattle.pf_reopen.proofs.Lines.{AreShort}
@@ -139,7 +140,7 @@ few_steps : (n : ℕ) → n < 10 ^ 15 → AreFew 1 (step_records n)
 few_steps n small =
     few_if (n == 0) (codes "step" ∷ decimal n ∷ []) (record { few = omega arith; short = (omega arith, (number_short n small, tt)) })
 
-few_headings : (s : System) → AreFew 1 (heading_records s)
+few_headings : (s : System) → AreFew 1 (heading_records s untitled)
 few_headings s =
     few_if (s.horizon == near_horizon) (codes "pfair" ∷ codes "2" ∷ []) (record { few = omega arith; short = (omega arith, (omega arith, tt)) })
 
@@ -152,7 +153,7 @@ few_settings s every limits small =
     (record { few = omega arith; short = (omega arith, (processors, (base, (cap, (number_short every small, tt))))) })
 
 -- Use: no script of a desk is too long.
-pub short_script : (every : ℕ) (seen : Seen) → CanBeWritten every seen → length (script_text_of every seen) ≤ longest_script
+pub short_script : (every : ℕ) (seen : Seen) → CanBeWritten every seen → length (script_text_of every seen untitled) ≤ longest_script
 unfolding script_text_of
 short_script every seen can =
     let s = seen.state.plan.settings in
@@ -162,7 +163,7 @@ short_script every seen can =
     let behind = few_both (length events) 1 (insert_records events) (step_records seen.state.now) inserts steps in
     let opened = few_both 1 (length events + 1) (settings_record s every ∷ []) (insert_records events ++ step_records seen.state.now)
     (few_settings s every can.scenario.settings.limits (omega (arith, can.distance.within))) behind in
-    let all = few_both 1 (1 + (length events + 1)) (heading_records s) (settings_record s every ∷ (insert_records events ++ step_records seen.state.now))
+    let all = few_both 1 (1 + (length events + 1)) (heading_records s untitled) (settings_record s every ∷ (insert_records events ++ step_records seen.state.now))
     (few_headings s) opened in
     let few : length events ≤ MOST_EVENTS = can.scenario.few in
-    omega (arith, table_long (script_rows every seen) all.short, all.few, few)
+    omega (arith, table_long (script_rows every seen untitled) all.short, all.few, few)

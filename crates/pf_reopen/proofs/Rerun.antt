@@ -12,12 +12,13 @@ use Rattle.pf_desk.specs.Machine.{reply_to, next_state, state_after}
 use Rattle.pf_desk.specs.Desk.{Seen}
 use Rattle.pf_stream.specs.Reading.{longest_script}
 use Rattle.pf_report.specs.Replies.{is_refusal}
+use Rattle.pf_names.specs.Titled.{untitled}
 use Rattle.pf_report.specs.Script.{heading_records, settings_record, insert_record, insert_records, step_records, script_text_of}
 use Rattle.pf_report.specs.Part.{schedule_part_text}
-use Rattle.pf_report.specs.Tables.{lag_record, miss_record, lags_text, misses_text}
-use Rattle.pf_words.specs.declared.format.Format.{Format}
-use Rattle.pf_words.specs.declared.format.Format.TheVariants.{Schedule, Lags, Misses, Script}
-use Rattle.pf_words.specs.Formats.{range_fault}
+use Rattle.pf_report.specs.Tables.{lags_heading, miss_record, named_lag_record, lags_text, misses_text}
+use Rattle.pf_options.specs.declared.format.Format.{Format}
+use Rattle.pf_options.specs.declared.format.Format.TheVariants.{Schedule, Lags, Misses, Script}
+use Rattle.pf_options.specs.Formats.{range_fault}
 use Rattle.pf_text.specs.Page.{table_text}
 use Rattle.pf_formats.specs.Report.{report_text}
 use Rattle.pf_cli.specs.Meaning.{Meaning, ScriptCourse, course_behind, opening_course, ready_line, reply_lines, report_meaning, script_meaning, seen_at, text_and_then, text_if_replies, text_unless, told_meaning}
@@ -95,29 +96,29 @@ module _ (every : ℕ) (seen : Seen) (can : CanBeRerun every seen) where
   -- what these commands come to
   abbrev whole : Format → List Command → Meaning
   whole format commands =
-      text_and_then (text_if_replies format (ready_line ++ reply_lines (opening_course every s) commands)) (report_meaning format (course_behind (opening_course every s) commands))
+      text_and_then (text_if_replies format (ready_line ++ reply_lines (opening_course every s) commands)) (report_meaning format untitled (course_behind (opening_course every s) commands))
 
   pub run_again : (format : Format)
-      → script_meaning format (script_text_of every seen) ≡ text_and_then (replies_again format every seen) (report_of format every (seen_again seen))
+      → script_meaning format untitled (script_text_of every seen untitled) ≡ text_and_then (replies_again format every seen) (report_of format every (seen_again seen))
   unfolding script_meaning
   run_again format =
-      let short : nat_lt longest_script (length (script_text_of every seen)) ≡ false = grind (arith, nat_tests, short_script every seen can.written) in
-      rw short (ap (told_meaning format) (told_again every seen can.written)
+      let short : nat_lt longest_script (length (script_text_of every seen untitled)) ≡ false = grind (arith, nat_tests, short_script every seen can.written) in
+      rw short (ap (told_meaning format untitled) (told_again every seen can.written)
       ∙ ap (whole format) (of_lines (first_number s) seen.state.plan.events seen.state.now)
-      ∙ ap (text_and_then (replies_again format every seen)) (ap (report_meaning format) course ∙ ap (report_of format every) shown))
+      ∙ ap (text_and_then (replies_again format every seen)) (ap (report_meaning format untitled) course ∙ ap (report_of format every) shown))
 
-  lags_again : lags_text (seen_again seen) ≡ lags_text seen
+  lags_again : lags_text (seen_again seen) untitled ≡ lags_text seen untitled
   unfolding lags_text
-  lags_again = ap (λ lags. table_text ((codes "task" ∷ codes "cost" ∷ codes "period" ∷ codes "received" ∷ codes "lag" ∷ []) ∷ map lag_record lags)) same.lags
+  lags_again = ap (λ lags. table_text (lags_heading untitled ∷ map (named_lag_record untitled) lags)) same.lags
 
   misses_again : misses_text (seen_again seen) ≡ misses_text seen
   unfolding misses_text
   misses_again = ap (λ misses. table_text ((codes "task" ∷ codes "sub" ∷ codes "deadline" ∷ codes "ran" ∷ []) ∷ map miss_record misses)) same.misses
 
-  script_again : script_text_of every (seen_again seen) ≡ script_text_of every seen
+  script_again : script_text_of every (seen_again seen) untitled ≡ script_text_of every seen untitled
   unfolding script_text_of
   script_again =
-      ap (λ inserts. table_text (heading_records s ++ settings_record s every ∷ (inserts ++ step_records seen.state.now)))
+      ap (λ inserts. table_text (heading_records s untitled ++ settings_record s every ∷ (inserts ++ step_records seen.state.now)))
       (same_inserts 1 seen.state.plan.events)
 
 pub scripts_run_again : ScriptsRunAgain

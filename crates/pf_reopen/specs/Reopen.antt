@@ -8,6 +8,7 @@ use Rattle.pf_scenario.specs.declared.event.Numbered.{Numbered}
 use Rattle.pf_scenario.specs.declared.change.Change.TheVariants.{Insert}
 use Rattle.pf_timeline.specs.Checkpoints.{largest_distance}
 use Rattle.pf_desk.specs.Desk.{Seen}
+use Rattle.pf_names.specs.Titled.{untitled}
 use Rattle.pf_report.specs.Script.{script_text_of}
 use Rattle.pf_script.specs.declared.version.Version.{Version}
 use Rattle.pf_script.specs.declared.version.Version.TheVariants.{First, Second}
@@ -64,4 +65,4 @@ told_of every settings lines = record {
 abbrev pub ScriptsAreReadAgain : Type 0
 ScriptsAreReadAgain =
     (every : ℕ) (seen : Seen) → CanBeWritten every seen
-    → told (script_text_of every seen) ≡ told_of every seen.state.plan.settings (insert_lines seen.state.plan.events ++ step_lines seen.state.now)
+    → told (script_text_of every seen untitled) ≡ told_of every seen.state.plan.settings (insert_lines seen.state.plan.events ++ step_lines seen.state.now)

@@ -2,11 +2,12 @@
 use Rattle.std.specs.Prelude.{◌≡◌, ℕ, List, ◌++◌, length, map}
 use Rattle.pf_run.specs.RunRows.{AreOfRun}
 use Rattle.pf_desk.specs.Desk.{Seen}
+use Rattle.pf_names.specs.Titled.{untitled}
 use Rattle.pf_report.specs.Script.{script_text_of}
-use Rattle.pf_words.specs.declared.format.Format.{Format}
-use Rattle.pf_words.specs.declared.format.Format.TheVariants.{Schedule, Lags, Misses, Script}
-use Rattle.pf_words.specs.declared.slot_range.SlotRange.{SlotRange}
-use Rattle.pf_words.specs.Formats.{range_fault}
+use Rattle.pf_options.specs.declared.format.Format.{Format}
+use Rattle.pf_options.specs.declared.format.Format.TheVariants.{Schedule, Lags, Misses, Script}
+use Rattle.pf_options.specs.declared.slot_range.SlotRange.{SlotRange}
+use Rattle.pf_options.specs.Formats.{range_fault}
 use Rattle.pf_formats.specs.Report.{report_text}
 use Rattle.pf_cli.specs.Meaning.{Meaning, opening_course, ready_line, reply_lines, script_meaning, text_and_then, text_if_replies, text_unless}
 use Rattle.pf_reopen.specs.Reopen.{CanBeWritten}
@@ -30,7 +31,7 @@ replies_again format every seen =
 
 -- the report of what was seen, where the format can be shown of the slots stepped, and else nothing
 abbrev pub report_of : Format → ℕ → Seen → Meaning
-report_of format every seen = text_unless (range_fault format seen.state.now) (report_text format every seen)
+report_of format every seen = text_unless (range_fault format seen.state.now) (report_text format every seen untitled)
 
 -- a script can be written of the snapshot, and its rows and denials are those of its scenario
 pub record CanBeRerun (every : ℕ) (seen : Seen) : Type 0 where
@@ -41,11 +42,11 @@ pub record CanBeRerun (every : ℕ) (seen : Seen) : Type 0 where
 abbrev pub ScriptsRunAgain : Type 0
 ScriptsRunAgain =
     (every : ℕ) (seen : Seen) → CanBeRerun every seen → (format : Format)
-    → script_meaning format (script_text_of every seen) ≡ text_and_then (replies_again format every seen) (report_of format every (seen_again seen))
+    → script_meaning format untitled (script_text_of every seen untitled) ≡ text_and_then (replies_again format every seen) (report_of format every (seen_again seen))
 
 -- in this format the script means the report of what was seen, byte for byte
 abbrev pub IsWrittenAgain : ℕ → Seen → Format → Type 0
-IsWrittenAgain every seen format = script_meaning format (script_text_of every seen) ≡ report_of format every seen
+IsWrittenAgain every seen format = script_meaning format untitled (script_text_of every seen untitled) ≡ report_of format every seen
 
 pub record AreWrittenAgain (every : ℕ) (seen : Seen) : Type 0 where
   pub schedule : (range : SlotRange) → IsWrittenAgain every seen (Schedule range)

@@ -7,6 +7,7 @@ use Rattle.pf_scenario.specs.declared.change.Change.TheVariants.{Strike}
 use Rattle.pf_run.specs.RunRows.{rows_in, denials_in}
 use Rattle.pf_run.specs.Examples.{plan_with, two_joins, three_joins}
 use Rattle.pf_desk.specs.Desk.{Seen}
+use Rattle.pf_names.specs.Titled.{untitled}
 use Rattle.pf_report.specs.Tables.{schedule_text, lags_text, misses_text, denials_text}
 use Rattle.pf_report.specs.Json.{json_text}
 use Rattle.pf_report.specs.Part.{schedule_part_text}
@@ -59,15 +60,15 @@ pub record WorkedReports : Type 0 where
   pub part : schedule_part_text three_tasks 1 2 ≡ codes "slot,p0,p1\n1,1/2,3/1\n"
   pub whole : schedule_part_text three_tasks 0 3 ≡ schedule_text three_tasks
   pub none : schedule_part_text three_tasks 2 2 ≡ codes "slot,p0,p1\n"
-  pub lags : lags_text three_tasks ≡ codes "task,cost,period,received,lag\n1,2,3,2,0\n2,2,3,2,0\n3,2,3,2,0\n"
-  pub json : json_text three_tasks ≡
+  pub lags : lags_text three_tasks untitled ≡ codes "task,cost,period,received,lag\n1,2,3,2,0\n2,2,3,2,0\n3,2,3,2,0\n"
+  pub json : json_text three_tasks untitled ≡
       codes "{\"denials\":[],\"entries\":6,\"lags\":[{\"cost\":2,\"lag\":0,\"period\":3,\"received\":2,\"task\":1},"
       ++ codes "{\"cost\":2,\"lag\":0,\"period\":3,\"received\":2,\"task\":2},"
       ++ codes "{\"cost\":2,\"lag\":0,\"period\":3,\"received\":2,\"task\":3}],\"misses\":[],\"now\":3,"
       ++ codes "\"schedule\":[[[1,1],[2,1]],[[1,2],[3,1]],[[2,2],[3,2]]]}"
   -- idle processors
   pub idle : schedule_text struck_third ≡ codes "slot,p0,p1\n0,1/1,2/1\n1,1/2,2/2\n2,,\n"
-  pub idle_json : json_text struck_third ≡
+  pub idle_json : json_text struck_third untitled ≡
       codes "{\"denials\":[],\"entries\":7,\"lags\":[{\"cost\":2,\"lag\":0,\"period\":3,\"received\":2,\"task\":1},"
       ++ codes "{\"cost\":2,\"lag\":0,\"period\":3,\"received\":2,\"task\":2}],\"misses\":[],\"now\":3,"
       ++ codes "\"schedule\":[[[1,1],[2,1]],[[1,2],[2,2]],[null,null]]}"
@@ -75,14 +76,14 @@ pub record WorkedReports : Type 0 where
   pub no_miss : misses_text struck_third ≡ codes "task,sub,deadline,ran\n"
   pub no_denial : denials_text struck_third ≡ codes "slot,event,code,reason\n"
   -- a lag below 0
-  pub ahead : lags_text early ≡ codes "task,cost,period,received,lag\n1,1,4,2,-6\n"
-  pub ahead_json : json_text early ≡
+  pub ahead : lags_text early untitled ≡ codes "task,cost,period,received,lag\n1,1,4,2,-6\n"
+  pub ahead_json : json_text early untitled ≡
       codes "{\"denials\":[],\"entries\":3,\"lags\":[{\"cost\":1,\"lag\":-6,\"period\":4,\"received\":2,\"task\":1}],"
       ++ codes "\"misses\":[],\"now\":2,\"schedule\":[[[1,1]],[[1,2]]]}"
   -- subtasks that ran late, and some that didn't run
   pub late : misses_text overload_seen ≡
       codes "task,sub,deadline,ran\n2,1,1,1\n1,2,2,2\n2,2,2,3\n1,3,3,\n2,3,3,\n1,4,4,\n2,4,4,\n"
-  pub late_json : json_text overload_seen ≡
+  pub late_json : json_text overload_seen untitled ≡
       codes "{\"denials\":[],\"entries\":6,\"lags\":[{\"cost\":1,\"lag\":2,\"period\":1,\"received\":2,\"task\":1},"
       ++ codes "{\"cost\":1,\"lag\":2,\"period\":1,\"received\":2,\"task\":2}],"
       ++ codes "\"misses\":[{\"deadline\":1,\"ran\":1,\"sub\":1,\"task\":2},{\"deadline\":2,\"ran\":2,\"sub\":2,\"task\":1},"
@@ -93,14 +94,14 @@ pub record WorkedReports : Type 0 where
   pub denied_delay : denials_text late_delay ≡ codes "slot,event,code,reason\n1,3,23,Released\n"
   pub denied_leave : denials_text too_early ≡ codes "slot,event,code,reason\n4,3,22,TooEarly\n"
   pub denied_both : denials_text of_nobody ≡ codes "slot,event,code,reason\n3,2,21,NotInside\n3,3,20,OverCapacity\n"
-  pub denied_json : json_text late_delay ≡
+  pub denied_json : json_text late_delay untitled ≡
       codes "{\"denials\":[{\"code\":23,\"event\":3,\"reason\":\"Released\",\"slot\":1}],\"entries\":5,"
       ++ codes "\"lags\":[{\"cost\":1,\"lag\":0,\"period\":1,\"received\":2,\"task\":1},"
       ++ codes "{\"cost\":1,\"lag\":2,\"period\":2,\"received\":0,\"task\":2}],"
       ++ codes "\"misses\":[{\"deadline\":2,\"ran\":null,\"sub\":1,\"task\":2}],\"now\":2,\"schedule\":[[[1,1]],[[1,2]]]}"
   -- the scripts: one that opens, makes the events and steps; one of wide settings, without a step; one of a struck event
-  pub script : script_text_of 4 three_tasks ≡
+  pub script : script_text_of 4 three_tasks untitled ≡
       codes "settings,2,3,6,4\njoin,0,1,2,3,0\njoin,0,2,2,3,0\njoin,0,3,2,3,0\nstep,3\n"
-  pub wide_script : script_text_of 4096 wide_seen ≡
+  pub wide_script : script_text_of 4096 wide_seen untitled ≡
       codes "pfair,2\nsettings,2,4,8,4096\nleave,9,1\nlimit,4,1\njoin,0,1,1,4,3\ndelay,2,1,5\n"
-  pub struck_script : script_text_of 4 struck_third ≡ codes "settings,2,3,6,4\njoin,0,1,2,3,0\njoin,0,2,2,3,0\nstep,3\n"
+  pub struck_script : script_text_of 4 struck_third untitled ≡ codes "settings,2,3,6,4\njoin,0,1,2,3,0\njoin,0,2,2,3,0\nstep,3\n"

@@ -1,10 +1,14 @@
 -- A report as one JSON object: compact, its keys in byte order.
-use Rattle.std.specs.Prelude.{ℕ, Option, None, Some, List, codes, map}
+use Rattle.std.specs.Prelude.{ℕ, Bool, if◌then◌else◌, Option, None, Some, List, [], ◌++◌, codes, map}
 use Rattle.std.specs.Option.{option_map_or}
-use Rattle.serde_json.specs.Data.{Data, null, number, unsigned, string, array, object, item, no_items, member, no_members}
+use Rattle.serde_json.specs.Data.{Data, Members, null, number, unsigned, string, array, object, item, no_items, member, no_members}
 use Rattle.serde_json.specs.Find.{of_integer}
 use Rattle.serde_json.specs.View.{items_of}
 use Rattle.serde_json.specs.Written.{compact_text}
+use Rattle.pf_names.specs.Slots.{unit_word}
+use Rattle.pf_names.specs.declared.named.Named.{Named}
+use Rattle.pf_names.specs.declared.slot_length.SlotLength.{SlotLength}
+use Rattle.pf_names.specs.declared.titles.Titles.{Titles}
 use Rattle.pf_order.specs.declared.pick.Pick.{Pick}
 use Rattle.pf_admit.specs.Refusals.{denial_code, denial_name}
 use Rattle.pf_run.specs.declared.denied.Denied.{Denied}
@@ -50,24 +54,49 @@ miss_data miss =
     (member (codes "sub") (count_data miss.sub)
     (member (codes "task") (count_data miss.task) no_members))))
 
+abbrev pub name_data : Named → Data
+name_data named = object (member (codes "name") (string named.name) (member (codes "task") (count_data named.task) no_members))
+
+-- how long a slot is; null where the script does not tell it
+abbrev pub length_data : SlotLength → Data
+length_data slot =
+    object (member (codes "length") (count_data slot.length) (member (codes "unit") (string (unit_word slot.unit)) no_members))
+
+abbrev pub slot_data : Option SlotLength → Data
+slot_data slot = option_map_or length_data slot null
+
+-- members that stand in version 3 alone: the names of tasks, by task, before others, and the length of a slot at the end
+abbrev pub names_before : Titles → Members → Members
+names_before titles more = if titles.is_third then member (codes "names") (array_data name_data titles.names) more else more
+
+abbrev pub slot_member : Titles → Members
+slot_member titles = if titles.is_third then member (codes "slot") (slot_data titles.slot) no_members else no_members
+
 -- the object of a report, of its parts
-abbrev pub report_object : Data → ℕ → Data → Data → ℕ → Data → Data
-report_object denials entries lags misses now schedule =
+abbrev pub report_object : Titles → Data → ℕ → Data → Data → ℕ → Data → Data
+report_object titles denials entries lags misses now schedule =
     object (member (codes "denials") denials
     (member (codes "entries") (count_data entries)
     (member (codes "lags") lags
     (member (codes "misses") misses
-    (member (codes "now") (count_data now)
-    (member (codes "schedule") schedule no_members))))))
+    (names_before titles (member (codes "now") (count_data now)
+    (member (codes "schedule") schedule (slot_member titles))))))))
 
 -- the report of what was seen: the denials, lags and misses as in their tables, and the rows of the slots below now
-unfoldable pub report_data : Seen → Data
-report_data seen =
-    report_object (array_data denial_data seen.denials) seen.version
+unfoldable pub report_data : Seen → Titles → Data
+report_data seen titles =
+    report_object titles (array_data denial_data seen.denials) seen.version
     (array_data lag_data (lags_of seen.state.plan (run_of seen.state.plan seen.state.now)))
     (array_data miss_data (misses_of seen.state.plan (run_of seen.state.plan seen.state.now)))
     seen.state.now (array_data (array_data sitter_data) seen.rows)
 
 -- its text
-abbrev pub json_text : Seen → List ℕ
-json_text seen = compact_text (report_data seen)
+abbrev pub json_text : Seen → Titles → List ℕ
+json_text seen titles = compact_text (report_data seen titles)
+
+-- the text of the members of version 3, each behind its key
+abbrev pub names_part : Titles → List ℕ
+names_part titles = if titles.is_third then codes ",\"names\":" ++ compact_text (array_data name_data titles.names) else []
+
+abbrev pub slot_part : Titles → List ℕ
+slot_part titles = if titles.is_third then codes ",\"slot\":" ++ compact_text (slot_data titles.slot) else []

@@ -3,6 +3,8 @@ use Rattle.std.specs.Prelude.{ℕ, ◌+◌, Option, None, Some, List, [], ◌∷
 use Rattle.std.specs.List.{range_with_len}
 use Rattle.std.specs.Option.{option_map_or}
 use Rattle.std.specs.Fmt.{decimal, signed_decimal}
+use Rattle.pf_names.specs.declared.titles.Titles.{Titles}
+use Rattle.pf_name_column.specs.Column.{name_fields, name_heading}
 use Rattle.pf_text.specs.Page.{table_text}
 use Rattle.pf_order.specs.declared.pick.Pick.{Pick}
 use Rattle.pf_admit.specs.Refusals.{denial_code, denial_name}
@@ -36,6 +38,19 @@ abbrev pub lag_record : Lag → List (List ℕ)
 lag_record lag =
     decimal lag.task ∷ decimal lag.cost ∷ decimal lag.period ∷ decimal lag.received ∷ signed_decimal lag.scaled ∷ []
 
+-- behind it in version 3 the name of its task
+abbrev pub named_lag_record : Titles → Lag → List (List ℕ)
+named_lag_record titles lag = lag_record lag ++ name_fields titles lag.task
+
+-- lags, and what the script calls their tasks
+pub record NamedLags : Type 0 where
+  pub lags : List Lag
+  pub titles : Titles
+
+abbrev pub lags_heading : Titles → List (List ℕ)
+lags_heading titles =
+    (codes "task" ∷ codes "cost" ∷ codes "period" ∷ codes "received" ∷ codes "lag" ∷ []) ++ name_heading titles
+
 -- the slot in which a missed subtask ran late is empty where it didn't run
 abbrev pub miss_record : Miss → List (List ℕ)
 miss_record miss = decimal miss.task ∷ decimal miss.sub ∷ decimal miss.deadline ∷ option_map_or decimal miss.ran [] ∷ []
@@ -50,10 +65,9 @@ schedule_text seen =
     table_text (schedule_heading seen.state.plan.settings.processors ∷ schedule_records 0 seen.rows)
 
 -- the lags, by task
-unfoldable pub lags_text : Seen → List ℕ
-lags_text seen =
-    table_text ((codes "task" ∷ codes "cost" ∷ codes "period" ∷ codes "received" ∷ codes "lag" ∷ [])
-    ∷ map lag_record (lags_of seen.state.plan (run_of seen.state.plan seen.state.now)))
+unfoldable pub lags_text : Seen → Titles → List ℕ
+lags_text seen titles =
+    table_text (lags_heading titles ∷ map (named_lag_record titles) (lags_of seen.state.plan (run_of seen.state.plan seen.state.now)))
 
 -- the missed windows, by deadline, then by task
 unfoldable pub misses_text : Seen → List ℕ

@@ -1,17 +1,20 @@
-ghost use Rattle.std.specs.Prelude.{◌≡◌, ◌++◌, length, IfOk};
+ghost use Rattle.std.specs.Prelude.{◌≡◌, ◌++◌, codes, length, IfOk};
+ghost use Rattle.std.specs.Fmt.{decimal};
 ghost use Rattle.serde_json.specs.Data.{array};
 ghost use Rattle.serde_json.specs.View.{items_of, view};
 ghost use Rattle.serde_json.specs.Written.{compact_text};
 ghost use Rattle.pf_place.specs.Lent.{lent_row};
-ghost use Rattle.pf_report.specs.Json.{array_data, sitter_data, denial_data, lag_data, miss_data, json_text};
+ghost use Rattle.pf_report.specs.Json.{array_data, sitter_data, denial_data, lag_data, miss_data, json_text, names_part, slot_part};
 
 use crate::denials::DenialRows;
 use crate::elements::{ArrayPieces, Elements};
 use crate::lags::LagRows;
 use crate::misses::MissRows;
+use crate::names::{names_part, slot_part};
 use crate::rows::{row_at, row_count};
 use crate::schedule::ScheduleRows;
 use pf_desk::snapshot::Snapshot;
+use pf_names::titles::Titles;
 use pf_order::pick::Pick;
 use pf_place::row_view::RowView;
 use pf_run::denied::Denied;
@@ -174,22 +177,45 @@ fn keyed<E: Elements, B: Pieces>(key: Vec<u8>, elements: E, behind: B) -> KeyedA
     )
 }
 
-/// The whole report as one JSON object, in pieces: compact, its keys in byte order. The lags and the missed windows are
-/// in memory until it is written.
+/// What stands before the schedule: the names, where the script is of version 3, and how many slots were stepped.
+fn schedule_key(alloc: Global, titles: &Titles, now: u64) -> Result<Vec<u8>, AllocError>
+    ensures { IfOk result (λ text. text.items ≡ names_part titles.now ++ (codes ",\"now\":" ++ (decimal now ++ codes ",\"schedule\":"))) }
+{
+    let mut text = names_part(alloc, titles)?;
+    let key = format!(in alloc; ",\"now\":{now},\"schedule\":")?;
+    text.extend_from_slice(key.as_bytes())?;
+    Ok(text)
+}
+
+/// What stands behind the schedule: the length of a slot, where the script is of version 3, and the object's end.
+fn end_text(alloc: Global, titles: &Titles) -> Result<Vec<u8>, AllocError>
+    ensures { IfOk result (λ text. text.items ≡ slot_part titles.now ++ codes "}") }
+{
+    let mut text = slot_part(alloc, titles)?;
+    text.push(b'}')?;
+    Ok(text)
+}
+
+/// The whole report as one JSON object, in pieces: compact, its keys in byte order. In version 3 it tells the names of tasks and
+/// the length of a slot too. The lags and the missed windows are in memory until it is written.
 ///
 /// # Errors
 ///
 /// Where memory is refused.
-pub fn json_pieces(alloc: Global, snapshot: &Snapshot) -> Result<JsonPieces<'_>, AllocError>
-    ensures { IfOk result (λ pieces. pieces ≡ json_text snapshot.now) }
+pub fn json_pieces<'a>(
+    alloc: Global,
+    snapshot: &'a Snapshot,
+    titles: &Titles,
+) -> Result<JsonPieces<'a>, AllocError>
+    ensures { IfOk result (λ pieces. pieces ≡ json_text snapshot.now titles.now) }
 {
     let entries = snapshot.version();
     let now = snapshot.now();
     let denials_key = Vec::from_slice(alloc, b"{\"denials\":")?;
     let lags_key = format!(in alloc; ",\"entries\":{entries},\"lags\":")?.into_bytes();
     let misses_key = Vec::from_slice(alloc, b",\"misses\":")?;
-    let schedule_key = format!(in alloc; ",\"now\":{now},\"schedule\":")?.into_bytes();
-    let end = Vec::from_slice(alloc, b"}")?;
+    let schedule_key = schedule_key(alloc, titles, now)?;
+    let end = end_text(alloc, titles)?;
     let Tally { lags, misses } = snapshot.tally()?;
     let schedule = keyed(schedule_key, ScheduleRows::of(snapshot), Whole::new(end));
     let misses = keyed(misses_key, MissRows::of(misses), schedule);
@@ -202,8 +228,12 @@ pub fn json_pieces(alloc: Global, snapshot: &Snapshot) -> Result<JsonPieces<'_>,
 /// # Errors
 ///
 /// Where memory is refused.
-pub fn report_json(alloc: Global, snapshot: &Snapshot) -> Result<Vec<u8>, AllocError>
-    ensures { IfOk result (λ text. text.items ≡ json_text snapshot.now) }
+pub fn report_json(
+    alloc: Global,
+    snapshot: &Snapshot,
+    titles: &Titles,
+) -> Result<Vec<u8>, AllocError>
+    ensures { IfOk result (λ text. text.items ≡ json_text snapshot.now titles.now) }
 {
-    gathered(alloc, json_pieces(alloc, snapshot)?)
+    gathered(alloc, json_pieces(alloc, snapshot, titles)?)
 }

@@ -1,8 +1,10 @@
 ghost use Rattle.std.specs.Prelude.{◌≡◌, [], IfOk, OnOk};
 ghost use Rattle.pf_text.specs.Page.{with_record};
-ghost use Rattle.pf_report.specs.Tables.{lag_record, lags_text};
+ghost use Rattle.pf_report.specs.Tables.{lags_text, named_lag_record};
 
 use pf_desk::snapshot::Snapshot;
+use pf_name_column::column::{push_heading, show_name};
+use pf_names::titles::Titles;
 use pf_tally::lag::Lag;
 use pf_text::pieces::{Chain, Whole, gathered};
 use pf_text::records::{RecordPieces, Records};
@@ -11,15 +13,17 @@ use std::alloc::{AllocError, Global};
 use std::marker::Model;
 
 /// Adds the record of a lag.
-fn push_lag(table: &mut Table, lag: Lag) -> Result<(), AllocError>
+fn push_lag(table: &mut Table, lag: Lag, titles: &Titles) -> Result<(), AllocError>
     requires { table.old.fields ≡ [] }
-    ensures { OnOk result (table.new ≡ with_record table.old (lag_record lag)) }
+    ensures { OnOk result (table.new ≡ with_record table.old (named_lag_record titles.now lag)) }
 {
-    table.show_number(u64::from(lag.task))?;
+    let task = u64::from(lag.task);
+    table.show_number(task)?;
     table.show_number(lag.cost)?;
     table.show_number(lag.period)?;
     table.show_number(lag.received)?;
     table.show(lag.scaled)?;
+    show_name(table, titles, task)?;
     table.end_record()
 }
 
@@ -64,39 +68,61 @@ impl LagRows {
     }
 }
 
-impl Records for LagRows {
+/// The lags of the tasks inside, by task number, and what the script calls these.
+#[derive(Drop)]
+pub struct NamedLagRows<'a> {
+    rows: LagRows,
+    titles: &'a Titles,
+}
+
+impl<'a> Model for NamedLagRows<'a> {
+    ghost use Rattle.pf_report.specs.Tables.{NamedLags};
+
+    ghost Value = { NamedLags };
+
+    ghost view = { λ r. record { lags = r.rows; titles = r.titles.now } };
+}
+
+impl Records for NamedLagRows<'_> {
     ghost use Rattle.std.specs.Prelude.{length, drop, map};
-    ghost use Rattle.pf_report.specs.Tables.{lag_record};
+    ghost use Rattle.pf_report.specs.Tables.{named_lag_record};
 
-    ghost count = { λ r. length r };
+    ghost count = { λ r. length r.lags };
 
-    ghost rest = { λ r at. map lag_record (drop at r) };
+    ghost rest = { λ r at. map (named_lag_record r.titles) (drop at r.lags) };
 
     fn count(&self) -> u64 {
-        self.len()
+        self.rows.len()
     }
 
     fn push_record(&self, table: &mut Table, at: u64) -> Result<(), AllocError> {
-        push_lag(table, self.get(at))
+        push_lag(table, self.rows.get(at), self.titles)
     }
 }
 
 /// How far each task inside is from its fair share, as a table, by task number, in pieces: the heading, and then the records.
-pub type LagPieces = Chain<Whole, RecordPieces<LagRows>>;
+pub type LagPieces<'a> = Chain<Whole, RecordPieces<NamedLagRows<'a>>>;
 
-/// How far each task inside is from its fair share, as a table, by task number, in pieces.
+/// How far each task inside is from its fair share, as a table, by task number, in pieces. In version 3 the name of the task
+/// stands last, or nothing where it has none.
 ///
 /// # Errors
 ///
 /// Where memory is refused.
-pub fn lag_pieces(alloc: Global, snapshot: &Snapshot) -> Result<LagPieces, AllocError>
-    ensures { IfOk result (λ pieces. pieces ≡ lags_text snapshot.now) }
+pub fn lag_pieces<'a>(
+    alloc: Global,
+    snapshot: &Snapshot,
+    titles: &'a Titles,
+) -> Result<LagPieces<'a>, AllocError>
+    ensures { IfOk result (λ pieces. pieces ≡ lags_text snapshot.now titles.now) }
 {
     let mut table = Table::new(alloc);
-    table.push_texts(&["task", "cost", "period", "received", "lag"])?;
+    let texts = ["task", "cost", "period", "received", "lag"];
+    push_heading(&mut table, &texts, titles)?;
     let heading = Whole::new(table.finish()?);
     let rows = LagRows::of(snapshot.lags()?);
-    Ok(Chain::new(heading, RecordPieces::new(rows)))
+    let named = NamedLagRows { rows, titles };
+    Ok(Chain::new(heading, RecordPieces::new(named)))
 }
 
 /// How far each task inside is from its fair share, as a table, by task number, in whole.
@@ -104,8 +130,8 @@ pub fn lag_pieces(alloc: Global, snapshot: &Snapshot) -> Result<LagPieces, Alloc
 /// # Errors
 ///
 /// Where memory is refused.
-pub fn lags_csv(alloc: Global, snapshot: &Snapshot) -> Result<Vec<u8>, AllocError>
-    ensures { IfOk result (λ text. text.items ≡ lags_text snapshot.now) }
+pub fn lags_csv(alloc: Global, snapshot: &Snapshot, titles: &Titles) -> Result<Vec<u8>, AllocError>
+    ensures { IfOk result (λ text. text.items ≡ lags_text snapshot.now titles.now) }
 {
-    gathered(alloc, lag_pieces(alloc, snapshot)?)
+    gathered(alloc, lag_pieces(alloc, snapshot, titles)?)
 }

@@ -9,6 +9,7 @@ pub mod json;
 pub mod lags;
 pub mod laws;
 pub mod misses;
+mod names;
 pub mod quanta;
 pub mod reply;
 pub mod rows;

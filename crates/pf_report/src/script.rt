@@ -1,10 +1,13 @@
 ghost use Rattle.std.specs.Prelude.{◌≡◌, ◌≤◌, ◌∷◌, ◌++◌, [], length, map, IfOk, OnOk};
 ghost use Rattle.std.specs.Fmt.{decimal};
 ghost use Rattle.pf_text.specs.Page.{with_record};
-ghost use Rattle.pf_report.specs.Script.{heading_records, settings_record, insert_record, step_records, script_text_of};
+ghost use Rattle.pf_report.specs.Script.{heading_records, settings_record, insert_record, name_record, slot_records, step_records, script_text_of, title_records};
 ghost use Rattle.pf_text.specs.Page.{table_text};
 
 use pf_desk::snapshot::Snapshot;
+use pf_names::names::Names;
+use pf_names::slot_length::SlotLength;
+use pf_names::titles::Titles;
 use pf_scenario::event::Event;
 use pf_scenario::events::Events;
 use pf_scenario::settings::{NEAR_HORIZON, Settings};
@@ -91,26 +94,87 @@ impl Pieces for InsertPieces<'_> {
     }
 }
 
-/// The heading of a script of wide settings; nothing for others.
-fn heading_text(alloc: Global, settings: Settings) -> Result<Vec<u8>, AllocError>
-    ensures { IfOk result (λ text. text.items ≡ table_text (heading_records settings)) }
+/// The heading of a script of version 3, and of one of wide settings; nothing for others.
+fn heading_text(alloc: Global, settings: Settings, titles: &Titles) -> Result<Vec<u8>, AllocError>
+    ensures { IfOk result (λ text. text.items ≡ table_text (heading_records settings titles.now)) }
 {
     let mut table = Table::new(alloc);
-    if settings.horizon() != NEAR_HORIZON {
+    if titles.is_third {
+        table.push_texts(&["pfair", "3"])?;
+    } else if settings.horizon() != NEAR_HORIZON {
         table.push_texts(&["pfair", "2"])?;
     }
     table.finish()
 }
 
-/// What a script begins with: the settings, behind the heading where they are wide.
-fn opening_text(alloc: Global, settings: Settings, every: u64) -> Result<Vec<u8>, AllocError>
-    ensures { IfOk result (λ text. text.items ≡ table_text (heading_records settings) ++ table_text (settings_record settings every ∷ [])) }
+/// The record of the length of a slot; nothing where that is not told.
+fn slot_text(alloc: Global, slot: Option<SlotLength>) -> Result<Vec<u8>, AllocError>
+    ensures { IfOk result (λ text. text.items ≡ table_text (slot_records slot)) }
+{
+    let mut table = Table::new(alloc);
+    if let Some(slot) = slot {
+        table.show("slot")?;
+        table.show_number(slot.length)?;
+        table.show(slot.unit.word())?;
+        table.end_record()?;
+    }
+    table.finish()
+}
+
+/// The records of the names, by task.
+fn names_text(alloc: Global, names: &Names) -> Result<Vec<u8>, AllocError>
+    ensures { IfOk result (λ text. text.items ≡ table_text (map name_record names.now)) }
+{
+    let mut table = Table::new(alloc);
+    for named in names.all() {
+        table.show("name")?;
+        table.show_number(named.task)?;
+        table.show(named.name.as_str())?;
+        table.end_record()?;
+    }
+    table.finish()
+}
+
+/// The records of what the desk does not hold: the length of a slot, and the names.
+fn titles_text(alloc: Global, titles: &Titles) -> Result<Vec<u8>, AllocError>
+    ensures { IfOk result (λ text. text.items ≡ table_text (title_records titles.now)) }
+{
+    let mut text = slot_text(alloc, titles.slot)?;
+    text.extend_from_slice(&names_text(alloc, &titles.names)?)?;
+    Ok(text)
+}
+
+/// The settings, behind the heading where the script has one.
+fn settings_text(
+    alloc: Global,
+    settings: Settings,
+    every: u64,
+    titles: &Titles,
+) -> Result<Vec<u8>, AllocError>
+    ensures { IfOk result (λ text.
+        text.items ≡ table_text (heading_records settings titles.now) ++ table_text (settings_record settings every ∷ [])) }
 {
     let processors = u64::from(settings.processors());
     let base = u64::from(settings.base().get());
     let numbers = [processors, base, settings.cap(), every];
-    let mut text = heading_text(alloc, settings)?;
+    let mut text = heading_text(alloc, settings, titles)?;
     text.extend_from_slice(&record_text(alloc, "settings", &numbers)?)?;
+    Ok(text)
+}
+
+/// What a script begins with: the settings, and what the desk does not hold.
+fn opening_text(
+    alloc: Global,
+    settings: Settings,
+    every: u64,
+    titles: &Titles,
+) -> Result<Vec<u8>, AllocError>
+    ensures { IfOk result (λ text. text.items
+        ≡ (table_text (heading_records settings titles.now) ++ table_text (settings_record settings every ∷ []))
+        ++ table_text (title_records titles.now)) }
+{
+    let mut text = settings_text(alloc, settings, every, titles)?;
+    text.extend_from_slice(&titles_text(alloc, titles)?)?;
     Ok(text)
 }
 
@@ -127,22 +191,23 @@ fn steps_text(alloc: Global, count: u64) -> Result<Vec<u8>, AllocError>
 /// A script in pieces: its opening, then the events, then the steps.
 pub type ScriptPieces<'a> = Chain<Whole, Chain<InsertPieces<'a>, Whole>>;
 
-/// A script of what was seen, in pieces: the heading `pfair,2` where the settings are wide; the settings, with `every` slots
-/// between checkpoints, which a snapshot does not tell; an insert for each event held, by number; the steps, where there
-/// are some. Scripts with ordinary settings have no limits of processors: where such a desk holds one, its record stands
+/// A script of what was seen, in pieces: the heading `pfair,3` in version 3, else `pfair,2` where the settings are wide; the
+/// settings, with `every` slots between checkpoints, which a snapshot does not tell; in version 3 the length of a slot and the
+/// names; an insert for each event held, by number; the steps, where there are some. Scripts with ordinary settings have no limits of processors: where such a desk holds one, its record stands
 /// here too, but no script of that version may have it.
 ///
 /// # Errors
 ///
 /// Where memory is refused.
-pub fn script_pieces(
+pub fn script_pieces<'a>(
     alloc: Global,
-    snapshot: &Snapshot,
+    snapshot: &'a Snapshot,
     every: u64,
-) -> Result<ScriptPieces<'_>, AllocError>
-    ensures { IfOk result (λ pieces. pieces ≡ script_text_of every snapshot.now) }
+    titles: &Titles,
+) -> Result<ScriptPieces<'a>, AllocError>
+    ensures { IfOk result (λ pieces. pieces ≡ script_text_of every snapshot.now titles.now) }
 {
-    let opening = Whole::new(opening_text(alloc, snapshot.settings(), every)?);
+    let opening = Whole::new(opening_text(alloc, snapshot.settings(), every, titles)?);
     let steps = Whole::new(steps_text(alloc, snapshot.now())?);
     let inserts = InsertPieces {
         events: snapshot.events(),
@@ -155,8 +220,13 @@ pub fn script_pieces(
 /// # Errors
 ///
 /// Where memory is refused.
-pub fn script_text(alloc: Global, snapshot: &Snapshot, every: u64) -> Result<Vec<u8>, AllocError>
-    ensures { IfOk result (λ text. text.items ≡ script_text_of every snapshot.now) }
+pub fn script_text(
+    alloc: Global,
+    snapshot: &Snapshot,
+    every: u64,
+    titles: &Titles,
+) -> Result<Vec<u8>, AllocError>
+    ensures { IfOk result (λ text. text.items ≡ script_text_of every snapshot.now titles.now) }
 {
-    gathered(alloc, script_pieces(alloc, snapshot, every)?)
+    gathered(alloc, script_pieces(alloc, snapshot, every, titles)?)
 }

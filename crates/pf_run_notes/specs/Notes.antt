@@ -63,15 +63,26 @@ counts_text file lines refused denied missed = if lines == 0 then [] else count_
 abbrev pub lines_of : Kept → Seen → List Miss → ℕ
 lines_of kept seen misses = more (more kept.records (length seen.denials)) (length (firsts_of misses))
 
--- of the refusals kept, the denials and the missed windows of the run: the first lines, how many more there are, and the counts
-abbrev pub notes_with : List ℕ → List Named → List Place → Kept → Seen → List Slot → List Miss → List ℕ
-notes_with file names made kept seen r misses =
+-- of the refusals kept, the denials and the missed windows of the run: the first lines, and how many more there are
+abbrev pub lists_with : List ℕ → List Named → List Place → Kept → Seen → List Slot → List Miss → List ℕ
+lists_with file names made kept seen r misses =
     kept.lines
     ++ flat_map (denied_note file names made seen.state.plan r) (take (kept.most - kept.records) seen.denials)
     ++ flat_map (missed_note file names made seen.state.plan misses)
     (take (kept.most - more kept.records (length seen.denials)) (firsts_of misses))
     ++ more_text kept.most (lines_of kept seen misses)
+
+-- and behind them the counts
+abbrev pub notes_with : List ℕ → List Named → List Place → Kept → Seen → List Slot → List Miss → List ℕ
+notes_with file names made kept seen r misses =
+    lists_with file names made kept seen r misses
     ++ counts_text file (lines_of kept seen misses) kept.commands (length seen.denials) (length misses)
+
+-- those of the run of what was seen
+unfoldable pub lists_text : List ℕ → List Named → List Place → Kept → Seen → List ℕ
+lists_text file names made kept seen =
+    lists_with file names made kept seen (run_of seen.state.plan seen.state.now)
+    (misses_of seen.state.plan (run_of seen.state.plan seen.state.now))
 
 unfoldable pub notes_text : List ℕ → List Named → List Place → Kept → Seen → List ℕ
 notes_text file names made kept seen =

@@ -7,6 +7,6 @@ pub mod file;
 pub mod late;
 pub mod lines;
 pub mod made;
-mod notes;
+pub mod notes;
 pub mod place;
 pub mod refusals;

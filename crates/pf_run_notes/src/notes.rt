@@ -24,7 +24,7 @@ use pf_tally::miss::Miss;
 use std::alloc::{AllocError, Global};
 
 /// The name of the task, where it has one.
-fn name_of(names: &Names, task: u64) -> Option<&[u8]>
+pub fn name_of(names: &Names, task: u64) -> Option<&[u8]>
     ensures { option_map (λ n. n.now) result ≡ name_of names.now task }
 {
     match names.of_task(task) {
@@ -44,7 +44,7 @@ fn name_in<'a>(names: &'a Names, grounds: &Grounds) -> Option<&'a [u8]>
 }
 
 /// The event of this number, where it is held.
-fn event_of(scenario: &Scenario, id: u64) -> Option<Numbered>
+pub fn event_of(scenario: &Scenario, id: u64) -> Option<Numbered>
     ensures { result ≡ event_of id scenario.now.events }
 {
     for numbered in scenario.events() {
@@ -66,7 +66,7 @@ fn is_join_of(task: u64, event: &Event) -> bool
 }
 
 /// The join of the task, where one is held.
-fn join_of(scenario: &Scenario, task: u64) -> Option<Numbered>
+pub fn join_of(scenario: &Scenario, task: u64) -> Option<Numbered>
     ensures { result ≡ join_among task scenario.now.events }
 {
     for numbered in scenario.events() {

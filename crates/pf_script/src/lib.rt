@@ -12,7 +12,7 @@ pub mod parse;
 mod place;
 pub mod reader;
 pub mod record;
-mod record_lines;
+pub mod record_lines;
 pub mod script;
 pub mod stage;
 pub mod state;

@@ -7,6 +7,8 @@ use Rattle.pf_tally.specs.declared.extremes.Extremes.{Extremes}
 use Rattle.pf_tally.specs.declared.figures.Figures.{Figures}
 use Rattle.pf_tally.specs.Figures.{figures_of}
 use Rattle.pf_desk.specs.Desk.{Seen}
+use Rattle.pf_names.specs.declared.titles.Titles.{Titles}
+use Rattle.pf_name_column.specs.Column.{name_fields, name_heading}
 use Rattle.pf_text.specs.Page.{table_text}
 
 -- the response of no job is empty
@@ -36,8 +38,12 @@ stats_heading =
     ∷ codes "response_min" ∷ codes "response_max" ∷ codes "missed" ∷ codes "tardiness_max" ∷ codes "lag_min"
     ∷ codes "lag_max" ∷ []
 
+-- behind all of it in version 3 the name of the task
+abbrev pub named_figures_record : Titles → Figures → List (List ℕ)
+named_figures_record titles f = figures_record f ++ name_fields titles f.task
+
 -- a line for each task admitted in a slot below now, by task number
-unfoldable pub stats_text : Seen → List ℕ
-stats_text seen =
-    table_text (stats_heading
-    ∷ map figures_record (figures_of seen.state.plan (run_of seen.state.plan seen.state.now) seen.rows))
+unfoldable pub stats_text : Seen → Titles → List ℕ
+stats_text seen titles =
+    table_text ((stats_heading ++ name_heading titles)
+    ∷ map (named_figures_record titles) (figures_of seen.state.plan (run_of seen.state.plan seen.state.now) seen.rows))

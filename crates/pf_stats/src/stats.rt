@@ -1,8 +1,10 @@
 ghost use Rattle.std.specs.Prelude.{◌≡◌, [], IfOk, OnOk};
 ghost use Rattle.pf_text.specs.Page.{with_field, with_record};
-ghost use Rattle.pf_stats.specs.Stats.{figures_record, greatest_field, least_field, stats_text, task_fields, time_fields, work_fields};
+ghost use Rattle.pf_stats.specs.Stats.{figures_record, greatest_field, least_field, named_figures_record, stats_text, task_fields, time_fields, work_fields};
 
 use pf_desk::snapshot::Snapshot;
+use pf_name_column::column::{push_heading, show_name};
+use pf_names::titles::Titles;
 use pf_tally::extremes::Extremes;
 use pf_tally::figures::Figures;
 use pf_text::table::Table;
@@ -70,29 +72,31 @@ fn show_lag(table: &mut Table, figures: Figures) -> Result<(), AllocError>
 }
 
 /// Adds the record of a task.
-fn push_figures(table: &mut Table, figures: Figures) -> Result<(), AllocError>
+fn push_figures(table: &mut Table, figures: Figures, titles: &Titles) -> Result<(), AllocError>
     requires { table.old.fields ≡ [] }
-    ensures { OnOk result (table.new ≡ with_record table.old (figures_record figures)) }
+    ensures { OnOk result (table.new ≡ with_record table.old (named_figures_record titles.now figures)) }
 {
     show_task(table, figures)?;
     show_work(table, figures)?;
     show_time(table, figures)?;
     show_lag(table, figures)?;
+    show_name(table, titles, u64::from(figures.task))?;
     table.end_record()
 }
 
 /// What every simulator tells of each task admitted in a slot below now, as a table, by task number: its weight, the
 /// quanta that it received, its migrations and preemptions, the jobs that were done, their least and greatest response,
-/// the missed windows, the greatest tardiness, the least and the greatest lag.
+/// the missed windows, the greatest tardiness, the least and the greatest lag; in version 3 its name, or nothing where it has
+/// none.
 ///
 /// # Errors
 ///
 /// Where memory is refused.
-pub fn stats_csv(alloc: Global, snapshot: &Snapshot) -> Result<Vec<u8>, AllocError>
-    ensures { IfOk result (λ text. text.items ≡ stats_text snapshot.now) }
+pub fn stats_csv(alloc: Global, snapshot: &Snapshot, titles: &Titles) -> Result<Vec<u8>, AllocError>
+    ensures { IfOk result (λ text. text.items ≡ stats_text snapshot.now titles.now) }
 {
     let mut table = Table::new(alloc);
-    table.push_texts(&[
+    let texts = [
         "task",
         "cost",
         "period",
@@ -106,9 +110,10 @@ pub fn stats_csv(alloc: Global, snapshot: &Snapshot) -> Result<Vec<u8>, AllocErr
         "tardiness_max",
         "lag_min",
         "lag_max",
-    ])?;
+    ];
+    push_heading(&mut table, &texts, titles)?;
     for figures in &snapshot.figures()? {
-        push_figures(&mut table, *figures)?;
+        push_figures(&mut table, *figures, titles)?;
     }
     table.finish()
 }

@@ -1,10 +1,10 @@
 -- The subtasks that may run in a slot, by the events and the quanta that a ledger has.
-use Rattle.std.proofs.Common.{◌≡◌, ◌∙◌, ℕ, suc, ◌+◌, ◌<◌, Bool, true, false, not, ◌||◌, cond, take, filter, filter_map, find, map, get_or, sum_by, Option, None, Some, List, [], ◌∷◌, ◌++◌, length, All, Contains, ⊎_elim, refl, sym, ap, ap₂, subst, subst₂, arith}
+use Rattle.std.proofs.Common.{◌≡◌, ◌∙◌, ℕ, suc, ◌+◌, ◌<◌, ◌≤◌, Bool, true, false, not, ◌||◌, cond, take, filter, filter_map, find, map, get_or, sum_by, Option, None, Some, List, [], ◌∷◌, ◌++◌, length, All, Contains, ⊎_elim, refl, sym, ap, ap₂, subst, arith}
 use Rattle.std.specs.List.{cons_option, list_any}
 use Rattle.std.specs.Option.{is_some, option_and_then}
 use Rattle.std.proofs.lemmas.Bool.{le-leb, lt-leb}
 use Rattle.std.proofs.lemmas.List.{append-nil, take_more}
-use Rattle.std.proofs.lemmas.List.Elements.{All-head, All-tail, filter-append, filter_map-append}
+use Rattle.std.proofs.lemmas.List.Elements.{All-head, All-nil, All-tail, filter-append, filter_map-append}
 use Rattle.pf_scenario.specs.Event.{slot_of, is_leave_of}
 use Rattle.pf_scenario.specs.Scenario.{Plan}
 use Rattle.pf_scenario.specs.declared.event.Numbered.{Numbered}
@@ -32,6 +32,8 @@ use Rattle.pf_promise.proofs.Shifts.{standing_below}
 use Rattle.pf_promise.proofs.Standing.{Splits, splits}
 use Rattle.pf_why.specs.declared.subtask.Subtask.{Subtask}
 use Rattle.pf_why.specs.Ranking.{candidate_by, candidates_in, is_until, may_run, next_by, next_of, standing_in, subtask_of}
+use Rattle.pf_why.specs.Upcoming.{halt_from, upcoming_by, upcoming_of}
+use Rattle.pf_why.proofs.Halts.{halts_are}
 
 -- lists
 filter_all : {X : Type 0} (p : X → Bool) (xs : List X) → All (λ x. p x ≡ true) xs → filter p xs ≡ xs
@@ -189,13 +191,10 @@ module _ (s : Plan) (n : ℕ) (ledger : Ledger) (known : IsLedger s n ledger) (t
         ∙ filters_commute (is_until t) (λ x. is_own j.task x.event) ledger.events.items
         ∙ ap (events_of_task j.task) (sym of_xs)
 
-    pub can_own_now : CanTally j ran own WIDE_HORIZON
-    can_own_now =
-        let here : Contains (filter_map (join_of s.settings.base) xs) j =
-        in_filter_map (join_of s.settings.base) xs x j at (ap (λ z. join_of z.base x) (sym known.settings) ∙ gives) in
-        let can = can_own j (slots_of r j.task) xs n (can_tally s.settings n xs j r (slots_of r j.task) log_now here known.slots refl) in
-        let P : List ℕ → List Numbered → Type 0 = λ q ys. CanTally j q ys WIDE_HORIZON in
-        let wide : CanTally j (slots_of r j.task) (events_of_task j.task xs) WIDE_HORIZON = record {
+    wide : (ys : List Numbered) → CanTally j (slots_of r j.task) ys n → CanTally j ran ys WIDE_HORIZON
+    wide ys can =
+        let P : List ℕ → Type 0 = λ q. CanTally j q ys WIDE_HORIZON in
+        let all : CanTally j (slots_of r j.task) ys WIDE_HORIZON = record {
           number = can.number;
           share = can.share;
           joined = let most = can.within in let slot = can.joined in omega (arith, most, slot);
@@ -205,15 +204,37 @@ module _ (s : Plan) (n : ℕ) (ledger : Ledger) (known : IsLedger s n ledger) (t
           rise = can.rise;
           delays = can.delays;
         } in
-        subst₂ P (sym ran_is) (sym own_is) wide
+        subst P (sym ran_is) all
 
-    next_is_next : next_by j ran own t ≡ next_of r xs t j
+    can_now : CanTally j (slots_of r j.task) xs n
+    can_now =
+        let here : Contains (filter_map (join_of s.settings.base) xs) j =
+        in_filter_map (join_of s.settings.base) xs x j at (ap (λ z. join_of z.base x) (sym known.settings) ∙ gives) in
+        can_tally s.settings n xs j r (slots_of r j.task) log_now here known.slots refl
+
+    pub can_all_now : CanTally j ran xs WIDE_HORIZON
+    can_all_now = wide xs can_now
+
+    pub can_own_now : CanTally j ran own WIDE_HORIZON
+    can_own_now =
+        let P : List Numbered → Type 0 = λ ys. CanTally j ran ys WIDE_HORIZON in
+        subst P (sym own_is) (wide (events_of_task j.task xs) (can_own j (slots_of r j.task) xs n can_now))
+
+    pub next_is_next : next_by j ran own t ≡ next_of r xs t j
     unfolding shift_of
     next_is_next =
         let next : next_in ran ≡ next_at r j = next_is r j ran (sym ran_is) in
         ap₂ (λ (f : ℕ → ℕ) ys. subtask_of j (f t) (j.slot + sum_by (hold_of (f t)) (held_from f j j.slot ys))) next own_is
         ∙ ap (λ m. subtask_of j (next_at r j t) (j.slot + m)) (sym (all_counted r j j.slot (next_at r j t) (events_of_task j.task xs)))
         ∙ ap (λ (shift : ℕ → ℕ). subtask_of j (next_at r j t) (shift (next_at r j t))) (shift_own r xs j)
+
+    -- what it has before it
+    pub upcoming_is : upcoming_by j ran own xs t ≡ upcoming_of r xs t j
+    upcoming_is =
+        let next : next_in ran ≡ next_at r j = next_is r j ran (sym ran_is) in
+        ap₂ (λ n h. record { next = n; halt = h }) next_is_next
+        (ap (λ f. halt_from f j t j.slot xs) next
+        ∙ sym (halts_are r j t [] xs 0 j.slot log_now.rise (All-nil (λ y. slot_of y.event ≤ 0)) (omega arith)))
 
     left_is : has_left own j.task ≡ has_left xs j.task
     left_is =

@@ -1,3 +1,4 @@
+pub mod Halts
 pub mod Candidates
 pub mod Ranked
 pub mod First

@@ -1,4 +1,5 @@
 pub mod Ranking
+pub mod Upcoming
 pub mod Rule
 pub mod Seat
 pub mod Point

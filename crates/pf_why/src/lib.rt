@@ -2,9 +2,11 @@
 //! PD2, the rule that puts each behind the one before it, and where and why each runs or waits.
 #![tactic(auto)]
 
+pub mod halt;
 pub mod laws;
 pub mod point;
 pub mod ranking;
 pub mod rule;
 pub mod seat;
 pub mod subtask;
+pub mod upcoming;

@@ -6,7 +6,7 @@ ghost use Rattle.pf_run.specs.Inside.{joined_by};
 ghost use Rattle.pf_run.specs.RunRows.{AreOfRun};
 ghost use Rattle.pf_tally.specs.Held.{AreSuccessive, IsSmall, CanTally};
 ghost use Rattle.pf_tally.specs.Late.{hold_of};
-ghost use Rattle.pf_why.specs.Ranking.{candidate_by, candidates_in, is_until, ranking_in, subtask_of};
+ghost use Rattle.pf_why.specs.Ranking.{candidate_by, candidates_in, is_until, next_by, ranking_in, subtask_of};
 
 use crate::subtask::Subtask;
 use pf_place::rows::Rows;
@@ -24,7 +24,11 @@ use std::alloc::{AllocError, Global};
 use std::cmp::Reverse;
 
 /// Those of the events whose slot is at most t.
-fn events_until(alloc: Global, events: &[Numbered], t: u64) -> Result<Vec<Numbered>, AllocError>
+pub(crate) fn events_until(
+    alloc: Global,
+    events: &[Numbered],
+    t: u64,
+) -> Result<Vec<Numbered>, AllocError>
     ensures { IfOk result (λ v. v.items ≡ filter (is_until t) events.now) }
 {
     let mut until = Vec::new(alloc);
@@ -37,7 +41,7 @@ fn events_until(alloc: Global, events: &[Numbered], t: u64) -> Result<Vec<Number
 }
 
 /// The task that the event brings, if it is a join.
-fn joined(settings: Settings, event: &Event) -> Option<Admitted>
+pub(crate) fn joined(settings: Settings, event: &Event) -> Option<Admitted>
     requires { IsEvent settings event.now }
     ensures { result ≡ joined_by settings.base event.now }
 {
@@ -90,8 +94,22 @@ fn subtask(task: Admitted, delays: &[Held], i: u64) -> Subtask
     }
 }
 
-/// The next subtask at the choice of slot t of a task that ran in the slots `ran`, where these of its own events are in force;
-/// none where it left by one of them, or the subtask may not run yet.
+/// The next subtask at the choice of slot t of a task that ran in the slots `ran`, where these of its own events are in force.
+pub(crate) fn next_subtask(
+    alloc: Global,
+    task: Admitted,
+    ran: &[u64],
+    events: &[Numbered],
+    t: u64,
+) -> Result<Subtask, AllocError>
+    requires { CanTally task ran.now events.now WIDE_HORIZON }
+    ensures { IfOk result (λ next. next ≡ next_by task ran.now events.now t) }
+{
+    let delays = held_delays(alloc, task, ran, events)?;
+    Ok(subtask(task, &delays, slots_below(ran, t) + 1))
+}
+
+/// The same; none where the task left by one of the events, or the subtask may not run yet.
 fn candidate(
     alloc: Global,
     task: Admitted,
@@ -105,8 +123,7 @@ fn candidate(
     if leave_of(events, task.task).is_some() {
         return Ok(None);
     }
-    let delays = held_delays(alloc, task, ran, events)?;
-    let next = subtask(task, &delays, slots_below(ran, t) + 1);
+    let next = next_subtask(alloc, task, ran, events, t)?;
     if next.first <= t {
         Ok(Some(next))
     } else {

@@ -22,5 +22,6 @@ worked_slots = record {
   group = refl;
   limited = refl;
   denied = refl;
+  ranked = refl;
   nobody = refl;
 }

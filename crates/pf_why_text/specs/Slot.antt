@@ -12,6 +12,7 @@ use Rattle.pf_why.specs.Ranking.{ranking_in}
 use Rattle.pf_why_text.specs.Events.{events_text}
 use Rattle.pf_why_text.specs.Head.{head_text, places_text}
 use Rattle.pf_why_text.specs.Ranks.{Seats, ranks_text}
+use Rattle.pf_why_text.specs.Whereabouts.{asked_text}
 
 -- who sits where in slot t, and in the slot before
 abbrev pub row_in : Seen → ℕ → List (Option Pick)
@@ -31,10 +32,12 @@ point_seen seen t = point_of seen.state.plan seen.state.now t
 abbrev pub ranking_seen : Seen → ℕ → List Subtask
 ranking_seen seen t = ranking_in seen.state.plan (run_of seen.state.plan seen.state.now) t
 
--- the line of the slot; those of its events, in run order; those of its processors; and its ranking
-unfoldable pub why_text : List Named → Seen → ℕ → List ℕ
-why_text names seen t =
+-- the line of the slot; those of its events, in run order; those of its processors; its ranking; and the line of the task that is
+-- asked for, if one is
+unfoldable pub why_text : List Named → Seen → ℕ → Option ℕ → List ℕ
+why_text names seen t asked =
     head_text (point_seen seen t) (length (ranking_seen seen t))
     ++ (events_text names seen.state.plan (run_of seen.state.plan seen.state.now) seen.denials (events_of seen.state.plan t)
     ++ (places_text names (point_seen seen t).count seen.state.plan.settings.processors (row_in seen t)
-    ++ ranks_text names (seats_in seen (point_seen seen t).count t) (ranking_seen seen t)))
+    ++ (ranks_text names (seats_in seen (point_seen seen t).count t) (ranking_seen seen t)
+    ++ asked_text names seen (seats_in seen (point_seen seen t).count t) (ranking_seen seen t) asked)))

@@ -13,7 +13,7 @@ use pf_scenario::event::Numbered;
 use std::alloc::{AllocError, Global};
 
 /// The name of a task, if there is a task, and it has one.
-fn name_of<'a>(names: &'a Names, task: Option<u64>) -> Option<&'a [u8]>
+pub(crate) fn name_of<'a>(names: &'a Names, task: Option<u64>) -> Option<&'a [u8]>
     ensures { option_map (λ n. n.now) result ≡ option_and_then (name_of names.now) task }
 {
     match names.of_task(task?) {
@@ -23,7 +23,11 @@ fn name_of<'a>(names: &'a Names, task: Option<u64>) -> Option<&'a [u8]>
 }
 
 /// Adds why an event was denied.
-fn push_sentence(text: &mut Vec<u8>, names: &Names, grounds: &Grounds) -> Result<(), AllocError>
+///
+/// # Errors
+///
+/// Where memory is refused: a front of it was added.
+pub fn push_sentence(text: &mut Vec<u8>, names: &Names, grounds: &Grounds) -> Result<(), AllocError>
     ensures { OnOk result (text.new.items ≡ text.old.items ++ sentence_text names.now grounds.now) }
 {
     push_grounds(text, name_of(names, grounds.task()), grounds)
@@ -74,7 +78,7 @@ fn push_outcome(
 }
 
 /// The denial of the event of this number, if it was denied.
-fn denial_among(denials: &[Denied], id: u64) -> Option<Denied>
+pub fn denial_among(denials: &[Denied], id: u64) -> Option<Denied>
     ensures { result ≡ denial_among denials.now id }
 {
     denials.iter().copied().find(|denied| denied.id == id)

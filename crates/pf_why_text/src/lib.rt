@@ -2,9 +2,11 @@
 #![tactic(auto)]
 
 pub mod answer;
+pub mod asked;
 pub mod events;
 pub mod head;
 pub mod laws;
 pub mod ranks;
 pub mod seating;
 pub mod slot;
+pub mod whereabouts;

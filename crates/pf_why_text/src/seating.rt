@@ -22,7 +22,7 @@ impl<'a> Seating<'a> {
     ghost use Rattle.pf_why_text.specs.Ranks.{IsSeating, last_that_runs, seat_in_slot, seating_of};
 
     /// The last of a ranking that runs, where there are that many.
-    pub(crate) fn last_of(self, ranking: &[Subtask]) -> Option<Subtask>
+    pub fn last_of(self, ranking: &[Subtask]) -> Option<Subtask>
         ensures { result ≡ last_that_runs (seating_of self.entry) ranking.now }
     {
         let last = self.count.saturating_sub(1);
@@ -30,7 +30,7 @@ impl<'a> Seating<'a> {
     }
 
     /// Where a subtask runs, and why there.
-    pub(crate) fn seat(self, x: Subtask) -> Option<Seat>
+    pub fn seat(self, x: Subtask) -> Option<Seat>
         requires { IsSeating self }
         ensures { result ≡ seat_in_slot (seating_of self.entry) x }
     {

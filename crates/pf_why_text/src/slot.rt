@@ -7,6 +7,7 @@ ghost use Rattle.pf_why_text.specs.Events.{events_text};
 ghost use Rattle.pf_why_text.specs.Ranks.{IsSeating, seating_of};
 ghost use Rattle.pf_why_text.specs.Slot.{point_seen, ranking_seen, row_before, seats_in, why_text};
 
+use crate::asked::push_asked;
 use crate::events::push_events;
 use crate::head::{head_line, push_places};
 use crate::ranks::push_ranking;
@@ -22,7 +23,11 @@ use pf_why::subtask::Subtask;
 use std::alloc::{AllocError, Global};
 
 /// The slot at its choice.
-fn point_of(alloc: Global, snapshot: &Snapshot, t: u64) -> Result<Point, AllocError>
+///
+/// # Errors
+///
+/// Where memory is refused.
+pub fn point_of(alloc: Global, snapshot: &Snapshot, t: u64) -> Result<Point, AllocError>
     requires { t < snapshot.now.state.now }
     ensures { IfOk result (λ point. point ≡ point_seen snapshot.now t) }
 {
@@ -38,7 +43,11 @@ fn point_of(alloc: Global, snapshot: &Snapshot, t: u64) -> Result<Point, AllocEr
 }
 
 /// The ranking of the slot.
-fn ranking_of(alloc: Global, snapshot: &Snapshot, t: u64) -> Result<Vec<Subtask>, AllocError>
+///
+/// # Errors
+///
+/// Where memory is refused.
+pub fn ranking_of(alloc: Global, snapshot: &Snapshot, t: u64) -> Result<Vec<Subtask>, AllocError>
     requires { t < snapshot.now.state.now }
     ensures { IfOk result (λ v. v.items ≡ ranking_seen snapshot.now t) }
 {
@@ -65,8 +74,8 @@ fn row_before(snapshot: &Snapshot, t: u64) -> Option<RowView<'_>>
     Some(row_at(snapshot, t - 1))
 }
 
-/// Who sits where in the slot, of whose processors so many are in use.
-fn seating(snapshot: &Snapshot, t: u64, count: u64) -> Seating<'_>
+/// Who sits where in the slot (below 2^63), of whose processors so many are in use.
+pub fn seating_in(snapshot: &Snapshot, t: u64, count: u64) -> Seating<'_>
     requires within { t < length snapshot.now.rows }
     requires short { t < 2 ^ 63 }
     ensures value { seating_of result ≡ seats_in snapshot.now count t }
@@ -101,7 +110,8 @@ fn push_slot_events(
 
 /// Why slot t of what a snapshot shows went as it did, in words: the slot's line; a line for each of its events, in run order,
 /// which says whether it was taken, and if not, why; a line for each processor; and the subtasks that may run in it, in the
-/// order of PD2, each with its window, the rule that puts it behind the one above, and what it does.
+/// order of PD2, each with its window, the rule that puts it behind the one above, and what it does; and where the task is that is
+/// asked for, if one is.
 ///
 /// # Errors
 ///
@@ -111,15 +121,16 @@ pub fn why_text(
     snapshot: &Snapshot,
     names: &Names,
     t: u64,
+    asked: Option<u64>,
 ) -> Result<Vec<u8>, AllocError>
     requires { t < snapshot.now.state.now }
-    ensures { IfOk result (λ text. text.items ≡ why_text names.now snapshot.now t) }
+    ensures { IfOk result (λ text. text.items ≡ why_text names.now snapshot.now t asked) }
 {
     // That there is a row for each slot is known from this call alone.
     let _ = snapshot.now();
     let point = point_of(alloc, snapshot, t)?;
     let ranking = ranking_of(alloc, snapshot, t)?;
-    let seating = seating(snapshot, t, point.count);
+    let seating = seating_in(snapshot, t, point.count);
     let head = head_line(alloc, point, ranking.len() as u64)?;
     let mut text = Vec::new(alloc);
     text.extend_from_slice(head.as_bytes())?;
@@ -133,5 +144,6 @@ pub fn why_text(
         seating.row,
     )?;
     push_ranking(alloc, &mut text, names, seating, &ranking)?;
+    push_asked(alloc, &mut text, names, snapshot, seating, &ranking, asked)?;
     Ok(text)
 }

@@ -41,9 +41,11 @@ use Rattle.pf_chart.proofs.Tracks.{window_is}
 use Rattle.pf_tasks.specs.Listed.{is_listed}
 use Rattle.pf_tasks.specs.declared.task_range.TaskRange.{TaskRange}
 use Rattle.pf_tasks.proofs.Taken.{one_taken, one_left}
+use Rattle.pf_names.specs.declared.titles.Titles.{Titles}
+use Rattle.pf_name_column.specs.Column.{name_fields, with_name}
 use Rattle.pf_text.specs.Page.{Page, with_record}
 use Rattle.pf_text.specs.Sheets.{AddsAtMostOne}
-use Rattle.pf_windows.specs.Told.{Told, told_by, told_window, is_shown, sub_count, records_behind_sub}
+use Rattle.pf_windows.specs.Told.{NamedTold, Told, named_behind_sub, told_by, told_window, is_shown, sub_count, records_behind_sub}
 use Rattle.pf_windows.specs.Windows.{leave_slot, lies_within, window_record, window_records, records_of_task, windows_records}
 use Rattle.pf_windows.specs.declared.slots.Slots.{Slots}
 
@@ -78,10 +80,13 @@ pub within_slots : (told : Told) → sub_count told ≤ told.slots.now
 within_slots told = min-le_right (max (told.end * told.task.weight.cost / told.task.weight.period + 1) (length told.ran)) told.slots.now
 
 -- Use: behind all of them none is left.
-pub none_left : (told : Told) → records_behind_sub told (sub_count told) ≡ []
-none_left told =
-    ap (λ n. flat_map (λ i. window_records told.slots told.task told.end told.leave (told_window told i)) (range_with_len (sub_count told + 1) n))
-    (let z : sub_count told - sub_count told ≡ 0 = omega arith in z)
+pub none_left : (x : NamedTold) → named_behind_sub x (sub_count x.told) ≡ []
+none_left x = ap (with_name x.titles x.told.task.task) (none_behind x.told)
+  where
+    none_behind : (told : Told) → records_behind_sub told (sub_count told) ≡ []
+    none_behind told =
+        ap (λ n. flat_map (λ i. window_records told.slots told.task told.end told.leave (told_window told i)) (range_with_len (sub_count told + 1) n))
+        (let z : sub_count told - sub_count told ≡ 0 = omega arith in z)
 
 -- one subtask further
 module _ (told : Told) (at : ℕ) (within : at < sub_count told) where
@@ -100,15 +105,23 @@ module _ (told : Told) (at : ℕ) (within : at < sub_count told) where
       first_place ∙ ap (λ x. line x ++ records_behind_sub told (at + 1)) (sym is)
       ∙ ap (λ x. cond x (window_record told.task w ∷ []) [] ++ records_behind_sub told (at + 1)) shown
 
-  pub shown_added : {A E : Type 0} (r : Result A E) (w : Window) (old new : Page) → w ≡ told_window told (at + 1) → is_shown told w ≡ true →
-      OnOk r (new ≡ with_record old (window_record told.task w)) →
-      OnOk r (AddsAtMostOne (records_behind_sub told at) (records_behind_sub told (at + 1)) old new)
-  shown_added (Ok x) w old new is shown h = record { added = window_record told.task w ∷ []; of_was = by_test w true is shown; is = (refl, h) }
-  shown_added (Err e) w old new is shown h = tt
+  module _ (titles : Titles) where
+    abbrev left : ℕ → List (List (List ℕ))
+    left k = named_behind_sub (record { told = told; titles = titles }) k
 
-  pub none_added : (w : Window) (page : Page) → w ≡ told_window told (at + 1) → is_shown told w ≡ false →
-      AddsAtMostOne (records_behind_sub told at) (records_behind_sub told (at + 1)) page page
-  none_added w page is shown = record { added = []; of_was = by_test w false is shown; is = refl }
+    pub shown_added : {A E : Type 0} (r : Result A E) (w : Window) (old new : Page) → w ≡ told_window told (at + 1) → is_shown told w ≡ true →
+        OnOk r (new ≡ with_record old (window_record told.task w ++ name_fields titles told.task.task)) →
+        OnOk r (AddsAtMostOne (left at) (left (at + 1)) old new)
+    shown_added (Ok x) w old new is shown h = record {
+      added = (window_record told.task w ++ name_fields titles told.task.task) ∷ [];
+      of_was = ap (with_name titles told.task.task) (by_test w true is shown);
+      is = (refl, h);
+    }
+    shown_added (Err e) w old new is shown h = tt
+
+    pub none_added : (w : Window) (page : Page) → w ≡ told_window told (at + 1) → is_shown told w ≡ false →
+        AddsAtMostOne (left at) (left (at + 1)) page page
+    none_added w page is shown = record { added = []; of_was = ap (with_name titles told.task.task) (by_test w false is shown); is = refl }
 
 -- a subtask behind those that are looked at did not run, and is not released before the end
 module _ (j : Joined) (share : IsShare j.weight) (ran on : List ℕ) (held : List Held) (end i : ℕ) where
@@ -194,12 +207,12 @@ own_records slots r on xs j =
 -- a step over the admitted tasks, by number, of which those of a list are taken
 module _ (s : Plan) (n : ℕ) (ledger : Ledger) (known : IsLedger s n ledger) (tasks : List Joined)
     (of_tasks : tasks ≡ by_task (filter_map (join_of ledger.settings.base) ledger.events.items)) (rows : List (List (Option Pick)))
-    (ranges : List TaskRange) (slots : Slots) (of_slots : slots.now ≡ n) where
+    (ranges : List TaskRange) (titles : Titles) (slots : Slots) (of_slots : slots.now ≡ n) where
   abbrev records : Joined → List (List (List ℕ))
-  records j = records_of_task slots (run_of s n) (processors_in rows j.task) ledger.events.items j
+  records j = with_name titles j.task (records_of_task slots (run_of s n) (processors_in rows j.task) ledger.events.items j)
 
-  abbrev kept : Told → List (List (List ℕ))
-  kept t = records_behind_sub t 0
+  abbrev kept : NamedTold → List (List (List ℕ))
+  kept x = named_behind_sub x 0
 
   module _ (k : ℕ) (j : Joined) (ran on : List ℕ) (diary : List Numbered) (within : k < length tasks) (is : j ≡ get_or tasks k j)
       (of_ran : ran ≡ noted_of ledger.quanta j.task) (of_diary : diary ≡ noted_of ledger.diaries j.task) (of_on : on ≡ processors_in rows j.task) where
@@ -209,37 +222,41 @@ module _ (s : Plan) (n : ℕ) (ledger : Ledger) (known : IsLedger s n ledger) (t
     pub can_tally : CanTally j ran diary slots.now
     can_tally = subst (λ m. CanTally j ran diary m) (known.now ∙ sym of_slots) can_at_now
 
-    one_is : (sheet : Told) → sheet ≡ told_by j ran on diary slots → kept sheet ≡ records j
-    one_is sheet told_is =
+    told_is_its : records_behind_sub (told_by j ran on diary slots) 0
+        ≡ records_of_task slots (run_of s n) (processors_in rows j.task) ledger.events.items j
+    told_is_its =
         let at = sorted_at s n ledger known tasks of_tasks k j within is in
-        ap kept told_is
-        ∙ records_are s n known.scenario known.slots slots of_slots diary j ran on (subst (λ m. CanTally j ran diary m) known.now can_at_now)
+        records_are s n known.scenario known.slots slots of_slots diary j ran on (subst (λ m. CanTally j ran diary m) known.now can_at_now)
         (task_ran s n ledger known j at ran of_ran)
         ∙ ap₂ (λ on xs. records_of_task slots (run_of s n) on xs j) of_on (task_diary s n ledger known j at diary of_diary)
         ∙ own_records slots (run_of s n) (processors_in rows j.task) ledger.events.items j
 
-    pub sheet_added : (sheet : Told) (before after : List Told) → sheet ≡ told_by j ran on diary slots → is_listed ranges j.task ≡ true →
-        after ≡ before ++ sheet ∷ [] →
-        flat_map (λ t. records_behind_sub t 0) before ≡ flat_map records (filter (λ j. is_listed ranges j.task) (take k tasks)) →
-        flat_map (λ t. records_behind_sub t 0) after ≡ flat_map records (filter (λ j. is_listed ranges j.task) (take (k + 1) tasks))
-    sheet_added sheet before after told_is has push so_far =
-        one_taken (λ (j : Joined). j.task) records kept ranges tasks k j within is has sheet before after (one_is sheet told_is) push so_far
+    one_is : (windows : Told) (sheet : NamedTold) → windows ≡ told_by j ran on diary slots → sheet ≡ record { told = windows; titles = titles } → kept sheet ≡ records j
+    one_is windows sheet told_is sheet_is =
+        ap kept (sheet_is ∙ ap (λ t. record { told = t; titles = titles }) told_is) ∙ ap (with_name titles j.task) told_is_its
 
-  pub sheet_left : (k : ℕ) (j : Joined) (before after : List Told) → k < length tasks → j ≡ get_or tasks k j → is_listed ranges j.task ≡ false →
+    pub sheet_added : (windows : Told) (sheet : NamedTold) (before after : List NamedTold) → windows ≡ told_by j ran on diary slots
+        → sheet ≡ record { told = windows; titles = titles } → is_listed ranges j.task ≡ true → after ≡ before ++ sheet ∷ [] →
+        flat_map (λ x. named_behind_sub x 0) before ≡ flat_map records (filter (λ j. is_listed ranges j.task) (take k tasks)) →
+        flat_map (λ x. named_behind_sub x 0) after ≡ flat_map records (filter (λ j. is_listed ranges j.task) (take (k + 1) tasks))
+    sheet_added windows sheet before after told_is sheet_is has push so_far =
+        one_taken (λ (j : Joined). j.task) records kept ranges tasks k j within is has sheet before after (one_is windows sheet told_is sheet_is) push so_far
+
+  pub sheet_left : (k : ℕ) (j : Joined) (before after : List NamedTold) → k < length tasks → j ≡ get_or tasks k j → is_listed ranges j.task ≡ false →
       after ≡ before →
-      flat_map (λ t. records_behind_sub t 0) before ≡ flat_map records (filter (λ j. is_listed ranges j.task) (take k tasks)) →
-      flat_map (λ t. records_behind_sub t 0) after ≡ flat_map records (filter (λ j. is_listed ranges j.task) (take (k + 1) tasks))
+      flat_map (λ x. named_behind_sub x 0) before ≡ flat_map records (filter (λ j. is_listed ranges j.task) (take k tasks)) →
+      flat_map (λ x. named_behind_sub x 0) after ≡ flat_map records (filter (λ j. is_listed ranges j.task) (take (k + 1) tasks))
   sheet_left k j before after within is has same so_far =
       one_left (λ (j : Joined). j.task) records kept ranges tasks k j within is has before after same so_far
 
-  pub sheets_all : (k : ℕ) (sheets : List Told) → length tasks ≤ k →
-      flat_map (λ t. records_behind_sub t 0) sheets ≡ flat_map records (filter (λ j. is_listed ranges j.task) (take k tasks)) →
-      flat_map (λ t. records_behind_sub t 0) sheets ≡ windows_records s (run_of s n) rows ranges slots
+  pub sheets_all : (k : ℕ) (sheets : List NamedTold) → length tasks ≤ k →
+      flat_map (λ x. named_behind_sub x 0) sheets ≡ flat_map records (filter (λ j. is_listed ranges j.task) (take k tasks)) →
+      flat_map (λ x. named_behind_sub x 0) sheets ≡ windows_records s (run_of s n) rows ranges titles slots
   sheets_all k sheets over so_far =
       let listed : Joined → Bool = λ j. is_listed ranges j.task in
       let events = known.events ∙ ap (events_in_force s (run_of s n)) (sym known.slots) in
       so_far
       ∙ ap (λ js. flat_map records (filter listed js)) (take_all k tasks over ∙ of_tasks)
-      ∙ ap₂ (λ (xs : List Numbered) base. flat_map (λ j. records_of_task slots (run_of s n) (processors_in rows j.task) xs j)
+      ∙ ap₂ (λ (xs : List Numbered) base. flat_map (λ j. with_name titles j.task (records_of_task slots (run_of s n) (processors_in rows j.task) xs j))
       (filter listed (by_task (filter_map (join_of base) xs))))
       events (ap (λ z. z.base) known.settings)

@@ -3,6 +3,8 @@
 use Rattle.std.specs.Prelude.{ℕ, ◌+◌, ◌-◌, ◌*◌, ◌/◌, min, max, Bool, Option, List, length}
 use Rattle.std.specs.List.{flat_map, range_with_len}
 use Rattle.pf_scenario.specs.declared.event.Numbered.{Numbered}
+use Rattle.pf_names.specs.declared.titles.Titles.{Titles}
+use Rattle.pf_name_column.specs.Column.{with_name}
 use Rattle.pf_run.specs.Inside.{Joined}
 use Rattle.pf_tally.specs.Held.{next_in, held_from}
 use Rattle.pf_tally.specs.declared.held.Held.{Held}
@@ -47,3 +49,12 @@ is_shown t w = is_shown_of t.slots t.end t.leave w
 abbrev pub records_behind_sub : Told → ℕ → List (List (List ℕ))
 records_behind_sub t k =
     flat_map (λ i. window_records t.slots t.task t.end t.leave (told_window t i)) (range_with_len (k + 1) (sub_count t - k))
+
+-- and what the script calls the task
+pub record NamedTold : Type 0 where
+  pub told : Told
+  pub titles : Titles
+
+-- the same lines with its name
+abbrev pub named_behind_sub : NamedTold → ℕ → List (List (List ℕ))
+named_behind_sub x k = with_name x.titles x.told.task.task (records_behind_sub x.told k)

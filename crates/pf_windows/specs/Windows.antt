@@ -16,6 +16,8 @@ use Rattle.pf_chart.specs.Course.{end_of, is_drawn, leave_in, window_of}
 use Rattle.pf_chart.specs.declared.quantum.Quantum.{Quantum}
 use Rattle.pf_chart.specs.declared.window.Window.{Window}
 use Rattle.pf_desk.specs.Desk.{Seen}
+use Rattle.pf_names.specs.declared.titles.Titles.{Titles}
+use Rattle.pf_name_column.specs.Column.{name_heading, with_name}
 use Rattle.pf_tasks.specs.declared.task_range.TaskRange.{TaskRange}
 use Rattle.pf_jobs.specs.Jobs.{admitted_of}
 use Rattle.pf_text.specs.Page.{table_text}
@@ -66,9 +68,11 @@ abbrev pub records_of_task : Slots → List Slot → List ℕ → List Numbered 
 records_of_task slots r on xs j =
     flat_map (λ i. window_records slots j (end_of xs j (length r)) (leave_slot xs j) (window_of r on xs j i)) (range_with_len 1 (length r))
 
-abbrev pub windows_records : Plan → List Slot → List (List (Option Pick)) → List TaskRange → Slots → List (List (List ℕ))
-windows_records s r rows tasks slots =
-    flat_map (λ j. records_of_task slots r (processors_in rows j.task) (events_in_force s r (length r)) j) (admitted_of s r tasks)
+-- those of the tasks, with their names
+abbrev pub windows_records : Plan → List Slot → List (List (Option Pick)) → List TaskRange → Titles → Slots → List (List (List ℕ))
+windows_records s r rows tasks titles slots =
+    flat_map (λ j. with_name titles j.task (records_of_task slots r (processors_in rows j.task) (events_in_force s r (length r)) j))
+    (admitted_of s r tasks)
 
 abbrev pub windows_heading : List (List ℕ)
 windows_heading =
@@ -76,7 +80,8 @@ windows_heading =
     ∷ codes "ran" ∷ codes "processor" ∷ []
 
 -- the windows of these tasks, by task number, then by subtask, that lie in the slots from `from` on and below `to`
-unfoldable pub windows_text : Seen → List TaskRange → ℕ → ℕ → List ℕ
-windows_text seen tasks from to =
-    table_text (windows_heading
-    ∷ windows_records seen.state.plan (run_of seen.state.plan seen.state.now) seen.rows tasks (record { now = seen.state.now; from = from; to = to }))
+unfoldable pub windows_text : Seen → List TaskRange → Titles → ℕ → ℕ → List ℕ
+windows_text seen tasks titles from to =
+    table_text ((windows_heading ++ name_heading titles)
+    ∷ windows_records seen.state.plan (run_of seen.state.plan seen.state.now) seen.rows tasks titles
+    (record { now = seen.state.now; from = from; to = to }))

@@ -5,4 +5,5 @@
 pub mod line;
 pub mod slots;
 pub mod task_windows;
+pub mod window_sheet;
 pub mod windows;

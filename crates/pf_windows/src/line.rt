@@ -1,9 +1,12 @@
 ghost use Rattle.std.specs.Prelude.{◌≡◌, ◌++◌, ◌≤◌, [], OnOk};
 ghost use Rattle.pf_text.specs.Page.{with_record};
+ghost use Rattle.pf_name_column.specs.Column.{name_fields};
 ghost use Rattle.pf_windows.specs.Windows.{quantum_fields, window_record};
 
 use pf_chart::quantum::Quantum;
 use pf_chart::window::Window;
+use pf_name_column::column::show_name;
+use pf_names::titles::Titles;
 use pf_tally::admitted::Admitted;
 use pf_text::table::Table;
 use std::alloc::AllocError;
@@ -24,15 +27,16 @@ fn show_quantum(table: &mut Table, ran: Option<Quantum>) -> Result<(), AllocErro
     }
 }
 
-/// Adds the record of a window of a task.
+/// Adds the record of a window of a task, with its name.
 pub(crate) fn push_window(
     table: &mut Table,
     task: Admitted,
     window: Window,
+    titles: &Titles,
 ) -> Result<(), AllocError>
     requires start { table.old.fields ≡ [] }
     requires first { 1 ≤ window.sub }
-    ensures { OnOk result (table.new ≡ with_record table.old (window_record task window)) }
+    ensures { OnOk result (table.new ≡ with_record table.old (window_record task window ++ name_fields titles.now task.task)) }
 {
     let job = (window.sub - 1) / task.weight.cost() + 1;
     let eligible = task.slot.max(window.release.saturating_sub(task.early));
@@ -45,5 +49,6 @@ pub(crate) fn push_window(
     table.show_number(window.bit)?;
     table.show_number(window.group)?;
     show_quantum(table, window.ran)?;
+    show_name(table, titles, task.task)?;
     table.end_record()
 }

@@ -1,7 +1,6 @@
 ghost use Rattle.std.specs.Prelude.{◌≡◌};
 ghost use Rattle.pf_windows.specs.Windows.{leave_slot, lies_within, window_end};
 
-use crate::line::push_window;
 use crate::slots::Slots;
 use pf_chart::end::end_of;
 use pf_chart::window::Window;
@@ -10,8 +9,6 @@ use pf_scenario::event::Numbered;
 use pf_tally::admitted::Admitted;
 use pf_tally::held::{Held, held_delays};
 use pf_tally::late::leave_of;
-use pf_text::sheets::Sheet;
-use pf_text::table::Table;
 use std::alloc::{AllocError, Global};
 use std::marker::Model;
 
@@ -116,8 +113,15 @@ impl TaskWindows {
         })
     }
 
+    /// The task.
+    pub(crate) fn task(&self) -> Admitted
+        ensures { result ≡ self.now.task }
+    {
+        self.task
+    }
+
     /// How many subtasks are looked at: none of a greater number ran, or was released before the task's end.
-    fn sub_count(&self) -> u64
+    pub(crate) fn sub_count(&self) -> u64
         ensures value { result ≡ sub_count self.now }
         ensures bound { result ≤ 2 ^ 22 }
     {
@@ -126,7 +130,7 @@ impl TaskWindows {
     }
 
     /// The window of a subtask.
-    fn window(&self, sub: u64) -> Window
+    pub(crate) fn window(&self, sub: u64) -> Window
         requires first { 1 ≤ sub }
         requires last { sub ≤ 2 ^ 22 }
         ensures value { result ≡ told_window self.now sub }
@@ -143,33 +147,10 @@ impl TaskWindows {
 
     /// Whether a window of it is shown: it is drawn, as its subtask ran or was released before the task's end, and lies in
     /// the slots that are shown.
-    fn shows(&self, window: Window) -> bool
+    pub(crate) fn shows(&self, window: Window) -> bool
         ensures { result ≡ is_shown self.now window }
     {
         let is_drawn = window.ran.is_some() || window.release < self.end;
         is_drawn && lies_within(window, self.leave, self.slots.from, self.slots.to)
-    }
-}
-
-impl Sheet for TaskWindows {
-    ghost use Rattle.pf_windows.specs.Told.{records_behind_sub, sub_count};
-
-    ghost count = { sub_count };
-
-    ghost rest = { records_behind_sub };
-
-    fn count(&self) -> u64 {
-        self.sub_count()
-    }
-
-    fn push_place(&self, table: &mut Table, at: u64) -> Result<(), AllocError> {
-        // That a place behind this one can be counted is known from the count alone.
-        let _ = self.sub_count();
-        let window = self.window(at + 1);
-        if self.shows(window) {
-            push_window(table, self.task, window)
-        } else {
-            Ok(())
-        }
     }
 }

@@ -1,3 +1,4 @@
+mod Pairs
 mod Reading
 pub mod Unasked
 mod Worked

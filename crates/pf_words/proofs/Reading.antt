@@ -2,18 +2,17 @@
 use Rattle.std.proofs.Common.{◌≡◌, ◌⊎◌, ◌∙◌, refl, sym, ap, subst, inl, inr, Bool, true, false, option_map, List, [], Option, Some, None, Result, Ok, Err, codes}
 use Rattle.std.specs.Prelude.{◌↔◌, string_bytes}
 use Rattle.std.specs.Bool.{Decides}
-use Rattle.std.specs.Result.{result_ok}
 use Rattle.std.specs.Str.{bytes_eq}
 use Rattle.std.proofs.lemmas.Slice.Eq.{bytes_eq-Decides}
 use Rattle.clap.specs.Words.{IsAmong, Row, Text, fault_of, first_of, is_simple, is_simple_and_free, subcommand_of}
 use Rattle.clap.specs.declared.error.kind.ErrorKind.{ErrorKind}
 use Rattle.clap.specs.declared.error.kind.ErrorKind.TheVariants.{DisplayHelp, DisplayVersion, OutOfMemory}
 use Rattle.pf_words.specs.declared.request.Request.{Request}
-use Rattle.pf_words.specs.declared.request.Request.TheVariants.{Do, Show}
+use Rattle.pf_words.specs.declared.request.Request.TheVariants.{Do, Compare, Show}
 use Rattle.pf_words.specs.declared.request.WordsFault.{WordsFault}
 use Rattle.pf_words.specs.declared.request.WordsFault.TheVariants.{Refused, Mistaken, NoMemory}
 use Rattle.pf_words.specs.CommandLine.{file_behind, is_named, kinds_of, program, text_behind}
-use Rattle.pf_words.specs.Asked.{IsAsked, IsRequest, IsShown, IsTextOf, ShowsError, file_asked, file_found, task_asked, task_of}
+use Rattle.pf_words.specs.Asked.{IsAsked, IsRequest, IsShown, IsTextOf, ShowsError, file_asked, file_found, mistake_found, pair_asked, pair_found, task_asked, task_found}
 
 -- one function after another over what may be there
 pub option_map-option_map : {X Y Z : Type 0} (f : Y → Z) (g : X → Y) (o : Option X) → option_map f (option_map g o) ≡ option_map (λ x. f (g x)) o
@@ -49,9 +48,15 @@ kinds_are words = refl
 
 -- what is asked for, by what clap found of a subcommand
 taken_task : (words : List Text) (found : Option (Text × List Row)) → kinds_of words ≡ [] → found ≡ subcommand_of program words
-    → task_asked words ≡ result_ok (task_of found)
+    → task_asked words ≡ task_found found
 unfolding task_asked
 taken_task words found taken is = rw (taken, is) refl
+
+-- the two scripts, by the same
+taken_pair : (words : List Text) (found : Option (Text × List Row)) → kinds_of words ≡ [] → found ≡ subcommand_of program words
+    → pair_asked words ≡ pair_found found
+unfolding pair_asked
+taken_pair words found taken is = rw (taken, is) refl
 
 -- the file that is named, by the same
 taken_file : (words : List Text) (found : Option (Text × List Row)) → kinds_of words ≡ [] → found ≡ subcommand_of program words
@@ -62,10 +67,11 @@ taken_file words found taken is = rw (taken, is) refl
 -- words that the grammar takes
 pub taken_words : (words : List Text) (found : Option (Text × List Row)) (answer : Result Request WordsFault) → kinds_of words ≡ []
     → found ≡ subcommand_of program words → IsRequest found answer → IsAsked words answer
-taken_words words found (Ok (Do task file)) taken is asks = (taken_task words found taken is ∙ ap result_ok asks.0, asks.1 ∙ taken_file words found taken is)
+taken_words words found (Ok (Do task file)) taken is asks = (taken_task words found taken is ∙ asks.0, asks.1 ∙ taken_file words found taken is)
+taken_words words found (Ok (Compare pair)) taken is asks = (taken_task words found taken is ∙ asks.0, taken_pair words found taken is ∙ asks.1)
 taken_words words found (Ok (Show text)) taken is asks = absurd asks
 taken_words words found (Err (Refused text)) taken is asks = absurd asks
-taken_words words found (Err (Mistaken mistake)) taken is asks = (taken, ap task_of (sym is) ∙ asks)
+taken_words words found (Err (Mistaken line)) taken is asks = (asks.0, (taken, ap mistake_found (sym is) ∙ asks.1), asks.2)
 taken_words words found (Err NoMemory) taken is asks = tt
 
 -- whether the subcommand has this name
@@ -98,6 +104,7 @@ kind_shown kind text (inr version) = inr version.0
 pub untaken_words : (words : List Text) (kind : ErrorKind) (answer : Result Request WordsFault)
     → (kind ≡ OutOfMemory) ⊎ IsAmong kind (kinds_of words) → ShowsError kind answer → IsAsked words answer
 untaken_words words kind (Ok (Do task file)) among shows = absurd shows
+untaken_words words kind (Ok (Compare pair)) among shows = absurd shows
 untaken_words words kind (Ok (Show text)) among shows = elim among [
   | inl memory ↦ absurd (not_shown kind memory (kind_shown kind (string_bytes text) shows))
   | inr here ↦ elim shows [
@@ -109,5 +116,5 @@ untaken_words words kind (Err (Refused text)) among shows = elim among [
   | inl memory ↦ absurd (shows.0 memory)
   | inr here ↦ ((kind, shows.1, here), shows.2)
 ]
-untaken_words words kind (Err (Mistaken mistake)) among shows = absurd shows
+untaken_words words kind (Err (Mistaken line)) among shows = absurd shows
 untaken_words words kind (Err NoMemory) among shows = tt

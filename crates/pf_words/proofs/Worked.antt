@@ -3,9 +3,13 @@ use Rattle.std.proofs.Common.{refl, inl, inr}
 use Rattle.clap.proofs.OnLiterals.{clap_on_literals}
 use Rattle.clap.specs.declared.error.kind.ErrorKind.TheVariants as kind
 use Rattle.pf_words.specs.CommandLine.{kinds_of}
-use Rattle.pf_words.specs.Asked.{IsShown, task_asked, file_asked}
+use Rattle.pf_words.specs.Asked.{IsShown, task_asked, pair_asked, file_asked}
+use Rattle.pf_names.specs.Text.{is_text}
 use Rattle.pf_script.specs.Fields.{number_of}
-use Rattle.pf_words.specs.Examples.{Runs, Ranged, Pictured, Styled, FailingRuns, Files, Drilled, Differences, Showable, WorkedWords}
+use Rattle.pf_names.specs.Slots.{unit_named}
+use Rattle.pf_task_list.specs.Times.{few_digits, time_in}
+use Rattle.pf_convert_words.specs.Reading.{conversion_of, first_not_above, format_named, has_quantum, quanta_from, words_from}
+use Rattle.pf_words.specs.Examples.{Runs, Ranged, Pictured, Styled, FailingRuns, Files, Drilled, Differences, Compared, Conversions, Reasons, Fitting, Showable, WorkedWords}
 
 runs : Runs
 unfolding clap_on_literals kinds_of task_asked
@@ -47,6 +51,18 @@ styled = record {
 unknown_is_not_shown : ¬ IsShown kind.UnknownArgument
 unknown_is_not_shown (inl help) = cc
 unknown_is_not_shown (inr version) = cc
+
+missing_is_not_shown : ¬ IsShown kind.MissingRequiredArgument
+missing_is_not_shown (inl help) = cc
+missing_is_not_shown (inr version) = cc
+
+many_is_not_shown : ¬ IsShown kind.TooManyValues
+many_is_not_shown (inl help) = cc
+many_is_not_shown (inr version) = cc
+
+conflict_is_not_shown : ¬ IsShown kind.ArgumentConflict
+conflict_is_not_shown (inl help) = cc
+conflict_is_not_shown (inr version) = cc
 
 failing : FailingRuns
 unfolding clap_on_literals kinds_of task_asked
@@ -90,8 +106,82 @@ differences = record {
   dash = refl;
   no_number = (refl, refl);
   no_record = (refl, refl);
+  summed = refl;
+  judged = refl;
+  valued = (kind.TooManyValues, many_is_not_shown, inl refl);
+  twice = (kind.ArgumentConflict, conflict_is_not_shown, inl refl);
   in_format = (kind.UnknownArgument, unknown_is_not_shown, inl refl);
   of_a_run = (kind.UnknownArgument, unknown_is_not_shown, inl refl);
+  help = inl refl;
+}
+
+compared : Compared
+unfolding clap_on_literals kinds_of task_asked pair_asked file_asked number_of
+compared = record {
+  both = refl;
+  told = refl;
+  input_first = refl;
+  input_second = refl;
+  no_task = refl;
+  one = refl;
+  files_read = refl;
+  input_read = refl;
+  alone_read = refl;
+  since = (refl, refl);
+  input_twice = (refl, refl);
+  since_first = (refl, refl);
+  no_number = (refl, refl);
+  three = (kind.UnknownArgument, unknown_is_not_shown, inl refl);
+  checked = (kind.UnknownArgument, unknown_is_not_shown, inl refl);
+}
+
+conversions : Conversions
+unfolding clap_on_literals kinds_of task_asked file_asked conversion_of format_named words_from quanta_from has_quantum first_not_above time_in few_digits unit_named
+conversions = record {
+  alone = refl;
+  several = refl;
+  in_json = refl;
+  of_file = refl;
+  dash = refl;
+  without = (kind.MissingRequiredArgument, missing_is_not_shown, inl refl);
+  nothing = (refl, refl);
+  twice = (refl, refl);
+  many = (refl, refl);
+  switch = (refl, refl);
+  of_two = (refl, refl);
+  format = (refl, refl);
+  of_a_run = (kind.UnknownArgument, unknown_is_not_shown, inl refl);
+  ranged = (kind.UnknownArgument, unknown_is_not_shown, inl refl);
+  help = inl refl;
+}
+
+reasons : Reasons
+unfolding clap_on_literals kinds_of task_asked file_asked number_of is_text
+reasons = record {
+  slot = refl;
+  of_file = refl;
+  dash = refl;
+  task = refl;
+  named = refl;
+  no_slot = (kind.MissingRequiredArgument, missing_is_not_shown, inl refl);
+  twice = (kind.UnknownArgument, unknown_is_not_shown, inl refl);
+  no_number = (refl, refl);
+  no_format = (refl, refl);
+  no_task = (refl, refl);
+  no_name = (refl, refl);
+  help = inl refl;
+}
+
+fitting : Fitting
+unfolding clap_on_literals kinds_of task_asked file_asked
+fitting = record {
+  alone = refl;
+  text = refl;
+  json = refl;
+  of_file = refl;
+  dash = refl;
+  unknown = (refl, refl);
+  in_range = (kind.UnknownArgument, unknown_is_not_shown, inl refl);
   help = inl refl;
 }
 
@@ -106,6 +196,10 @@ worked_words = record {
   files = files;
   drilled = drilled;
   differences = differences;
+  compared = compared;
+  conversions = conversions;
+  reasons = reasons;
+  fitting = fitting;
   showable = showable;
   check = refl;
   unknown = (refl, refl);

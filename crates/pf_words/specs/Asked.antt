@@ -1,32 +1,44 @@
 -- What the words ask for.
-use Rattle.std.specs.Prelude.{◌≡◌, ◌≢◌, ◌⊎◌, ◌==◌, ℕ, if◌then◌else◌, List, [], Option, Some, None, option_map, Result, Ok, Err, codes, String, string_bytes}
-use Rattle.std.specs.Result.{result_ok}
+use Rattle.std.specs.Prelude.{◌≡◌, ◌≢◌, ◌⊎◌, ℕ, Bool, false, not, ◌&&◌, is_some, if◌then◌else◌, List, [], Option, Some, None, option_map, Result, Ok, Err, codes, unwrap_or, String, string_bytes, ⊤}
+use Rattle.std.specs.Result.{result_ok, result_err}
 use Rattle.std.specs.Str.{bytes_eq}
 use Rattle.std.specs.declared.alloc.Global.{Global}
 use Rattle.clap.specs.Walk.{is_empty}
 use Rattle.clap.specs.Words.{IsAmong, Row, Text, subcommand_of}
 use Rattle.clap.specs.declared.error.kind.ErrorKind.{ErrorKind}
 use Rattle.clap.specs.declared.error.kind.ErrorKind.TheVariants.{DisplayHelp, DisplayVersion, OutOfMemory}
-use Rattle.pf_words.specs.declared.fail_on.FailOn.{FailOn}
-use Rattle.pf_words.specs.declared.format.Format.{Format}
-use Rattle.pf_words.specs.declared.format.Format.TheVariants.{Tables}
+use Rattle.pf_options.specs.declared.fail_on.FailOn.{FailOn}
+use Rattle.pf_options.specs.declared.format.Format.{Format}
+use Rattle.pf_options.specs.declared.format.Format.TheVariants.{C, Jobs, Tables, Trace}
 use Rattle.pf_words.specs.declared.request.Request.{Request}
-use Rattle.pf_words.specs.declared.request.Request.TheVariants.{Do, Show}
+use Rattle.pf_words.specs.declared.request.Request.TheVariants.{Do, Compare, Show}
 use Rattle.pf_words.specs.declared.request.WordsFault.{WordsFault}
 use Rattle.pf_words.specs.declared.request.WordsFault.TheVariants.{Refused, Mistaken, NoMemory}
 use Rattle.pf_words.specs.declared.mistake.Mistake.{Mistake}
-use Rattle.pf_words.specs.declared.mistake.Mistake.TheVariants.{UnknownFormat, BadNumber, BadCell, NoCell, BadWrap, NoWrap, BadStyle, NoStyle, BadFailOn, BadSince}
-use Rattle.pf_words.specs.declared.slot_range.SlotRange.{SlotRange}
+use Rattle.pf_words.specs.declared.mistake.Mistake.TheVariants as why
+use Rattle.pf_words.specs.declared.mistake.Mistake.TheVariants.{UnknownFormat, BadNumber, NoRange, Unranged, BadCell, NoCell, BadWrap, NoWrap, BadStyle, NoStyle, BadFailOn}
+use Rattle.pf_words.specs.declared.script_pair.ScriptPair.{ScriptPair}
+use Rattle.pf_options.specs.declared.slot_range.SlotRange.{SlotRange}
 use Rattle.pf_words.specs.declared.task.Task.{Task}
-use Rattle.pf_words.specs.declared.task.Task.TheVariants.{Run, Check, Diff, Drill}
+use Rattle.pf_words.specs.declared.task.Task.TheVariants.{Run, Check, Drill, Convert, Fit, Why}
+use Rattle.pf_fit_text.specs.FitFormats.{fit_format_named}
+use Rattle.pf_fit_text.specs.declared.fit_format.FitFormat.{FitFormat}
+use Rattle.pf_fit_text.specs.declared.fit_format.FitFormat.TheVariants.{Text as FitText}
 use Rattle.pf_look.specs.Looks.{style_named}
 use Rattle.pf_look.specs.Sizes.{cell_of, wrap_of}
 use Rattle.pf_look.specs.declared.style.Style.{Style}
-use Rattle.pf_words.specs.FailLists.{fail_on_named, on_nothing}
-use Rattle.pf_words.specs.Formats.{format_named, format_with_cell, format_with_style, format_with_wrap, format_within, range_mistake}
-use Rattle.pf_words.specs.Texts.{EndsWithLesson, version_line}
-use Rattle.pf_words.specs.CommandLine.{file_behind, is_check, is_diff, is_drill, kinds_of, program, text_behind, text_behind_run}
+use Rattle.pf_words.specs.Diffs.{PairNames, are_two, diff_of, options_of, pair_given, pair_named, second_behind, since_of}
+use Rattle.pf_options.specs.FailLists.{fail_on_named, on_nothing}
+use Rattle.pf_options.specs.Formats.{format_named, format_with_cell, format_with_style, format_with_wrap, format_within}
+use Rattle.pf_words.specs.Texts.{EndsWithLesson, mistake_line, version_line}
+use Rattle.pf_words.specs.CommandLine.{file_behind, is_check, is_convert, is_diff, is_drill, is_fit, is_why, kinds_of, program, text_behind, text_behind_run}
 use Rattle.pf_script.specs.Fields.{number_of}
+use Rattle.pf_why_words.specs.Reading.{question_of}
+use Rattle.pf_why_words.specs.declared.mistake.WhyMistake.{WhyMistake}
+use Rattle.pf_why_words.specs.declared.question.Question.{Question}
+use Rattle.pf_convert_words.specs.Reading.{ConvertTexts, IsConversion, conversion_of}
+use Rattle.pf_convert_words.specs.declared.conversion.Conversion.{Conversion}
+use Rattle.pf_convert_words.specs.declared.mistake.ConvertMistake.{ConvertMistake}
 
 -- without a name the format is `tables`
 abbrev pub format_or_tables : Option Text → Option Format
@@ -53,6 +65,13 @@ range_given (Ok from) (Ok to) = Ok (record { from = from; to = to })
 abbrev pub format_in_range : Mistake → Option Format → Result Format Mistake
 format_in_range mistake None = Err mistake
 format_in_range mistake (Some format) = Ok format
+
+-- what is told where a range is asked of a format that has none
+abbrev pub range_mistake : Format → Mistake
+range_mistake Jobs = Unranged
+range_mistake Trace = Unranged
+range_mistake C = Unranged
+range_mistake format = NoRange
 
 -- the format that is named, of the slots of a range
 abbrev pub format_given : Option Format → Result SlotRange Mistake → Result Format Mistake
@@ -151,16 +170,6 @@ abbrev pub fail_on_given : Option Text → Result FailOn Mistake
 fail_on_given None = Ok on_nothing
 fail_on_given (Some list) = fail_on_read (fail_on_named list)
 
--- the record that a number names: they are counted from 1
-abbrev pub since_read : Option ℕ → Result (Option ℕ) Mistake
-since_read None = Err BadSince
-since_read (Some number) = if number == 0 then Err BadSince else Ok (Some number)
-
--- the record that is the text of an option, and none where the option is left out
-abbrev pub since_given : Option Text → Result (Option ℕ) Mistake
-since_given None = Ok None
-since_given (Some text) = since_read (number_of text)
-
 -- to run it in that format, and to fail on that
 abbrev pub run_given : Result Format Mistake → Result FailOn Mistake → Result Task Mistake
 run_given (Err mistake) fail_on = Err mistake
@@ -171,24 +180,58 @@ run_given (Ok format) (Ok fail_on) = Ok (Run format fail_on)
 abbrev pub run_of : Option (Text × List Row) → Result Task Mistake
 run_of found = run_given (format_of found) (fail_on_given (text_behind_run (codes "fail-on") found))
 
--- to tell what the records from that one on changed
-abbrev pub diff_given : Result (Option ℕ) Mistake → Result Task Mistake
-diff_given (Err mistake) = Err mistake
-diff_given (Ok since) = Ok (Diff since)
+-- the texts of a conversion, by what was found of a subcommand; there always is a quantum
+abbrev pub convert_texts : Option (Text × List Row) → ConvertTexts
+convert_texts found = record {
+  format = text_behind (codes "convert") (codes "format") found;
+  unit = text_behind (codes "convert") (codes "unit") found;
+  quantum = unwrap_or (text_behind (codes "convert") (codes "quantum") found) [];
+  switch = text_behind (codes "convert") (codes "switch") found;
+  processors = text_behind (codes "convert") (codes "processors") found;
+}
+
+-- to convert a list so
+abbrev pub convert_given : Result Conversion ConvertMistake → Result Task Mistake
+convert_given (Err mistake) = Err (why.Convert mistake)
+convert_given (Ok conversion) = Ok (Convert conversion)
+
+-- to tell why that slot went as it did
+abbrev pub why_given : Result Question WhyMistake → Result Task Mistake
+why_given (Err mistake) = Err (why.Why mistake)
+why_given (Ok question) = Ok (Why question)
+
+-- the question about a slot, by what was found of a subcommand
+abbrev pub why_of : Option (Text × List Row) → Result Task Mistake
+why_of found =
+    why_given (question_of (text_behind (codes "why") (codes "slot") found) (text_behind (codes "why") (codes "format") found)
+    (text_behind (codes "why") (codes "task") found))
+
+-- the format of a fit that a text names, and text where it is left out
+abbrev pub fit_format_read : Option FitFormat → Result FitFormat Mistake
+fit_format_read None = Err UnknownFormat
+fit_format_read (Some format) = Ok format
+
+abbrev pub fit_format_given : Option Text → Result FitFormat Mistake
+fit_format_given None = Ok FitText
+fit_format_given (Some name) = fit_format_read (fit_format_named name)
+
+-- to tell in that format whether it fits
+abbrev pub fit_given : Result FitFormat Mistake → Result Task Mistake
+fit_given (Err mistake) = Err mistake
+fit_given (Ok format) = Ok (Fit format)
 
 -- what a subcommand asks for, and none: the format is a name of one, the ends of the range are numbers, the format has
 -- that range, the width is one that a slot of the format may have, what a run is to fail on is a list of that, and the
--- number of a record is one, or the words are mistaken
+-- number of a record is one, the words of a conversion are in order, and so are those that ask of a slot, or the words are mistaken
 abbrev pub task_of : Option (Text × List Row) → Result Task Mistake
 task_of found =
     if is_drill found then Ok Drill
     else if is_check found then Ok Check
-    else if is_diff found then diff_given (since_given (text_behind (codes "diff") (codes "since") found))
+    else if is_diff found then diff_of found
+    else if is_convert found then convert_given (conversion_of (convert_texts found))
+    else if is_why found then why_of found
+    else if is_fit found then fit_given (fit_format_given (text_behind (codes "fit") (codes "format") found))
     else run_of found
-
--- what the words ask for: nothing where the grammar does not take them, and where they are mistaken
-unfoldable pub task_asked : List Text → Option Task
-task_asked words = if is_empty (kinds_of words) then result_ok (task_of (subcommand_of program words)) else None
 
 -- the file of this text: none where it is `-`, which is standard input
 abbrev pub file_of : Option Text → Option Text
@@ -199,6 +242,27 @@ file_of (Some text) = if bytes_eq text (codes "-") then None else Some text
 abbrev pub file_found : Option (Text × List Row) → Option Text
 file_found found = if is_drill found then None else file_of (file_behind found)
 
+-- the two scripts that are to be compared
+abbrev pub pair_of : Option (Text × List Row) → Result PairNames Mistake
+pair_of found = pair_given (since_of found) (pair_named (options_of found) (file_found found) (file_of (second_behind found)))
+
+-- what is asked for, a task with one script or the two that are to be compared; or else the mistake
+abbrev pub task_found : Option (Text × List Row) → Option Task
+task_found found = if are_two found then None else result_ok (task_of found)
+
+abbrev pub pair_found : Option (Text × List Row) → Option PairNames
+pair_found found = if are_two found then result_ok (pair_of found) else None
+
+abbrev pub mistake_found : Option (Text × List Row) → Option Mistake
+mistake_found found = if are_two found then result_err (pair_of found) else result_err (task_of found)
+
+-- what the words ask for: nothing where the grammar does not take them, and where they are mistaken
+unfoldable pub task_asked : List Text → Option Task
+task_asked words = if is_empty (kinds_of words) then task_found (subcommand_of program words) else None
+
+unfoldable pub pair_asked : List Text → Option PairNames
+pair_asked words = if is_empty (kinds_of words) then pair_found (subcommand_of program words) else None
+
 -- the file that the words name, which is read in place of standard input
 unfoldable pub file_asked : List Text → Option Text
 file_asked words = if is_empty (kinds_of words) then file_found (subcommand_of program words) else None
@@ -206,6 +270,18 @@ file_asked words = if is_empty (kinds_of words) then file_found (subcommand_of p
 -- the text of a file's name
 abbrev pub name_of : Option (String Global) → Option Text
 name_of = option_map string_bytes
+
+abbrev pub names_of : ScriptPair → PairNames
+names_of pair = record { first = name_of pair.first; second = name_of pair.second; options = pair.options }
+
+-- whether the script of a task is standard input, or one of two scripts is
+abbrev pub reads_input_for : Option Task → Option Text → Option PairNames → Bool
+reads_input_for (Some task) file pair = not (is_some file)
+reads_input_for None file (Some pair) = not (is_some pair.first && is_some pair.second)
+reads_input_for None file None = false
+
+abbrev pub reads_input : List Text → Bool
+reads_input words = reads_input_for (task_asked words) (file_asked words) (pair_asked words)
 
 -- the grammar may answer with help
 abbrev pub AsksHelp : List Text → Type 0
@@ -233,28 +309,48 @@ IsRefused words = (kind : ErrorKind) × ¬ IsShown kind × IsAmong kind (kinds_o
 
 -- the grammar takes the words, and they are mistaken
 abbrev pub AreMistaken : List Text → Mistake → Type 0
-AreMistaken words mistake = (kinds_of words ≡ []) × (task_of (subcommand_of program words) ≡ Err mistake)
+AreMistaken words mistake = (kinds_of words ≡ []) × (mistake_found (subcommand_of program words) ≡ Some mistake)
 
 -- this answer is what the words ask for; want of memory may stand in place of any
 abbrev pub IsAsked : List Text → Result Request WordsFault → Type 0
 IsAsked words (Ok (Do task file)) = (task_asked words ≡ Some task) × (name_of file ≡ file_asked words)
+IsAsked words (Ok (Compare pair)) = (task_asked words ≡ None) × (pair_asked words ≡ Some (names_of pair))
 IsAsked words (Ok (Show text)) = IsShownTo words (string_bytes text)
 IsAsked words (Err (Refused text)) = IsRefused words × (string_bytes text ≢ [])
-IsAsked words (Err (Mistaken mistake)) = AreMistaken words mistake
+IsAsked words (Err (Mistaken line)) = (mistake : Mistake) × AreMistaken words mistake × (line.items ≡ mistake_line mistake)
 IsAsked words (Err NoMemory) = Unit {0}
 
 -- this answer is what words ask for that the grammar takes, by what was found of a subcommand
 abbrev pub IsRequest : Option (Text × List Row) → Result Request WordsFault → Type 0
-IsRequest found (Ok (Do task file)) = (task_of found ≡ Ok task) × (name_of file ≡ file_found found)
+IsRequest found (Ok (Do task file)) = (task_found found ≡ Some task) × (name_of file ≡ file_found found)
+IsRequest found (Ok (Compare pair)) = (task_found found ≡ None) × (pair_found found ≡ Some (names_of pair))
 IsRequest found (Ok (Show text)) = ⊥
 IsRequest found (Err (Refused text)) = ⊥
-IsRequest found (Err (Mistaken mistake)) = task_of found ≡ Err mistake
+IsRequest found (Err (Mistaken line)) = (mistake : Mistake) × (mistake_found found ≡ Some mistake) × (line.items ≡ mistake_line mistake)
 IsRequest found (Err NoMemory) = Unit {0}
+
+-- this answer is the two scripts that are asked for
+abbrev pub IsPair : Result PairNames Mistake → Result ScriptPair WordsFault → Type 0
+IsPair asked (Ok pair) = asked ≡ Ok (names_of pair)
+IsPair asked (Err (Refused text)) = ⊥
+IsPair asked (Err (Mistaken line)) = (mistake : Mistake) × (asked ≡ Err mistake) × (line.items ≡ mistake_line mistake)
+IsPair asked (Err NoMemory) = Unit {0}
 
 -- what is answered to an error of this kind
 abbrev pub ShowsError : ErrorKind → Result Request WordsFault → Type 0
 ShowsError kind (Ok (Do task file)) = ⊥
+ShowsError kind (Ok (Compare pair)) = ⊥
 ShowsError kind (Ok (Show text)) = IsTextOf (kind ≡ DisplayHelp) (kind ≡ DisplayVersion) (string_bytes text)
 ShowsError kind (Err (Refused text)) = (kind ≢ OutOfMemory) × ¬ IsShown kind × (string_bytes text ≢ [])
-ShowsError kind (Err (Mistaken mistake)) = ⊥
+ShowsError kind (Err (Mistaken line)) = ⊥
 ShowsError kind (Err NoMemory) = Unit {0}
+
+-- a conversion that is asked for is in order
+abbrev pub IsSound : Task → Type 0
+IsSound (Convert conversion) = IsConversion conversion
+IsSound task = ⊤
+
+abbrev pub IsSoundRequest : Request → Type 0
+IsSoundRequest (Do task file) = IsSound task
+IsSoundRequest (Compare pair) = ⊤
+IsSoundRequest (Show text) = ⊤

@@ -1,9 +1,10 @@
 -- The program's command line, as clap's definitions see it.
 use Rattle.std.specs.Prelude.{Bool, true, false, if◌then◌else◌, List, Option, Some, None, codes}
+use Rattle.std.specs.Option.{option_map_or}
 use Rattle.std.specs.Str.{bytes_eq}
 use Rattle.clap.specs.Words.{App, Kinds, Row, Rule, Text, fault_of, first_of, new_app, new_rule, with_rule, with_subcommand}
 use Rattle.clap.specs.Simple.{on_top}
-use Rattle.clap.specs.declared.builder.action.ArgAction.TheVariants.{Set}
+use Rattle.clap.specs.declared.builder.action.ArgAction.TheVariants.{Set, SetTrue}
 
 -- the option `--format`, or `-f`, with one text
 abbrev pub format_option : Rule
@@ -57,22 +58,70 @@ check_command = with_rule (new_app (codes "check")) file_argument
 abbrev pub since_option : Rule
 since_option = record (new_rule (codes "since")) { long = Some (codes "since"); value_names = 1; action = Some Set }
 
--- `diff`, which may have this option and FILE
+-- the flags `--summary` and `--exit-code`
+abbrev pub summary_flag : Rule
+summary_flag = record (new_rule (codes "summary")) { long = Some (codes "summary"); action = Some SetTrue }
+
+abbrev pub exit_code_flag : Rule
+exit_code_flag = record (new_rule (codes "exit-code")) { long = Some (codes "exit-code"); action = Some SetTrue }
+
+-- FILE2, a text without a name
+abbrev pub second_argument : Rule
+second_argument = record (new_rule (codes "second")) { value_names = 1; action = Some Set }
+
+-- how a diff is told, and where from: these options
+abbrev pub with_diff_options : App → App
+with_diff_options command = with_rule (with_rule (with_rule command since_option) summary_flag) exit_code_flag
+
+-- `diff`, which may have these options, FILE and FILE2
 abbrev pub diff_command : App
-diff_command = with_rule (with_rule (new_app (codes "diff")) since_option) file_argument
+diff_command = with_rule (with_rule (with_diff_options (new_app (codes "diff"))) file_argument) second_argument
 
 -- `drill`, which takes nothing
 abbrev pub drill_command : App
 drill_command = new_app (codes "drill")
 
+-- the option `--quantum`, with one text, which has to be there
+abbrev pub quantum_option : Rule
+quantum_option = record (new_rule (codes "quantum")) { long = Some (codes "quantum"); value_names = 1; required = true; action = Some Set }
+
+-- an option with one text
+abbrev pub text_option : Text → Rule
+text_option name = record (new_rule name) { long = Some name; value_names = 1; action = Some Set }
+
+-- `convert`, which has that option, and may have these and FILE
+abbrev pub timed_convert : App
+timed_convert =
+    with_rule (with_rule (with_rule (with_rule (new_app (codes "convert")) quantum_option) (text_option (codes "processors"))) (text_option (codes "switch")))
+    (text_option (codes "unit"))
+
+abbrev pub convert_command : App
+convert_command = with_rule (with_rule timed_convert format_option) file_argument
+
+-- SLOT, a text without a name, which has to be there
+abbrev pub slot_argument : Rule
+slot_argument = record (new_rule (codes "slot")) { value_names = 1; action = Some Set; required = true }
+
+-- `why`, which has SLOT, and may have these options and FILE
+abbrev pub why_command : App
+why_command = with_rule (with_rule (with_rule (with_rule (new_app (codes "why")) slot_argument) (text_option (codes "task"))) format_option) file_argument
+
+-- `fit`, which may have the option `--format` and FILE
+abbrev pub fit_command : App
+fit_command = with_rule (with_rule (new_app (codes "fit")) format_option) file_argument
+
 -- the program's own name is not among the words, and it tells its version
 abbrev pub as_program : App → App
 as_program = on_top (λ s. record s { no_binary_name = true; has_version = true })
 
--- `pfair`, with the subcommands `run`, `check`, `diff` and `drill`
+-- `pfair`, with the subcommands `run`, `check`, `diff`, `drill` and `why`
+abbrev pub program_of_scripts : App
+program_of_scripts =
+    with_subcommand (with_subcommand (with_subcommand (with_subcommand (with_subcommand (as_program (new_app (codes "pfair"))) run_command.top) check_command.top) diff_command.top) drill_command.top) why_command.top
+
+-- and `convert` and `fit`
 abbrev pub program : App
-program =
-    with_subcommand (with_subcommand (with_subcommand (with_subcommand (as_program (new_app (codes "pfair"))) run_command.top) check_command.top) diff_command.top) drill_command.top
+program = with_subcommand (with_subcommand program_of_scripts convert_command.top) fit_command.top
 
 -- the kinds of error by which the grammar does not take the words; it takes them where there is none
 unfoldable pub kinds_of : List Text → Kinds
@@ -86,6 +135,10 @@ text_behind name option (Some found) = if bytes_eq found.0 name then first_of op
 -- the text of an option behind `run`
 abbrev pub text_behind_run : Text → Option (Text × List Row) → Option Text
 text_behind_run option found = text_behind (codes "run") option found
+
+-- whether a flag stands behind the subcommand of a name: clap gives each flag a text
+abbrev pub has_flag : Text → Text → Option (Text × List Row) → Bool
+has_flag name flag found = option_map_or (λ text. bytes_eq text (codes "true")) (text_behind name flag found) false
 
 -- the text of FILE, in what clap found of a subcommand
 abbrev pub file_behind : Option (Text × List Row) → Option Text
@@ -108,3 +161,15 @@ is_diff found = is_named (codes "diff") found
 -- whether the subcommand is `drill`
 abbrev pub is_drill : Option (Text × List Row) → Bool
 is_drill found = is_named (codes "drill") found
+
+-- whether the subcommand is `convert`
+abbrev pub is_convert : Option (Text × List Row) → Bool
+is_convert found = is_named (codes "convert") found
+
+-- whether the subcommand is `why`
+abbrev pub is_why : Option (Text × List Row) → Bool
+is_why found = is_named (codes "why") found
+
+-- whether the subcommand is `fit`
+abbrev pub is_fit : Option (Text × List Row) → Bool
+is_fit found = is_named (codes "fit") found

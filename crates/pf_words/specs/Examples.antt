@@ -1,17 +1,31 @@
 -- Worked examples of what words ask for.
-use Rattle.std.specs.Prelude.{◌≡◌, ℕ, Bool, true, false, [], ◌∷◌, Option, Some, None, codes}
+use Rattle.std.specs.Prelude.{◌≡◌, ℕ, Bool, true, false, List, [], ◌∷◌, Option, Some, None, codes}
 use Rattle.pf_look.specs.declared.look.Look.{Look}
 use Rattle.pf_look.specs.declared.style.Style.TheVariants.{Strips, Stairs}
-use Rattle.pf_words.specs.declared.fail_on.FailOn.{FailOn}
-use Rattle.pf_words.specs.declared.format.Format.TheVariants.{Schedule, Tables, Json, Lags, Script, Chart, Svg}
-use Rattle.pf_words.specs.declared.mistake.Mistake.TheVariants.{UnknownFormat, BadNumber, NoRange, Unranged, BadCell, NoCell, BadWrap, NoWrap, BadStyle, NoStyle, BadFailOn, BadSince}
-use Rattle.pf_words.specs.declared.slot_range.SlotRange.{SlotRange}
+use Rattle.pf_options.specs.declared.fail_on.FailOn.{FailOn}
+use Rattle.pf_options.specs.declared.format.Format.TheVariants.{Schedule, Tables, Json, Lags, Script, Chart, Svg}
+use Rattle.pf_convert_words.specs.declared.conversion.Conversion.{Conversion}
+use Rattle.pf_convert_words.specs.declared.conversion.ConvertFormat.TheVariants as made
+use Rattle.pf_convert_words.specs.declared.mistake.ConvertMistake.TheVariants.{Format, Quantum, Processors, SwitchNotBelow, SeveralQuanta}
+use Rattle.pf_names.specs.declared.unit.Unit.TheVariants.{Millisecond, Microsecond}
+use Rattle.pf_words.specs.declared.mistake.Mistake.TheVariants as why
+use Rattle.pf_why_words.specs.declared.mistake.WhyMistake.TheVariants as asking
+use Rattle.pf_why_words.specs.declared.question.Question.{Question}
+use Rattle.pf_why_words.specs.declared.question.WhyFormat.{WhyFormat}
+use Rattle.pf_why_words.specs.declared.question.WhyFormat.TheVariants as answer
+use Rattle.pf_why_words.specs.declared.task_asked.TaskAsked.{TaskAsked}
+use Rattle.pf_why_words.specs.declared.task_asked.TaskAsked.TheVariants.{Number, Named}
+use Rattle.pf_words.specs.declared.mistake.Mistake.TheVariants.{UnknownFormat, BadNumber, NoRange, Unranged, BadCell, NoCell, BadWrap, NoWrap, BadStyle, NoStyle, BadFailOn, BadSince, SinceOfTwo, InputTwice}
+use Rattle.pf_options.specs.declared.slot_range.SlotRange.{SlotRange}
 use Rattle.pf_fault.specs.declared.range_fault.RangeFault.TheVariants.{NotWithin, TooLong}
-use Rattle.pf_words.specs.FailLists.{on_nothing}
-use Rattle.pf_words.specs.Formats.{range_fault}
-use Rattle.pf_words.specs.Ranges.{whole}
-use Rattle.pf_words.specs.declared.task.Task.TheVariants.{Run, Check, Diff, Drill}
-use Rattle.pf_words.specs.Asked.{task_asked, file_asked, AsksHelp, AsksVersion, IsRefused, AreMistaken}
+use Rattle.pf_words.specs.Diffs.{PairNames}
+use Rattle.pf_options.specs.FailLists.{on_nothing}
+use Rattle.pf_options.specs.Formats.{range_fault}
+use Rattle.pf_options.specs.Ranges.{whole}
+use Rattle.pf_words.specs.declared.task.Task.TheVariants.{Run, Check, Diff, Drill, Convert, Fit, Why}
+use Rattle.pf_fit_text.specs.declared.fit_format.FitFormat.TheVariants.{Text as FitText, Json as FitJson}
+use Rattle.pf_options.specs.declared.diff_options.DiffOptions.{DiffOptions}
+use Rattle.pf_words.specs.Asked.{task_asked, pair_asked, file_asked, reads_input, AsksHelp, AsksVersion, IsRefused, AreMistaken}
 
 -- words that ask for a run
 pub record Runs : Type 0 where
@@ -106,19 +120,113 @@ pub record Drilled : Type 0 where
   pub in_format : IsRefused (codes "drill" ∷ codes "--format" ∷ codes "json" ∷ [])
   pub help : AsksHelp (codes "drill" ∷ codes "--help" ∷ [])
 
+-- how a diff is told, and whether its status tells of a difference
+abbrev pub told_so : Bool → Bool → DiffOptions
+told_so summary exit_code = record { summary = summary; exit_code = exit_code }
+
 -- words that ask what a script's last records changed
 pub record Differences : Type 0 where
-  pub last : task_asked (codes "diff" ∷ []) ≡ Some (Diff None)
-  pub since : task_asked (codes "diff" ∷ codes "--since" ∷ codes "5" ∷ []) ≡ Some (Diff (Some 5))
+  pub last : task_asked (codes "diff" ∷ []) ≡ Some (Diff None (told_so false false))
+  pub since : task_asked (codes "diff" ∷ codes "--since" ∷ codes "5" ∷ []) ≡ Some (Diff (Some 5) (told_so false false))
   pub of_file : file_asked (codes "diff" ∷ codes "--since=5" ∷ codes "plan.csv" ∷ []) ≡ Some (codes "plan.csv")
   pub dash : file_asked (codes "diff" ∷ codes "-" ∷ []) ≡ None
   -- no number, and the number of no record
   pub no_number : AreMistaken (codes "diff" ∷ codes "--since" ∷ codes "x" ∷ []) BadSince
   pub no_record : AreMistaken (codes "diff" ∷ codes "--since=0" ∷ []) BadSince
+  -- with its sums, and with a status of its own; no flag has a value, and none stands twice
+  pub summed : task_asked (codes "diff" ∷ codes "--summary" ∷ codes "plan.csv" ∷ []) ≡ Some (Diff None (told_so true false))
+  pub judged : task_asked (codes "diff" ∷ codes "--exit-code" ∷ codes "--since" ∷ codes "2" ∷ []) ≡ Some (Diff (Some 2) (told_so false true))
+  pub valued : IsRefused (codes "diff" ∷ codes "--summary=yes" ∷ [])
+  pub twice : IsRefused (codes "diff" ∷ codes "--exit-code" ∷ codes "--exit-code" ∷ [])
   -- an option that `run` alone has, and one that it has not
   pub in_format : IsRefused (codes "diff" ∷ codes "-f" ∷ codes "lags" ∷ [])
   pub of_a_run : IsRefused (codes "run" ∷ codes "--since" ∷ codes "5" ∷ [])
   pub help : AsksHelp (codes "diff" ∷ codes "--help" ∷ [])
+
+-- words that ask what differs between two scripts, and for no task with one
+abbrev pub named : Option (List ℕ) → Option (List ℕ) → DiffOptions → PairNames
+named first second options = record { first = first; second = second; options = options }
+
+pub record Compared : Type 0 where
+  pub both : pair_asked (codes "diff" ∷ codes "a.csv" ∷ codes "b.csv" ∷ []) ≡ Some (named (Some (codes "a.csv")) (Some (codes "b.csv")) (told_so false false))
+  pub told : pair_asked (codes "diff" ∷ codes "a.csv" ∷ codes "--exit-code" ∷ codes "b.csv" ∷ codes "--summary" ∷ []) ≡ Some (named (Some (codes "a.csv")) (Some (codes "b.csv")) (told_so true true))
+  pub input_first : pair_asked (codes "diff" ∷ codes "-" ∷ codes "b.csv" ∷ []) ≡ Some (named None (Some (codes "b.csv")) (told_so false false))
+  pub input_second : pair_asked (codes "diff" ∷ codes "a.csv" ∷ codes "-" ∷ []) ≡ Some (named (Some (codes "a.csv")) None (told_so false false))
+  pub no_task : task_asked (codes "diff" ∷ codes "a.csv" ∷ codes "b.csv" ∷ []) ≡ None
+  pub one : pair_asked (codes "diff" ∷ codes "a.csv" ∷ []) ≡ None
+  -- standard input is read where one of them is that
+  pub files_read : reads_input (codes "diff" ∷ codes "a.csv" ∷ codes "b.csv" ∷ []) ≡ false
+  pub input_read : reads_input (codes "diff" ∷ codes "a.csv" ∷ codes "-" ∷ []) ≡ true
+  pub alone_read : reads_input (codes "diff" ∷ []) ≡ true
+  -- a record of two scripts, standard input twice, and the record first
+  pub since : AreMistaken (codes "diff" ∷ codes "--since" ∷ codes "5" ∷ codes "a.csv" ∷ codes "b.csv" ∷ []) SinceOfTwo
+  pub input_twice : AreMistaken (codes "diff" ∷ codes "-" ∷ codes "-" ∷ []) InputTwice
+  pub since_first : AreMistaken (codes "diff" ∷ codes "--since" ∷ codes "5" ∷ codes "-" ∷ codes "-" ∷ []) SinceOfTwo
+  pub no_number : AreMistaken (codes "diff" ∷ codes "--since" ∷ codes "x" ∷ codes "-" ∷ codes "-" ∷ []) BadSince
+  -- three, and two of another command
+  pub three : IsRefused (codes "diff" ∷ codes "a.csv" ∷ codes "b.csv" ∷ codes "c.csv" ∷ [])
+  pub checked : IsRefused (codes "check" ∷ codes "a.csv" ∷ codes "b.csv" ∷ [])
+
+-- words that ask for a list of tasks to be converted
+abbrev pub whole_script : ℕ → Conversion
+whole_script quantum = record { format = made.Script; unit = Millisecond; quanta = quantum ∷ []; switch = 0; processors = None }
+
+pub record Conversions : Type 0 where
+  pub alone : task_asked (codes "convert" ∷ codes "--quantum" ∷ codes "0.5" ∷ []) ≡ Some (Convert (whole_script 500000))
+  pub several : task_asked (codes "convert" ∷ codes "--quantum=1,0.5" ∷ codes "--switch" ∷ codes "0.02" ∷ codes "--processors" ∷ codes "4" ∷ [])
+      ≡ Some (Convert (record { format = made.Table; unit = Millisecond; quanta = 1000000 ∷ 500000 ∷ []; switch = 20000; processors = Some 4 }))
+  pub in_json : task_asked (codes "convert" ∷ codes "-f" ∷ codes "json" ∷ codes "--unit" ∷ codes "us" ∷ codes "--quantum" ∷ codes "25" ∷ [])
+      ≡ Some (Convert (record { format = made.Json; unit = Microsecond; quanta = 25000 ∷ []; switch = 0; processors = None }))
+  pub of_file : file_asked (codes "convert" ∷ codes "--quantum" ∷ codes "1" ∷ codes "tasks.csv" ∷ []) ≡ Some (codes "tasks.csv")
+  pub dash : file_asked (codes "convert" ∷ codes "--quantum" ∷ codes "1" ∷ codes "-" ∷ []) ≡ None
+  -- no quantum, a quantum of nothing, one that stands twice, and more processors than there may be
+  pub without : IsRefused (codes "convert" ∷ codes "tasks.csv" ∷ [])
+  pub nothing : AreMistaken (codes "convert" ∷ codes "--quantum" ∷ codes "0" ∷ []) (why.Convert Quantum)
+  pub twice : AreMistaken (codes "convert" ∷ codes "--quantum" ∷ codes "1,0.5,1.0" ∷ []) (why.Convert Quantum)
+  pub many : AreMistaken (codes "convert" ∷ codes "--quantum" ∷ codes "1" ∷ codes "--processors" ∷ codes "65" ∷ []) (why.Convert Processors)
+  -- a switch as long as the second quantum, and a script of two
+  pub switch : AreMistaken (codes "convert" ∷ codes "--quantum" ∷ codes "1,0.02" ∷ codes "--switch" ∷ codes "0.02" ∷ [])
+      (why.Convert (SwitchNotBelow Millisecond 20000))
+  pub of_two : AreMistaken (codes "convert" ∷ codes "--quantum" ∷ codes "1,2" ∷ codes "-f" ∷ codes "script" ∷ []) (why.Convert SeveralQuanta)
+  -- a mistake of the format comes first
+  pub format : AreMistaken (codes "convert" ∷ codes "--quantum" ∷ codes "0" ∷ codes "-f" ∷ codes "xml" ∷ []) (why.Convert Format)
+  -- an option that `run` alone has, and one that it has not
+  pub of_a_run : IsRefused (codes "run" ∷ codes "--quantum" ∷ codes "1" ∷ [])
+  pub ranged : IsRefused (codes "convert" ∷ codes "--quantum" ∷ codes "1" ∷ codes "--from" ∷ codes "1" ∷ [])
+  pub help : AsksHelp (codes "convert" ∷ codes "--help" ∷ [])
+
+-- words that ask why a slot went as it did
+abbrev pub question : ℕ → Option TaskAsked → WhyFormat → Question
+question slot task format = record { slot = slot; task = task; format = format }
+
+pub record Reasons : Type 0 where
+  pub slot : task_asked (codes "why" ∷ codes "3" ∷ []) ≡ Some (Why (question 3 None answer.Text))
+  pub of_file : file_asked (codes "why" ∷ codes "3" ∷ codes "plan.csv" ∷ []) ≡ Some (codes "plan.csv")
+  pub dash : file_asked (codes "why" ∷ codes "3" ∷ codes "-" ∷ []) ≡ None
+  pub task : task_asked (codes "why" ∷ codes "3" ∷ codes "--task" ∷ codes "5" ∷ codes "-f" ∷ codes "json" ∷ []) ≡ Some (Why (question 3 (Some (Number 5)) answer.Json))
+  pub named : task_asked (codes "why" ∷ codes "--task=camera" ∷ codes "3" ∷ []) ≡ Some (Why (question 3 (Some (Named (codes "camera"))) answer.Text))
+  -- no slot, and a word too many
+  pub no_slot : IsRefused (codes "why" ∷ [])
+  pub twice : IsRefused (codes "why" ∷ codes "3" ∷ codes "plan.csv" ∷ codes "plan.csv" ∷ [])
+  -- no number, no format, and no task; the slot comes first, and the format next
+  pub no_number : AreMistaken (codes "why" ∷ codes "1x" ∷ codes "-f" ∷ codes "xml" ∷ []) (why.Why asking.Slot)
+  pub no_format : AreMistaken (codes "why" ∷ codes "1" ∷ codes "-f" ∷ codes "xml" ∷ codes "--task" ∷ codes "0" ∷ []) (why.Why asking.Format)
+  pub no_task : AreMistaken (codes "why" ∷ codes "1" ∷ codes "--task" ∷ codes "4096" ∷ []) (why.Why asking.Task)
+  pub no_name : AreMistaken (codes "why" ∷ codes "1" ∷ codes "--task" ∷ codes "a/b" ∷ []) (why.Why asking.Task)
+  pub help : AsksHelp (codes "why" ∷ codes "--help" ∷ [])
+
+-- words that ask whether a script fits
+pub record Fitting : Type 0 where
+  pub alone : task_asked (codes "fit" ∷ []) ≡ Some (Fit FitText)
+  pub text : task_asked (codes "fit" ∷ codes "-f" ∷ codes "text" ∷ []) ≡ Some (Fit FitText)
+  pub json : task_asked (codes "fit" ∷ codes "--format=json" ∷ codes "plan.csv" ∷ []) ≡ Some (Fit FitJson)
+  pub of_file : file_asked (codes "fit" ∷ codes "plan.csv" ∷ []) ≡ Some (codes "plan.csv")
+  pub dash : file_asked (codes "fit" ∷ codes "-" ∷ []) ≡ None
+  -- a format of a run
+  pub unknown : AreMistaken (codes "fit" ∷ codes "-f" ∷ codes "report" ∷ []) UnknownFormat
+  -- an option that `run` alone has
+  pub in_range : IsRefused (codes "fit" ∷ codes "--from" ∷ codes "5" ∷ [])
+  pub help : AsksHelp (codes "fit" ∷ codes "--help" ∷ [])
 
 -- what can be shown of so many slots
 pub record Showable : Type 0 where
@@ -138,6 +246,10 @@ pub record WorkedWords : Type 0 where
   pub files : Files
   pub drilled : Drilled
   pub differences : Differences
+  pub compared : Compared
+  pub conversions : Conversions
+  pub reasons : Reasons
+  pub fitting : Fitting
   pub showable : Showable
   pub check : task_asked (codes "check" ∷ []) ≡ Some Check
   -- a name of no format

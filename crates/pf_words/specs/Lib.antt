@@ -1,7 +1,5 @@
 pub mod Asked
 pub mod CommandLine
+pub mod Diffs
 pub mod Examples
-pub mod FailLists
-pub mod Formats
-pub mod Ranges
 pub mod Texts

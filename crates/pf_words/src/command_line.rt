@@ -1,9 +1,13 @@
 ghost use Rattle.std.specs.Prelude.{◌≡◌, IfOk, false, codes};
 ghost use Rattle.clap.specs.Words.{app_of, new_app, with_rule, with_subcommand};
 ghost use Rattle.clap.specs.declared.builder.command.Command.TheViews.{out-Command};
-ghost use Rattle.pf_words.specs.CommandLine.{program, as_program, cell_option, check_command, diff_command, drill_command, fail_on_option, file_argument, format_option, from_option, run_command, since_option, style_option, to_option, with_look, wrap_option};
+ghost use Rattle.pf_words.specs.CommandLine.{program, as_program, cell_option, check_command, drill_command, fail_on_option, file_argument, format_option, from_option, program_of_scripts, run_command, style_option, to_option, with_look, wrap_option};
 
+use crate::convert_command::convert_command;
+use crate::diff_command::diff_command;
+use crate::fit_command::fit_command;
 use crate::texts::VERSION;
+use crate::why_command::why_command;
 use clap::{Arg, ArgAction, Command};
 use std::alloc::{AllocError, Global};
 
@@ -16,9 +20,20 @@ The script is read from FILE or standard input, and the answer is written to sta
 pub(crate) fn program<'a>(alloc: Global) -> Result<Command<'a>, AllocError>
     ensures { IfOk result (λ c. app_of c ≡ program) }
 {
+    let convert = convert_command(alloc)?;
+    let program = program_of_scripts(alloc)?.subcommand(convert)?;
+    program.subcommand(fit_command(alloc)?)
+}
+
+/// The program with the subcommands alone that take a script.
+fn program_of_scripts<'a>(alloc: Global) -> Result<Command<'a>, AllocError>
+    ensures { IfOk result (λ c. app_of c ≡ program_of_scripts) }
+{
     let diff = diff_command(alloc)?;
+    let why = why_command(alloc)?;
     let program = program_of_runs(alloc)?.subcommand(diff)?;
-    program.subcommand(drill_command(alloc))
+    let program = program.subcommand(drill_command(alloc))?;
+    program.subcommand(why)
 }
 
 /// The program with `run` and `check` alone.
@@ -43,7 +58,7 @@ fn bare_program<'a>(alloc: Global) -> Result<Command<'a>, AllocError>
 }
 
 /// The command with FILE, which may be left out.
-fn with_file<'a>(alloc: Global, command: Command<'a>) -> Result<Command<'a>, AllocError>
+pub(crate) fn with_file<'a>(alloc: Global, command: Command<'a>) -> Result<Command<'a>, AllocError>
     requires { (out-Command command).has_globals ≡ false }
     ensures shape { IfOk result (λ c. app_of c ≡ with_rule (app_of command.entry) file_argument) }
     ensures globals { IfOk result (λ c. (out-Command c).has_globals ≡ false) }
@@ -202,30 +217,6 @@ fn check_command<'a>(alloc: Global) -> Result<Command<'a>, AllocError>
         "Checks the script: a line for each record that is none, and where and why",
     );
     with_file(alloc, check)
-}
-
-/// `diff`, with the option `--since` and a text, and FILE.
-fn diff_command<'a>(alloc: Global) -> Result<Command<'a>, AllocError>
-    ensures shape { IfOk result (λ c. app_of c ≡ diff_command) }
-    ensures globals { IfOk result (λ c. (out-Command c).has_globals ≡ false) }
-{
-    let diff = bare_diff(alloc)?;
-    with_file(alloc, diff)
-}
-
-/// `diff`, with `--since` and a text alone.
-fn bare_diff<'a>(alloc: Global) -> Result<Command<'a>, AllocError>
-    ensures shape { IfOk result (λ c. app_of c ≡ with_rule (new_app (codes "diff")) since_option) }
-    ensures globals { IfOk result (λ c. (out-Command c).has_globals ≡ false) }
-{
-    let since = Arg::new(alloc, "since")
-        .long("since")
-        .value_name("RECORD")
-        .help("the first record whose changes are told [default: the last one]")
-        .action(ArgAction::Set);
-    Command::new(alloc, "diff")
-        .about("Tells what the script's last records changed")
-        .arg(since)
 }
 
 /// `drill`, which takes nothing.

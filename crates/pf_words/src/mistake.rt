@@ -1,6 +1,9 @@
-use std::error::Error;
-use std::fmt;
-use std::fmt::Display;
+ghost use Rattle.std.specs.Prelude.{◌≡◌, ◌++◌, OnOk};
+ghost use Rattle.pf_words.specs.Texts.{fixed_line, mistake_line};
+
+use pf_convert_words::mistake::ConvertMistake;
+use pf_why_words::mistake::WhyMistake;
+use std::alloc::AllocError;
 
 /// Why words that the grammar takes ask for nothing.
 #[derive(Clone, Copy, Debug, PartialEq, Eq)]
@@ -29,15 +32,34 @@ pub enum Mistake {
     BadFailOn,
     /// The text of `--since` is no number of a record.
     BadSince,
+    /// `--since` stands beside two scripts.
+    SinceOfTwo,
+    /// Of two scripts both are standard input.
+    InputTwice,
+    /// A word of a conversion is mistaken.
+    Convert(ConvertMistake),
+    /// What is asked of a slot is mistaken.
+    Why(WhyMistake),
 }
 
 impl Mistake {
-    ghost use Rattle.std.specs.Prelude.{◌≡◌};
-    ghost use Rattle.pf_words.specs.Texts.{mistake_line};
+    /// Adds what is told of it, as a line.
+    ///
+    /// # Errors
+    ///
+    /// Where memory is refused: a front of it was added.
+    pub fn push_line(self, text: &mut Vec<u8>) -> Result<(), AllocError>
+        ensures { OnOk result (text.new.items ≡ text.old.items ++ mistake_line self) }
+    {
+        match self {
+            Mistake::Convert(mistake) => mistake.push_line(text),
+            _ => text.extend_from_slice(self.fixed_line().as_bytes()),
+        }
+    }
 
-    /// What is told of it, as a line.
-    pub fn line(self) -> &'static str
-        ensures { result.now ≡ mistake_line self }
+    /// The line of a mistake that always has the same one; nothing for any other.
+    fn fixed_line(self) -> &'static str
+        ensures { result.now ≡ fixed_line self }
     {
         match self {
             Mistake::UnknownFormat => "unknown format\n",
@@ -54,14 +76,10 @@ impl Mistake {
             Mistake::NoStyle => "--style is for the format svg\n",
             Mistake::BadFailOn => "--fail-on takes refused, denied and missed, joined by commas\n",
             Mistake::BadSince => "--since takes a number of 1 to 15 digits, from 1 on\n",
+            Mistake::SinceOfTwo => "--since is for one script\n",
+            Mistake::InputTwice => "standard input is read once\n",
+            Mistake::Convert(_) => "",
+            Mistake::Why(mistake) => mistake.line(),
         }
     }
 }
-
-impl Display for Mistake {
-    fn fmt<W: fmt::Write>(&self, f: &mut fmt::Formatter<W>) -> fmt::Result {
-        f.write_str(self.line())
-    }
-}
-
-impl Error for Mistake {}

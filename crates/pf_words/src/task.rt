@@ -1,15 +1,25 @@
-use crate::fail_on::FailOn;
-use crate::format::Format;
+use pf_convert_words::conversion::Conversion;
+use pf_fit_text::fit_format::FitFormat;
+use pf_options::diff_options::DiffOptions;
+use pf_options::fail_on::FailOn;
+use pf_options::format::Format;
+use pf_why_words::question::Question;
 
-/// What the program can be asked to do with a script.
-#[derive(Clone, Copy, Debug, PartialEq, Eq)]
+/// What the program can be asked to do with a script, or with a list of tasks.
+#[derive(Drop)]
 pub enum Task {
     /// To run it in this format, and to fail on this.
     Run(Format, FailOn),
     /// To check it.
     Check,
     /// To tell what its records changed from this one on, or the last one alone. They are counted from 1.
-    Diff(Option<u64>),
+    Diff(Option<u64>, DiffOptions),
     /// To drill it.
     Drill,
+    /// To tell in this format whether it fits.
+    Fit(FitFormat),
+    /// To convert it, a list of tasks in time.
+    Convert(Conversion),
+    /// To tell why a slot of its run went as it did.
+    Why(Question),
 }

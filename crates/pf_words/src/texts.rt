@@ -49,17 +49,28 @@ Formats:
   jobs        each task's jobs: release, deadline, finish, response, tardiness
   load        load and room, at each slot where one of them changes
   quanta      the schedule, a line for each quantum
+  trace       the run as trace events, for Perfetto and chrome://tracing
   c           the schedule as a C array
 
 `check` tells of each record that the format does not allow, and where and why, and carries nothing out.
 `diff` tells what the records from RECORD on changed, or the last one where --since is left out: the desk before it beside
-the desk at the end, as the tables schedule, lags, misses and denials of what differs. Records are counted from 1.
+the desk at the end, as the tables schedule, lags, misses and denials of what differs. Records are counted from 1. With a
+second script it tells what differs between both, at their ends.
+`fit` carries the script out and tells whether it fits: what was refused, denied, not reached or missed, how tight the slots are,
+what is proved of them, and the greatest cost that each task may have.
 `drill` carries out the script of standard input with a thread for each processor, which takes its quanta, and writes the
 schedule and what was taken.
+`convert` turns a list of tasks in time into a script in slots of the quantum, or tells what each of several quanta gives. The
+list has a heading, name,work,every and where they are needed first,early, and a line for each task: what a job takes at most,
+and the time between two jobs at least.
+`why` tells one slot of the script's run: its events, who may run in it, in which order and by which rule, who runs where
+and why there, and who waits behind whom.
 
-Status: 0 done, 1 a bad record or a script that is too long, 2 words that are not understood or a range of slots that
-were not stepped, 3 a fault of reading or writing, 4 out of memory, or no place for the reader of a drill, 6 done, and
-what --fail-on names was met: a command was refused, an event is denied at the end, or a window is missed.
+Status: 0 done, 1 a bad record or a script that is too long, or a difference that --exit-code tells of, 2 words that are
+not understood or a range of slots that were not stepped, 3 a fault of reading or writing, 4 out of memory, or no place
+for the reader of a drill, 6 done, and what --fail-on names was met: a command was refused, an event is denied at the
+end, or a window is missed; or a plan of convert does not fit the processors given, or no quantum fits; or a script does not
+fit, or fits only so far.
 What is wrong is told on standard error.";
 
 /// Help: the words as the grammar tells of them, and then the lesson.

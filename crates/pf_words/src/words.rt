@@ -1,37 +1,47 @@
 ghost use Rattle.std.specs.Prelude.{◌≡◌, codes, map, option_map, IfOk};
 ghost use Rattle.clap.specs.Words.{kind_of, subcommand_rows_of};
-ghost use Rattle.pf_words.specs.CommandLine.{file_behind, is_named, text_behind, text_behind_run};
-ghost use Rattle.pf_words.specs.Asked.{IsAsked, IsRequest, ShowsError, cell_given, fail_on_given, file_found, format_celled, format_found, format_of, format_wrapped, format_or_tables, name_of, number_given, range_given, since_given, style_given, task_of, wrap_given};
+ghost use Rattle.pf_words.specs.CommandLine.{file_behind, has_flag, is_named, text_behind, text_behind_run};
+ghost use Rattle.pf_words.specs.Texts.{mistake_line};
+ghost use Rattle.pf_words.specs.Asked.{IsAsked, IsRequest, IsSound, IsSoundRequest, ShowsError, cell_given, fail_on_given, file_found, file_of, fit_format_given, format_celled, format_found, format_of, format_wrapped, format_or_tables, name_of, number_given, range_given, range_mistake, style_given, task_of, wrap_given};
 
 use crate::command_line::program;
-use crate::fail_on::FailOn;
-use crate::format::Format;
+use crate::conversion_words::read_convert;
+use crate::diff_words::{are_two, read_diff, read_pair};
 use crate::mistake::Mistake;
 use crate::request::{Request, WordsFault};
-use crate::slot_range::SlotRange;
 use crate::task::Task;
 use crate::texts::{help_text, refusal_text, version_text};
+use crate::why_question::read_why;
 use clap::ArgMatches;
 use clap::error::ErrorKind;
+use pf_fit_text::fit_format::FitFormat;
 use pf_look::cell::Cell;
 use pf_look::style::Style;
 use pf_look::wrap::Wrap;
+use pf_options::fail_on::FailOn;
+use pf_options::format::Format;
+use pf_options::slot_range::SlotRange;
 use pf_script::fields::parse_number;
 use std::alloc::{AllocError, Global};
 use std::convert::AsStr;
 
 /// What the program's words ask for, its own name not among them. No words ask for a run with tables, and so does `run`
 /// alone; `run --format NAME` asks for one in the format of that name, of the slots from `--from` on and below `--to`, in
-/// slots of the width `--cell`, in blocks of `--wrap` slots and in the style `--style`, to fail on what `--fail-on` lists, and `check` for a check. A file may stand behind each,
-/// for the script to be read from; `-` is standard input, as no file is. `diff` asks what the records from `--since` on
-/// changed. `drill` asks for a drill of standard input. Answers `Refused` where the words are not the program's, `Mistaken`
-/// where the text of `--format` names no format, where that of `--from` or `--to` is no number, where the format has no
-/// range, where the text of `--cell` is no number of 6 to 40, `--wrap` no number of 1 to 4096 or `--style` no style, where the format has
-/// none of these, and where the text of
-/// `--fail-on` is no list of what a run may fail on, the first of these, and where the text of `--since` is no number above
-/// 0; and `NoMemory`, in place of any answer, where memory was refused.
+/// slots of the width `--cell`, in blocks of `--wrap` slots and in the style `--style`, to fail on what `--fail-on` lists, and
+/// `check` for a check. A file may stand behind each, for the script to be read from; `-` is standard input, as no file is.
+/// `diff` asks what the records from `--since` on changed, and with a second file what differs between both scripts, of which one
+/// may be standard input; with their sums first by `--summary`, and a status that tells of a difference by `--exit-code`. `drill`
+/// asks for a drill of standard input. `convert` asks for a list of tasks to be converted, in the quanta of `--quantum`, and
+/// `why` asks of a slot. `fit` asks whether the script fits, as text or in the format `--format`. Answers
+/// `Refused` where the words are not the program's, `Mistaken` where the text of
+/// `--format` names no format, where that of `--from` or `--to` is no number, where the format has no range, where the text of
+/// `--cell` is no number of 6 to 40, `--wrap` no number of 1 to 4096 or `--style` no style, where the format has none of these,
+/// and where the text of `--fail-on` is no list of what a run may fail on, the first of these, and where the text of `--since` is
+/// no number above 0, where it stands beside two scripts, or both of these are standard input, the first of these, and the first
+/// word of a conversion, or of what is asked of a slot, that is not as it has to be; and `NoMemory`, in place of any answer, where memory was refused.
 pub fn read_words<S: AsStr>(alloc: Global, words: &[S]) -> Result<Request, WordsFault>
-    ensures { IsAsked (map S.text words.now) result }
+    ensures asked { IsAsked (map S.text words.now) result }
+    ensures sound { IfOk result IsSoundRequest }
 {
     match program(alloc)?.try_get_matches_from(words) {
         Ok(matches) => read_matches(alloc, &matches),
@@ -41,15 +51,31 @@ pub fn read_words<S: AsStr>(alloc: Global, words: &[S]) -> Result<Request, Words
 
 /// What words ask for that the grammar takes.
 fn read_matches(alloc: Global, matches: &ArgMatches<'_>) -> Result<Request, WordsFault>
-    ensures { IsRequest (subcommand_rows_of matches.now) result }
+    ensures request { IsRequest (subcommand_rows_of matches.now) result }
+    ensures sound { IfOk result IsSoundRequest }
 {
-    let task = read_task(matches)?;
-    Ok(Request::Do(task, read_file(alloc, matches)?))
+    if are_two(matches) {
+        return Ok(Request::Compare(read_pair(alloc, matches)?));
+    }
+    match read_task(matches) {
+        Ok(task) => Ok(Request::Do(task, read_file(alloc, matches)?)),
+        Err(mistake) => Err(WordsFault::Mistaken(mistake_line(alloc, mistake)?)),
+    }
+}
+
+/// What is told of a mistake.
+pub(crate) fn mistake_line(alloc: Global, mistake: Mistake) -> Result<Vec<u8>, AllocError>
+    ensures { IfOk result (λ line. line.items ≡ mistake_line mistake) }
+{
+    let mut line = Vec::new(alloc);
+    mistake.push_line(&mut line)?;
+    Ok(line)
 }
 
 /// What they ask to be done with a script.
 fn read_task(matches: &ArgMatches<'_>) -> Result<Task, Mistake>
-    ensures { result ≡ task_of (subcommand_rows_of matches.now) }
+    ensures task { result ≡ task_of (subcommand_rows_of matches.now) }
+    ensures sound { IfOk result IsSound }
 {
     if is_asked(matches, "drill") {
         return Ok(Task::Drill);
@@ -58,20 +84,39 @@ fn read_task(matches: &ArgMatches<'_>) -> Result<Task, Mistake>
         return Ok(Task::Check);
     }
     if is_asked(matches, "diff") {
-        return Ok(Task::Diff(read_since(matches)?));
+        return read_diff(matches);
+    }
+    if is_asked(matches, "convert") {
+        return read_convert(matches);
+    }
+    if is_asked(matches, "why") {
+        return read_why(matches);
+    }
+    if is_asked(matches, "fit") {
+        return Ok(Task::Fit(read_fit_format(matches)?));
     }
     let format = read_format(matches)?;
     Ok(Task::Run(format, read_fail_on(matches)?))
 }
 
 /// The file behind a subcommand; none where standard input is meant, and for a drill.
-fn read_file(alloc: Global, matches: &ArgMatches<'_>) -> Result<Option<String>, AllocError>
+pub(crate) fn read_file(
+    alloc: Global,
+    matches: &ArgMatches<'_>,
+) -> Result<Option<String>, AllocError>
     ensures { IfOk result (λ file. name_of file ≡ file_found (subcommand_rows_of matches.now)) }
 {
     if is_asked(matches, "drill") {
         return Ok(None);
     }
-    let Some(name) = file_name(matches) else {
+    owned_name(alloc, file_name(matches))
+}
+
+/// The file of this name; none where there is no name, or where it is `-`, which is standard input.
+pub(crate) fn owned_name(alloc: Global, name: Option<&str>) -> Result<Option<String>, AllocError>
+    ensures { IfOk result (λ file. name_of file ≡ file_of (option_map (λ text. text.now) name.entry)) }
+{
+    let Some(name) = name else {
         return Ok(None);
     };
     if name == "-" {
@@ -94,16 +139,16 @@ fn is_asked(matches: &ArgMatches<'_>, name: &str) -> bool
     matches.subcommand_matches(name).is_some()
 }
 
-/// The record from which on the changes are asked for; none where `--since` is left out.
-fn read_since(matches: &ArgMatches<'_>) -> Result<Option<u64>, Mistake>
-    ensures { result ≡ since_given (text_behind (codes "diff") (codes "since") (subcommand_rows_of matches.now)) }
+/// The format of a fit; text where `--format` is left out.
+fn read_fit_format(matches: &ArgMatches<'_>) -> Result<FitFormat, Mistake>
+    ensures { result ≡ fit_format_given (text_behind (codes "fit") (codes "format") (subcommand_rows_of matches.now)) }
 {
-    let Some(text) = option_text(matches, "diff", "since") else {
-        return Ok(None);
+    let Some(name) = option_text(matches, "fit", "format") else {
+        return Ok(FitFormat::Text);
     };
-    match parse_number(text.as_bytes()) {
-        Some(0) | None => Err(Mistake::BadSince),
-        Some(number) => Ok(Some(number)),
+    match FitFormat::named(name) {
+        Some(format) => Ok(format),
+        None => Err(Mistake::UnknownFormat),
     }
 }
 
@@ -158,7 +203,17 @@ fn read_ranged(matches: &ArgMatches<'_>) -> Result<Format, Mistake>
     };
     match format.within(read_range(matches)?) {
         Some(format) => Ok(format),
-        None => Err(format.range_mistake()),
+        None => Err(range_mistake(format)),
+    }
+}
+
+/// What is told where a range is asked of a format that has none.
+fn range_mistake(format: Format) -> Mistake
+    ensures { result ≡ range_mistake format }
+{
+    match format {
+        Format::Jobs | Format::Trace | Format::C => Mistake::Unranged,
+        _ => Mistake::NoRange,
     }
 }
 
@@ -253,8 +308,18 @@ fn read_number(matches: &ArgMatches<'_>, option: &str) -> Result<Option<u64>, Mi
     }
 }
 
+/// Whether a flag stands behind the subcommand of this name.
+pub(crate) fn has_flag(matches: &ArgMatches<'_>, name: &str, flag: &str) -> bool
+    ensures { result ≡ has_flag name.now flag.now (subcommand_rows_of matches.now) }
+{
+    match option_text(matches, name, flag) {
+        Some(text) => text == "true",
+        None => false,
+    }
+}
+
 /// The text of an option behind the subcommand of this name.
-fn option_text<'a>(matches: &ArgMatches<'a>, name: &str, option: &str) -> Option<&'a str>
+pub(crate) fn option_text<'a>(matches: &ArgMatches<'a>, name: &str, option: &str) -> Option<&'a str>
     ensures { option_map (λ text. text.now) result ≡ text_behind name.now option.now (subcommand_rows_of matches.now) }
 {
     matches.subcommand_matches(name)?.get_str(option)

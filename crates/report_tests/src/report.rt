@@ -85,13 +85,14 @@ impl Call {
 
     /// What it gives.
     fn text(self, alloc: Global, snapshot: &Snapshot) -> Result<Vec<u8>, AllocError> {
+        let titles = Titles::none(alloc);
         match self {
             Call::Schedule => schedule_csv(alloc, snapshot),
-            Call::Lags => lags_csv(alloc, snapshot),
+            Call::Lags => lags_csv(alloc, snapshot, &titles),
             Call::Misses => misses_csv(alloc, snapshot),
             Call::Denials => denials_csv(alloc, snapshot),
-            Call::Object => report_json(alloc, snapshot),
-            Call::Script => script_text(alloc, snapshot, 64),
+            Call::Object => report_json(alloc, snapshot, &titles),
+            Call::Script => script_text(alloc, snapshot, 64, &titles),
         }
     }
 }
@@ -203,7 +204,8 @@ fn what_differs(rt: HostRuntime) -> Result<(), Fail> {
 
 /// The chart of all slots. A caller that needs no clause of `chart_text` calls this.
 fn chart(alloc: Global, snapshot: &Snapshot) -> Result<Vec<u8>, AllocError> {
-    chart_text(alloc, snapshot, 0, snapshot.now())
+    let titles = Titles::none(alloc);
+    chart_text(alloc, snapshot, &titles, 0, snapshot.now())
 }
 
 /// The picture of the first slots. A caller that needs no clause of `picture_text` calls this.

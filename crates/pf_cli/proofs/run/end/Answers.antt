@@ -4,7 +4,7 @@ use Rattle.pf_cli.proofs.Answering.{answers_as, counts_as, past_as}
 use Rattle.pf_cli.proofs.run.end.Goals as goal
 
 pub returns-in-Err-clause-report : goal.returns-in-Err-clause-report
-returns-in-Err-clause-report g c = answers_as (Unit {0}) Shown (report_meaning c.args.format (course_at c.args.desk)) _ _ _ c.in-Err.ensures.report
+returns-in-Err-clause-report g c = answers_as (Unit {0}) Shown (report_meaning c.args.format c.args.titles.now (course_at c.args.desk)) _ _ _ c.in-Err.ensures.report
 
 pub returns-in-Err-clause-read : goal.returns-in-Err-clause-read
 returns-in-Err-clause-read g c = past_as (Unit {0}) Shown _ c.in-Err.ensures.read

@@ -6,4 +6,4 @@ use Rattle.pf_cli.proofs.run.run.Goals as goal
 
 pub returns-in-Err-clause-outside : goal.returns-in-Err-clause-outside
 returns-in-Err-clause-outside g c =
-    outside_keeps Shown Ending (script_meaning c.args.format c.args.script.now) c.in-Err.fault _ _ (nothing_outside c.args.format c.args.script.now) c.in-Err.ensures.meaning
+    outside_keeps Shown Ending (script_meaning c.args.format c.args.titles.now c.args.script.now) c.in-Err.fault _ _ (nothing_outside c.args.format c.args.titles.now c.args.script.now) c.in-Err.ensures.meaning

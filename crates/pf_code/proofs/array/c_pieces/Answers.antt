@@ -12,10 +12,11 @@ returns c =
     let m = seen.state.plan.settings.processors in
     let n = seen.state.now in
     let base = seen.state.plan.settings.base in
+    let names = c.args.titles.now.names in
     let settings = c.settings-settings.ensures in
     let head = c.new.ensures ∙ c.in_ok-head.ensures
-    ∙ ap₂ (λ p k. head_text p k c.get-base.result) (c.processors.ensures.value ∙ ap (λ s. s.processors) settings) c.now.ensures.value
-    ∙ ap (head_text m n) (c.get-base.ensures.value ∙ c.base.ensures.value ∙ ap (λ s. s.base) settings) in
+    ∙ ap₂ (λ p k. head_text names p k c.get-base.result) (c.processors.ensures.value ∙ ap (λ s. s.processors) settings) c.now.ensures.value
+    ∙ ap (head_text names m n) (c.get-base.ensures.value ∙ c.base.ensures.value ∙ ap (λ s. s.base) settings) in
     let behind = c.new-3.ensures ∙ ap (λ e. flat_map (row_text m) seen.rows ++ e) (c.new-2.ensures ∙ c.in_ok-end.ensures.items) in
     c.new-4.ensures ∙ ap₂ (λ x y. x ++ y) head behind
-    ∙ array_parts m n base seen.rows (sym (length-rows seen.state.plan n seen.rows seen.denials c.now.ensures.of_run))
+    ∙ array_parts names m n base seen.rows (sym (length-rows seen.state.plan n seen.rows seen.denials c.now.ensures.of_run))

@@ -1,7 +1,7 @@
 use Rattle.std.proofs.Common.{◌∙◌, ◌++◌, [], cond, sym, ap, ap₂, arith}
 use Rattle.std.proofs.lemmas.Bool.{eq-eqb, ne_eqb}
 use Rattle.std.proofs.lemmas.List.{append-nil}
-use Rattle.pf_code.specs.Array.{constants_text, declaration_text, row_text, title_text}
+use Rattle.pf_code.specs.Array.{constants_text, declaration_text, front_text, row_text}
 use Rattle.pf_code.proofs.lines.head.Goals as goal
 use Rattle.pf_code.proofs.lines.head.Goals.{then-slots-eq0+in_ok-push_nobody, else-slots-eq0}
 
@@ -10,12 +10,13 @@ returns c =
     let m = c.args.processors in
     let n = c.args.slots in
     let base = c.args.base in
-    let front = title_text m n base ++ constants_text m n ++ declaration_text m n in
+    let names = c.args.names.now in
+    let front = front_text names m n base ++ constants_text m n ++ declaration_text m n in
     let stands = c.in_ok-push_declaration.ensures
     ∙ ap₂ (λ t p. t ++ declaration_text p n)
     (c.in_ok-push_constants.ensures
     ∙ ap₂ (λ t p. t ++ constants_text p n)
-    (c.in_ok-push_title.ensures ∙ ap₂ (λ t p. t ++ title_text p n base) c.new-text.ensures.items c.from.ensures)
+    (c.in_ok-push_front.ensures ∙ ap₂ (λ t p. t ++ front_text names p n base) c.new-text.ensures.items c.from.ensures)
     c.from-2.ensures)
     c.from-3.ensures in
     elim c.if-slots-eq0.branch [

@@ -9,7 +9,7 @@ returns c =
     let m = decimal c.args.processors in
     let n = decimal c.args.slots in
     let base = decimal c.args.base in
-    let end = codes ". One row a slot, one task a processor; 0 is nobody. */\n#include <stdint.h>\n" in
+    let end = codes ". One row a slot, one task a processor; 0 is nobody. */\n" in
     appended c.extend_from_slice.result _ _ end _ c.extend_from_slice.ensures.items
     (ap (λ t. t ++ end)
     (c.in_ok-push_number-3.ensures

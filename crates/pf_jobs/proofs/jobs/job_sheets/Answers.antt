@@ -18,7 +18,7 @@ of-requires-clause-can c =
     let tasks = c.deref-task-items.ensures.value ∙ c.in_ok-admitted.ensures
     ∙ ap (λ xs. by_task (filter_map (join_of c.in_ok-ledger.ledger.settings.base) xs)) c.deref.ensures.value in
     let at = subst (λ (x : Joined). x ≡ get_or items c.loop-task.task-index x) (sym c.task.view_is) c.task-item.is in
-    can_tally _ _ c.in_ok-ledger.ledger c.in_ok-ledger.ensures _ tasks c.args.tasks.now c.loop-task.task-index j _ _
+    can_tally _ _ c.in_ok-ledger.ledger c.in_ok-ledger.ensures _ tasks c.args.tasks.now c.args.titles.now c.loop-task.task-index j _ _
     (omega arith) at c.quanta-ran.ensures c.diary-diary.ensures
 
 pub of-requires-clause-slots : goal.of-requires-clause-slots
@@ -29,7 +29,7 @@ of-requires-clause-slots c =
     let tasks = c.deref-task-items.ensures.value ∙ c.in_ok-admitted.ensures
     ∙ ap (λ xs. by_task (filter_map (join_of c.in_ok-ledger.ledger.settings.base) xs)) c.deref.ensures.value in
     let at = subst (λ (x : Joined). x ≡ get_or items c.loop-task.task-index x) (sym c.task.view_is) c.task-item.is in
-    slots_low _ _ c.in_ok-ledger.ledger c.in_ok-ledger.ensures _ tasks c.args.tasks.now c.loop-task.task-index j _ _
+    slots_low _ _ c.in_ok-ledger.ledger c.in_ok-ledger.ensures _ tasks c.args.tasks.now c.args.titles.now c.loop-task.task-index j _ _
     (omega arith) at c.quanta-ran.ensures c.diary-diary.ensures
 
 pub loop-task-preserved : goal.loop-task-preserved
@@ -46,11 +46,11 @@ loop-task-preserved c =
     let at = subst (λ (x : Joined). x ≡ get_or items k x) (sym c.task.view_is) c.task-item.is in
     elim c.if-has.branch [
       | then-has+in_ok-run+in_ok-push w ↦
-          sheet_added seen.state.plan seen.state.now ledger known items tasks c.args.tasks.now k j _ _ (omega arith) at
+          sheet_added seen.state.plan seen.state.now ledger known items tasks c.args.tasks.now c.args.titles.now k j _ _ (omega arith) at
           w.quanta-ran.ensures w.diary-diary.ensures w.in_ok-run.run' c.loop-task.sheets.items _ w.in_ok-run.ensures
           (sym c.has.ensures ∙ w.if-has.true) (ap (λ v. v.items) w.sheets-is ∙ w.in_ok-push.ensures.items) c.loop-task.invariant
       | else-has w ↦
-          sheet_left seen.state.plan seen.state.now ledger known items tasks c.args.tasks.now k j c.loop-task.sheets.items _ (omega arith) at
+          sheet_left seen.state.plan seen.state.now ledger known items tasks c.args.tasks.now c.args.titles.now k j c.loop-task.sheets.items _ (omega arith) at
           (sym c.has.ensures ∙ w.if-has.false) (ap (λ v. v.items) w.sheets-is) c.loop-task.invariant
     ]
 
@@ -61,5 +61,5 @@ returns c =
     let known = ledger_of seen c.scenario.result.now c.rows.result.now ledger c.now.ensures.of_run c.scenario.ensures c.rows.ensures c.in_ok-ledger.ensures in
     let tasks = c.deref-task-items.ensures.value ∙ c.in_ok-admitted.ensures
     ∙ ap (λ xs. by_task (filter_map (join_of ledger.settings.base) xs)) c.deref.ensures.value in
-    sheets_all seen.state.plan seen.state.now ledger known _ tasks c.args.tasks.now c.loop-task.task-index c.loop-task.sheets.items (omega arith)
+    sheets_all seen.state.plan seen.state.now ledger known _ tasks c.args.tasks.now c.args.titles.now c.loop-task.task-index c.loop-task.sheets.items (omega arith)
     c.loop-task.invariant

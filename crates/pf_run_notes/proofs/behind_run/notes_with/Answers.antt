@@ -1,8 +1,6 @@
-use Rattle.std.proofs.Common.{rules, ◌≡◌, ◌-◌, ◌++◌, take, length}
-use Rattle.std.specs.List.{flat_map}
+use Rattle.std.proofs.Common.{rules, ◌≡◌, ◌++◌, length}
 use Rattle.pf_run.specs.Computed.{run_of}
-use Rattle.pf_run_notes.specs.Notes.{counts_text, denied_note, late_lines, more_text}
-use Rattle.pf_run_notes.specs.Refusals.{more}
+use Rattle.pf_run_notes.specs.Notes.{counts_text, lines_of, lists_with}
 use Rattle.pf_run_notes.proofs.Behind.{notes_told}
 use Rattle.pf_run_notes.proofs.behind_run.notes_with.Goals as goal
 
@@ -13,16 +11,9 @@ returns c = λ misses are of_missed.
     let made = c.args.made.now in
     let kept = c.args.refusals.now in
     let seen = c.args.snapshot.now in
-    let before : c.saturating_add-before.result ≡ more kept.records (length seen.denials) = search rules in
-    let lines : c.saturating_add-lines.result ≡ more c.saturating_add-before.result (length c.args.late.now.firsts.items) = search rules in
-    let t : c.in_ok-text.text.items ≡ kept.lines = search rules in
-    let u : c.push_denials.new.text.items ≡ c.in_ok-text.text.items
-    ++ flat_map (denied_note file names made seen.state.plan (run_of seen.state.plan seen.state.now)) (take (kept.most - kept.records) seen.denials) = search rules in
-    let v : c.push_late_tasks.new.text.items ≡ c.push_denials.new.text.items
-    ++ late_lines file names made seen.state.plan.events c.args.late.now.counts (take (kept.most - c.saturating_add-before.result) c.args.late.now.firsts.items) = search rules in
-    let w : c.push_rest.new.text.items ≡ c.push_late_tasks.new.text.items ++ more_text kept.most c.saturating_add-lines.result = search rules in
-    let x : c.push_last.new.text.items ≡ c.push_rest.new.text.items
-    ++ counts_text file c.saturating_add-lines.result kept.commands (length seen.denials) c.args.missed = search rules in
-    notes_told file names made kept seen (run_of seen.state.plan seen.state.now) misses c.args.late.now.firsts.items c.args.late.now.counts
-    c.args.missed c.saturating_add-before.result c.saturating_add-lines.result c.in_ok-text.text.items c.push_denials.new.text.items
-    c.push_late_tasks.new.text.items c.push_rest.new.text.items c.push_last.new.text.items are of_missed before lines t u v w x
+    let lines : c.count_lines-lines.result ≡ lines_of kept seen misses = c.count_lines-lines.ensures misses are in
+    let w : c.in_ok-text.text.items ≡ lists_with file names made kept seen (run_of seen.state.plan seen.state.now) misses = c.in_ok-text.ensures misses are in
+    let x : c.push_last.new.text.items ≡ c.in_ok-text.text.items
+    ++ counts_text file c.count_lines-lines.result kept.commands (length seen.denials) c.args.missed = search rules in
+    notes_told file names made kept seen (run_of seen.state.plan seen.state.now) misses c.args.missed c.count_lines-lines.result
+    c.in_ok-text.text.items c.push_last.new.text.items of_missed lines w x

@@ -34,7 +34,7 @@ of-requires c =
     ∙ ap (λ xs. by_task (filter_map (join_of ledger.settings.base) xs)) c.deref.ensures.value in
     let at = subst (λ (x : Joined). x ≡ get_or items k x) (sym c.task.view_is) c.task-item.is in
     let on = c.processors_of-on.ensures ∙ c.in_ok-processors.ensures _ ∙ ap (λ rows. processors_in rows j.task) c.rows-rows.ensures in
-    can_tally seen.state.plan seen.state.now ledger known items tasks seen.rows c.args.tasks.now c.args.slots c.requires k j _ _ _ (omega arith) at
+    can_tally seen.state.plan seen.state.now ledger known items tasks seen.rows c.args.tasks.now c.args.titles.now c.args.slots c.requires k j _ _ _ (omega arith) at
     c.quanta-ran.ensures c.diary-diary.ensures on
 
 pub loop-task-preserved : goal.loop-task-preserved
@@ -51,13 +51,13 @@ loop-task-preserved c =
     let at = subst (λ (x : Joined). x ≡ get_or items k x) (sym c.task.view_is) c.task-item.is in
     elim c.if-has.branch [
       | then-has+in_ok-told+in_ok-push w ↦
-          sheet_added seen.state.plan seen.state.now ledger known items tasks seen.rows c.args.tasks.now c.args.slots c.requires k j _ _ _ (omega arith) at
+          sheet_added seen.state.plan seen.state.now ledger known items tasks seen.rows c.args.tasks.now c.args.titles.now c.args.slots c.requires k j _ _ _ (omega arith) at
           w.quanta-ran.ensures w.diary-diary.ensures
           (w.processors_of-on.ensures ∙ c.in_ok-processors.ensures _ ∙ ap (λ rows. processors_in rows j.task) c.rows-rows.ensures)
-          w.in_ok-told.told c.loop-task.sheets.items _ w.in_ok-told.ensures (sym c.has.ensures ∙ w.if-has.true)
+          w.in_ok-told.told _ c.loop-task.sheets.items _ w.in_ok-told.ensures w.new.ensures (sym c.has.ensures ∙ w.if-has.true)
           (ap (λ v. v.items) w.sheets-is ∙ w.in_ok-push.ensures.items) c.loop-task.invariant
       | else-has w ↦
-          sheet_left seen.state.plan seen.state.now ledger known items tasks seen.rows c.args.tasks.now c.args.slots c.requires k j c.loop-task.sheets.items _ (omega arith) at
+          sheet_left seen.state.plan seen.state.now ledger known items tasks seen.rows c.args.tasks.now c.args.titles.now c.args.slots c.requires k j c.loop-task.sheets.items _ (omega arith) at
           (sym c.has.ensures ∙ w.if-has.false) (ap (λ v. v.items) w.sheets-is) c.loop-task.invariant
     ]
 
@@ -68,5 +68,5 @@ returns c =
     let known = ledger_of seen c.scenario.result.now c.rows-rows.result.now ledger c.now.ensures.of_run c.scenario.ensures c.rows-rows.ensures c.in_ok-ledger.ensures in
     let tasks = c.deref-task-items.ensures.value ∙ c.in_ok-admitted.ensures
     ∙ ap (λ xs. by_task (filter_map (join_of ledger.settings.base) xs)) c.deref.ensures.value in
-    sheets_all seen.state.plan seen.state.now ledger known _ tasks seen.rows c.args.tasks.now c.args.slots c.requires c.loop-task.task-index c.loop-task.sheets.items
+    sheets_all seen.state.plan seen.state.now ledger known _ tasks seen.rows c.args.tasks.now c.args.titles.now c.args.slots c.requires c.loop-task.task-index c.loop-task.sheets.items
     (omega arith) c.loop-task.invariant

@@ -3,13 +3,15 @@ use Rattle.std.specs.List.{flat_map}
 use Rattle.pf_run.specs.Computed.{run_of}
 use Rattle.pf_tally.specs.Figures.{processors_in}
 use Rattle.pf_tasks.specs.Listed.{is_listed}
-use Rattle.pf_windows.specs.Told.{records_behind_sub}
+use Rattle.pf_name_column.specs.Column.{with_name}
+use Rattle.pf_windows.specs.Told.{named_behind_sub}
 use Rattle.pf_windows.specs.Windows.{records_of_task}
 use Rattle.pf_windows.proofs.windows.window_sheets.Given as goal
 
 -- the sheets have the windows of the tasks so far
 abbrev pub invariant-loop-task : goal.invariant-loop-task
 invariant-loop-task l =
-    flat_map (λ told. records_behind_sub told 0) l.sheets.items
-    ≡ flat_map (λ j. records_of_task l.slots (run_of l.snapshot.state.plan l.snapshot.state.now) (processors_in l.snapshot.rows j.task) l.ledger.events.items j)
+    flat_map (λ sheet. named_behind_sub sheet 0) l.sheets.items
+    ≡ flat_map (λ j. with_name l.titles j.task
+    (records_of_task l.slots (run_of l.snapshot.state.plan l.snapshot.state.now) (processors_in l.snapshot.rows j.task) l.ledger.events.items j))
     (filter (λ j. is_listed l.tasks j.task) (take l.task-index l.task-items))

@@ -1,0 +1,52 @@
+-- A script that was carried out on a desk.
+use Rattle.std.specs.Prelude.{⊤, ℕ, ◌≡◌, Option, None, Some, List, [], ◌++◌, map}
+use Rattle.pf_desk.specs.Desk.{Shown}
+use Rattle.pf_desk.specs.declared.command.Command.{Command}
+use Rattle.pf_desk.specs.declared.entry.Entry.{Entry}
+use Rattle.pf_fault.specs.declared.fault.Fault.{Fault}
+use Rattle.pf_fault.specs.declared.fault.Fault.TheVariants as why
+use Rattle.pf_script.specs.Asked.{commands_in}
+use Rattle.pf_script.specs.Told.{FaultTold, Told}
+use Rattle.pf_script.specs.declared.record.ScriptSettings.{ScriptSettings}
+
+-- the commands of these entries
+abbrev pub asked_in : List Entry → List Command
+asked_in entries = map (λ e. e.command) entries
+
+-- the desk was asked these commands, one after another
+pub record HasAnswered (commands : List Command) (before after : Shown) : Type 0 where
+  pub asked : asked_in after.history ≡ asked_in before.history ++ commands
+  pub settings : after.state.plan.settings ≡ before.state.plan.settings
+
+-- a desk was opened with these settings, and was asked nothing yet
+pub record IsOpened (opening : ScriptSettings) (desk : Shown) : Type 0 where
+  pub settings : desk.state.plan.settings ≡ opening.settings
+  pub asked : asked_in desk.history ≡ []
+
+-- a desk took some commands while others waited before them: those that wait now are not answered yet
+pub record HasTaken (waited commands waiting : List Command) (before after : Shown) : Type 0 where
+  pub asked : asked_in after.history ++ waiting ≡ asked_in before.history ++ waited ++ commands
+  pub settings : after.state.plan.settings ≡ before.state.plan.settings
+
+-- a desk that carried out a script that tells this: it has its settings, and was asked its commands, one after another
+pub record IsOf (t : Told) (desk : Shown) : Type 0 where
+  pub opening : ScriptSettings
+  pub told : t.opening ≡ Some opening
+  pub settings : desk.state.plan.settings ≡ opening.settings
+  pub asked : asked_in desk.history ≡ commands_in t.rest.lines
+
+-- the number of the record that is at fault
+abbrev pub fault_number : Option FaultTold → Option ℕ
+fault_number None = None
+fault_number (Some fault) = Some fault.bad.number
+
+-- a script with this fault was not carried out: its bad record stopped it, or want of memory
+abbrev pub Stops : Option FaultTold → Fault → Type 0
+Stops told (why.BadRecord number) = fault_number told ≡ Some number
+Stops told why.NoMemory = ⊤
+Stops told why.Read = ⊥
+Stops told why.Write = ⊥
+Stops told why.TooLong = ⊥
+Stops told (why.BadRange range) = ⊥
+Stops told why.NoReader = ⊥
+Stops told why.GateShut = ⊥

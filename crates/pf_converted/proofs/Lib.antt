@@ -1,0 +1,9 @@
+pub mod Alike
+pub mod Again
+pub mod Numbers
+pub mod Plain
+pub mod Fields
+pub mod Lines
+pub mod Named
+pub mod Saying
+pub mod Whole

@@ -1,0 +1,3 @@
+pub mod BadRecords
+pub mod FileFaults
+pub mod Ranges

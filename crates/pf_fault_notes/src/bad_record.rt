@@ -1,0 +1,82 @@
+ghost use Rattle.std.specs.Prelude.{◌≡◌, ◌++◌, List, ℕ, codes, OnOk};
+ghost use Rattle.std.specs.Fmt.{decimal};
+ghost use Rattle.csv.specs.Records.{fields_of};
+ghost use Rattle.pf_check.specs.Reports.{fault_shown};
+ghost use Rattle.pf_fault_notes.specs.BadRecords.{fault_line, place_in, report_behind, third_fault_line};
+
+use itoa::Buffer;
+use pf_check::report::push_report;
+use pf_check3::report::push_report as push_third_report;
+use pf_run_notes::file::push_file;
+use pf_script::fault::BadRecord;
+use pf_script::fields::Fields;
+use pf_text::numbers::push_number;
+use pf_version3::fault::BadRecord as ThirdBadRecord;
+use std::alloc::{AllocError, Global};
+
+/// Appends the line of a bad record of the file, which has these fields.
+///
+/// # Errors
+///
+/// Where memory is refused: the text is given up.
+pub fn push_fault(
+    alloc: Global,
+    text: &mut Vec<u8>,
+    file: &[u8],
+    fields: &Fields,
+    bad: BadRecord,
+) -> Result<(), AllocError>
+    ensures { OnOk result (text.new.items ≡ text.old.items ++ fault_line file.now (fault_shown bad fields.now)) }
+{
+    let mut report = String::new(alloc);
+    push_report(&mut report, fields, bad)?;
+    push_place(text, file, bad.line, bad.number)?;
+    text.extend_from_slice(behind_place(report.as_bytes(), bad.line, bad.number))
+}
+
+/// The same of a bad record of a script of version 3, which has these bytes in the field that is at fault.
+///
+/// # Errors
+///
+/// Where memory is refused: the text is given up.
+pub fn push_third_fault(
+    alloc: Global,
+    text: &mut Vec<u8>,
+    file: &[u8],
+    at: &[u8],
+    bad: ThirdBadRecord,
+) -> Result<(), AllocError>
+    ensures { OnOk result (text.new.items ≡ text.old.items ++ third_fault_line file.now (record { bad = bad; at = at.now })) }
+{
+    let mut report = String::new(alloc);
+    push_third_report(&mut report, at, bad)?;
+    push_place(text, file, bad.line, bad.number)?;
+    text.extend_from_slice(behind_place(report.as_bytes(), bad.line, bad.number))
+}
+
+/// Appends the place of a record of the file.
+fn push_place(text: &mut Vec<u8>, file: &[u8], line: u64, number: u64) -> Result<(), AllocError>
+    ensures { OnOk result (text.new.items ≡ text.old.items ++ place_in file.now line number) }
+{
+    push_file(text, file)?;
+    text.extend_from_slice(b":")?;
+    push_number(text, line)?;
+    text.extend_from_slice(b": record ")?;
+    push_number(text, number)
+}
+
+/// What a report of a check tells behind the line and the number of its record.
+fn behind_place(report: &[u8], line: u64, number: u64) -> &[u8]
+    ensures { (why : List ℕ) → report.now ≡ report_behind line number why → result.now ≡ why }
+{
+    let mut first = Buffer::new();
+    let mut second = Buffer::new();
+    let front = b"line ".len()
+        + first.format(line).len()
+        + b", record ".len()
+        + second.format(number).len();
+    if report.len() < front {
+        return b"";
+    }
+    &report[front..]
+}

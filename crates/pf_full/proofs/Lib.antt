@@ -1,0 +1,2 @@
+pub mod FullParts
+pub mod Plain

@@ -1,0 +1,183 @@
+ghost use Rattle.std.specs.Prelude.{◌≡◌, ◌++◌, IfOk};
+ghost use Rattle.std.specs.Fmt.{decimal};
+ghost use Rattle.serde_json.specs.Data.{array};
+ghost use Rattle.serde_json.specs.View.{items_of};
+ghost use Rattle.serde_json.specs.Written.{compact_text};
+ghost use Rattle.pf_full.specs.Full.{full_text};
+ghost use Rattle.pf_full.specs.Parts.{from_events, from_figures, from_lags, from_refusals, from_schedule, from_settings};
+
+use crate::events::EventRows;
+use crate::figures::FigureRows;
+use crate::refusal::{Refusal, RefusalRows};
+use crate::settings::settings_text;
+use pf_desk::snapshot::Snapshot;
+use pf_report::denials::DenialRows;
+use pf_report::elements::{ArrayPieces, Elements};
+use pf_report::lags::LagRows;
+use pf_report::misses::MissRows;
+use pf_report::schedule::ScheduleRows;
+use pf_tally::tally::Tally;
+use pf_text::numbers::push_number;
+use pf_text::pieces::{Chain, Pieces, Whole};
+use std::alloc::{AllocError, Global};
+
+/// A key of an object, an array, and what follows.
+type Keyed<E, B> = Chain<Whole, Chain<ArrayPieces<E>, B>>;
+
+/// The object from each of its keys on.
+type FromSettings = Chain<Whole, Chain<Whole, Whole>>;
+
+type FromSchedule<'a> = Keyed<ScheduleRows<'a>, FromSettings>;
+
+type FromRefusals<'a> = Keyed<RefusalRows, FromSchedule<'a>>;
+
+type FromMisses<'a> = Keyed<MissRows, FromRefusals<'a>>;
+
+type FromLags<'a> = Keyed<LagRows, FromMisses<'a>>;
+
+type FromFigures<'a> = Keyed<FigureRows, Tail<'a>>;
+
+type FromEvents<'a> = Keyed<EventRows, FromFigures<'a>>;
+
+/// A run as a JSON object, in pieces: its keys, and of each array so many elements as make a piece long.
+pub type FullPieces<'a> = Keyed<DenialRows<'a>, FromEvents<'a>>;
+
+/// The object from its lags on, as one kind of pieces.
+#[derive(Drop)]
+pub struct Tail<'a> {
+    pieces: FromLags<'a>,
+}
+
+impl Pieces for Tail<'_> {
+    ghost left = { λ t. t.pieces };
+
+    ghost outcome = { λ _. tt };
+
+    fn next_piece(&mut self, alloc: Global) -> Result<Option<Vec<u8>>, AllocError> {
+        self.pieces.next_piece(alloc)
+    }
+}
+
+/// An array behind its key, and what follows.
+fn keyed<E: Elements, B: Pieces>(key: Vec<u8>, elements: E, behind: B) -> Keyed<E, B>
+    ensures { result ≡ key.items ++ (compact_text (array (items_of (E.rest elements 0))) ++ B.left behind) }
+{
+    Chain::new(
+        Whole::new(key),
+        Chain::new(ArrayPieces::new(elements), behind),
+    )
+}
+
+/// A key, its number, and the key behind it.
+fn numbered_key(alloc: Global, front: &[u8], number: u64, key: &[u8]) -> Result<Vec<u8>, AllocError>
+    ensures { IfOk result (λ text. text.items ≡ front.now ++ (decimal number ++ key.now)) }
+{
+    let mut text = Vec::from_slice(alloc, front)?;
+    push_number(&mut text, number)?;
+    text.extend_from_slice(key)?;
+    Ok(text)
+}
+
+/// The object from its settings on.
+fn from_settings(alloc: Global, snapshot: &Snapshot, every: u64) -> Result<FromSettings, AllocError>
+    ensures { IfOk result (λ pieces. pieces ≡ from_settings every snapshot.now) }
+{
+    let key = Whole::new(Vec::from_slice(alloc, b",\"settings\":")?);
+    let settings = Whole::new(settings_text(alloc, snapshot.settings(), every)?);
+    let end = Whole::new(Vec::from_slice(alloc, b"}")?);
+    Ok(Chain::new(key, Chain::new(settings, end)))
+}
+
+/// The object from its schedule on.
+fn from_schedule(
+    alloc: Global,
+    snapshot: &Snapshot,
+    every: u64,
+) -> Result<FromSchedule<'_>, AllocError>
+    ensures { IfOk result (λ pieces. pieces ≡ from_schedule every snapshot.now) }
+{
+    let behind = from_settings(alloc, snapshot, every)?;
+    let key = Vec::from_slice(alloc, b",\"schedule\":")?;
+    Ok(keyed(key, ScheduleRows::of(snapshot), behind))
+}
+
+/// The object from its slots stepped on.
+fn from_refusals(
+    alloc: Global,
+    snapshot: &Snapshot,
+    every: u64,
+    refusals: Vec<Refusal>,
+) -> Result<FromRefusals<'_>, AllocError>
+    ensures { IfOk result (λ pieces. pieces ≡ from_refusals every refusals.items snapshot.now) }
+{
+    let behind = from_schedule(alloc, snapshot, every)?;
+    let key = numbered_key(alloc, b",\"now\":", snapshot.now(), b",\"refusals\":")?;
+    Ok(keyed(key, RefusalRows::of(refusals), behind))
+}
+
+/// The object from its lags on.
+fn from_lags(
+    alloc: Global,
+    snapshot: &Snapshot,
+    every: u64,
+    refusals: Vec<Refusal>,
+) -> Result<FromLags<'_>, AllocError>
+    ensures { IfOk result (λ pieces. pieces ≡ from_lags every refusals.items snapshot.now) }
+{
+    let behind = from_refusals(alloc, snapshot, every, refusals)?;
+    let Tally { lags, misses } = snapshot.tally()?;
+    let misses_key = Vec::from_slice(alloc, b",\"misses\":")?;
+    let lags_key = Vec::from_slice(alloc, b",\"lags\":")?;
+    let misses = keyed(misses_key, MissRows::of(misses), behind);
+    Ok(keyed(lags_key, LagRows::of(lags), misses))
+}
+
+/// The object from its figures on.
+fn from_figures(
+    alloc: Global,
+    snapshot: &Snapshot,
+    every: u64,
+    refusals: Vec<Refusal>,
+) -> Result<FromFigures<'_>, AllocError>
+    ensures { IfOk result (λ pieces. pieces ≡ from_figures every refusals.items snapshot.now) }
+{
+    let pieces = from_lags(alloc, snapshot, every, refusals)?;
+    let figures = FigureRows::of(snapshot.figures()?);
+    let key = Vec::from_slice(alloc, b",\"figures\":")?;
+    Ok(keyed(key, figures, Tail { pieces }))
+}
+
+/// The object from its entries on.
+fn from_events(
+    alloc: Global,
+    snapshot: &Snapshot,
+    every: u64,
+    refusals: Vec<Refusal>,
+) -> Result<FromEvents<'_>, AllocError>
+    ensures { IfOk result (λ pieces. pieces ≡ from_events every refusals.items snapshot.now) }
+{
+    let behind = from_figures(alloc, snapshot, every, refusals)?;
+    let events = EventRows::of(alloc, snapshot)?;
+    let key = numbered_key(alloc, b",\"entries\":", snapshot.version(), b",\"events\":")?;
+    Ok(keyed(key, events, behind))
+}
+
+/// All that a run tells as one JSON object, in pieces: compact, its keys in byte order. Beside what the report has these are
+/// the events held, the figures of the tasks, the records of which a command was refused, and the settings, with so many
+/// slots between checkpoints. The lags, the missed windows, the events and the figures are in memory until they are written.
+///
+/// # Errors
+///
+/// Where memory is refused.
+pub fn full_pieces(
+    alloc: Global,
+    snapshot: &Snapshot,
+    every: u64,
+    refusals: Vec<Refusal>,
+) -> Result<FullPieces<'_>, AllocError>
+    ensures { IfOk result (λ pieces. pieces ≡ full_text every refusals.items snapshot.now) }
+{
+    let behind = from_events(alloc, snapshot, every, refusals)?;
+    let key = Vec::from_slice(alloc, b"{\"denials\":")?;
+    Ok(keyed(key, DenialRows::of(snapshot), behind))
+}

@@ -1,0 +1,3 @@
+pub mod FailLists
+pub mod Formats
+pub mod Ranges

@@ -1,0 +1,14 @@
+-- A status of 0 is that of what was done.
+use Rattle.std.proofs.Common.{◌≡◌, ℕ, refl, arith}
+use Rattle.pf_fault.specs.Faults.{number_of}
+use Rattle.pf_fault.specs.declared.status.Status.{Status}
+use Rattle.pf_fault.specs.declared.status.Status.TheVariants.{Done, BadScript, BadWords, StreamFailed, NoMemory, GateShut, FailedOn}
+
+pub done_of_zero : (s : Status) → number_of s ≡ 0 → s ≡ Done
+done_of_zero Done is = refl
+done_of_zero BadScript is = absurd (omega (arith, is))
+done_of_zero BadWords is = absurd (omega (arith, is))
+done_of_zero StreamFailed is = absurd (omega (arith, is))
+done_of_zero NoMemory is = absurd (omega (arith, is))
+done_of_zero GateShut is = absurd (omega (arith, is))
+done_of_zero FailedOn is = absurd (omega (arith, is))

@@ -1,0 +1,61 @@
+-- What two scripts come to that are compared: the desks at their ends, and what the program answers to them.
+use Rattle.std.specs.Prelude.{ℕ, ◌≡◌, ◌⊎◌, ◌<◌, ◌≤◌, List, [], length, Option, None, Some, IfOk, IfErr, Result, Ok, Err, Vec}
+use Rattle.std.specs.declared.alloc.Global.{Global}
+use Rattle.std.specs.Io.KnownBytes.{Keeps}
+use Rattle.pf_desk.specs.Desk.{Seen}
+use Rattle.pf_fault.specs.declared.answer.Answer.{Answer}
+use Rattle.pf_fault.specs.declared.ending.Ending.{Ending}
+use Rattle.pf_fault.specs.declared.fault.Fault.{Fault}
+use Rattle.pf_fault.specs.declared.fault.Fault.TheVariants as why
+use Rattle.pf_plain.specs.Plain.{Plain, plain}
+use Rattle.pf_script.specs.Told.{told}
+use Rattle.pf_stream.specs.Reading.{longest_script}
+use Rattle.pf_text.specs.Page.{table_text}
+use Rattle.pf_options.specs.declared.diff_options.DiffOptions.{DiffOptions}
+use Rattle.pf_cli.specs.Carried.{ShowsEnd}
+use Rattle.pf_cli.specs.Meaning.{outcome_told}
+use Rattle.pf_change.specs.Difference.{difference, told_by}
+use Rattle.pf_program.specs.Source.{IsHad, IsSource}
+use Rattle.pf_program.specs.Tasks.{AnswersMade}
+use Rattle.pf_program.specs.Versions.{numbered}
+
+-- what is seen at the end of a script of version 1 or 2, or the fault that ends it
+abbrev pub ShowsText : List ℕ → Result Seen Fault → Type 0
+ShowsText script outcome = ShowsEnd (outcome_told (told script)) outcome
+
+-- of one of version 3, by the script of version 2 that belongs to it, where that is short enough
+pub record ShowsThird (p : Plain) (outcome : Result Seen Fault) : Type 0 where
+  pub short : length (table_text p.records) ≤ longest_script
+      → (inner : Result Seen Fault) × ShowsText (table_text p.records) inner × (outcome ≡ numbered p.origins inner)
+  pub long : longest_script < length (table_text p.records) → outcome ≡ Err why.TooLong
+
+abbrev pub ShowsOf : Option Plain → List ℕ → Result Seen Fault → Type 0
+ShowsOf None script outcome = ShowsText script outcome
+ShowsOf (Some p) script outcome = ShowsThird p outcome
+
+-- of one of any version
+abbrev pub ShowsBytes : List ℕ → Result Seen Fault → Type 0
+ShowsBytes script outcome = ShowsOf (plain script) script outcome ⊎ (outcome ≡ Err why.NoMemory)
+
+-- where the script was not had, that is the fault
+abbrev pub ShowsHad : Result (Vec ℕ Global) Fault → Result Seen Fault → Type 0
+ShowsHad (Ok script) outcome = ShowsBytes script.items outcome
+ShowsHad (Err fault) outcome = outcome ≡ Err fault
+
+-- what is seen at the end of the script of the file that is named, and else of what a reader had left
+pub record Shows (file : Option (List ℕ)) (outcome : Result Seen Fault) (old : Option (List ℕ)) (old_failed : ℕ) (new : Option (List ℕ)) (new_failed : ℕ) : Type 0 where
+  pub script : Result (Vec ℕ Global) Fault
+  pub had : IsHad script
+  pub source : IsSource file script old old_failed new new_failed
+  pub shows : ShowsHad script outcome
+
+-- the answer to two desks
+pub record DifferenceMade (options : DiffOptions) (before after : Seen) (made : Result Answer Fault) : Type 0 where
+  pub tells : IfOk made (λ answer. told_by answer ≡ difference options before after)
+  pub quiet : IfOk made (λ answer. answer.ending.notes.items ≡ [])
+  pub stopped : IfErr made (λ fault. fault ≡ why.NoMemory)
+
+-- the answer where the first desk was had, and what the writer took: a fault of the second script is the answer
+abbrev pub AnswersSecond : DiffOptions → Seen → Result Seen Fault → Result Ending Fault → Option (List ℕ) → Option (List ℕ) → Type 0
+AnswersSecond options before (Ok after) answer old new = (made : Result Answer Fault) × DifferenceMade options before after made × AnswersMade made answer old new
+AnswersSecond options before (Err fault) answer old new = (answer ≡ Err fault) × Keeps old new

@@ -1,0 +1,4 @@
+pub mod Found
+pub mod Rising
+pub mod Standing
+pub mod Walking

@@ -1,0 +1,4 @@
+pub mod Places
+pub mod Replies
+pub mod Recount
+pub mod Walk

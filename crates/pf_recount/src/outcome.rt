@@ -1,0 +1,10 @@
+use pf_desk::reply::Fault;
+
+/// What a command came to.
+#[derive(Clone, Copy, Debug, PartialEq, Eq)]
+pub(crate) enum Outcome {
+    /// It was done.
+    Done,
+    /// It was refused.
+    Refused(Fault),
+}

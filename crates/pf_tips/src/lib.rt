@@ -1,0 +1,6 @@
+//! Tips for words that the program does not take. The one contract of this crate: a tip is the words as they may have been
+//! meant, where they name a script.
+#![tactic(auto)]
+
+pub mod tip;
+mod words;

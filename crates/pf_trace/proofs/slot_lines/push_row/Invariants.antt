@@ -1,0 +1,12 @@
+use Rattle.std.proofs.Common.{◌≡◌, ◌++◌}
+use Rattle.std.specs.List.{flat_map, range_with_len}
+use Rattle.pf_place.specs.Lent.{lent_row}
+use Rattle.pf_place.specs.Occupancy.{sitter}
+use Rattle.pf_trace.specs.Runs.{sitter_lines, trace_at}
+use Rattle.pf_trace.proofs.slot_lines.push_row.Given as goal
+
+-- the processors below this one stand there
+abbrev pub invariant-loop-processor : goal.invariant-loop-processor
+invariant-loop-processor l =
+    l.text.items ≡ l.fn.text.items
+    ++ flat_map (λ p. sitter_lines (trace_at l.tasks) l.t p (sitter (lent_row l.row) p)) (range_with_len 0 l.processor)

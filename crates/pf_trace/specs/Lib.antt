@@ -1,0 +1,10 @@
+pub mod Titles
+pub mod Times
+pub mod Forms
+pub mod Lines
+pub mod Courses
+pub mod Tasks
+pub mod Books
+pub mod Runs
+pub mod Trace
+pub mod Laws

@@ -1,0 +1,2 @@
+pub use Rattle.pf_cli.specs.Carried
+pub mod Answer

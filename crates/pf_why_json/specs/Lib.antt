@@ -1,0 +1,4 @@
+pub mod Members
+pub mod Events
+pub mod Ranks
+pub mod Slot

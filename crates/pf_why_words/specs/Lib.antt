@@ -1,0 +1,2 @@
+pub use Rattle.pf_script.specs.Fields
+pub mod Reading

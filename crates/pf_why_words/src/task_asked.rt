@@ -1,0 +1,10 @@
+use pf_names::name::Name;
+
+/// A task that is asked for.
+#[derive(Debug, Drop)]
+pub enum TaskAsked {
+    /// By its number, 1 to 4,095.
+    Number(u64),
+    /// By its name.
+    Named(Name),
+}
