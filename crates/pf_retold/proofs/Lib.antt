@@ -1,0 +1,6 @@
+mod Numbers
+mod Numbering
+mod Saying
+mod Writing
+mod Reading
+mod Whole
