@@ -4,3 +4,4 @@ mod Saying
 mod Writing
 mod Reading
 mod Whole
+mod Told

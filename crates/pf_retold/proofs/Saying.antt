@@ -1,12 +1,12 @@
 -- What records of version 3 say can be written in version 2.
-use Rattle.std.proofs.Common.{◌≡◌, ◌^◌, ◌<◌, ◌≤◌, ◌+◌, ◌*◌, ◌==◌, ℕ, Bool, true, false, Some, None, Ok, Err, Result, List, [], ◌∷◌, All, length, subst, arith, refl}
-use Rattle.std.specs.Prelude.{if◌then◌else◌, nat_le, is_some, ok_or, ◌||◌, codes}
+use Rattle.std.proofs.Common.{◌≡◌, ◌^◌, ◌<◌, ◌≤◌, ◌+◌, ◌*◌, ◌==◌, ℕ, Bool, true, false, Some, None, Ok, Err, Option, Result, List, [], ◌∷◌, All, length, subst, arith, refl}
+use Rattle.std.specs.Prelude.{if◌then◌else◌, nat_le, not, is_some, ok_or, ◌||◌, codes}
 use Rattle.std.specs.Str.{bytes_eq}
 use Rattle.std.proofs.lemmas.Nat.{mul-le}
 use Rattle.std.proofs.lemmas.List.Elements.{All-head, All-tail}
 use Rattle.pf_names.specs.Names.{name_of, task_of}
 use Rattle.pf_names.specs.Slots.{unit_named}
-use Rattle.pf_names.specs.Text.{is_letter_first}
+use Rattle.pf_names.specs.Text.{is_letter_first, is_text}
 use Rattle.pf_names.specs.declared.named.Named.{Named}
 use Rattle.pf_names.specs.declared.slot_length.TheConstants.{LARGEST_LENGTH}
 use Rattle.pf_scenario.specs.System.{wide_horizon}
@@ -21,13 +21,14 @@ use Rattle.pf_script.specs.declared.record.ScriptSettings.{ScriptSettings}
 use Rattle.pf_script.specs.declared.version.Version.TheVariants.{Second}
 use Rattle.pf_version3.specs.Labels.{number_of_label}
 use Rattle.pf_version3.specs.declared.labels.Labelled.{Labelled}
-use Rattle.pf_version3.specs.Parsing.{◌>>=◌, alter_at, asked, cap_at, delay_at, early_at, edit_at, event_at, every_at, fault_at, free_name_at, id_at, join_at, label_at, labelled_at, leave_at, limit_at, name_at, nameless_at, names_record, number_or, number_within, of_length, opening_at, record_at, said_at, settings_at, slot_at, steps_at, strike_at, task_at}
+use Rattle.pf_version3.specs.Parsing.{◌>>=◌, alter_at, asked, cap_at, delay_at, early_at, edit_at, event_at, every_at, fault_at, free_name_at, id_at, join_at, label_at, labelled_at, leave_at, limit_at, name_at, nameless_at, name_unless, names_record, number_or, number_within, of_length, opening_at, record_at, said_at, settings_at, slot_at, steps_at, strike_at, task_at}
 use Rattle.pf_version3.specs.declared.fault.Reason.{Reason}
-use Rattle.pf_version3.specs.declared.fault.Reason.TheVariants.{NoCap, NoChange, NoEvent, NoNumber, NoRecord, NoSettings, NoTask, NoUnit, LabelUnknown, LateSettings, LateSlot, Fields, JoinFields, SettingsFields, StepFields, HasName}
+use Rattle.pf_version3.specs.declared.fault.Reason.TheVariants.{NoCap, NoChange, NoEvent, NoNumber, NoRecord, NoSettings, NoTask, NoUnit, LabelUnknown, LateSettings, LateSlot, NoName, Fields, JoinFields, SettingsFields, StepFields, HasName}
 use Rattle.pf_version3.specs.declared.fault.RecordFault.{RecordFault}
 use Rattle.pf_version3.specs.declared.said.Said.{Said}
 use Rattle.pf_version3.specs.declared.said.Said.TheVariants.{Settings, Slot, Name, Asks}
 use Rattle.pf_version3.specs.declared.state.Progress.{Progress}
+use Rattle.pf_retold.specs.Titles.{IsGivable, IsSlot}
 use Rattle.pf_retold.proofs.Numbers.{both, or_small, some_from, within_small}
 
 -- the numbers of an event are short enough for fields
@@ -59,12 +60,18 @@ pub record AreSettings (s : ScriptSettings) : Type 0 where
   pub cap : (1 ≤ s.settings.cap) × (s.settings.cap ≤ 17592186044416)
   pub every : (1 ≤ s.every) × (s.every ≤ 4096)
 
+-- a name that no task has yet, for a task that has none
+pub record IsNew (names : List Named) (task : ℕ) (name : List ℕ) : Type 0 where
+  pub is : IsGivable (record { task = task; name = name })
+  pub none : name_of names task ≡ None
+  pub free : task_of names name ≡ None
+
 -- settings are told first, and then the others
-abbrev pub CanBeWritten : Bool → Said → Type 0
-CanBeWritten opened (Settings s) = (opened ≡ false) × AreSettings s
-CanBeWritten opened (Slot length) = opened ≡ true
-CanBeWritten opened (Name task name) = (opened ≡ true) × (task < 10 ^ 15)
-CanBeWritten opened (Asks line label) = (opened ≡ true) × IsShortLine line
+abbrev pub CanBeWritten : Bool → List Named → Said → Type 0
+CanBeWritten opened names (Settings s) = (opened ≡ false) × AreSettings s
+CanBeWritten opened names (Slot length) = (opened ≡ true) × IsSlot length
+CanBeWritten opened names (Name task name) = (opened ≡ true) × IsNew names task name
+CanBeWritten opened names (Asks line label) = (opened ≡ true) × IsShortLine line
 
 -- the numbers of tasks that have names, and of labels
 pub record IsShortProgress (p : Progress) : Type 0 where
@@ -192,31 +199,31 @@ alter_short p fields place change short e =
     })
 
 labelled_short : (p : Progress) (strict : Bool) (fields : List (List ℕ)) (place : ℕ) (said : Said) → IsShortProgress p
-    → labelled_at p strict fields place ≡ Ok said → CanBeWritten true said
+    → labelled_at p strict fields place ≡ Ok said → CanBeWritten true p.names said
 unfolding labelled_at
 labelled_short p strict fields place said short e =
     let a = both (label_at p.labels fields (place + 1)) _ said e in
     let b = both (event_at p.names NoEvent fields (place + 2)) _ said a.2 in
     let same : Asks (Edit (Insert b.0) strict) (Some a.0) ≡ said = cc in
-    subst (CanBeWritten true) same (refl, event_short p.names NoEvent fields (place + 2) b.0 short.names b.1)
+    subst (CanBeWritten true p.names) same (refl, event_short p.names NoEvent fields (place + 2) b.0 short.names b.1)
 
 -- a change that is short
-change_asked : (strict : Bool) (r : Result Change RecordFault) (said : Said) → ((change : Change) → r ≡ Ok change → IsShortChange change)
-    → (r >>= λ change. Ok (asked strict change)) ≡ Ok said → CanBeWritten true said
-change_asked strict r said short e =
+change_asked : (names : List Named) (strict : Bool) (r : Result Change RecordFault) (said : Said) → ((change : Change) → r ≡ Ok change → IsShortChange change)
+    → (r >>= λ change. Ok (asked strict change)) ≡ Ok said → CanBeWritten true names said
+change_asked names strict r said short e =
     let a = both r (λ change. Ok (asked strict change)) said e in
     let same : asked strict a.0 ≡ said = cc in
-    subst (CanBeWritten true) same (refl, short a.0 a.1)
+    subst (CanBeWritten true names) same (refl, short a.0 a.1)
 
-event_asked : (strict : Bool) (r : Result Event RecordFault) (said : Said) → ((event : Event) → r ≡ Ok event → AreShort event)
-    → (r >>= λ event. Ok (asked strict (Insert event))) ≡ Ok said → CanBeWritten true said
-event_asked strict r said short e =
+event_asked : (names : List Named) (strict : Bool) (r : Result Event RecordFault) (said : Said) → ((event : Event) → r ≡ Ok event → AreShort event)
+    → (r >>= λ event. Ok (asked strict (Insert event))) ≡ Ok said → CanBeWritten true names said
+event_asked names strict r said short e =
     let a = both r (λ event. Ok (asked strict (Insert event))) said e in
     let same : asked strict (Insert a.0) ≡ said = cc in
-    subst (CanBeWritten true) same (refl, short a.0 a.1)
+    subst (CanBeWritten true names) same (refl, short a.0 a.1)
 
 edit_short : (p : Progress) (strict : Bool) (none : Reason) (fields : List (List ℕ)) (place : ℕ) (said : Said) → IsShortProgress p
-    → edit_at p strict none fields place ≡ Ok said → CanBeWritten true said
+    → edit_at p strict none fields place ≡ Ok said → CanBeWritten true p.names said
 unfolding edit_at
 edit_short p strict none fields place said short e =
     by (is_word fields place (codes "strike")) (is_word fields place (codes "alter")) (is_word fields place (codes "label")) e
@@ -224,74 +231,99 @@ edit_short p strict none fields place said short e =
     by : (s a l : Bool) → (if s then (strike_at p fields place >>= λ change. Ok (asked strict change))
         else if a then (alter_at p fields place >>= λ change. Ok (asked strict change))
         else if l then labelled_at p strict fields place
-        else (event_at p.names none fields place >>= λ event. Ok (asked strict (Insert event)))) ≡ Ok said → CanBeWritten true said
-    by true a l e = change_asked strict (strike_at p fields place) said (λ change is. strike_short p fields place change short is) e
-    by false true l e = change_asked strict (alter_at p fields place) said (λ change is. alter_short p fields place change short is) e
+        else (event_at p.names none fields place >>= λ event. Ok (asked strict (Insert event)))) ≡ Ok said → CanBeWritten true p.names said
+    by true a l e = change_asked p.names strict (strike_at p fields place) said (λ change is. strike_short p fields place change short is) e
+    by false true l e = change_asked p.names strict (alter_at p fields place) said (λ change is. alter_short p fields place change short is) e
     by false false true e = labelled_short p strict fields place said short e
-    by false false false e = event_asked strict (event_at p.names none fields place) said (λ event is. event_short p.names none fields place event short.names is) e
+    by false false false e = event_asked p.names strict (event_at p.names none fields place) said (λ event is. event_short p.names none fields place event short.names is) e
 
-steps_short : (fields : List (List ℕ)) (said : Said) → steps_at fields ≡ Ok said → CanBeWritten true said
+steps_short : (names : List Named) (fields : List (List ℕ)) (said : Said) → steps_at fields ≡ Ok said → CanBeWritten true names said
 unfolding steps_at
-steps_short fields said e = by (length fields == 1) (length fields == 2) e
+steps_short names fields said e = by (length fields == 1) (length fields == 2) e
   where
     by : (one two : Bool) → (if one then Ok (Asks (Steps 1) None)
         else if two then (number_within NoNumber fields 1 wide_horizon >>= λ count. Ok (Asks (Steps count) None))
-        else Err (fault_at 2 StepFields)) ≡ Ok said → CanBeWritten true said
-    by true two e = let same : Asks (Steps 1) None ≡ said = cc in subst (CanBeWritten true) same (refl, (omega arith, omega arith))
+        else Err (fault_at 2 StepFields)) ≡ Ok said → CanBeWritten true names said
+    by true two e = let same : Asks (Steps 1) None ≡ said = cc in subst (CanBeWritten true names) same (refl, (omega arith, omega arith))
     by false true e =
         let a = both (number_within NoNumber fields 1 wide_horizon) (λ count. Ok (Asks (Steps count) None)) said e in
         let same : Asks (Steps a.0) None ≡ said = cc in
         let in_limits = within_small NoNumber fields 1 wide_horizon a.0 a.1 in
-        subst (CanBeWritten true) same (refl, (in_limits.0, in_limits.1))
+        subst (CanBeWritten true names) same (refl, (in_limits.0, in_limits.1))
     by false false e = cc
 
-slot_written : (p : Progress) (fields : List (List ℕ)) (said : Said) → slot_at p fields ≡ Ok said → CanBeWritten true said
+slot_written : (p : Progress) (fields : List (List ℕ)) (said : Said) → slot_at p fields ≡ Ok said → CanBeWritten true p.names said
 unfolding slot_at
 slot_written p fields said e = by (is_some p.slot || p.begun) e
   where
     more : (of_length fields 3 3 (Fields 3) >>= λ done. (number_within NoNumber fields 1 LARGEST_LENGTH >>= λ length.
-        (ok_or (unit_named (field fields 2)) (fault_at 2 NoUnit) >>= λ unit. Ok (Slot (record { length = length; unit = unit }))))) ≡ Ok said → CanBeWritten true said
+        (ok_or (unit_named (field fields 2)) (fault_at 2 NoUnit) >>= λ unit. Ok (Slot (record { length = length; unit = unit }))))) ≡ Ok said → CanBeWritten true p.names said
     more e =
         let a = both (of_length fields 3 3 (Fields 3)) _ said e in
         let b = both (number_within NoNumber fields 1 LARGEST_LENGTH) _ said a.2 in
         let c = both (ok_or (unit_named (field fields 2)) (fault_at 2 NoUnit)) _ said b.2 in
+        let limits = within_small NoNumber fields 1 LARGEST_LENGTH b.0 b.1 in
         let same : Slot (record { length = b.0; unit = c.0 }) ≡ said = cc in
-        subst (CanBeWritten true) same refl
+        subst (CanBeWritten true p.names) same (refl, record { some = limits.0; few = limits.1 })
 
     by : (late : Bool) → (if late then Err (fault_at 0 LateSlot)
         else (of_length fields 3 3 (Fields 3) >>= λ done. (number_within NoNumber fields 1 LARGEST_LENGTH >>= λ length.
-        (ok_or (unit_named (field fields 2)) (fault_at 2 NoUnit) >>= λ unit. Ok (Slot (record { length = length; unit = unit })))))) ≡ Ok said → CanBeWritten true said
+        (ok_or (unit_named (field fields 2)) (fault_at 2 NoUnit) >>= λ unit. Ok (Slot (record { length = length; unit = unit })))))) ≡ Ok said → CanBeWritten true p.names said
     by true e = cc
     by false e = more e
 
-nameless_short : (names : List Named) (fields : List (List ℕ)) (n : ℕ) → nameless_at names fields ≡ Ok n → n < 10 ^ 15
-unfolding nameless_at
-nameless_short names fields n e =
-    let a = both (number_within NoNumber fields 1 4095) _ n e in
-    by a.0 (within_small NoNumber fields 1 4095 a.0 a.1).1 (is_some (name_of names a.0)) a.2
-  where
-    by : (task : ℕ) → task ≤ 4095 → (b : Bool) → (if b then Err (fault_at 1 (HasName task)) else Ok task) ≡ Ok n → n < 10 ^ 15
-    by task few true e = cc
-    by task few false e = let same : task ≡ n = cc in omega (arith, few, same)
+-- nothing is there
+none_from : {X : Type 0} (o : Option X) → is_some o ≡ false → o ≡ None
+none_from None e = refl
+none_from (Some x) e = cc
 
-name_written : (p : Progress) (fields : List (List ℕ)) (said : Said) → name_at p.names fields ≡ Ok said → CanBeWritten true said
+nameless_new : (names : List Named) (fields : List (List ℕ)) (n : ℕ) → nameless_at names fields ≡ Ok n → (1 ≤ n) × (n ≤ 4095) × (name_of names n ≡ None)
+unfolding nameless_at
+nameless_new names fields n e =
+    let a = both (number_within NoNumber fields 1 4095) _ n e in
+    let limits = within_small NoNumber fields 1 4095 a.0 a.1 in
+    by a.0 limits.0 limits.1 (is_some (name_of names a.0)) refl a.2
+  where
+    by : (task : ℕ) → 1 ≤ task → task ≤ 4095 → (b : Bool) → is_some (name_of names task) ≡ b → (if b then Err (fault_at 1 (HasName task)) else Ok task) ≡ Ok n
+        → (1 ≤ n) × (n ≤ 4095) × (name_of names n ≡ None)
+    by task some few true is e = cc
+    by task some few false is e =
+        let same : task ≡ n = cc in
+        subst (λ (m : ℕ). (1 ≤ m) × (m ≤ 4095) × (name_of names m ≡ None)) same (some, few, none_from (name_of names task) is)
+
+free_new : (names : List Named) (fields : List (List ℕ)) (name : List ℕ) → free_name_at names fields ≡ Ok name
+    → (is_text name ≡ true) × (task_of names name ≡ None)
+unfolding free_name_at
+free_new names fields name e = by (is_text (field fields 2)) (task_of names (field fields 2)) refl refl e
+  where
+    by : (b : Bool) (o : Option ℕ) → is_text (field fields 2) ≡ b → task_of names (field fields 2) ≡ o
+        → (if not b then Err (fault_at 2 NoName) else name_unless (field fields 2) o) ≡ Ok name → (is_text name ≡ true) × (task_of names name ≡ None)
+    by false o text none e = cc
+    by true None text none e =
+        let same : field fields 2 ≡ name = cc in
+        subst (λ (x : List ℕ). (is_text x ≡ true) × (task_of names x ≡ None)) same (text, none)
+    by true (Some task) text none e = cc
+
+name_written : (p : Progress) (fields : List (List ℕ)) (said : Said) → name_at p.names fields ≡ Ok said → CanBeWritten true p.names said
 unfolding name_at
 name_written p fields said e =
     let a = both (of_length fields 3 3 (Fields 3)) _ said e in
     let b = both (nameless_at p.names fields) _ said a.2 in
     let c = both (free_name_at p.names fields) _ said b.2 in
     let same : Name b.0 c.0 ≡ said = cc in
-    subst (CanBeWritten true) same (refl, nameless_short p.names fields b.0 b.1)
+    let new = nameless_new p.names fields b.0 b.1 in
+    let free = free_new p.names fields c.0 c.1 in
+    subst (CanBeWritten true p.names) same (refl, record { is = record { some = new.0; few = new.1; text = free.0 }; none = new.2; free = free.1 })
 
-record_written : (p : Progress) (fields : List (List ℕ)) (said : Said) → IsShortProgress p → record_at p fields ≡ Ok said → CanBeWritten true said
+record_written : (p : Progress) (fields : List (List ℕ)) (said : Said) → IsShortProgress p → record_at p fields ≡ Ok said → CanBeWritten true p.names said
 unfolding record_at
 record_written p fields said short e =
     by (is_word fields 0 (codes "step")) (is_word fields 0 (codes "strict")) (is_word fields 0 (codes "settings")) (is_word fields 0 (codes "slot"))
     (is_word fields 0 (codes "name")) e
   where
     by : (a b c d f : Bool) → (if a then steps_at fields else if b then edit_at p true NoChange fields 1 else if c then Err (fault_at 0 LateSettings)
-        else if d then slot_at p fields else if f then name_at p.names fields else edit_at p false NoRecord fields 0) ≡ Ok said → CanBeWritten true said
-    by true b c d f e = steps_short fields said e
+        else if d then slot_at p fields else if f then name_at p.names fields else edit_at p false NoRecord fields 0) ≡ Ok said → CanBeWritten true p.names said
+    by true b c d f e = steps_short p.names fields said e
     by false true c d f e = edit_short p true NoChange fields 1 said short e
     by false false true d f e = cc
     by false false false true f e = slot_written p fields said e
@@ -320,9 +352,9 @@ full_within m b few low =
     let some : 1 * 1 ≤ m * b = mul-le 1 1 m b few.0 low.0 in
     (omega (arith, some), omega (arith, most))
 
-settings_written : (fields : List (List ℕ)) (said : Said) → settings_at fields ≡ Ok said → CanBeWritten false said
+settings_written : (names : List Named) (fields : List (List ℕ)) (said : Said) → settings_at fields ≡ Ok said → CanBeWritten false names said
 unfolding settings_at
-settings_written fields said e =
+settings_written names fields said e =
     let a = both (of_length fields 3 5 SettingsFields) _ said e in
     let m = both (number_within NoNumber fields 1 64) _ said a.2 in
     let b = both (number_within NoNumber fields 2 1073741824) _ said m.2 in
@@ -336,7 +368,7 @@ settings_written fields said e =
       every = d.0;
     } in
     let same : Settings settings ≡ said = cc in
-    subst (CanBeWritten false) same (
+    subst (CanBeWritten false names) same (
       refl,
       record {
         version = refl;
@@ -348,19 +380,19 @@ settings_written fields said e =
       },
     )
 
-opening_written : (fields : List (List ℕ)) (said : Said) → opening_at fields ≡ Ok said → CanBeWritten false said
+opening_written : (names : List Named) (fields : List (List ℕ)) (said : Said) → opening_at fields ≡ Ok said → CanBeWritten false names said
 unfolding opening_at
-opening_written fields said e = by (is_word fields 0 (codes "settings")) (names_record fields) e
+opening_written names fields said e = by (is_word fields 0 (codes "settings")) (names_record fields) e
   where
-    by : (s n : Bool) → (if s then settings_at fields else if n then Err (fault_at 0 NoSettings) else Err (fault_at 0 NoRecord)) ≡ Ok said → CanBeWritten false said
-    by true n e = settings_written fields said e
+    by : (s n : Bool) → (if s then settings_at fields else if n then Err (fault_at 0 NoSettings) else Err (fault_at 0 NoRecord)) ≡ Ok said → CanBeWritten false names said
+    by true n e = settings_written names fields said e
     by false true e = cc
     by false false e = cc
 
 -- Use: what a record says can be written.
-pub said_written : (p : Progress) (fields : List (List ℕ)) (said : Said) → IsShortProgress p → said_at p fields ≡ Ok said → CanBeWritten p.opened said
+pub said_written : (p : Progress) (fields : List (List ℕ)) (said : Said) → IsShortProgress p → said_at p fields ≡ Ok said → CanBeWritten p.opened p.names said
 said_written p fields said short e = by p.opened e
   where
-    by : (b : Bool) → (if b then record_at p fields else opening_at fields) ≡ Ok said → CanBeWritten b said
+    by : (b : Bool) → (if b then record_at p fields else opening_at fields) ≡ Ok said → CanBeWritten b p.names said
     by true e = record_written p fields said short e
-    by false e = opening_written fields said e
+    by false e = opening_written p.names fields said e

@@ -39,11 +39,11 @@ use Rattle.pf_retold.proofs.Reading.{read_again}
 use Rattle.pf_retold.proofs.Writing.{bad_before, bad_behind, line_read, settings_read}
 
 -- a desk, where there is one, has numbers left
-abbrev HasNumbering : Option State → Type 0
+abbrev pub HasNumbering : Option State → Type 0
 HasNumbering None = ⊤
 HasNumbering (Some st) = IsNumbering st
 
-record IsGood (c : Course) : Type 0 where
+pub record IsGood (c : Course) : Type 0 where
   pub progress : IsShortProgress c.progress
   pub desk : HasNumbering c.desk
 
@@ -80,7 +80,7 @@ names_short (n ∷ names) task name small short =
     by true more = All-cons (λ (n : Named). n.task < 10 ^ 15) (record { task = task; name = name }) (n ∷ names) small short
     by false more = All-cons (λ (n : Named). n.task < 10 ^ 15) n (with_name names task name) (All-head (λ (n : Named). n.task < 10 ^ 15) n names short) more
 
-good_behind : (said : Said) (c : Course) → IsGood c → CanBeWritten c.progress.opened said → IsGood (course_behind c said)
+pub good_behind : (said : Said) (c : Course) → IsGood c → CanBeWritten c.progress.opened c.progress.names said → IsGood (course_behind c said)
 good_behind (Settings s) c good can = record {
   progress = record { names = good.progress.names; labels = good.progress.labels };
   desk = omega arith;
@@ -90,7 +90,7 @@ good_behind (Slot length) c good can = record {
   desk = good.desk;
 }
 good_behind (Name task name) c good can = record {
-  progress = record { names = names_short c.progress.names task name can.1 good.progress.names; labels = good.progress.labels };
+  progress = record { names = names_short c.progress.names task name (omega (arith, can.1.is.few)) good.progress.names; labels = good.progress.labels };
   desk = good.desk;
 }
 good_behind (Asks line label) c good can = record {
@@ -139,7 +139,7 @@ at_end true number places p origin = record { opening = refl; lines = refl; faul
 at_end false number places p origin = bad_alike false number places p origin (fault_at 0 NoSettings)
 
 said_alike : (said : Said) (c : Course) (number : ℕ) (places : List ℕ) (origin : Origin) (saids : List Said) (p : Plain)
-    → CanBeWritten c.progress.opened said
+    → CanBeWritten c.progress.opened c.progress.names said
     → ((next : ℕ) (ahead : List ℕ) → Alike next saids p (readings_from (stage_of (course_behind c said).progress.opened) next ahead p.records))
     → Alike number (said ∷ saids) (with_said origin said p) (readings_from (stage_of c.progress.opened) number places (with_said origin said p).records)
 unfolding readings_from
@@ -167,7 +167,7 @@ alike_from (row ∷ rows) c number n end places good =
     by (said_at c.progress row.fields) (λ said is. said_written c.progress row.fields said good.progress is)
     (λ next from ahead is. alike_from rows next from (n + 1) end ahead is)
   where
-    by : (r : Result Said RecordFault) → ((said : Said) → r ≡ Ok said → CanBeWritten c.progress.opened said)
+    by : (r : Result Said RecordFault) → ((said : Said) → r ≡ Ok said → CanBeWritten c.progress.opened c.progress.names said)
         → ((next : Course) (from : ℕ) (ahead : List ℕ) → IsGood next
         → Alike from (saids_from next rows) (plain_from next (n + 1) end rows) (readings_from (stage_of next.progress.opened) from ahead (plain_from next (n + 1) end rows).records))
         → Alike number (saids_next (λ next. saids_from next rows) c r)
@@ -182,7 +182,7 @@ heading_read : record_at Beginning heading_fields ≡ Ok Heading
 unfolding record_at heading_at is_word
 heading_read = refl
 
-good_start : IsGood start
+pub good_start : IsGood start
 good_start = record {
   progress = record { names = All-nil (λ (n : Named). n.task < 10 ^ 15); labels = All-nil (λ (l : Labelled). l.number < 10 ^ 15) };
   desk = tt;
