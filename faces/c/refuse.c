@@ -96,7 +96,7 @@ static int plan(void) {
             if (bad.number != 77) fail("a changed place");
         }
         told |= pfair_lags(&desk, lags, 8, &count) == PFAIR_NO_MEMORY;
-        if (k % 2 == 0) told |= tell(&desk, k / 2, (const uint8_t *)bad_records, sizeof bad_records - 1);
+        if (k % 6 == 0) told |= tell(&desk, PFAIR_CHART + k / 6, (const uint8_t *)bad_records, sizeof bad_records - 1);
         if (pfair_fits(&desk, &fit) == PFAIR_NO_MEMORY) {
             told = 1;
             if (fit.first != 77 || fit.overload_high != 77 || fit.overload_low != 77) fail("a changed fit");
