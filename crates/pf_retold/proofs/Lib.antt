@@ -1,6 +1,6 @@
 mod Numbers
 mod Numbering
-mod Saying
+pub mod Saying
 mod Writing
 mod Reading
 mod Whole
