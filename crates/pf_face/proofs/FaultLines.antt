@@ -1,5 +1,5 @@
 -- The lines of bad records, one after another.
-use Rattle.std.proofs.Common.{◌≡◌, ◌++◌, ◌<◌, ℕ, Bool, true, false, List, [], ◌∷◌, length, refl, sym, ap, ◌∙◌, subst, append_assoc, append-nil, arith}
+use Rattle.std.proofs.Common.{◌≡◌, ◌++◌, ◌<◌, ℕ, Bool, true, false, List, ◌∷◌, length, refl, sym, ap, ◌∙◌, subst, append_assoc, append-nil, arith}
 use Rattle.pf_check.specs.Reports.{report_text}
 use Rattle.pf_script.specs.declared.record.RecordTold.{RecordTold}
 use Rattle.pf_script.specs.Told.{FaultTold, Reading, Good, Bad, Missing, faults_in}
