@@ -13,3 +13,4 @@ pub mod Whole
 pub mod Examples
 pub mod Desks
 pub mod Rerun
+pub mod Titled

@@ -3,4 +3,4 @@ mod Rows
 mod Says
 mod Names
 mod Plain
-mod Whole
+pub mod Whole
