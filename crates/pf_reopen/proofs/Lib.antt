@@ -12,4 +12,5 @@ pub mod Anew
 pub mod Whole
 pub mod Examples
 pub mod Desks
+pub mod Unrefused
 pub mod Rerun
