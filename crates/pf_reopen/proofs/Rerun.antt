@@ -14,7 +14,8 @@ use Rattle.pf_desk.specs.Desk.{Seen}
 use Rattle.pf_stream.specs.Reading.{longest_script}
 use Rattle.pf_report.specs.Replies.{is_refusal}
 use Rattle.pf_names.specs.Titled.{untitled}
-use Rattle.pf_report.specs.Script.{heading_records, settings_record, insert_record, insert_records, step_records, script_text_of}
+use Rattle.pf_names.specs.declared.titles.Titles.{Titles}
+use Rattle.pf_report.specs.Script.{heading_records, settings_record, insert_record, insert_records, step_records, script_text_of, title_records}
 use Rattle.pf_report.specs.Part.{schedule_part_text}
 use Rattle.pf_report.specs.Tables.{lags_heading, miss_record, named_lag_record, lags_text, misses_text}
 use Rattle.pf_options.specs.declared.format.Format.{Format}
@@ -22,7 +23,6 @@ use Rattle.pf_options.specs.declared.format.Format.TheVariants.{Schedule, Lags, 
 use Rattle.pf_options.specs.Formats.{range_fault, tells_refusals}
 use Rattle.pf_recount.specs.Places.{place_of}
 use Rattle.pf_recount.specs.Recount.{none_yet, recounted, recounted_told}
-use Rattle.pf_script.specs.Asked.{commands_in}
 use Rattle.pf_text.specs.Page.{table_text}
 use Rattle.pf_formats.specs.Report.{report_text}
 use Rattle.pf_cli.specs.Meaning.{Meaning, ScriptCourse, course_behind, opening_course, ready_line, reply_lines, report_meaning, script_meaning, seen_at, text_and_then, text_if_replies, text_unless, told_meaning}
@@ -63,7 +63,7 @@ same_inserts : (n : ℕ) (events : List Numbered) → insert_records (numbered_f
 same_inserts n [] = refl
 same_inserts n (x ∷ xs) = ap (λ records. insert_record x.event ∷ records) (same_inserts (n + 1) xs)
 
-module _ (every : ℕ) (seen : Seen) (can : CanBeRerun every seen) where
+module _ (every : ℕ) (seen : Seen) (can : CanBeRerun every seen) (titles : Titles) where
   abbrev s : System
   s = seen.state.plan.settings
 
@@ -104,7 +104,7 @@ module _ (every : ℕ) (seen : Seen) (can : CanBeRerun every seen) where
   -- what these commands come to
   abbrev whole : Format → List Command → Meaning
   whole format commands =
-      text_and_then (text_if_replies format (ready_line ++ reply_lines (opening_course every s) commands)) (report_meaning format untitled [] (course_behind (opening_course every s) commands))
+      text_and_then (text_if_replies format (ready_line ++ reply_lines (opening_course every s) commands)) (report_meaning format titles [] (course_behind (opening_course every s) commands))
 
   -- no record of the script is refused
   none_in : refused_in None (script_text_of every seen untitled) ≡ []
@@ -124,36 +124,37 @@ module _ (every : ℕ) (seen : Seen) (can : CanBeRerun every seen) where
       by false = refl
 
   pub run_again : (format : Format)
-      → script_meaning format untitled None (script_text_of every seen untitled) ≡ text_and_then (replies_again format every seen) (report_of format every (seen_again seen))
+      → script_meaning format titles None (script_text_of every seen untitled)
+      ≡ text_and_then (replies_again format every seen) (report_of format titles every (seen_again seen))
   unfolding script_meaning
   run_again format =
       let short : nat_lt longest_script (length (script_text_of every seen untitled)) ≡ false = grind (arith, nat_tests, short_script every seen can.written) in
-      rw short (ap₂ (told_meaning format untitled) (none_told format) (told_again every seen can.written)
+      rw short (ap₂ (told_meaning format titles) (none_told format) (told_again every seen can.written)
       ∙ ap (whole format) (of_lines (first_number s) seen.state.plan.events seen.state.now)
-      ∙ ap (text_and_then (replies_again format every seen)) (ap (report_meaning format untitled []) course ∙ ap (report_of format every) shown))
+      ∙ ap (text_and_then (replies_again format every seen)) (ap (report_meaning format titles []) course ∙ ap (report_of format titles every) shown))
 
-  lags_again : lags_text (seen_again seen) untitled ≡ lags_text seen untitled
+  lags_again : lags_text (seen_again seen) titles ≡ lags_text seen titles
   unfolding lags_text
-  lags_again = ap (λ lags. table_text (lags_heading untitled ∷ map (named_lag_record untitled) lags)) same.lags
+  lags_again = ap (λ lags. table_text (lags_heading titles ∷ map (named_lag_record titles) lags)) same.lags
 
   misses_again : misses_text (seen_again seen) ≡ misses_text seen
   unfolding misses_text
   misses_again = ap (λ misses. table_text ((codes "task" ∷ codes "sub" ∷ codes "deadline" ∷ codes "ran" ∷ []) ∷ map miss_record misses)) same.misses
 
-  script_again : script_text_of every (seen_again seen) untitled ≡ script_text_of every seen untitled
+  script_again : script_text_of every (seen_again seen) titles ≡ script_text_of every seen titles
   unfolding script_text_of
   script_again =
-      ap (λ inserts. table_text (heading_records s untitled ++ settings_record s every ∷ (inserts ++ step_records seen.state.now)))
+      ap (λ inserts. table_text (heading_records s titles ++ settings_record s every ∷ (title_records titles ++ (inserts ++ step_records seen.state.now))))
       (same_inserts 1 seen.state.plan.events)
 
 pub scripts_run_again : ScriptsRunAgain
-scripts_run_again every seen can format = run_again every seen can format
+scripts_run_again every seen can titles format = run_again every seen can titles format
 
 pub schedule_is_written_again : ScheduleIsWrittenAgain
 unfolding report_text schedule_part_text
-schedule_is_written_again every seen can = record {
-  schedule = λ range. run_again every seen can (Schedule range);
-  lags = run_again every seen can Lags ∙ ap (text_unless (range_fault Lags seen.state.now)) (lags_again every seen can);
-  misses = run_again every seen can Misses ∙ ap (text_unless (range_fault Misses seen.state.now)) (misses_again every seen can);
-  script = run_again every seen can Script ∙ ap (text_unless (range_fault Script seen.state.now)) (script_again every seen can);
+schedule_is_written_again every seen can titles = record {
+  schedule = λ range. run_again every seen can titles (Schedule range);
+  lags = run_again every seen can titles Lags ∙ ap (text_unless (range_fault Lags seen.state.now)) (lags_again every seen can titles);
+  misses = run_again every seen can titles Misses ∙ ap (text_unless (range_fault Misses seen.state.now)) (misses_again every seen can titles);
+  script = run_again every seen can titles Script ∙ ap (text_unless (range_fault Script seen.state.now)) (script_again every seen can titles);
 }
