@@ -10,6 +10,7 @@ use Rattle.pf_options.specs.declared.format.Format.TheVariants.{Script}
 use Rattle.pf_report.specs.Script.{script_text_of}
 use Rattle.pf_text.specs.Page.{table_text}
 use Rattle.pf_cli.specs.Meaning.{Done, script_meaning, text_unless}
+use Rattle.pf_plain.specs.declared.origin.Origin.{Origin}
 use Rattle.pf_plain.specs.Plain.{Plain, plain}
 use Rattle.pf_titled.specs.Titled.{CanBeTitled}
 use Rattle.pf_titled.proofs.Whole.{titled_scripts_are_read}
@@ -32,6 +33,11 @@ in_range n text =
 same_plain : (o : Option Plain) (p q : Plain) → o ≡ Some p → o ≡ Some q → p ≡ q
 same_plain o p q e f = let both : Some p ≡ Some q = sym e ∙ f in cc
 
+-- the format `script` tells no refusals, so what they come from is the same to it
+from_anywhere : (titles : Titles) (origins : Option (List Origin)) (bytes : List ℕ) → script_meaning Script titles origins bytes ≡ script_meaning Script titles None bytes
+unfolding script_meaning
+from_anywhere titles origins bytes = refl
+
 pub titled_scripts_run_again : TitledScriptsRunAgain
 unfolding report_text
 titled_scripts_run_again every seen titles p can wide told of =
@@ -45,8 +51,9 @@ titled_scripts_run_again every seen titles p can wide told of =
     let made = titled_scripts_are_read every seen titles can_be told in
     let same : made.0 ≡ p = same_plain (plain (script_text_of every seen titles)) made.0 p made.1 of in
     subst
-    (λ (q : Plain). script_meaning Script q.titles (table_text q.records) ≡ record { text = script_text_of every seen titles; end = Done })
+    (λ (q : Plain). script_meaning Script q.titles (Some q.origins) (table_text q.records) ≡ record { text = script_text_of every seen titles; end = Done })
     same
-    (ap₂ (λ (t : Titles) (text : List ℕ). script_meaning Script t text) made.2.told made.2.text
+    (from_anywhere made.0.titles (Some made.0.origins) (table_text made.0.records)
+    ∙ ap₂ (λ (t : Titles) (text : List ℕ). script_meaning Script t None text) made.2.told made.2.text
     ∙ (schedule_is_written_again every seen can titles).script
     ∙ in_range seen.state.now (script_text_of every seen titles))

@@ -12,9 +12,9 @@ use Rattle.pf_retold.specs.Titles.{AreTold}
 use Rattle.pf_reopen.specs.Rerun.{CanBeRerun}
 
 -- The script of a snapshot with titles runs again: in the format `script` the script of version 2 that belongs to it, with the titles
--- that it tells, means the very text that it was.
+-- and the records that it tells, means the very text that it was.
 abbrev pub TitledScriptsRunAgain : Type 0
 TitledScriptsRunAgain =
     (every : ℕ) (seen : Seen) (titles : Titles) (p : Plain) → CanBeRerun every seen → seen.state.plan.settings.horizon ≡ wide_horizon → AreTold titles
     → plain (script_text_of every seen titles) ≡ Some p
-    → script_meaning Script p.titles (table_text p.records) ≡ record { text = script_text_of every seen titles; end = Done }
+    → script_meaning Script p.titles (Some p.origins) (table_text p.records) ≡ record { text = script_text_of every seen titles; end = Done }
