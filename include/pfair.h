@@ -26,9 +26,9 @@ extern "C" {
 /* Semantic versioning of this header: a caller that was compiled against one major version, or before 1.0 one minor
  * version, works with each library of that version. */
 #define PFAIR_VERSION_MAJOR 0
-#define PFAIR_VERSION_MINOR 2
+#define PFAIR_VERSION_MINOR 3
 #define PFAIR_VERSION_PATCH 0
-#define PFAIR_VERSION "0.2.0"
+#define PFAIR_VERSION "0.3.0"
 
 /*
  * A desk, or none. All zero bits are none, as PFAIR_NO_DESK is. It owns memory, which pfair_close gives back. It may be
@@ -66,9 +66,9 @@ enum {
     PFAIR_ALREADY_OPEN = 65,       /* the handle has a desk already */
     PFAIR_NO_MEMORY = 66,          /* memory was refused: the desk is as before the call */
     PFAIR_UNKNOWN_KIND = 67,       /* a kind that is none of those below, or a number that tells nothing */
-    PFAIR_OUT_OF_RANGE = 68,       /* a slot that was not stepped, or a range that cannot be shown */
+    PFAIR_OUT_OF_RANGE = 68,       /* a slot that was not stepped, a range or a look that cannot be shown */
     PFAIR_TOO_SHORT = 69,          /* the caller's room is too short: *count tells how long it must be */
-    PFAIR_BAD_RECORD = 70          /* a record of a script is bad: pfair_bad_record tells where it is */
+    PFAIR_BAD_RECORD = 70          /* a record is bad: pfair_bad_record tells where, pfair_script_faults why */
 };
 
 /* Why an event of the plan is denied in a run, and why a weight is refused: the values of a reason. */
@@ -97,9 +97,11 @@ enum {
     PFAIR_STRIKE = 2  /* the event of a number is taken out */
 };
 
-/* The texts that a desk has of itself, as docs/FORMATS.md has them. */
+/*
+ * The texts that a desk has of itself, as docs/FORMATS.md has them. Of those with a star a part can be had, by pfair_part.
+ */
 enum {
-    PFAIR_SCHEDULE = 0,   /* CSV: the slots stepped, with a column for each processor */
+    PFAIR_SCHEDULE = 0,   /* CSV: the slots stepped, with a column for each processor (*) */
     PFAIR_LAGS = 1,       /* CSV: how far each task inside is from its fair share */
     PFAIR_MISSES = 2,     /* CSV: the missed windows */
     PFAIR_DENIALS = 3,    /* CSV: the denials */
@@ -107,7 +109,20 @@ enum {
     PFAIR_SCRIPT = 5,     /* a script that opens a desk as this one stands, for the program pfair */
     PFAIR_JSON = 6,       /* the whole report as one JSON object, without an end of line */
     PFAIR_PROCESSORS = 7, /* CSV: how the processors were used */
-    PFAIR_STATS = 8       /* CSV: the figures of each task */
+    PFAIR_STATS = 8,      /* CSV: the figures of each task */
+    PFAIR_CHART = 9,      /* the schedule as a chart in characters, at most 80 wide (*) */
+    PFAIR_WINDOWS = 10,   /* CSV: the windows of each task (*) */
+    PFAIR_JOBS = 11,      /* CSV: the jobs of each task */
+    PFAIR_LOAD = 12,      /* CSV: load and room, where they change (*) */
+    PFAIR_QUANTA = 13,    /* CSV: the schedule with a line for each quantum (*) */
+    PFAIR_TRACE = 14,     /* JSON: the run as trace events, for Perfetto and chrome://tracing */
+    PFAIR_C = 15          /* the schedule as a C array; its PFAIR_PROCESSORS keeps it out of files with this header */
+};
+
+/* How the tasks of a picture are drawn. */
+enum {
+    PFAIR_STRIPS = 0, /* a task's windows in two rows in turn, over a strip of its lag */
+    PFAIR_STAIRS = 1  /* a task's windows one below the other */
 };
 
 /* An event. Only the slot and the fields that its kind has are read. */
@@ -206,6 +221,17 @@ typedef struct pfair_setup {
     uint64_t horizon; /* 2^20, or 2^22 of a wide desk */
 } pfair_setup;
 
+/* How a picture looks. PFAIR_USUAL_LOOK does for most. */
+typedef struct pfair_look {
+    uint64_t cell;  /* how wide each slot is, 6 to 40 */
+    uint64_t wrap;  /* how many slots stand side by side, 1 to 4,096 */
+    uint64_t style; /* PFAIR_STRIPS or PFAIR_STAIRS */
+} pfair_look;
+
+/* clang-format off */
+#define PFAIR_USUAL_LOOK {20, 4096, PFAIR_STRIPS}
+/* clang-format on */
+
 /* Where a record is that is none of a script's. All are counted from 1. */
 typedef struct pfair_bad_record {
     uint64_t number; /* its number */
@@ -249,7 +275,7 @@ uint32_t pfair_edit(pfair_desk *desk, uint32_t caller, const pfair_change *chang
 
 /*
  * Tells what a change would be answered, as pfair_edit does, but makes it not: the desk is as before. Where it would be
- * made, the room gets the text of this kind, PFAIR_SCHEDULE to PFAIR_STATS, of the desk as it would then be, with *count as
+ * made, the room gets the text of this kind, PFAIR_SCHEDULE to PFAIR_C, of the desk as it would then be, with *count as
  * for pfair_text. PFAIR_TOO_SHORT: *reply is told. PFAIR_NOT_OPEN, PFAIR_NO_MEMORY, PFAIR_UNKNOWN_KIND: *reply is as
  * before. The room is as before at every status but PFAIR_OK.
  */
@@ -332,24 +358,36 @@ uint32_t pfair_never_misses(pfair_desk *desk, bool *never);
 uint32_t pfair_fits(pfair_desk *desk, pfair_fit *fit);
 
 /*
- * A text of a kind, PFAIR_SCHEDULE to PFAIR_STATS: *count bytes, all of them ASCII, with no byte 0 after them. Each call
+ * A text of a kind, PFAIR_SCHEDULE to PFAIR_C: *count bytes, all of them ASCII, with no byte 0 after them. Each call
  * makes the whole text, a call with length 0 too. PFAIR_UNKNOWN_KIND, PFAIR_TOO_SHORT, PFAIR_NO_MEMORY, PFAIR_NOT_OPEN.
  */
 uint32_t pfair_text(pfair_desk *desk, uint64_t kind, uint8_t *room, size_t length, size_t *count);
 
 /*
- * The schedule as CSV, and a chart in characters, at most 80 wide, of the slots from `from` on and below `to`.
- * PFAIR_OUT_OF_RANGE where from is above to, or to above the slots stepped; PFAIR_TOO_SHORT, PFAIR_NO_MEMORY,
+ * The part of a text that has the slots from `from` on and below `to`, of the kinds PFAIR_SCHEDULE, PFAIR_CHART,
+ * PFAIR_WINDOWS (the windows that lie in them), PFAIR_LOAD and PFAIR_QUANTA. PFAIR_UNKNOWN_KIND: a kind that is none of
+ * these. PFAIR_OUT_OF_RANGE: from is above to, or to above the slots stepped. PFAIR_TOO_SHORT, PFAIR_NO_MEMORY,
  * PFAIR_NOT_OPEN.
  */
-uint32_t pfair_schedule(pfair_desk *desk, uint64_t from, uint64_t to, uint8_t *room, size_t length, size_t *count);
-uint32_t pfair_chart(pfair_desk *desk, uint64_t from, uint64_t to, uint8_t *room, size_t length, size_t *count);
+uint32_t pfair_part(pfair_desk *desk, uint64_t kind, uint64_t from, uint64_t to, uint8_t *room, size_t length,
+                    size_t *count);
 
 /*
- * A picture of these slots as SVG, each `cell` wide. There are at most 4,096 slots, and a cell is 6 to 40 wide (20 does for
- * most): else PFAIR_OUT_OF_RANGE too.
+ * A picture of these slots as SVG, at most 4,096 of them. PFAIR_OUT_OF_RANGE: as for pfair_part, or there are more, or a
+ * number of the look is out of its limits.
  */
-uint32_t pfair_svg(pfair_desk *desk, uint64_t from, uint64_t to, uint64_t cell, uint8_t *room, size_t length, size_t *count);
+uint32_t pfair_svg(pfair_desk *desk, uint64_t from, uint64_t to, const pfair_look *look, uint8_t *room, size_t length,
+                   size_t *count);
+
+/*
+ * ---- What is wrong with records: no desk is needed ----
+ *
+ * The lines that the program's `check` writes of bad records, as "line 3, record 2, field 2: 0 is not within 1 to 64": of a
+ * whole script, as pfair_open_script takes it, and of records, as pfair_run does. *count bytes, all of them ASCII, and none
+ * where no record is bad. PFAIR_TOO_SHORT, PFAIR_NO_MEMORY.
+ */
+uint32_t pfair_script_faults(const uint8_t *script, size_t script_length, uint8_t *room, size_t length, size_t *count);
+uint32_t pfair_record_faults(const uint8_t *records, size_t records_length, uint8_t *room, size_t length, size_t *count);
 
 /* ---- The library ---- */
 

@@ -13,7 +13,7 @@ FORMATS = ("schedule", "tables", "json", "events", "script", "processors", "stat
            "load", "quanta", "c")
 PARTS = ("replies", "lags", "misses", "denials", "report")
 # Those whose answers are told cases alone (tools/told-cases).
-TOLD = ("trace",)
+TOLD = ("trace", "full", "html")
 RANGED = ("schedule", "chart", "svg", "windows", "load", "quanta")
 
 # Seconds after which a run is stopped, and the tool with it.

@@ -32,6 +32,7 @@ static int closed(void) {
     pfair_task_figures figures;
     pfair_numbered event;
     pfair_fit fit = {7, 8, 9};
+    pfair_look look = PFAIR_USUAL_LOOK;
     bool never = true;
     uint8_t text;
     uint64_t now = 9, taken = 9;
@@ -57,9 +58,8 @@ static int closed(void) {
     CHECK(pfair_never_misses(&desk, &never) == PFAIR_NOT_OPEN && never);
     CHECK(pfair_fits(&desk, &fit) == PFAIR_NOT_OPEN && fit.first == 7 && fit.overload_high == 8 && fit.overload_low == 9);
     CHECK(pfair_text(&desk, PFAIR_JSON, &text, 1, &count) == PFAIR_NOT_OPEN && text == 0);
-    CHECK(pfair_schedule(&desk, 0, 0, &text, 1, &count) == PFAIR_NOT_OPEN && text == 0);
-    CHECK(pfair_chart(&desk, 0, 0, &text, 1, &count) == PFAIR_NOT_OPEN && text == 0);
-    CHECK(pfair_svg(&desk, 0, 0, 20, &text, 1, &count) == PFAIR_NOT_OPEN && text == 0);
+    CHECK(pfair_part(&desk, PFAIR_CHART, 0, 0, &text, 1, &count) == PFAIR_NOT_OPEN && text == 0);
+    CHECK(pfair_svg(&desk, 0, 0, &look, &text, 1, &count) == PFAIR_NOT_OPEN && text == 0);
     pfair_close(&desk);
     CHECK(desk.inner == NULL);
     return 0;
@@ -145,7 +145,7 @@ static int what_if(pfair_desk *desk) {
     CHECK(pfair_what_if(desk, 7, &change, false, &reply, PFAIR_SCHEDULE, text, 4, &count) == PFAIR_TOO_SHORT);
     change.id = 9;
     CHECK(pfair_what_if(desk, 7, &change, false, &reply, PFAIR_SCHEDULE, text, 256, &count) == PFAIR_EVENT_NOT_FOUND);
-    CHECK(pfair_what_if(desk, 7, &change, false, &reply, PFAIR_STATS + 1, text, 256, &count) == PFAIR_UNKNOWN_KIND);
+    CHECK(pfair_what_if(desk, 7, &change, false, &reply, PFAIR_C + 1, text, 256, &count) == PFAIR_UNKNOWN_KIND);
     memset(text, 0, sizeof text);
     CHECK(pfair_text(desk, PFAIR_SCHEDULE, text, sizeof text, &count) == PFAIR_OK && strcmp((const char *)text, now) == 0);
     return 0;
@@ -206,39 +206,104 @@ static int tasks_and_events(pfair_desk *desk) {
     return 0;
 }
 
+/* Of each kind its front, or the whole of it; the report ends in no end of line. */
 static int texts(pfair_desk *desk) {
-    static const char begin[] = "{\"denials\":[", schedule[] = "slot,p0,p1\n0,1/1,2/1\n1,1/2,3/1\n2,2/2,3/2\n";
-    static const char script[] = "settings,2,3,6,64\njoin,0,1,2,3,0\njoin,0,2,2,3,0\njoin,0,3,2,3,0\nstep,3\n";
-    uint8_t text[1024];
+    static const char *const fronts[] = {
+        [PFAIR_SCHEDULE] = "slot,p0,p1\n0,1/1,2/1\n1,1/2,3/1\n2,2/2,3/2\n",
+        [PFAIR_LAGS] = "task,cost,period,received,lag\n1,2,3,2,0\n",
+        [PFAIR_MISSES] = "task,sub,deadline,ran\n",
+        [PFAIR_DENIALS] = "slot,event,code,reason\n",
+        [PFAIR_EVENTS] = "event,slot,kind,task,cost,period,early,by,count\n1,0,join,1,2,3,0,,\n",
+        [PFAIR_SCRIPT] = "settings,2,3,6,64\njoin,0,1,2,3,0\njoin,0,2,2,3,0\njoin,0,3,2,3,0\nstep,3\n",
+        [PFAIR_JSON] = "{\"denials\":[",
+        [PFAIR_PROCESSORS] = "processor,quanta,idle,changes\n0,3,0,1\n",
+        [PFAIR_STATS] = "task,cost,period,quanta,migrations,",
+        [PFAIR_CHART] = "slots 0 to 3 of 3; processors 2; base 3; cap 6\n",
+        [PFAIR_WINDOWS] = "task,sub,job,eligible,release,deadline,bit,group,ran,processor\n1,1,1,0,0,2,",
+        [PFAIR_JOBS] = "task,job,release,deadline,finish,response,tardiness\n1,1,0,3,",
+        [PFAIR_LOAD] = "slot,load,room\n0,6,6\n",
+        [PFAIR_QUANTA] = "slot,processor,task,sub\n0,0,1,1\n0,1,2,1\n1,0,1,2\n1,1,3,1\n2,0,2,2\n2,1,3,2\n",
+        [PFAIR_TRACE] = "",
+        [PFAIR_C] = "/*",
+    };
+    uint8_t text[8192];
     uint64_t kind;
     size_t count = 0, again = 0;
-    for (kind = PFAIR_SCHEDULE; kind <= PFAIR_STATS; kind++) {
+    for (kind = PFAIR_SCHEDULE; kind <= PFAIR_C; kind++) {
+        size_t front = strlen(fronts[kind]);
         memset(text, 0, sizeof text);
         CHECK(pfair_text(desk, kind, text, 0, &count) == PFAIR_TOO_SHORT && count < sizeof text && text[0] == 0);
         CHECK(pfair_text(desk, kind, text, count, &again) == PFAIR_OK && again == count && text[count] == 0);
-        if (kind == PFAIR_SCHEDULE) CHECK(strcmp((const char *)text, schedule) == 0);
-        if (kind == PFAIR_SCRIPT) CHECK(strcmp((const char *)text, script) == 0);
-        if (kind == PFAIR_JSON) CHECK(memcmp(text, begin, sizeof begin - 1) == 0 && text[count - 1] == '}');
+        CHECK(count >= front && memcmp(text, fronts[kind], front) == 0);
+        CHECK(text[count - 1] == (kind == PFAIR_JSON ? '}' : '\n'));
     }
     count = 9;
-    CHECK(pfair_text(desk, PFAIR_STATS + 1, text, sizeof text, &count) == PFAIR_UNKNOWN_KIND && count == 9);
+    CHECK(pfair_text(desk, PFAIR_C + 1, text, sizeof text, &count) == PFAIR_UNKNOWN_KIND && count == 9);
+    return 0;
+}
+
+/* Parts of texts: all of it is the whole text. */
+static int parts(pfair_desk *desk) {
+    static const char part[] = "slot,p0,p1\n1,1/2,3/1\n", chart[] = "slots 1 to 3 of 3; processors 2; base 3; cap 6\n";
+    static const uint64_t kinds[] = {PFAIR_SCHEDULE, PFAIR_CHART, PFAIR_WINDOWS, PFAIR_LOAD, PFAIR_QUANTA};
+    uint8_t text[8192], whole[8192];
+    size_t count = 0, all = 0, k;
+    memset(text, 0, sizeof text);
+    memset(whole, 0, sizeof whole);
+    CHECK(pfair_part(desk, PFAIR_SCHEDULE, 1, 2, text, 4, &count) == PFAIR_TOO_SHORT && count == sizeof part - 1 && text[0] == 0);
+    CHECK(pfair_part(desk, PFAIR_SCHEDULE, 1, 2, text, sizeof text, &count) == PFAIR_OK);
+    CHECK(strcmp((const char *)text, part) == 0);
+    CHECK(pfair_part(desk, PFAIR_CHART, 1, 3, text, sizeof text, &count) == PFAIR_OK);
+    CHECK(memcmp(text, chart, sizeof chart - 1) == 0);
+    for (k = 0; k < sizeof kinds / sizeof kinds[0]; k++) {
+        CHECK(pfair_part(desk, kinds[k], 0, 3, text, sizeof text, &count) == PFAIR_OK);
+        CHECK(pfair_text(desk, kinds[k], whole, sizeof whole, &all) == PFAIR_OK);
+        CHECK(count == all && memcmp(text, whole, all) == 0);
+        CHECK(pfair_part(desk, kinds[k], 2, 1, text, sizeof text, &count) == PFAIR_OUT_OF_RANGE);
+        CHECK(pfair_part(desk, kinds[k], 0, 4, text, sizeof text, &count) == PFAIR_OUT_OF_RANGE);
+    }
+    CHECK(pfair_part(desk, PFAIR_JOBS, 0, 3, text, sizeof text, &count) == PFAIR_UNKNOWN_KIND);
+    CHECK(pfair_part(desk, PFAIR_C + 1, 0, 3, text, sizeof text, &count) == PFAIR_UNKNOWN_KIND);
     return 0;
 }
 
 static int pictures(pfair_desk *desk) {
-    static const char part[] = "slot,p0,p1\n1,1/2,3/1\n", chart[] = "slots 1 to 3 of 3; processors 2; base 3; cap 6\n";
+    static const pfair_look bad[] = {{5, 1, PFAIR_STRIPS}, {41, 1, PFAIR_STRIPS}, {20, 0, PFAIR_STRIPS},
+                                     {20, 4097, PFAIR_STRIPS}, {20, 1, PFAIR_STAIRS + 1}};
+    pfair_look look = PFAIR_USUAL_LOOK;
     uint8_t text[16384];
-    size_t count = 0;
+    size_t count = 0, stairs = 0, wrapped = 0, k;
     memset(text, 0, sizeof text);
-    CHECK(pfair_schedule(desk, 1, 2, text, 4, &count) == PFAIR_TOO_SHORT && count == sizeof part - 1 && text[0] == 0);
-    CHECK(pfair_schedule(desk, 1, 2, text, sizeof text, &count) == PFAIR_OK && strcmp((const char *)text, part) == 0);
-    CHECK(pfair_schedule(desk, 2, 1, text, sizeof text, &count) == PFAIR_OUT_OF_RANGE);
-    CHECK(pfair_chart(desk, 1, 3, text, sizeof text, &count) == PFAIR_OK && memcmp(text, chart, sizeof chart - 1) == 0);
-    CHECK(pfair_chart(desk, 0, 4, text, sizeof text, &count) == PFAIR_OUT_OF_RANGE);
-    CHECK(pfair_svg(desk, 0, 3, 20, text, sizeof text, &count) == PFAIR_OK && memcmp(text, "<svg ", 5) == 0);
-    CHECK(pfair_svg(desk, 0, 3, 5, text, sizeof text, &count) == PFAIR_OUT_OF_RANGE);
-    CHECK(pfair_svg(desk, 0, 3, 41, text, sizeof text, &count) == PFAIR_OUT_OF_RANGE);
-    CHECK(pfair_svg(desk, 0, 4, 20, text, sizeof text, &count) == PFAIR_OUT_OF_RANGE);
+    CHECK(pfair_svg(desk, 0, 3, &look, text, sizeof text, &count) == PFAIR_OK && memcmp(text, "<svg ", 5) == 0);
+    look.style = PFAIR_STAIRS;
+    CHECK(pfair_svg(desk, 0, 3, &look, text, sizeof text, &stairs) == PFAIR_OK && stairs != count);
+    look.wrap = 1;
+    CHECK(pfair_svg(desk, 0, 3, &look, text, sizeof text, &wrapped) == PFAIR_OK && wrapped > stairs);
+    for (k = 0; k < sizeof bad / sizeof bad[0]; k++) {
+        CHECK(pfair_svg(desk, 0, 3, &bad[k], text, sizeof text, &count) == PFAIR_OUT_OF_RANGE);
+    }
+    CHECK(pfair_svg(desk, 0, 4, &look, text, sizeof text, &count) == PFAIR_OUT_OF_RANGE);
+    return 0;
+}
+
+/* What a check tells of bad records. */
+static int faults(void) {
+    static const char script[] = "settings,65,4,4,64\nsettings,1,4,4,64\nstep,none\n", good[] = "step\nstrike,7\n";
+    static const char lines[] = "line 1, record 1, field 2: 65 is not within 1 to 64\n"
+                                "line 3, record 3, field 2: \"none\" is no number of 1 to 15 digits\n";
+    static const char first[] = "line 2, record 2: settings come once, before all changes and steps\n";
+    const uint8_t *bytes = (const uint8_t *)script;
+    uint8_t text[256];
+    size_t count = 9;
+    memset(text, 0, sizeof text);
+    CHECK(pfair_script_faults(bytes, sizeof script - 1, text, 3, &count) == PFAIR_TOO_SHORT);
+    CHECK(count == sizeof lines - 1 && text[0] == 0);
+    CHECK(pfair_script_faults(bytes, sizeof script - 1, text, sizeof text, &count) == PFAIR_OK);
+    CHECK(strcmp((const char *)text, lines) == 0);
+    CHECK(pfair_record_faults((const uint8_t *)good, sizeof good - 1, text, sizeof text, &count) == PFAIR_OK && count == 0);
+    memset(text, 0, sizeof text);
+    bytes = (const uint8_t *)"step\nsettings,1,4,4,64\n";
+    CHECK(pfair_record_faults(bytes, 23, text, sizeof text, &count) == PFAIR_OK && strcmp((const char *)text, first) == 0);
     return 0;
 }
 
@@ -325,10 +390,12 @@ int main(void) {
     if (!failed) failed = rows(&desk);
     if (!failed) failed = tasks_and_events(&desk);
     if (!failed) failed = texts(&desk);
+    if (!failed) failed = parts(&desk);
     if (!failed) failed = pictures(&desk);
     if (!failed) failed = what_if(&desk);
     if (!failed) failed = version();
     if (!failed) failed = names();
+    if (!failed) failed = faults();
     if (!failed) failed = records();
     if (!failed) failed = script();
     if (!failed) failed = refusals(&desk);

@@ -56,10 +56,20 @@ static pfair_change change_of(uint64_t k) {
     return change;
 }
 
+/* A text, and what is wrong with records, for which a room of one byte is too short: whether memory was refused to them. */
+static int tell(pfair_desk *desk, uint64_t kind, const uint8_t *records, size_t length) {
+    uint8_t room = 77;
+    size_t count = 0;
+    int told = pfair_text(desk, kind, &room, 1, &count) == PFAIR_NO_MEMORY;
+    told |= pfair_record_faults(records, length, &room, 1, &count) == PFAIR_NO_MEMORY;
+    if (room != 77) fail("a changed room");
+    return told;
+}
+
 /* Makes the plan, and tells whether a call told of refused memory. */
 static int plan(void) {
     static uint8_t before[1 << 14], after[1 << 14];
-    static const char records[] = "delay,3,1,1\nstep\n";
+    static const char records[] = "delay,3,1,1\nstep\n", bad_records[] = "step,none\n";
     pfair_desk desk = PFAIR_NO_DESK;
     int told = 0;
     if (pfair_open(&desk, 2, 12, 30, 3) == PFAIR_NO_MEMORY) {
@@ -86,6 +96,7 @@ static int plan(void) {
             if (bad.number != 77) fail("a changed place");
         }
         told |= pfair_lags(&desk, lags, 8, &count) == PFAIR_NO_MEMORY;
+        if (k % 6 == 0) told |= tell(&desk, PFAIR_CHART + k / 6, (const uint8_t *)bad_records, sizeof bad_records - 1);
         if (pfair_fits(&desk, &fit) == PFAIR_NO_MEMORY) {
             told = 1;
             if (fit.first != 77 || fit.overload_high != 77 || fit.overload_low != 77) fail("a changed fit");

@@ -8,6 +8,12 @@ use pf_check::report::{push_field, push_quoted};
 use pf_version3::fault::{BadRecord, Reason};
 use std::alloc::AllocError;
 
+/// What is said of a word that names no record.
+const NO_RECORD: &str = " is no record: settings, slot, name, join, leave, delay, limit, label, alter, strike, strict, step";
+
+/// What is said of a word that names no change.
+const NO_CHANGE: &str = " is no change: join, leave, delay, limit, label, alter, strike";
+
 /// Adds the line that tells of a bad record, with what is shown of its field that is at fault.
 #[tactic(auto, unfolding(crate::specs::Reports::third_report_text))]
 pub fn push_report(text: &mut String, at: &[u8], bad: BadRecord) -> Result<(), AllocError>
@@ -27,16 +33,8 @@ fn push_reason(text: &mut String, at: &[u8], reason: Reason) -> Result<(), Alloc
     ensures { OnOk result (string_bytes text.new ≡ string_bytes text.old ++ third_reason_text at.now reason) }
 {
     match reason {
-        Reason::NoRecord => push_shown(
-            text,
-            at,
-            " is no record: settings, slot, name, join, leave, delay, limit, label, alter, strike, strict, step",
-        ),
-        Reason::NoChange => push_shown(
-            text,
-            at,
-            " is no change: join, leave, delay, limit, label, alter, strike",
-        ),
+        Reason::NoRecord => push_shown(text, at, NO_RECORD),
+        Reason::NoChange => push_shown(text, at, NO_CHANGE),
         Reason::NoEvent => push_shown(text, at, " is no event: join, leave, delay, limit"),
         Reason::NoSettings => text.push_str("settings are expected"),
         Reason::LateSettings => text.push_str("settings come once, before all changes and steps"),

@@ -9,7 +9,9 @@ use Rattle.pf_desk.specs.Desk.{Seen, Shown, StandsForHistory}
 use Rattle.pf_script.specs.Told.{Told, told}
 use Rattle.pf_stream.specs.Written.{CountsOutput, TookFront}
 use Rattle.pf_stream.proofs.Sending.{none_written, took-after, took-before}
+use Rattle.pf_full.specs.declared.refusal.Refusal.{Refusal}
 use Rattle.pf_names.specs.declared.titles.Titles.{Titles}
+use Rattle.pf_plain.specs.declared.origin.Origin.{Origin}
 use Rattle.pf_options.specs.declared.format.Format.{Format}
 use Rattle.pf_fault.specs.declared.range_fault.RangeFault.{RangeFault}
 use Rattle.pf_options.specs.Formats.{has_replies, range_fault}
@@ -24,6 +26,7 @@ use Rattle.pf_cli.specs.Carried.{CarriesOut, EndsBy, OpensReplies}
 use Rattle.pf_cli.specs.Ended.{script_course}
 use Rattle.pf_formats.specs.Report.{report_text}
 use Rattle.pf_cli.specs.Meaning.{Meaning, BadRecord, Done, ScriptCourse, course_at, ended_meaning, outcome_told, replies_told, report_meaning, script_meaning, seen_at, text_and_then, text_if_replies, told_meaning}
+use Rattle.pf_cli.specs.Refusals.{refusals_for}
 use Rattle.pf_cli.proofs.Courses.{seen_there}
 use Rattle.pf_cli.proofs.Ends.{short_meaning}
 
@@ -51,50 +54,50 @@ none_shown : (format : Format) → text_if_replies format [] ≡ []
 none_shown format = either_way (has_replies format) []
 
 -- the text of a script that a bad record ends
-bad_end : (format : Format) (titles : Titles) (t : Told) (number : ℕ) → outcome_told t ≡ Err number
-    → told_meaning format titles t ≡ record { text = text_if_replies format (replies_told t); end = BadRecord number }
-bad_end format titles t number is =
-    ap (λ o. text_and_then (text_if_replies format (replies_told t)) (ended_meaning format titles o)) is
+bad_end : (format : Format) (titles : Titles) (refusals : List Refusal) (t : Told) (number : ℕ) → outcome_told t ≡ Err number
+    → told_meaning format titles refusals t ≡ record { text = text_if_replies format (replies_told t); end = BadRecord number }
+bad_end format titles refusals t number is =
+    ap (λ o. text_and_then (text_if_replies format (replies_told t)) (ended_meaning format titles refusals o)) is
     ∙ ap (λ text. record { text = text; end = BadRecord number }) (append-nil (text_if_replies format (replies_told t)))
 
 -- Use: the settings were not read.
-pub unopened : (format : Format) (titles : Titles) (t : Told) (fault : Fault) (x : Option (List ℕ)) → OpensReplies format t (Err fault) → CarriesOut format titles t (Err fault) x x
-unopened format titles t (why.BadRecord number) x h =
+pub unopened : (format : Format) (titles : Titles) (refusals : List Refusal) (t : Told) (fault : Fault) (x : Option (List ℕ)) → OpensReplies format t (Err fault) → CarriesOut format titles refusals t (Err fault) x x
+unopened format titles refusals t (why.BadRecord number) x h =
     let none : text_if_replies format (replies_told t) ≡ [] = ap (text_if_replies format) h.0 ∙ none_shown format in
-    subst (λ m. Answers {A = Shown} m (Err (why.BadRecord number)) x x) (sym (bad_end format titles t number h.1)) (refl, subst (Appends x x) (sym none) (Appends-nil x))
-unopened format titles t why.NoMemory x h = none_written x _
-unopened format titles t why.Read x h = absurd h
-unopened format titles t why.Write x h = absurd h
-unopened format titles t why.TooLong x h = absurd h
-unopened format titles t (why.BadRange fault) x h = absurd h
-unopened format titles t why.NoReader x h = absurd h
-unopened format titles t why.GateShut x h = absurd h
+    subst (λ m. Answers {A = Shown} m (Err (why.BadRecord number)) x x) (sym (bad_end format titles refusals t number h.1)) (refl, subst (Appends x x) (sym none) (Appends-nil x))
+unopened format titles refusals t why.NoMemory x h = none_written x _
+unopened format titles refusals t why.Read x h = absurd h
+unopened format titles refusals t why.Write x h = absurd h
+unopened format titles refusals t why.TooLong x h = absurd h
+unopened format titles refusals t (why.BadRange fault) x h = absurd h
+unopened format titles refusals t why.NoReader x h = absurd h
+unopened format titles refusals t why.GateShut x h = absurd h
 
 -- Use: the writing of the replies was stopped.
-pub replies_stopped : (format : Format) (titles : Titles) (t : Told) (fault : OutputFault) (old new : Option (List ℕ)) (text : List ℕ)
-    → text ≡ text_if_replies format (replies_told t) → TookFront old new text → CarriesOut format titles t (Err (fault_of_output fault)) old new
-replies_stopped format titles t fault old new text is h =
+pub replies_stopped : (format : Format) (titles : Titles) (refusals : List Refusal) (t : Told) (fault : OutputFault) (old new : Option (List ℕ)) (text : List ℕ)
+    → text ≡ text_if_replies format (replies_told t) → TookFront old new text → CarriesOut format titles refusals t (Err (fault_of_output fault)) old new
+replies_stopped format titles refusals t fault old new text is h =
     replies_cut fault (took-before old new (text_if_replies format (replies_told t)) _ (subst (TookFront old new) is h))
   where
-    replies_cut : (f : OutputFault) → TookFront old new (told_meaning format titles t).text → CarriesOut format titles t (Err (fault_of_output f)) old new
+    replies_cut : (f : OutputFault) → TookFront old new (told_meaning format titles refusals t).text → CarriesOut format titles refusals t (Err (fault_of_output f)) old new
     replies_cut Write took = took
     replies_cut Memory took = took
 
 -- Use: the replies were written, and the script carried out.
-pub carried : (format : Format) (titles : Titles) (t : Told) (result : Result Shown Fault) (outcome : Result ScriptCourse ℕ) (old new : Option (List ℕ)) (text : List ℕ)
-    → text ≡ text_if_replies format (replies_told t) → outcome ≡ outcome_told t → Appends old new text → EndsBy outcome result → CarriesOut format titles t result old new
-carried format titles t (Ok desk) outcome old new text is same wrote ends = (sym same ∙ ends, subst (Appends old new) is wrote)
-carried format titles t (Err (why.BadRecord number)) outcome old new text is same wrote ends =
-    subst (λ m. Answers {A = Shown} m (Err (why.BadRecord number)) old new) (sym (bad_end format titles t number (sym same ∙ ends)))
+pub carried : (format : Format) (titles : Titles) (refusals : List Refusal) (t : Told) (result : Result Shown Fault) (outcome : Result ScriptCourse ℕ) (old new : Option (List ℕ)) (text : List ℕ)
+    → text ≡ text_if_replies format (replies_told t) → outcome ≡ outcome_told t → Appends old new text → EndsBy outcome result → CarriesOut format titles refusals t result old new
+carried format titles refusals t (Ok desk) outcome old new text is same wrote ends = (sym same ∙ ends, subst (Appends old new) is wrote)
+carried format titles refusals t (Err (why.BadRecord number)) outcome old new text is same wrote ends =
+    subst (λ m. Answers {A = Shown} m (Err (why.BadRecord number)) old new) (sym (bad_end format titles refusals t number (sym same ∙ ends)))
     (refl, subst (Appends old new) is wrote)
-carried format titles t (Err why.NoMemory) outcome old new text is same wrote ends =
-    ((ended_meaning format titles (outcome_told t)).text, (text_if_replies format (replies_told t), subst (Appends old new) is wrote, refl))
-carried format titles t (Err why.Read) outcome old new text is same wrote ends = absurd ends
-carried format titles t (Err why.Write) outcome old new text is same wrote ends = absurd ends
-carried format titles t (Err why.TooLong) outcome old new text is same wrote ends = absurd ends
-carried format titles t (Err (why.BadRange fault)) outcome old new text is same wrote ends = absurd ends
-carried format titles t (Err why.NoReader) outcome old new text is same wrote ends = absurd ends
-carried format titles t (Err why.GateShut) outcome old new text is same wrote ends = absurd ends
+carried format titles refusals t (Err why.NoMemory) outcome old new text is same wrote ends =
+    ((ended_meaning format titles refusals (outcome_told t)).text, (text_if_replies format (replies_told t), subst (Appends old new) is wrote, refl))
+carried format titles refusals t (Err why.Read) outcome old new text is same wrote ends = absurd ends
+carried format titles refusals t (Err why.Write) outcome old new text is same wrote ends = absurd ends
+carried format titles refusals t (Err why.TooLong) outcome old new text is same wrote ends = absurd ends
+carried format titles refusals t (Err (why.BadRange fault)) outcome old new text is same wrote ends = absurd ends
+carried format titles refusals t (Err why.NoReader) outcome old new text is same wrote ends = absurd ends
+carried format titles refusals t (Err why.GateShut) outcome old new text is same wrote ends = absurd ends
 
 -- a text was written, and then what follows it
 behind_text : (m : Meaning) (result : Result Shown Fault) (text : List ℕ) (old mid new : Option (List ℕ)) → Appends old mid text
@@ -110,55 +113,58 @@ behind_text m (Err why.Write) text old mid new wrote past a = took-after old mid
 behind_text m (Err why.NoMemory) text old mid new wrote past a = took-after old mid new text m.text wrote a
 
 -- Use: the script of these bytes was carried out, and its report written or stopped.
-module _ (format : Format) (titles : Titles) (bytes : List ℕ) (short : length bytes ≤ 16777216) where
-  pub stopped_carrying : (fault : Fault) (old new : Option (List ℕ)) → CarriesOut format titles (told bytes) (Err fault) old new
-      → Answers {A = Shown} (script_meaning format titles bytes) (Err fault) old new
-  stopped_carrying fault old new h = subst (λ m. Answers {A = Shown} m (Err fault) old new) (sym (short_meaning format titles bytes short)) h
+module _ (format : Format) (titles : Titles) (origins : Option (List Origin)) (bytes : List ℕ) (short : length bytes ≤ 16777216) where
+  abbrev refusals : List Refusal
+  refusals = refusals_for format origins bytes
 
-  module _ (desk : Shown) (old mid : Option (List ℕ)) (h : CarriesOut format titles (told bytes) (Ok desk) old mid) where
-    ended_there : script_meaning format titles bytes ≡ text_and_then (text_if_replies format (replies_told (told bytes))) (report_meaning format titles (course_at desk))
+  pub stopped_carrying : (fault : Fault) (old new : Option (List ℕ)) → CarriesOut format titles refusals (told bytes) (Err fault) old new
+      → Answers {A = Shown} (script_meaning format titles origins bytes) (Err fault) old new
+  stopped_carrying fault old new h = subst (λ m. Answers {A = Shown} m (Err fault) old new) (sym (short_meaning format titles origins bytes short)) h
+
+  module _ (desk : Shown) (old mid : Option (List ℕ)) (h : CarriesOut format titles refusals (told bytes) (Ok desk) old mid) where
+    ended_there : script_meaning format titles origins bytes ≡ text_and_then (text_if_replies format (replies_told (told bytes))) (report_meaning format titles refusals (course_at desk))
     ended_there =
-        short_meaning format titles bytes short
-        ∙ ap (λ o. text_and_then (text_if_replies format (replies_told (told bytes))) (ended_meaning format titles o)) h.0
+        short_meaning format titles origins bytes short
+        ∙ ap (λ o. text_and_then (text_if_replies format (replies_told (told bytes))) (ended_meaning format titles refusals o)) h.0
 
     pub reported : (result : Result Shown Fault) (new : Option (List ℕ)) → IsPastReading result
-        → Answers (report_meaning format titles (course_at desk)) result mid new → Answers (script_meaning format titles bytes) result old new
+        → Answers (report_meaning format titles refusals (course_at desk)) result mid new → Answers (script_meaning format titles origins bytes) result old new
     reported result new past a =
         subst (λ m. Answers m result old new) (sym ended_there)
-        (behind_text (report_meaning format titles (course_at desk)) result (text_if_replies format (replies_told (told bytes))) old mid new h.1 past a)
+        (behind_text (report_meaning format titles refusals (course_at desk)) result (text_if_replies format (replies_told (told bytes))) old mid new h.1 past a)
 
     pub course_there : script_course bytes ≡ Some (course_at desk)
     unfolding script_course
     course_there = let fits : nat_lt 16777216 (length bytes) ≡ false = search (rules, tests) in rw fits (ap result_ok h.0)
 
 -- a report that can be shown
-pub shown_meaning : (format : Format) (titles : Titles) (c : ScriptCourse) → range_fault format c.state.now ≡ None
-    → report_meaning format titles c ≡ record { text = report_text format c.every (seen_at c) titles; end = Done }
-shown_meaning format titles c fits = rw fits refl
+pub shown_meaning : (format : Format) (titles : Titles) (refusals : List Refusal) (c : ScriptCourse) → range_fault format c.state.now ≡ None
+    → report_meaning format titles refusals c ≡ record { text = report_text format c.every (seen_at c) titles refusals; end = Done }
+shown_meaning format titles refusals c fits = rw fits refl
 
 -- Use: the report was written, or its writing stopped.
-module _ (format : Format) (titles : Titles) (desk : Shown) (fits : range_fault format desk.state.now ≡ None) (every : ℕ) (same : every ≡ desk.every)
+module _ (format : Format) (titles : Titles) (refusals : List Refusal) (desk : Shown) (fits : range_fault format desk.state.now ≡ None) (every : ℕ) (same : every ≡ desk.every)
     (seen : Seen) (stands : StandsForHistory desk.history seen)
     (shows : seen ≡ record { version = length desk.history; state = desk.state; rows = desk.rows; denials = desk.denials }) where
-  meant : record { text = report_text format every seen titles; end = Done } ≡ report_meaning format titles (course_at desk)
+  meant : record { text = report_text format every seen titles refusals; end = Done } ≡ report_meaning format titles refusals (course_at desk)
   meant =
-      ap₂ (λ n s. record { text = report_text format n s titles; end = Done }) same (seen_there desk seen stands shows)
-      ∙ sym (shown_meaning format titles (course_at desk) fits)
+      ap₂ (λ n s. record { text = report_text format n s titles refusals; end = Done }) same (seen_there desk seen stands shows)
+      ∙ sym (shown_meaning format titles refusals (course_at desk) fits)
 
-  module _ (text : List ℕ) (is : text ≡ report_text format every seen titles) where
-    pub report_written : (done : Unit {0}) (old new : Option (List ℕ)) → Appends old new text → Answers (report_meaning format titles (course_at desk)) (Ok done) old new
+  module _ (text : List ℕ) (is : text ≡ report_text format every seen titles refusals) where
+    pub report_written : (done : Unit {0}) (old new : Option (List ℕ)) → Appends old new text → Answers (report_meaning format titles refusals (course_at desk)) (Ok done) old new
     report_written done old new wrote = subst (λ m. Answers m (Ok done) old new) meant (refl, subst (Appends old new) is wrote)
 
     pub report_stopped : (fault : OutputFault) (old new : Option (List ℕ)) → TookFront old new text
-        → Answers {A = Unit {0}} (report_meaning format titles (course_at desk)) (Err (fault_of_output fault)) old new
+        → Answers {A = Unit {0}} (report_meaning format titles refusals (course_at desk)) (Err (fault_of_output fault)) old new
     report_stopped fault old new took =
         subst (λ m. Answers {A = Unit {0}} m (Err (fault_of_output fault)) old new) meant
-        (answers_stopped (Unit {0}) (record { text = report_text format every seen titles; end = Done }) fault old new (subst (TookFront old new) is took))
+        (answers_stopped (Unit {0}) (record { text = report_text format every seen titles refusals; end = Done }) fault old new (subst (TookFront old new) is took))
 
 -- Use: the range can't be shown.
-pub outside_answered : (format : Format) (titles : Titles) (c : ScriptCourse) (fault : RangeFault) (x : Option (List ℕ)) → Some fault ≡ range_fault format c.state.now
-    → Answers {A = Unit {0}} (report_meaning format titles c) (Err (why.BadRange fault)) x x
-outside_answered format titles c fault x is = rw (← is) (refl, Appends-nil x)
+pub outside_answered : (format : Format) (titles : Titles) (refusals : List Refusal) (c : ScriptCourse) (fault : RangeFault) (x : Option (List ℕ)) → Some fault ≡ range_fault format c.state.now
+    → Answers {A = Unit {0}} (report_meaning format titles refusals c) (Err (why.BadRange fault)) x x
+outside_answered format titles refusals c fault x is = rw (← is) (refl, Appends-nil x)
 
 -- Use: a fault of one call is that of another.
 module _ (A B : Type 0) where

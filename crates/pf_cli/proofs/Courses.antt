@@ -4,10 +4,11 @@ use Rattle.std.specs.Prelude.{◌||◌, false}
 use Rattle.std.specs.List.{list_any}
 use Rattle.std.proofs.Math.Bool.{or-false, or_assoc}
 use Rattle.std.proofs.lemmas.Grind.{flat_map-append}
-use Rattle.std.proofs.lemmas.List.{drop-append-le, length-append, length-map}
+use Rattle.std.proofs.lemmas.List.{append-nil, drop-append-le, length-append, length-map, map-append}
 use Rattle.std.proofs.lemmas.List.Elements.{All-nil, All-cons, All-append}
 use Rattle.std.proofs.lemmas.List.Folds.{list_any-append}
 use Rattle.pf_run.specs.RunRows.{rows_in, denials_in}
+use Rattle.pf_carry.specs.Carried.{asked_in}
 use Rattle.pf_desk.specs.declared.command.Command.{Command}
 use Rattle.pf_desk.specs.declared.entry.Entry.{Entry}
 use Rattle.pf_desk.specs.declared.reply.Reply.{Reply}
@@ -33,30 +34,28 @@ reply_lines-append c (x ∷ xs) ys =
 abbrev pub has_refusal : List Entry → Bool
 has_refusal entries = list_any (λ e. is_refusal e.reply) entries
 
--- a course of so many entries, one of them refused or not, where the checkpoints lie so far apart
-abbrev course_of : ℕ → ℕ → Bool → State → ScriptCourse
-course_of every n refused st = record { state = st; entries = n; refused = refused; every = every }
+-- a course behind these commands, one of them refused or not, where the checkpoints lie so far apart
+abbrev course_of : ℕ → List Command → Bool → State → ScriptCourse
+course_of every asked refused st = record { state = st; asked = asked; refused = refused; every = every }
 
 -- the course behind the entries of a legal history
-entered_course : (every : ℕ) (st : State) (n : ℕ) (refused : Bool) (es : List Entry) → IsLegalFrom st es
-    → course_of every (n + length es) (refused || has_refusal es) (state_behind st es) ≡ course_behind (course_of every n refused st) (map (λ e. e.command) es)
-entered_course every st n refused [] h =
-    let none : n + 0 ≡ n = omega arith in
-    ap₂ (λ k b. course_of every k b st) none (or-false refused)
-entered_course every st n refused (e ∷ es) h =
-    let more : n + length (e ∷ es) ≡ n + 1 + length es = omega arith in
-    ap₂ (λ k b. course_of every k b (state_behind (state_after st e.command e.reply) es)) more (sym (or_assoc refused (is_refusal e.reply) (has_refusal es)))
-    ∙ entered_course every (state_after st e.command e.reply) (n + 1) (refused || is_refusal e.reply) es h.1
-    ∙ ap (λ r. course_behind (course_of every (n + 1) (refused || is_refusal r) (state_after st e.command r)) (map (λ e. e.command) es)) h.0
+entered_course : (every : ℕ) (st : State) (asked : List Command) (refused : Bool) (es : List Entry) → IsLegalFrom st es
+    → course_of every (asked ++ asked_in es) (refused || has_refusal es) (state_behind st es) ≡ course_behind (course_of every asked refused st) (asked_in es)
+entered_course every st asked refused [] h = ap₂ (λ cs b. course_of every cs b st) (append-nil asked) (or-false refused)
+entered_course every st asked refused (e ∷ es) h =
+    ap₂ (λ cs b. course_of every cs b (state_behind (state_after st e.command e.reply) es)) (sym (append_assoc asked (e.command ∷ []) (asked_in es)))
+    (sym (or_assoc refused (is_refusal e.reply) (has_refusal es)))
+    ∙ entered_course every (state_after st e.command e.reply) (asked ++ e.command ∷ []) (refused || is_refusal e.reply) es h.1
+    ∙ ap (λ r. course_behind (course_of every (asked ++ e.command ∷ []) (refused || is_refusal r) (state_after st e.command r)) (asked_in es)) h.0
 
 -- the lines of their replies
-entered_lines : (every : ℕ) (st : State) (n : ℕ) (refused : Bool) (es : List Entry) → IsLegalFrom st es
-    → entry_lines es ≡ reply_lines (course_of every n refused st) (map (λ e. e.command) es)
-entered_lines every st n refused [] h = refl
-entered_lines every st n refused (e ∷ es) h =
+entered_lines : (every : ℕ) (st : State) (asked : List Command) (refused : Bool) (es : List Entry) → IsLegalFrom st es
+    → entry_lines es ≡ reply_lines (course_of every asked refused st) (asked_in es)
+entered_lines every st asked refused [] h = refl
+entered_lines every st asked refused (e ∷ es) h =
     ap₂ (λ a b. a ++ b) (ap reply_line h.0)
-    (entered_lines every (state_after st e.command e.reply) (n + 1) (refused || is_refusal e.reply) es h.1
-    ∙ ap (λ r. reply_lines (course_of every (n + 1) (refused || is_refusal r) (state_after st e.command r)) (map (λ e. e.command) es)) h.0)
+    (entered_lines every (state_after st e.command e.reply) (asked ++ e.command ∷ []) (refused || is_refusal e.reply) es h.1
+    ∙ ap (λ r. reply_lines (course_of every (asked ++ e.command ∷ []) (refused || is_refusal r) (state_after st e.command r)) (asked_in es)) h.0)
 
 -- Use: one command that was answered is a list of one.
 abbrev pub one_answered : (caller : ℕ) (command : Command) (a b : Shown) (reply : Reply) → AnswersCaller caller command a reply b
@@ -76,10 +75,11 @@ one_answered caller command a b reply h = record {
 module _ (caller : ℕ) (commands : List Command) (a b : Shown) (h : AnswersAll caller commands a b) where
   pub answered_course : course_at b ≡ course_behind (course_at a) commands
   answered_course =
-      let long : length b.history ≡ length a.history + length h.entries = ap length h.entered ∙ length-append a.history h.entries in
+      let asked : asked_in b.history ≡ asked_in a.history ++ asked_in h.entries =
+      ap asked_in h.entered ∙ map-append (λ e. e.command) a.history h.entries in
       let refused : has_refusal b.history ≡ (has_refusal a.history || has_refusal h.entries) =
       ap has_refusal h.entered ∙ list_any-append (λ e. is_refusal e.reply) a.history h.entries in
-      (λ i. course_of (h.every i) (long i) (refused i) (h.state i)) ∙ entered_course a.every a.state (length a.history) (has_refusal a.history) h.entries h.answers
+      (λ i. course_of (h.every i) (asked i) (refused i) (h.state i)) ∙ entered_course a.every a.state (asked_in a.history) (has_refusal a.history) h.entries h.answers
       ∙ ap (course_behind (course_at a)) h.commands_in_order
 
   module _ (shown : ℕ) (within : shown ≤ length a.history) where
@@ -90,7 +90,7 @@ module _ (caller : ℕ) (commands : List Command) (a b : Shown) (h : AnswersAll 
     lines_then =
         ap entry_lines unshown_then ∙ flat_map-append (λ e. reply_line e.reply) (drop shown a.history) h.entries
         ∙ ap (λ t. entry_lines (drop shown a.history) ++ t)
-        (entered_lines a.every a.state (length a.history) (has_refusal a.history) h.entries h.answers ∙ ap (reply_lines (course_at a)) h.commands_in_order)
+        (entered_lines a.every a.state (asked_in a.history) (has_refusal a.history) h.entries h.answers ∙ ap (reply_lines (course_at a)) h.commands_in_order)
 
     pub entries_then : length (drop shown b.history) ≡ length (drop shown a.history) + length commands
     entries_then =
@@ -114,4 +114,5 @@ seen_there d s stands shows =
     ap (λ x. x.rows) (sym shows) ∙ stands.of_run.are_rows ∙ ap (λ x. rows_in x.state.plan x.state.now) shows in
     let denials : d.denials ≡ denials_in d.state.plan d.state.now =
     ap (λ x. x.denials) (sym shows) ∙ stands.of_run.are_denials ∙ ap (λ x. denials_in x.state.plan x.state.now) shows in
-    shows ∙ (λ i. record { version = length d.history; state = d.state; rows = rows i; denials = denials i })
+    let long : length d.history ≡ length (asked_in d.history) = sym (length-map d.history (λ e. e.command)) in
+    shows ∙ (λ i. record { version = long i; state = d.state; rows = rows i; denials = denials i })

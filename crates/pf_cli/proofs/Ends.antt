@@ -11,24 +11,28 @@ use Rattle.pf_script.specs.Places.{record_lines}
 use Rattle.pf_script.specs.Script.{script_records}
 use Rattle.pf_script.specs.Told.{FaultTold, Reading, Good, Bad, Missing, faults, faults_in, first_of, readings, settings_in, settings_or, told}
 use Rattle.pf_script.proofs.Opening.{AreUnopened, beginning}
+use Rattle.pf_full.specs.declared.refusal.Refusal.{Refusal}
 use Rattle.pf_names.specs.declared.titles.Titles.{Titles}
+use Rattle.pf_plain.specs.declared.origin.Origin.{Origin}
 use Rattle.pf_options.specs.declared.format.Format.{Format}
 use Rattle.pf_fault.specs.declared.range_fault.RangeFault.{RangeFault}
 use Rattle.pf_options.specs.Formats.{range_fault}
 use Rattle.pf_cli.specs.Laws.{RunsEndAtTheFirstFault, EndsAt, EndsWhole}
 use Rattle.pf_formats.specs.Report.{report_text}
 use Rattle.pf_cli.specs.Meaning.{Meaning, ScriptCourse, course_behind, ended_meaning, fault_number, opening_course, outcome_of, report_meaning, script_meaning, seen_at, text_unless, told_meaning}
+use Rattle.pf_cli.specs.Refusals.{refusals_for}
 
-pub short_meaning : (format : Format) (titles : Titles) (bytes : List ℕ) → length bytes ≤ 16777216 → script_meaning format titles bytes ≡ told_meaning format titles (told bytes)
+pub short_meaning : (format : Format) (titles : Titles) (origins : Option (List Origin)) (bytes : List ℕ) → length bytes ≤ 16777216
+    → script_meaning format titles origins bytes ≡ told_meaning format titles (refusals_for format origins bytes) (told bytes)
 unfolding script_meaning
-short_meaning format titles bytes short = let fits : nat_lt 16777216 (length bytes) ≡ false = search (rules, tests) in rw fits refl
+short_meaning format titles origins bytes short = let fits : nat_lt 16777216 (length bytes) ≡ false = search (rules, tests) in rw fits refl
 
 -- the report ends well, or its range can't be shown
-report_end : (format : Format) (titles : Titles) (c : ScriptCourse) → EndsWhole format (report_meaning format titles c).end
-report_end format titles c = by (range_fault format c.state.now) refl
+report_end : (format : Format) (titles : Titles) (refusals : List Refusal) (c : ScriptCourse) → EndsWhole format (report_meaning format titles refusals c).end
+report_end format titles refusals c = by (range_fault format c.state.now) refl
   where
     by : (fault : Option RangeFault) → range_fault format c.state.now ≡ fault
-        → EndsWhole format (text_unless fault (report_text format c.every (seen_at c) titles)).end
+        → EndsWhole format (text_unless fault (report_text format c.every (seen_at c) titles refusals)).end
     by None fits = inl refl
     by (Some fault) is = inr (c.state.now, fault, refl, is)
 
@@ -45,16 +49,16 @@ has_settings (Bad fault ∷ rest) unopened none = cc
 has_settings (Missing fault ∷ rest) unopened none = cc
 has_settings (Good one ∷ rest) unopened none = good_then one rest one.says (has_settings rest) unopened none
 
-ends_at : (format : Format) (titles : Titles) (opening : Option ScriptSettings) (commands : List Command) (fs : List FaultTold) → (fs ≡ [] → IsSome opening)
-    → EndsAt format fs (ended_meaning format titles (outcome_of opening commands (fault_number (first_of fs)))).end
-ends_at format titles None commands [] some = let never : false ≡ true = some refl in cc
-ends_at format titles (Some s) commands [] some = report_end format titles (course_behind (opening_course s.every s.settings) commands)
-ends_at format titles None commands (fault ∷ fs) some = refl
-ends_at format titles (Some s) commands (fault ∷ fs) some = refl
+ends_at : (format : Format) (titles : Titles) (refusals : List Refusal) (opening : Option ScriptSettings) (commands : List Command) (fs : List FaultTold) → (fs ≡ [] → IsSome opening)
+    → EndsAt format fs (ended_meaning format titles refusals (outcome_of opening commands (fault_number (first_of fs)))).end
+ends_at format titles refusals None commands [] some = let never : false ≡ true = some refl in cc
+ends_at format titles refusals (Some s) commands [] some = report_end format titles refusals (course_behind (opening_course s.every s.settings) commands)
+ends_at format titles refusals None commands (fault ∷ fs) some = refl
+ends_at format titles refusals (Some s) commands (fault ∷ fs) some = refl
 
 -- Use: a run ends at the first fault that a check finds.
 pub runs_end_at_first_fault : RunsEndAtTheFirstFault
-runs_end_at_first_fault format titles bytes short =
-    subst (λ (m : Meaning). EndsAt format (faults bytes) m.end) (sym (short_meaning format titles bytes short))
-    (ends_at format titles (settings_in (readings bytes)) (commands_in (told bytes).rest.lines) (faults bytes)
+runs_end_at_first_fault format titles origins bytes short =
+    subst (λ (m : Meaning). EndsAt format (faults bytes) m.end) (sym (short_meaning format titles origins bytes short))
+    (ends_at format titles (refusals_for format origins bytes) (settings_in (readings bytes)) (commands_in (told bytes).rest.lines) (faults bytes)
     (has_settings (readings bytes) (beginning 1 (record_lines bytes) (script_records bytes))))

@@ -1,4 +1,5 @@
 pub mod Answering
+pub mod Asked
 pub mod AtEnd
 pub mod Batches
 pub mod Carrying
@@ -6,5 +7,6 @@ pub mod Checking
 pub mod Courses
 pub mod Ends
 pub mod Outside
+pub mod Refusing
 pub mod Replying
 pub mod ScriptsWorked

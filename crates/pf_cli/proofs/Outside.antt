@@ -6,9 +6,11 @@ use Rattle.std.proofs.lemmas.Bool.{le-leb}
 use Rattle.std.proofs.lemmas.List.{append-nil}
 use Rattle.pf_script.specs.Told.{Told, told}
 use Rattle.pf_stream.specs.Reading.{longest_script}
+use Rattle.pf_full.specs.declared.refusal.Refusal.{Refusal}
 use Rattle.pf_names.specs.declared.titles.Titles.{Titles}
+use Rattle.pf_plain.specs.declared.origin.Origin.{Origin}
 use Rattle.pf_options.specs.declared.format.Format.{Format}
-use Rattle.pf_options.specs.declared.format.Format.TheVariants.{Schedule, Quanta, Windows, Load, Jobs, Trace, C, Tables, Json, Report, Replies, Lags, Misses, Denials, Events, Script, Processors, Stats, Chart, Svg}
+use Rattle.pf_options.specs.declared.format.Format.TheVariants.{Schedule, Quanta, Windows, Load, Jobs, Trace, C, Full, Html, Tables, Json, Report, Replies, Lags, Misses, Denials, Events, Script, Processors, Stats, Chart, Svg}
 use Rattle.pf_fault.specs.declared.range_fault.RangeFault.{RangeFault}
 use Rattle.pf_options.specs.Formats.{has_replies, range_fault}
 use Rattle.pf_options.specs.Ranges.{is_within, whole}
@@ -19,6 +21,7 @@ use Rattle.pf_cli.specs.Answers.{Answers}
 use Rattle.pf_cli.specs.Laws.{NothingIsWrittenOutside}
 use Rattle.pf_formats.specs.Report.{report_text}
 use Rattle.pf_cli.specs.Meaning.{Meaning, Done, BadRecord, TooLong, Outside, ScriptCourse, ended_meaning, outcome_told, replies_told, script_meaning, seen_at, text_and_then, text_if_replies, text_unless, told_meaning}
+use Rattle.pf_cli.specs.Refusals.{refusals_for}
 
 -- all slots are within them
 whole_is_within : (now : ℕ) → is_within whole now ≡ true
@@ -33,6 +36,8 @@ silent (Load range) now fault is = refl
 silent Jobs now fault is = refl
 silent Trace now fault is = refl
 silent C now fault is = refl
+silent Full now fault is = refl
+silent Html now fault is = refl
 silent (Chart range) now fault is = refl
 silent (Svg range cell) now fault is = refl
 silent Report now fault is = refl
@@ -52,28 +57,28 @@ abbrev IsSilent : RangeFault → Meaning → Type 0
 IsSilent fault m = m.end ≡ Outside fault → m.text ≡ []
 
 -- of a report, and of the replies before it
-silent_report : (format : Format) (titles : Titles) (c : ScriptCourse) (replies : List ℕ) (fault : RangeFault)
-    → IsSilent fault (text_and_then (text_if_replies format replies) (ended_meaning format titles (Ok c)))
-silent_report format titles c replies fault = by (range_fault format c.state.now) refl
+silent_report : (format : Format) (titles : Titles) (refusals : List Refusal) (c : ScriptCourse) (replies : List ℕ) (fault : RangeFault)
+    → IsSilent fault (text_and_then (text_if_replies format replies) (ended_meaning format titles refusals (Ok c)))
+silent_report format titles refusals c replies fault = by (range_fault format c.state.now) refl
   where
     by : (found : Option RangeFault) → range_fault format c.state.now ≡ found
-        → IsSilent fault (text_and_then (text_if_replies format replies) (text_unless found (report_text format c.every (seen_at c) titles)))
+        → IsSilent fault (text_and_then (text_if_replies format replies) (text_unless found (report_text format c.every (seen_at c) titles refusals)))
     by None fits = λ outside. let never : Done ≡ Outside fault = outside in cc
     by (Some other) is = λ outside. rw (silent format c.state.now other is) refl
 
-silent_end : (format : Format) (titles : Titles) (end : Result ScriptCourse ℕ) (replies : List ℕ) (fault : RangeFault)
-    → IsSilent fault (text_and_then (text_if_replies format replies) (ended_meaning format titles end))
-silent_end format titles (Ok c) replies fault = silent_report format titles c replies fault
-silent_end format titles (Err number) replies fault = λ outside. let never : BadRecord number ≡ Outside fault = outside in cc
+silent_end : (format : Format) (titles : Titles) (refusals : List Refusal) (end : Result ScriptCourse ℕ) (replies : List ℕ) (fault : RangeFault)
+    → IsSilent fault (text_and_then (text_if_replies format replies) (ended_meaning format titles refusals end))
+silent_end format titles refusals (Ok c) replies fault = silent_report format titles refusals c replies fault
+silent_end format titles refusals (Err number) replies fault = λ outside. let never : BadRecord number ≡ Outside fault = outside in cc
 
 -- Use: the law, and what an answer says of the writer by it.
 pub nothing_outside : NothingIsWrittenOutside
 unfolding script_meaning
-nothing_outside format titles bytes fault = by (nat_lt longest_script (length bytes))
+nothing_outside format titles origins bytes fault = by (nat_lt longest_script (length bytes))
   where
-    by : (b : Bool) → IsSilent fault (if b then record { text = []; end = TooLong } else told_meaning format titles (told bytes))
+    by : (b : Bool) → IsSilent fault (if b then record { text = []; end = TooLong } else told_meaning format titles (refusals_for format origins bytes) (told bytes))
     by true = λ outside. refl
-    by false = silent_end format titles (outcome_told (told bytes)) (replies_told (told bytes)) fault
+    by false = silent_end format titles (refusals_for format origins bytes) (outcome_told (told bytes)) (replies_told (told bytes)) fault
 
 kept : (old new : Option (List ℕ)) → Appends old new [] → Keeps old new
 kept None new wrote = tt

@@ -2,6 +2,7 @@
 use Rattle.std.specs.Prelude.{⊤, ℕ, ◌≡◌, ◌+◌, ◌*◌, ◌<◌, Bool, true, false, if◌then◌else◌, List, [], ◌++◌, length, Option, Result, Ok, Err}
 use Rattle.std.specs.Io.KnownBytes.{Appends}
 use Rattle.pf_desk.specs.Desk.{Seen, Shown}
+use Rattle.pf_full.specs.declared.refusal.Refusal.{Refusal}
 use Rattle.pf_names.specs.declared.titles.Titles.{Titles}
 use Rattle.pf_script.specs.Told.{Told}
 use Rattle.pf_options.specs.declared.format.Format.{Format}
@@ -90,6 +91,6 @@ ShowsEnd outcome (Ok seen) = (c : ScriptCourse) × (outcome ≡ Ok c) × (seen �
 ShowsEnd outcome (Err fault) = StopsAt outcome fault
 
 -- the script was carried out and the writer took its replies; or the answer is one to the whole script
-abbrev pub CarriesOut : Format → Titles → Told → Result Shown Fault → Option (List ℕ) → Option (List ℕ) → Type 0
-CarriesOut format titles t (Ok desk) old new = (outcome_told t ≡ Ok (course_at desk)) × Appends old new (text_if_replies format (replies_told t))
-CarriesOut format titles t (Err fault) old new = Answers {A = Shown} (told_meaning format titles t) (Err fault) old new
+abbrev pub CarriesOut : Format → Titles → List Refusal → Told → Result Shown Fault → Option (List ℕ) → Option (List ℕ) → Type 0
+CarriesOut format titles refusals t (Ok desk) old new = (outcome_told t ≡ Ok (course_at desk)) × Appends old new (text_if_replies format (replies_told t))
+CarriesOut format titles refusals t (Err fault) old new = Answers {A = Shown} (told_meaning format titles refusals t) (Err fault) old new

@@ -10,7 +10,7 @@ use Rattle.pf_cli.specs.Meaning.{End, Done, BadRecord, Outside, script_meaning}
 
 -- in the format, the script, which has no titles, is a text and ends so
 abbrev pub Means : Format → List ℕ → List ℕ → End → Type 0
-Means format script text end = script_meaning format untitled script ≡ record { text = text; end = end }
+Means format script text end = script_meaning format untitled None script ≡ record { text = text; end = end }
 
 -- three tasks on two processors
 abbrev pub three_tasks_script : List ℕ

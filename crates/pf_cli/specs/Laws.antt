@@ -1,6 +1,7 @@
 -- The laws of checks and runs.
-use Rattle.std.specs.Prelude.{ℕ, ◌≡◌, ◌≤◌, ◌⊎◌, Some, List, [], ◌∷◌, length}
+use Rattle.std.specs.Prelude.{ℕ, ◌≡◌, ◌≤◌, ◌⊎◌, Option, Some, List, [], ◌∷◌, length}
 use Rattle.pf_names.specs.declared.titles.Titles.{Titles}
+use Rattle.pf_plain.specs.declared.origin.Origin.{Origin}
 use Rattle.pf_options.specs.declared.format.Format.{Format}
 use Rattle.pf_fault.specs.declared.range_fault.RangeFault.{RangeFault}
 use Rattle.pf_options.specs.Formats.{range_fault}
@@ -19,10 +20,10 @@ EndsAt format (fault ∷ others) end = end ≡ BadRecord fault.bad.number
 
 -- in every format a script that isn't too long ends at the first fault that a check finds in it
 abbrev pub RunsEndAtTheFirstFault : Type 0
-RunsEndAtTheFirstFault = (format : Format) (titles : Titles) (bytes : List ℕ) → length bytes ≤ longest_script →
-    EndsAt format (faults bytes) (script_meaning format titles bytes).end
+RunsEndAtTheFirstFault = (format : Format) (titles : Titles) (origins : Option (List Origin)) (bytes : List ℕ) → length bytes ≤ longest_script →
+    EndsAt format (faults bytes) (script_meaning format titles origins bytes).end
 
 -- a script has no text where the range of its format can't be shown
 abbrev pub NothingIsWrittenOutside : Type 0
-NothingIsWrittenOutside = (format : Format) (titles : Titles) (bytes : List ℕ) (fault : RangeFault) → (script_meaning format titles bytes).end ≡ Outside fault →
-    (script_meaning format titles bytes).text ≡ []
+NothingIsWrittenOutside = (format : Format) (titles : Titles) (origins : Option (List Origin)) (bytes : List ℕ) (fault : RangeFault) →
+    (script_meaning format titles origins bytes).end ≡ Outside fault → (script_meaning format titles origins bytes).text ≡ []

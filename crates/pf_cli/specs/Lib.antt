@@ -19,3 +19,4 @@ pub mod Ended
 pub mod Examples
 pub mod Laws
 pub mod Meaning
+pub mod Refusals

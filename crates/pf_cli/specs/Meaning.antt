@@ -1,11 +1,14 @@
 -- What a script means: a text and an end.
-use Rattle.std.specs.Prelude.{ℕ, ◌+◌, Bool, false, ◌||◌, nat_lt, if◌then◌else◌, Option, None, Some, Result, Ok, Err, List, [], ◌∷◌, ◌++◌, codes, length}
+use Rattle.std.specs.Prelude.{ℕ, Bool, false, ◌||◌, nat_lt, if◌then◌else◌, Option, None, Some, Result, Ok, Err, List, [], ◌∷◌, ◌++◌, codes, length}
 use Rattle.std.specs.List.{list_any}
 use Rattle.pf_scenario.specs.System.{System}
 use Rattle.pf_run.specs.RunRows.{rows_in, denials_in}
 use Rattle.pf_desk.specs.declared.command.Command.{Command}
 use Rattle.pf_desk.specs.Machine.{State, opening_state, reply_to, state_after}
 use Rattle.pf_desk.specs.Desk.{Seen, Shown}
+use Rattle.pf_carry.specs.Carried.{asked_in}
+use Rattle.pf_full.specs.declared.refusal.Refusal.{Refusal}
+use Rattle.pf_plain.specs.declared.origin.Origin.{Origin}
 use Rattle.pf_stream.specs.Reading.{longest_script}
 use Rattle.pf_script.specs.declared.record.ScriptSettings.{ScriptSettings}
 use Rattle.pf_script.specs.Asked.{commands_in}
@@ -16,6 +19,7 @@ use Rattle.pf_fault.specs.declared.range_fault.RangeFault.{RangeFault}
 use Rattle.pf_options.specs.Formats.{has_replies, range_fault}
 use Rattle.pf_formats.specs.Report.{report_text}
 use Rattle.pf_report.specs.Replies.{is_refusal, reply_line, line_end}
+use Rattle.pf_cli.specs.Refusals.{refusals_for}
 
 -- how a script ends: well, at a bad record of this number, because it is too long, or because the range of its format
 -- can't be shown of the slots stepped
@@ -37,22 +41,22 @@ text_and_then text m = record { text = text ++ m.text; end = m.end }
 abbrev pub bad_record : ℕ → Meaning
 bad_record number = record { text = []; end = BadRecord number }
 
--- how far a script is: the state of the desk machine, how many commands it has answered, whether it refused one of them,
--- and how far the checkpoints lie apart in slots
+-- how far a script is: the state of the desk machine, the commands that it has answered, whether it refused one of them, and
+-- how far the checkpoints lie apart in slots
 pub record ScriptCourse : Type 0 where
   pub state : State
-  pub entries : ℕ
+  pub asked : List Command
   pub refused : Bool
   pub every : ℕ
 
 -- the course of a desk that was opened and has answered no command
 abbrev pub opening_course : ℕ → System → ScriptCourse
-opening_course every settings = record { state = opening_state settings; entries = 0; refused = false; every = every }
+opening_course every settings = record { state = opening_state settings; asked = []; refused = false; every = every }
 
 abbrev pub course_after : ScriptCourse → Command → ScriptCourse
 course_after c command = record {
   state = state_after c.state command (reply_to c.state command);
-  entries = c.entries + 1;
+  asked = c.asked ++ command ∷ [];
   refused = c.refused || is_refusal (reply_to c.state command);
   every = c.every;
 }
@@ -74,7 +78,7 @@ reply_lines c (command ∷ commands) = reply_line (reply_to c.state command) ++ 
 abbrev pub course_at : Shown → ScriptCourse
 course_at d = record {
   state = d.state;
-  entries = length d.history;
+  asked = asked_in d.history;
   refused = list_any (λ e. is_refusal e.reply) d.history;
   every = d.every;
 }
@@ -82,7 +86,7 @@ course_at d = record {
 -- what the desk shows there
 abbrev pub seen_at : ScriptCourse → Seen
 seen_at c = record {
-  version = c.entries;
+  version = length c.asked;
   state = c.state;
   rows = rows_in c.state.plan c.state.now;
   denials = denials_in c.state.plan c.state.now;
@@ -93,9 +97,11 @@ abbrev pub text_unless : Option RangeFault → List ℕ → Meaning
 text_unless None text = record { text = text; end = Done }
 text_unless (Some fault) text = record { text = []; end = Outside fault }
 
--- the report, with the script's titles, where the format can be shown of the slots stepped, and else nothing
-abbrev pub report_meaning : Format → Titles → ScriptCourse → Meaning
-report_meaning format titles c = text_unless (range_fault format c.state.now) (report_text format c.every (seen_at c) titles)
+-- the report, with the script's titles and refused records, where the format can be shown of the slots stepped, and else
+-- nothing
+abbrev pub report_meaning : Format → Titles → List Refusal → ScriptCourse → Meaning
+report_meaning format titles refusals c =
+    text_unless (range_fault format c.state.now) (report_text format c.every (seen_at c) titles refusals)
 
 -- where the commands of a script leave it: at a course, or at a bad record of this number
 abbrev pub outcome_at : ScriptCourse → Option ℕ → Result ScriptCourse ℕ
@@ -130,16 +136,17 @@ abbrev pub outcome_told : Told → Result ScriptCourse ℕ
 outcome_told t = outcome_of t.opening (commands_in t.rest.lines) (fault_number t.rest.fault)
 
 -- behind the replies: the report at the course where the script ends well, else nothing
-abbrev pub ended_meaning : Format → Titles → Result ScriptCourse ℕ → Meaning
-ended_meaning format titles (Ok c) = report_meaning format titles c
-ended_meaning format titles (Err number) = bad_record number
+abbrev pub ended_meaning : Format → Titles → List Refusal → Result ScriptCourse ℕ → Meaning
+ended_meaning format titles refusals (Ok c) = report_meaning format titles refusals c
+ended_meaning format titles refusals (Err number) = bad_record number
 
 -- what a script means in a format that tells this: its replies, where the format has some, and its end
-abbrev pub told_meaning : Format → Titles → Told → Meaning
-told_meaning format titles t = text_and_then (text_if_replies format (replies_told t)) (ended_meaning format titles (outcome_told t))
+abbrev pub told_meaning : Format → Titles → List Refusal → Told → Meaning
+told_meaning format titles refusals t =
+    text_and_then (text_if_replies format (replies_told t)) (ended_meaning format titles refusals (outcome_told t))
 
--- what a script's bytes mean, where its titles are these
-unfoldable pub script_meaning : Format → Titles → List ℕ → Meaning
-script_meaning format titles bytes =
+-- what a script's bytes mean, where its titles are these; origins where it belongs to a script of version 3
+unfoldable pub script_meaning : Format → Titles → Option (List Origin) → List ℕ → Meaning
+script_meaning format titles origins bytes =
     if nat_lt longest_script (length bytes) then record { text = []; end = TooLong }
-    else told_meaning format titles (told bytes)
+    else told_meaning format titles (refusals_for format origins bytes) (told bytes)

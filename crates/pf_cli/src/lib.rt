@@ -9,5 +9,6 @@ pub mod check;
 mod commands;
 mod failing;
 pub mod laws;
+mod refusals;
 pub mod run;
 mod script_replies;

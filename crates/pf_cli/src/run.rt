@@ -1,9 +1,11 @@
-ghost use Rattle.std.specs.Prelude.{◌≡◌, ◌-◌, ◌^◌, ◌<◌, ◌≤◌, length, [], Some, IfOk, OnOk, OnErr, option_map};
+ghost use Rattle.std.specs.Prelude.{◌≡◌, ◌-◌, ◌^◌, ◌<◌, ◌≤◌, List, length, [], Some, IfOk, OnOk, OnErr, option_map};
 ghost use Rattle.std.specs.Io.KnownBytes.{Appends, Keeps};
 ghost use Rattle.pf_fault.specs.declared.status.Status.TheVariants.{Done};
 ghost use Rattle.pf_fault.specs.Faults.{CountsWrites, IsOutside, IsPastReading};
 ghost use Rattle.pf_stream.specs.Reading.{longest_script};
 ghost use Rattle.pf_stream.specs.Written.{CountsOutput, TookFront};
+ghost use Rattle.pf_carry.specs.Carried.{IsOf};
+ghost use Rattle.pf_full.specs.declared.refusal.Refusal.{Refusal};
 ghost use Rattle.pf_names.specs.declared.titles.Titles.{Titles};
 ghost use Rattle.pf_script.specs.Told.{told};
 ghost use Rattle.pf_options.specs.FailLists.{on_nothing};
@@ -11,8 +13,10 @@ ghost use Rattle.pf_cli.specs.Answers.{Answers};
 ghost use Rattle.pf_cli.specs.Carried.{CarriesOut};
 ghost use Rattle.pf_cli.specs.Ended.{fails_on, is_failing, run_status, script_course};
 ghost use Rattle.pf_cli.specs.Meaning.{course_at, report_meaning, script_meaning};
+ghost use Rattle.pf_cli.specs.Refusals.{refusals_for};
 
 use crate::failing::is_failing;
+use crate::refusals::refusals_for;
 use crate::script_replies::ScriptReplies;
 use pf_desk::desk::Desk;
 use pf_fault::ending::Ending;
@@ -22,6 +26,7 @@ use pf_formats::report::report_pieces;
 use pf_names::titles::Titles;
 use pf_options::fail_on::FailOn;
 use pf_options::format::Format;
+use pf_plain::origin::Origin;
 use pf_stream::output_fault::OutputFault;
 use pf_stream::sink::Sink;
 use pf_stream::writing::write_pieces;
@@ -29,7 +34,8 @@ use pf_text::pieces::Pieces;
 use std::alloc::{AllocError, Global};
 
 /// Carries out a script of these bytes, and writes its replies and its report in the format: what it writes, and how it
-/// ends, is what the script's bytes mean. The titles are those that the report tells of: of a script of version 1 or 2 none.
+/// ends, is what the script's bytes mean. The titles are those that the report tells of: of a script of version 1 or 2 none. Where
+/// the script belongs to one of version 3, `origins` are the records there that its own come from, and records are told by them.
 /// Plain edits that follow one another, from the first of them that touches a slot that was stepped, are replayed together,
 /// 1,024 at most. The status is `FailedOn` where the run fails on what is listed: a
 /// command that was refused, an event that is denied in the run of the scenario as it stands at the end, a window that is
@@ -48,11 +54,12 @@ pub fn run<W: Sink>(
     writer: &mut W,
     format: Format,
     titles: &Titles,
+    origins: Option<&[Origin]>,
     fail_on: FailOn,
 ) -> Result<Ending, Fault>
     requires short { length script.now ≤ longest_script }
     requires writes { W.failed writer.old < 2 ^ 64 - 1 }
-    ensures meaning { Answers (script_meaning format titles.now script.now) result (W.contents writer.old) (W.contents writer.new) }
+    ensures meaning { Answers (script_meaning format titles.now (option_map (λ o. o.now) origins.entry) script.now) result (W.contents writer.old) (W.contents writer.new) }
     ensures failing { IfOk result (λ ending. option_map run_status (fails_on fail_on script.now) ≡ Some ending.status) }
     ensures unasked { fail_on ≡ on_nothing → IfOk result (λ ending. ending.status ≡ Done) }
     ensures quiet { IfOk result (λ ending. ending.notes.items ≡ []) }
@@ -60,7 +67,7 @@ pub fn run<W: Sink>(
     ensures read { IsPastReading result }
     ensures writes { CountsWrites result (W.failed writer.old) (W.failed writer.new) }
 {
-    match carry_out(alloc, script, writer, format, titles) {
+    match carry_out(alloc, script, writer, format, titles, origins) {
         Ok(desk) => Ok(Ending::quiet(alloc, judge(desk, fail_on)?)),
         Err(fault) => Err(fault),
     }
@@ -88,10 +95,11 @@ fn carry_out<W: Sink>(
     writer: &mut W,
     format: Format,
     titles: &Titles,
+    origins: Option<&[Origin]>,
 ) -> Result<Desk, Fault>
     requires short { length bytes.now ≤ longest_script }
     requires writes { W.failed writer.old < 2 ^ 64 - 1 }
-    ensures meaning { Answers (script_meaning format titles.now bytes.now) result (W.contents writer.old) (W.contents writer.new) }
+    ensures meaning { Answers (script_meaning format titles.now (option_map (λ o. o.now) origins.entry) bytes.now) result (W.contents writer.old) (W.contents writer.new) }
     ensures course { IfOk result (λ desk. script_course bytes.now ≡ Some (course_at desk)) }
     ensures read { IsPastReading result }
     ensures writes { CountsWrites result (W.failed writer.old) (W.failed writer.new) }
@@ -99,7 +107,7 @@ fn carry_out<W: Sink>(
     // A copy of its own for each call: so the check follows both.
     let shown = format;
     match write_replies(alloc, bytes, writer, format) {
-        Ok(desk) => end(alloc, desk, writer, shown, titles),
+        Ok(desk) => end(alloc, bytes, desk, writer, shown, titles, origins),
         Err(fault) => Err(fault),
     }
 }
@@ -112,7 +120,8 @@ fn write_replies<W: Sink>(
     format: Format,
 ) -> Result<Desk, Fault>
     requires { W.failed writer.old < 2 ^ 64 - 1 }
-    ensures replies { (titles : Titles) → CarriesOut format titles (told bytes.now) result (W.contents writer.old) (W.contents writer.new) }
+    ensures replies { (titles : Titles) (refusals : List Refusal) → CarriesOut format titles refusals (told bytes.now) result (W.contents writer.old) (W.contents writer.new) }
+    ensures carried { IfOk result (IsOf (told bytes.now)) }
     ensures read { IsPastReading result }
     ensures writes { CountsWrites result (W.failed writer.old) (W.failed writer.new) }
 {
@@ -121,36 +130,42 @@ fn write_replies<W: Sink>(
     replies.finish()
 }
 
-/// Writes the report of a desk, where the format can be shown of the slots stepped, and answers the desk.
+/// Writes the report of a desk that carried this script out, where the format can be shown of the slots stepped, and answers the desk.
 fn end<W: Sink>(
     alloc: Global,
+    bytes: &[u8],
     desk: Desk,
     writer: &mut W,
     format: Format,
     titles: &Titles,
+    origins: Option<&[Origin]>,
 ) -> Result<Desk, Fault>
-    requires { W.failed writer.old < 2 ^ 64 - 1 }
-    ensures report { Answers (report_meaning format titles.now (course_at desk)) result (W.contents writer.old) (W.contents writer.new) }
+    requires carried { IsOf (told bytes.now) desk }
+    requires writes { W.failed writer.old < 2 ^ 64 - 1 }
+    ensures report { Answers (report_meaning format titles.now (refusals_for format (option_map (λ o. o.now) origins.entry) bytes.now) (course_at desk)) result (W.contents writer.old) (W.contents writer.new) }
     ensures desk { IfOk result (λ d. d ≡ desk) }
     ensures read { IsPastReading result }
     ensures writes { CountsWrites result (W.failed writer.old) (W.failed writer.new) }
 {
-    match write_report(alloc, &desk, writer, format, titles) {
+    match write_report(alloc, bytes, &desk, writer, format, titles, origins) {
         Ok(()) => Ok(desk),
         Err(fault) => Err(fault),
     }
 }
 
-/// Writes the report of a desk, where the format can be shown of the slots stepped.
+/// Writes the report of a desk that carried this script out, where the format can be shown of the slots stepped.
 fn write_report<W: Sink>(
     alloc: Global,
+    bytes: &[u8],
     desk: &Desk,
     writer: &mut W,
     format: Format,
     titles: &Titles,
+    origins: Option<&[Origin]>,
 ) -> Result<(), Fault>
-    requires { W.failed writer.old < 2 ^ 64 - 1 }
-    ensures report { Answers (report_meaning format titles.now (course_at desk.now)) result (W.contents writer.old) (W.contents writer.new) }
+    requires carried { IsOf (told bytes.now) desk.now }
+    requires writes { W.failed writer.old < 2 ^ 64 - 1 }
+    ensures report { Answers (report_meaning format titles.now (refusals_for format (option_map (λ o. o.now) origins.entry) bytes.now) (course_at desk.now)) result (W.contents writer.old) (W.contents writer.new) }
     ensures read { IsPastReading result }
     ensures writes { CountsWrites result (W.failed writer.old) (W.failed writer.new) }
 {
@@ -158,7 +173,8 @@ fn write_report<W: Sink>(
         return Err(Fault::BadRange(fault));
     }
     let snapshot = desk.snapshot()?;
-    let report = report_pieces(alloc, &snapshot, desk.distance(), format, titles)?;
+    let refusals = refusals_for(alloc, format, origins, bytes, desk)?;
+    let report = report_pieces(alloc, &snapshot, desk.distance(), format, titles, refusals)?;
     write_whole(alloc, report, writer)?;
     Ok(())
 }

@@ -29,7 +29,7 @@ use Rattle.pf_converted.specs.Records.{join_record, settings_record, slot_record
 use Rattle.pf_converted.specs.Read.{join_said, settings_said, slot_said}
 use Rattle.pf_converted.proofs.Numbers.{number_here, number_inside}
 
-join_told : (names : List Named) (fields : List (List ℕ)) (a b c d e : ℕ) → length fields ≡ 6 → number_or NoNumber fields 1 ≡ Ok a
+pub join_told : (names : List Named) (fields : List (List ℕ)) (a b c d e : ℕ) → length fields ≡ 6 → number_or NoNumber fields 1 ≡ Ok a
     → task_at names fields 2 ≡ Ok b → number_or NoNumber fields 3 ≡ Ok c → number_or NoNumber fields 4 ≡ Ok d → early_at fields 5 ≡ Ok e
     → join_at names fields 0 ≡ Ok (Join a b c d e)
 unfolding join_at
@@ -48,7 +48,7 @@ no_letter : (n : ℕ) → n < 10 ^ 15 → is_letter_first (decimal n) ≡ false
 no_letter n small =
     digit_first (decimal n) (digits_decimal (numerals_by_value (λ ds. all_ascii_digits ds ≡ true) tells_all_ascii_digits) n (omega (arith, small)))
 
-not_full : (n : ℕ) → n < 10 ^ 15 → bytes_eq (decimal n) (codes "full") ≡ false
+pub not_full : (n : ℕ) → n < 10 ^ 15 → bytes_eq (decimal n) (codes "full") ≡ false
 not_full n small = elim (cases_Bool (bytes_eq (decimal n) (codes "full"))) [
   | inl same ↦
       let is : decimal n ≡ codes "full" = (bytes_eq-Decides (decimal n) (codes "full")).0 same in
@@ -57,13 +57,13 @@ not_full n small = elim (cases_Bool (bytes_eq (decimal n) (codes "full"))) [
   | inr other ↦ other
 ]
 
-task_told : (names : List Named) (fields : List (List ℕ)) (place n : ℕ) → field fields place ≡ decimal n → n < 10 ^ 15 → task_at names fields place ≡ Ok n
+pub task_told : (names : List Named) (fields : List (List ℕ)) (place n : ℕ) → field fields place ≡ decimal n → n < 10 ^ 15 → task_at names fields place ≡ Ok n
 unfolding task_at
 task_told names fields place n is small =
     let no : is_letter_first (field fields place) ≡ false = ap is_letter_first is ∙ no_letter n small in
     rw no (number_here NoNumber fields place n is small)
 
-early_told : (fields : List (List ℕ)) (place n : ℕ) → nat_le (length fields) place ≡ false → field fields place ≡ decimal n → n < 10 ^ 15
+pub early_told : (fields : List (List ℕ)) (place n : ℕ) → nat_le (length fields) place ≡ false → field fields place ≡ decimal n → n < 10 ^ 15
     → early_at fields place ≡ Ok n
 unfolding early_at
 early_told fields place n more is small = rw more (number_here NoNumber fields place n is small)

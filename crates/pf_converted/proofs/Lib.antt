@@ -7,3 +7,6 @@ pub mod Lines
 pub mod Named
 pub mod Saying
 pub mod Whole
+pub mod Told
+pub mod Planned
+pub mod Asked

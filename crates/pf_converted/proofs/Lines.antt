@@ -55,7 +55,7 @@ trims [] plain = refl
 trims (x ∷ xs) plain =
     ap₂ (λ (f : List ℕ) (t : List (List ℕ)). f ∷ t) ((All-head IsPlainField x xs plain).1) (trims xs (All-tail IsPlainField x xs plain))
 
-plain_row : (c : ℕ) (w x : List ℕ) (xs : List (List ℕ)) → IsPlainField (c ∷ w) → (c == 13) ≡ false → (c == 10) ≡ false → (35 == c) ≡ false
+pub plain_row : (c : ℕ) (w x : List ℕ) (xs : List (List ℕ)) → IsPlainField (c ∷ w) → (c == 13) ≡ false → (c == 10) ≡ false → (35 == c) ≡ false
     → All IsPlainField (x ∷ xs) → IsPlainRow ((c ∷ w) ∷ x ∷ xs)
 plain_row c w x xs word cr lf mark plain = record {
   first = c;
@@ -69,13 +69,13 @@ plain_row c w x xs word cr lf mark plain = record {
   shown = refl;
 }
 
-none : All IsPlainField []
-none k d lt = absurd (omega (arith, lt))
+pub no_fields : All IsPlainField []
+no_fields k d lt = absurd (omega (arith, lt))
 
 number_field : (n : ℕ) → n < 10 ^ 15 → IsPlainField (decimal n)
 number_field n small = (number_plain n small, number_trimmed n small)
 
-with_number : (n : ℕ) (xs : List (List ℕ)) → n < 10 ^ 15 → All IsPlainField xs → All IsPlainField (decimal n ∷ xs)
+pub with_number : (n : ℕ) (xs : List (List ℕ)) → n < 10 ^ 15 → All IsPlainField xs → All IsPlainField (decimal n ∷ xs)
 with_number n xs small plain = All-cons IsPlainField (decimal n) xs (number_field n small) plain
 
 unit_field : (u : Unit) → IsPlainField (unit_word u)
@@ -91,28 +91,28 @@ unfolding trim_start trim_end
 words = ((refl, refl), (refl, refl), (refl, refl), (refl, refl), (refl, refl), (refl, refl), (refl, refl), (refl, refl))
 
 pub heading_plain : IsPlainRow heading_record
-heading_plain = plain_row 112 (codes "fair") (codes "3") [] words.0 refl refl refl (All-cons IsPlainField (codes "3") [] words.1 none)
+heading_plain = plain_row 112 (codes "fair") (codes "3") [] words.0 refl refl refl (All-cons IsPlainField (codes "3") [] words.1 no_fields)
 
 pub settings_fields : (m b : ℕ) → m < 10 ^ 15 → b < 10 ^ 15 → m * b < 10 ^ 15 → All IsPlainField (decimal m ∷ decimal b ∷ decimal (m * b) ∷ codes "64" ∷ [])
 settings_fields m b few low cap =
     with_number m (decimal b ∷ decimal (m * b) ∷ codes "64" ∷ []) few
-    (with_number b (decimal (m * b) ∷ codes "64" ∷ []) low (with_number (m * b) (codes "64" ∷ []) cap (All-cons IsPlainField (codes "64") [] words.3 none)))
+    (with_number b (decimal (m * b) ∷ codes "64" ∷ []) low (with_number (m * b) (codes "64" ∷ []) cap (All-cons IsPlainField (codes "64") [] words.3 no_fields)))
 
 pub slot_fields : (l : ℕ) (u : Unit) → l < 10 ^ 15 → All IsPlainField (decimal l ∷ unit_word u ∷ [])
-slot_fields l u short = with_number l (unit_word u ∷ []) short (All-cons IsPlainField (unit_word u) [] (unit_field u) none)
+slot_fields l u short = with_number l (unit_word u ∷ []) short (All-cons IsPlainField (unit_word u) [] (unit_field u) no_fields)
 
 name_fields : (k : ℕ) (task : Listed) → k < 10 ^ 15 → is_text task.name ≡ true → All IsPlainField (decimal k ∷ task.name ∷ [])
-name_fields k task small text = with_number k (task.name ∷ []) small (All-cons IsPlainField task.name [] (name_plain task.name text) none)
+name_fields k task small text = with_number k (task.name ∷ []) small (All-cons IsPlainField task.name [] (name_plain task.name text) no_fields)
 
 join_fields : (k : ℕ) (s : Slotted) → AreShort k s → All IsPlainField (decimal s.join ∷ decimal k ∷ decimal s.cost ∷ decimal s.period ∷ decimal s.early ∷ [])
 join_fields k s a =
     with_number s.join (decimal k ∷ decimal s.cost ∷ decimal s.period ∷ decimal s.early ∷ []) a.join
     (with_number k (decimal s.cost ∷ decimal s.period ∷ decimal s.early ∷ []) a.number
     (with_number s.cost (decimal s.period ∷ decimal s.early ∷ []) a.cost
-    (with_number s.period (decimal s.early ∷ []) a.period (with_number s.early [] a.early none))))
+    (with_number s.period (decimal s.early ∷ []) a.period (with_number s.early [] a.early no_fields))))
 
 step_fields : (n : ℕ) → n < 10 ^ 15 → All IsPlainField (decimal n ∷ [])
-step_fields n small = with_number n [] small none
+step_fields n small = with_number n [] small no_fields
 
 pub settings_plain : (m b : ℕ) → m < 10 ^ 15 → b < 10 ^ 15 → m * b < 10 ^ 15 → IsPlainRow (settings_record m b)
 settings_plain m b few low cap = plain_row 115 (codes "ettings") (decimal m) (decimal b ∷ decimal (m * b) ∷ codes "64" ∷ []) words.2 refl refl refl (settings_fields m b few low cap)

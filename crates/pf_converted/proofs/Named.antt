@@ -31,7 +31,7 @@ name_says p number task opened some most text none free =
     rw (opened, number_inside NoNumber (name_record number task) 1 4095 number refl (omega (arith, most)) some most, none, text, free) refl
 
 -- a task above those that have names has none
-none_below : (names : List Named) (number : ℕ) → All (λ n. n.task < number) names → name_of names number ≡ None
+pub none_below : (names : List Named) (number : ℕ) → All (λ n. n.task < number) names → name_of names number ≡ None
 none_below [] number below = refl
 none_below (n ∷ names) number below =
     let less : n.task < number = All-head (λ m. m.task < number) n names below in
@@ -39,7 +39,7 @@ none_below (n ∷ names) number below =
     rw other (none_below names number (All-tail (λ m. m.task < number) n names below))
 
 -- and its name comes behind theirs
-named_last : (names : List Named) (number : ℕ) (name : List ℕ) → All (λ n. n.task < number) names
+pub named_last : (names : List Named) (number : ℕ) (name : List ℕ) → All (λ n. n.task < number) names
     → with_name names number name ≡ names ++ record { task = number; name = name } ∷ []
 named_last [] number name below = refl
 named_last (n ∷ names) number name below =
@@ -47,7 +47,7 @@ named_last (n ∷ names) number name below =
     let before : nat_lt number n.task ≡ false = grind (arith, nat_tests, less) in
     rw before (ap (λ (t : List Named). n ∷ t) (named_last names number name (All-tail (λ m. m.task < number) n names below)))
 
-still_free : (names : List Named) (m : Named) (name : List ℕ) → task_of names name ≡ None → bytes_eq m.name name ≡ false
+pub still_free : (names : List Named) (m : Named) (name : List ℕ) → task_of names name ≡ None → bytes_eq m.name name ≡ false
     → task_of (names ++ m ∷ []) name ≡ None
 still_free [] m name none other = rw other refl
 still_free (n ∷ names) m name none other = by (bytes_eq n.name name) refl (λ k. still_free names m name k other)

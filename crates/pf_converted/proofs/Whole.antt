@@ -1,5 +1,5 @@
 -- A plan's script, read as a script of version 3.
-use Rattle.std.proofs.Common.{◌≡◌, ◌∙◌, ◌^◌, ◌<◌, ◌≤◌, ◌+◌, ◌*◌, ℕ, List, [], ◌∷◌, ◌++◌, All, codes, length, ap, ap₂, arith, refl, sym, subst, append_assoc}
+use Rattle.std.proofs.Common.{◌≡◌, ◌∙◌, ◌^◌, ◌<◌, ◌≤◌, ◌+◌, ◌*◌, ℕ, List, [], ◌∷◌, ◌++◌, All, codes, length, map, ap, ap₂, arith, refl, sym, subst, append_assoc}
 use Rattle.std.specs.Fmt.{decimal}
 use Rattle.std.proofs.lemmas.List.Concat.{flat_map-append}
 use Rattle.std.proofs.lemmas.List.Elements.{All-append, All-cons, All-head, All-tail}
@@ -11,7 +11,6 @@ use Rattle.pf_convert.specs.declared.slotted.Slotted.{Slotted}
 use Rattle.pf_convert.specs.Slots.{IsSlotted}
 use Rattle.pf_names.specs.declared.unit.Unit.{Unit}
 use Rattle.pf_names.specs.Slots.{unit_word}
-use Rattle.pf_check3.specs.Checked.{faults}
 use Rattle.pf_rows.specs.Rows.{rows}
 use Rattle.pf_task_list.specs.declared.listed.Listed.{Listed}
 use Rattle.pf_text.specs.Page.{table_text}
@@ -132,11 +131,17 @@ whole_plain m q tasks plan w =
     (All-append IsPlainRow names (joins ++ step_record n ∷ []) (names_plain 1 tasks (omega (arith, w.few)) w.names)
     (All-append IsPlainRow joins (step_record n ∷ []) (joins_plain b 1 slots w.base (omega (arith, w.few_joins)) w.slotted w.periods) last))))
 
-pub no_fault : ScriptsHaveNoFault
-no_fault m q tasks plan w =
+-- the rows of the script are its records
+pub rows_of_script : (m q : ℕ) (tasks : List Listed) (plan : Plan) → IsWritten m q tasks plan
+    → map (λ row. row.fields) (rows (script_text m q tasks plan)).rows ≡ heading_record ∷ script_records m q tasks plan
+rows_of_script m q tasks plan w =
     let behind = script_records m q tasks plan in
     let read = rows_again (heading_record ∷ behind) (whole_plain m q tasks plan w)
     (no_mark m plan.base (slot_record (slot_of q) ∷ (each_numbered name_record 1 tasks ++ (each_numbered join_record 1 plan.tasks.items ++ step_record (steps_of plan.base plan.tasks.items) ∷ [])))) in
-    let text = table_text (heading_record ∷ behind) in
-    subst (λ (t : List ℕ). faults (rows t) ≡ []) (whole_text m q tasks plan w)
-    (none_found (rows text).end (rows text).rows heading_record behind (plan_said m q tasks plan) read (plans_said m q tasks plan w))
+    subst (λ (t : List ℕ). map (λ row. row.fields) (rows t).rows ≡ heading_record ∷ behind) (whole_text m q tasks plan w) read
+
+pub no_fault : ScriptsHaveNoFault
+no_fault m q tasks plan w =
+    let text = script_text m q tasks plan in
+    none_found (rows text).end (rows text).rows heading_record (script_records m q tasks plan) (plan_said m q tasks plan) (rows_of_script m q tasks plan w)
+    (plans_said m q tasks plan w)

@@ -5,4 +5,5 @@ pub mod Stepping
 pub mod Filling
 pub mod WhatIf
 pub mod Records
+pub mod FaultLines
 pub mod Entries

@@ -7,6 +7,7 @@ pub mod Fitting
 pub mod Texts
 pub mod Commanded
 pub mod Running
+pub mod Faults
 pub mod Entries
 pub mod Ranges
 pub mod Pictures

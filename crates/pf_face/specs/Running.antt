@@ -1,5 +1,5 @@
 -- What records do to the desk at a handle.
-use Rattle.std.specs.Prelude.{ℕ, ◌≡◌, ◌⊎◌, Option, None, Some, option_map, Result, Ok, Err, List, take}
+use Rattle.std.specs.Prelude.{ℕ, ◌≡◌, ◌⊎◌, Option, None, Some, option_map, Result, Ok, Err, take}
 use Rattle.pf_desk.specs.Desk.{Shown, IsDesk, AnswersAll}
 use Rattle.pf_script.specs.declared.fault.BadRecord.{BadRecord}
 use Rattle.pf_script.specs.declared.fault.ScriptFault.{ScriptFault}

@@ -5,12 +5,14 @@
 #![tactic(auto)]
 
 mod commands;
+mod faults;
 mod fitting;
 mod for_c;
 mod handle;
 mod notice;
 mod notices;
 mod opening;
+mod part_kind;
 mod pictures;
 mod ranges;
 mod raw_bad_record;
@@ -21,6 +23,7 @@ mod raw_event;
 mod raw_figures;
 mod raw_fit;
 mod raw_lag;
+mod raw_look;
 mod raw_miss;
 mod raw_numbered;
 mod raw_pick;

@@ -1,7 +1,9 @@
 ghost use Rattle.std.specs.Prelude.{◌≡◌, ◌≤◌, ◌++◌, true, None, IfOk};
 ghost use Rattle.pf_chart.specs.Chart.{chart_text_of};
+ghost use Rattle.pf_full.specs.Full.{full_text};
 ghost use Rattle.pf_jobs.specs.Jobs.{jobs_text};
 ghost use Rattle.pf_jobs.specs.Load.{load_text};
+ghost use Rattle.pf_page.specs.Page.{page_text};
 ghost use Rattle.pf_picture.specs.Picture.{picture_text_of};
 ghost use Rattle.pf_report.specs.Json.{json_text};
 ghost use Rattle.pf_report.specs.Part.{schedule_part_text};
@@ -21,12 +23,15 @@ use crate::tables::tables_pieces;
 use pf_chart::chart::{ChartPieces, chart_pieces};
 use pf_code::array::c_pieces;
 use pf_desk::snapshot::Snapshot;
+use pf_full::full::{FullPieces, full_pieces};
+use pf_full::refusal::Refusal;
 use pf_jobs::jobs::{JobPieces, job_pieces};
 use pf_jobs::load::{LoadPieces, load_pieces};
 use pf_look::look::Look;
 use pf_names::titles::Titles;
 use pf_options::format::Format;
 use pf_options::slot_range::SlotRange;
+use pf_page::page::{PagePieces, page_pieces};
 use pf_picture::picture::{PicturePieces, picture_pieces};
 use pf_report::denials::denial_pieces;
 use pf_report::events::events_csv;
@@ -45,7 +50,8 @@ use pf_windows::windows::{WindowPieces, window_pieces};
 use std::alloc::{AllocError, Global};
 
 /// What stands behind all replies in a format, in pieces. The format can be shown of the slots stepped, `every` is the distance
-/// of checkpoints in slots, and of a script of version 1 or 2 there are no titles.
+/// of checkpoints in slots, and of a script of version 1 or 2 there are no titles. Of the refused records `full` and `html` alone
+/// tell.
 ///
 /// # Errors
 ///
@@ -57,9 +63,10 @@ pub fn report_pieces<'a>(
     every: u64,
     format: Format,
     titles: &'a Titles,
+    refusals: Vec<Refusal>,
 ) -> Result<ReportPieces<'a>, AllocError>
     requires { range_fault format snapshot.now.state.now ≡ None }
-    ensures { IfOk result (λ pieces. text_left pieces ≡ report_text format every snapshot.now titles.now) }
+    ensures { IfOk result (λ pieces. text_left pieces ≡ report_text format every snapshot.now titles.now refusals.items) }
 {
     let pieces = match format {
         Format::Schedule(range) => ReportPieces::Part(schedule_of(alloc, snapshot, range)?),
@@ -85,6 +92,8 @@ pub fn report_pieces<'a>(
         Format::Load(range) => ReportPieces::Load(load_of(alloc, snapshot, range)?),
         Format::Trace => ReportPieces::Trace(trace_pieces(alloc, snapshot, titles)?),
         Format::C => ReportPieces::Code(c_pieces(alloc, snapshot, titles)?),
+        Format::Full => ReportPieces::Full(full_line(alloc, snapshot, every, titles, refusals)?),
+        Format::Html => ReportPieces::Page(page_of(alloc, snapshot, every, titles, refusals)?),
     };
     Ok(pieces)
 }
@@ -203,4 +212,33 @@ fn json_line<'a>(
 {
     let end = Whole::new(Vec::from_slice(alloc, b"\n")?);
     Ok(Chain::new(json_pieces(alloc, snapshot, titles)?, end))
+}
+
+/// The JSON object of all that the run tells, as a line, in pieces.
+fn full_line<'a>(
+    alloc: Global,
+    snapshot: &'a Snapshot,
+    every: u64,
+    titles: &Titles,
+    refusals: Vec<Refusal>,
+) -> Result<Chain<FullPieces<'a>, Whole>, AllocError>
+    ensures { IfOk result (λ pieces. pieces ≡ full_text every titles.now refusals.items snapshot.now ++ line_end) }
+{
+    let end = Whole::new(Vec::from_slice(alloc, b"\n")?);
+    let object = full_pieces(alloc, snapshot, every, titles, refusals)?;
+    Ok(Chain::new(object, end))
+}
+
+/// That object in a page, in pieces.
+fn page_of<'a>(
+    alloc: Global,
+    snapshot: &'a Snapshot,
+    every: u64,
+    titles: &Titles,
+    refusals: Vec<Refusal>,
+) -> Result<PagePieces<FullPieces<'a>>, AllocError>
+    ensures { IfOk result (λ pieces. pieces ≡ page_text (full_text every titles.now refusals.items snapshot.now)) }
+{
+    let object = full_pieces(alloc, snapshot, every, titles, refusals)?;
+    page_pieces(alloc, object)
 }

@@ -1,8 +1,10 @@
 use crate::tables::TablesPieces;
 use pf_chart::chart::ChartPieces;
 use pf_code::array::ArrayPieces;
+use pf_full::full::FullPieces;
 use pf_jobs::jobs::JobPieces;
 use pf_jobs::load::LoadPieces;
+use pf_page::page::PagePieces;
 use pf_picture::picture::PicturePieces;
 use pf_report::denials::DenialPieces;
 use pf_report::json::JsonPieces;
@@ -51,6 +53,10 @@ pub enum ReportPieces<'a> {
     Trace(TracePieces<'a>),
     /// The schedule as a C array.
     Code(ArrayPieces<'a>),
+    /// The JSON object of all that the run tells, as a line.
+    Full(Chain<FullPieces<'a>, Whole>),
+    /// That object in a page.
+    Page(PagePieces<FullPieces<'a>>),
 }
 
 impl Pieces for ReportPieces<'_> {
@@ -78,6 +84,8 @@ impl Pieces for ReportPieces<'_> {
             ReportPieces::Jobs(pieces) => pieces.next_piece(alloc),
             ReportPieces::Trace(pieces) => pieces.next_piece(alloc),
             ReportPieces::Code(pieces) => pieces.next_piece(alloc),
+            ReportPieces::Full(pieces) => pieces.next_piece(alloc),
+            ReportPieces::Page(pieces) => pieces.next_piece(alloc),
         }
     }
 }

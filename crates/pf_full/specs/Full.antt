@@ -16,7 +16,8 @@ use Rattle.pf_tally.specs.Figures.{figures_of}
 use Rattle.pf_tally.specs.Lags.{lags_of}
 use Rattle.pf_tally.specs.Misses.{misses_of}
 use Rattle.pf_desk.specs.Desk.{Seen}
-use Rattle.pf_report.specs.Json.{array_data, count_data, denial_data, lag_data, miss_data, sitter_data}
+use Rattle.pf_names.specs.declared.titles.Titles.{Titles}
+use Rattle.pf_report.specs.Json.{array_data, count_data, denial_data, lag_data, miss_data, names_before, sitter_data, slot_member}
 use Rattle.pf_run_notes.specs.Refusals.{fault_code, fault_name}
 use Rattle.pf_full.specs.declared.event_numbers.EventNumbers.{EventNumbers}
 use Rattle.pf_full.specs.declared.refusal.Refusal.{Refusal}
@@ -97,7 +98,7 @@ settings_data every settings =
     (member (codes "horizon") (count_data settings.horizon)
     (member (codes "processors") (count_data settings.processors) no_members)))))
 
--- the object, of its parts
+-- what the object has in every version
 pub record Parts : Type 0 where
   pub denials : Data
   pub entries : ℕ
@@ -110,23 +111,24 @@ pub record Parts : Type 0 where
   pub schedule : Data
   pub settings : Data
 
-abbrev pub object_of : Parts → Data
-object_of p =
+-- the object, with the names of tasks and the length of a slot in version 3
+abbrev pub object_of : Titles → Parts → Data
+object_of titles p =
     object (member (codes "denials") p.denials
     (member (codes "entries") (count_data p.entries)
     (member (codes "events") p.events
     (member (codes "figures") p.figures
     (member (codes "lags") p.lags
     (member (codes "misses") p.misses
-    (member (codes "now") (count_data p.now)
+    (names_before titles (member (codes "now") (count_data p.now)
     (member (codes "refusals") p.refusals
     (member (codes "schedule") p.schedule
-    (member (codes "settings") p.settings no_members))))))))))
+    (member (codes "settings") p.settings (slot_member titles))))))))))))
 
--- what was seen of a desk with so many slots between checkpoints: beside the report the events held, by number, the figures of
--- the tasks, and these refused records
-unfoldable pub full_data : ℕ → List Refusal → Seen → Data
-full_data every refusals seen = object_of (record {
+-- what was seen of a desk with so many slots between checkpoints, whose script has these titles: beside the report the events
+-- held, by number, the figures of the tasks, and these refused records
+unfoldable pub full_data : ℕ → Titles → List Refusal → Seen → Data
+full_data every titles refusals seen = object_of titles (record {
   denials = array_data denial_data seen.denials;
   entries = seen.version;
   events = array_data event_data seen.state.plan.events;
@@ -140,5 +142,5 @@ full_data every refusals seen = object_of (record {
 })
 
 -- its text
-abbrev pub full_text : ℕ → List Refusal → Seen → List ℕ
-full_text every refusals seen = compact_text (full_data every refusals seen)
+abbrev pub full_text : ℕ → Titles → List Refusal → Seen → List ℕ
+full_text every titles refusals seen = compact_text (full_data every titles refusals seen)

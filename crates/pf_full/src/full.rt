@@ -1,8 +1,9 @@
-ghost use Rattle.std.specs.Prelude.{◌≡◌, ◌++◌, IfOk};
+ghost use Rattle.std.specs.Prelude.{◌≡◌, ◌++◌, codes, IfOk};
 ghost use Rattle.std.specs.Fmt.{decimal};
 ghost use Rattle.serde_json.specs.Data.{array};
 ghost use Rattle.serde_json.specs.View.{items_of};
 ghost use Rattle.serde_json.specs.Written.{compact_text};
+ghost use Rattle.pf_report.specs.Json.{names_part, slot_part};
 ghost use Rattle.pf_full.specs.Full.{full_text};
 ghost use Rattle.pf_full.specs.Parts.{from_events, from_figures, from_lags, from_refusals, from_schedule, from_settings};
 
@@ -10,7 +11,9 @@ use crate::events::EventRows;
 use crate::figures::FigureRows;
 use crate::refusal::{Refusal, RefusalRows};
 use crate::settings::settings_text;
+use crate::titles::{names_part, slot_part};
 use pf_desk::snapshot::Snapshot;
+use pf_names::titles::Titles;
 use pf_report::denials::DenialRows;
 use pf_report::elements::{ArrayPieces, Elements};
 use pf_report::lags::LagRows;
@@ -78,53 +81,80 @@ fn numbered_key(alloc: Global, front: &[u8], number: u64, key: &[u8]) -> Result<
     Ok(text)
 }
 
+/// What stands before the refused records: the names, where the script is of version 3, and how many slots were stepped.
+fn refusals_key(alloc: Global, titles: &Titles, now: u64) -> Result<Vec<u8>, AllocError>
+    ensures { IfOk result (λ text. text.items ≡ names_part titles.now ++ (codes ",\"now\":" ++ (decimal now ++ codes ",\"refusals\":"))) }
+{
+    let mut text = names_part(alloc, titles)?;
+    let key = numbered_key(alloc, b",\"now\":", now, b",\"refusals\":")?;
+    text.extend_from_slice(&key)?;
+    Ok(text)
+}
+
+/// What stands behind the settings: the length of a slot, where the script is of version 3, and the object's end.
+fn end_text(alloc: Global, titles: &Titles) -> Result<Vec<u8>, AllocError>
+    ensures { IfOk result (λ text. text.items ≡ slot_part titles.now ++ codes "}") }
+{
+    let mut text = slot_part(alloc, titles)?;
+    text.push(b'}')?;
+    Ok(text)
+}
+
 /// The object from its settings on.
-fn from_settings(alloc: Global, snapshot: &Snapshot, every: u64) -> Result<FromSettings, AllocError>
-    ensures { IfOk result (λ pieces. pieces ≡ from_settings every snapshot.now) }
+fn from_settings(
+    alloc: Global,
+    snapshot: &Snapshot,
+    every: u64,
+    titles: &Titles,
+) -> Result<FromSettings, AllocError>
+    ensures { IfOk result (λ pieces. pieces ≡ from_settings every titles.now snapshot.now) }
 {
     let key = Whole::new(Vec::from_slice(alloc, b",\"settings\":")?);
     let settings = Whole::new(settings_text(alloc, snapshot.settings(), every)?);
-    let end = Whole::new(Vec::from_slice(alloc, b"}")?);
+    let end = Whole::new(end_text(alloc, titles)?);
     Ok(Chain::new(key, Chain::new(settings, end)))
 }
 
 /// The object from its schedule on.
-fn from_schedule(
+fn from_schedule<'a>(
     alloc: Global,
-    snapshot: &Snapshot,
+    snapshot: &'a Snapshot,
     every: u64,
-) -> Result<FromSchedule<'_>, AllocError>
-    ensures { IfOk result (λ pieces. pieces ≡ from_schedule every snapshot.now) }
+    titles: &Titles,
+) -> Result<FromSchedule<'a>, AllocError>
+    ensures { IfOk result (λ pieces. pieces ≡ from_schedule every titles.now snapshot.now) }
 {
-    let behind = from_settings(alloc, snapshot, every)?;
+    let behind = from_settings(alloc, snapshot, every, titles)?;
     let key = Vec::from_slice(alloc, b",\"schedule\":")?;
     Ok(keyed(key, ScheduleRows::of(snapshot), behind))
 }
 
 /// The object from its slots stepped on.
-fn from_refusals(
+fn from_refusals<'a>(
     alloc: Global,
-    snapshot: &Snapshot,
+    snapshot: &'a Snapshot,
     every: u64,
+    titles: &Titles,
     refusals: Vec<Refusal>,
-) -> Result<FromRefusals<'_>, AllocError>
-    ensures { IfOk result (λ pieces. pieces ≡ from_refusals every refusals.items snapshot.now) }
+) -> Result<FromRefusals<'a>, AllocError>
+    ensures { IfOk result (λ pieces. pieces ≡ from_refusals every titles.now refusals.items snapshot.now) }
 {
-    let behind = from_schedule(alloc, snapshot, every)?;
-    let key = numbered_key(alloc, b",\"now\":", snapshot.now(), b",\"refusals\":")?;
+    let behind = from_schedule(alloc, snapshot, every, titles)?;
+    let key = refusals_key(alloc, titles, snapshot.now())?;
     Ok(keyed(key, RefusalRows::of(refusals), behind))
 }
 
 /// The object from its lags on.
-fn from_lags(
+fn from_lags<'a>(
     alloc: Global,
-    snapshot: &Snapshot,
+    snapshot: &'a Snapshot,
     every: u64,
+    titles: &Titles,
     refusals: Vec<Refusal>,
-) -> Result<FromLags<'_>, AllocError>
-    ensures { IfOk result (λ pieces. pieces ≡ from_lags every refusals.items snapshot.now) }
+) -> Result<FromLags<'a>, AllocError>
+    ensures { IfOk result (λ pieces. pieces ≡ from_lags every titles.now refusals.items snapshot.now) }
 {
-    let behind = from_refusals(alloc, snapshot, every, refusals)?;
+    let behind = from_refusals(alloc, snapshot, every, titles, refusals)?;
     let Tally { lags, misses } = snapshot.tally()?;
     let misses_key = Vec::from_slice(alloc, b",\"misses\":")?;
     let lags_key = Vec::from_slice(alloc, b",\"lags\":")?;
@@ -133,30 +163,32 @@ fn from_lags(
 }
 
 /// The object from its figures on.
-fn from_figures(
+fn from_figures<'a>(
     alloc: Global,
-    snapshot: &Snapshot,
+    snapshot: &'a Snapshot,
     every: u64,
+    titles: &Titles,
     refusals: Vec<Refusal>,
-) -> Result<FromFigures<'_>, AllocError>
-    ensures { IfOk result (λ pieces. pieces ≡ from_figures every refusals.items snapshot.now) }
+) -> Result<FromFigures<'a>, AllocError>
+    ensures { IfOk result (λ pieces. pieces ≡ from_figures every titles.now refusals.items snapshot.now) }
 {
-    let pieces = from_lags(alloc, snapshot, every, refusals)?;
+    let pieces = from_lags(alloc, snapshot, every, titles, refusals)?;
     let figures = FigureRows::of(snapshot.figures()?);
     let key = Vec::from_slice(alloc, b",\"figures\":")?;
     Ok(keyed(key, figures, Tail { pieces }))
 }
 
 /// The object from its entries on.
-fn from_events(
+fn from_events<'a>(
     alloc: Global,
-    snapshot: &Snapshot,
+    snapshot: &'a Snapshot,
     every: u64,
+    titles: &Titles,
     refusals: Vec<Refusal>,
-) -> Result<FromEvents<'_>, AllocError>
-    ensures { IfOk result (λ pieces. pieces ≡ from_events every refusals.items snapshot.now) }
+) -> Result<FromEvents<'a>, AllocError>
+    ensures { IfOk result (λ pieces. pieces ≡ from_events every titles.now refusals.items snapshot.now) }
 {
-    let behind = from_figures(alloc, snapshot, every, refusals)?;
+    let behind = from_figures(alloc, snapshot, every, titles, refusals)?;
     let events = EventRows::of(alloc, snapshot)?;
     let key = numbered_key(alloc, b",\"entries\":", snapshot.version(), b",\"events\":")?;
     Ok(keyed(key, events, behind))
@@ -164,20 +196,21 @@ fn from_events(
 
 /// All that a run tells as one JSON object, in pieces: compact, its keys in byte order. Beside what the report has these are
 /// the events held, the figures of the tasks, the records of which a command was refused, and the settings, with so many
-/// slots between checkpoints. The lags, the missed windows, the events and the figures are in memory until they are written.
+/// slots between checkpoints; in version 3 the names of tasks and the length of a slot. The lags, the missed windows, the events and the figures are in memory until they are written.
 ///
 /// # Errors
 ///
 /// Where memory is refused.
-pub fn full_pieces(
+pub fn full_pieces<'a>(
     alloc: Global,
-    snapshot: &Snapshot,
+    snapshot: &'a Snapshot,
     every: u64,
+    titles: &Titles,
     refusals: Vec<Refusal>,
-) -> Result<FullPieces<'_>, AllocError>
-    ensures { IfOk result (λ pieces. pieces ≡ full_text every refusals.items snapshot.now) }
+) -> Result<FullPieces<'a>, AllocError>
+    ensures { IfOk result (λ pieces. pieces ≡ full_text every titles.now refusals.items snapshot.now) }
 {
-    let behind = from_events(alloc, snapshot, every, refusals)?;
+    let behind = from_events(alloc, snapshot, every, titles, refusals)?;
     let key = Vec::from_slice(alloc, b"{\"denials\":")?;
     Ok(keyed(key, DenialRows::of(snapshot), behind))
 }

@@ -8,3 +8,4 @@ pub mod figures;
 pub mod full;
 pub mod refusal;
 pub mod settings;
+mod titles;

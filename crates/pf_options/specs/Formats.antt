@@ -2,7 +2,8 @@
 use Rattle.std.specs.Prelude.{ℕ, Bool, true, false, not, nat_lt, if◌then◌else◌, List, Option, Some, None, codes}
 use Rattle.std.specs.Str.{bytes_eq}
 use Rattle.pf_options.specs.declared.format.Format.{Format}
-use Rattle.pf_options.specs.declared.format.Format.TheVariants.{Schedule, Tables, Json, Report, Replies, Lags, Misses, Denials, Events, Script, Processors, Stats, Chart, Svg, Quanta, Windows, Jobs, Load, Trace, C}
+use Rattle.pf_options.specs.declared.format.Format.TheVariants.{Schedule, Tables, Json, Report, Replies, Lags, Misses, Denials, Events, Script, Processors, Stats, Chart, Svg, Quanta, Windows, Jobs, Load, Trace, C, Full, Html}
+use Rattle.pf_options.specs.declared.format.TheConstants.{MOST_PAGE_SLOTS}
 use Rattle.pf_look.specs.declared.wrap.TheConstants.{MOST_SLOTS}
 use Rattle.pf_fault.specs.declared.range_fault.RangeFault.{RangeFault}
 use Rattle.pf_fault.specs.declared.range_fault.RangeFault.TheVariants.{NotWithin, TooLong}
@@ -34,6 +35,8 @@ format_named name =
     else if bytes_eq name (codes "quanta") then Some (Quanta whole)
     else if bytes_eq name (codes "trace") then Some Trace
     else if bytes_eq name (codes "c") then Some C
+    else if bytes_eq name (codes "full") then Some Full
+    else if bytes_eq name (codes "html") then Some Html
     else None
 
 -- the formats that have reply lines
@@ -42,6 +45,12 @@ has_replies Tables = true
 has_replies Json = true
 has_replies Replies = true
 has_replies format = false
+
+-- the formats that tell of refused records behind the replies
+abbrev pub tells_refusals : Format → Bool
+tells_refusals Full = true
+tells_refusals Html = true
+tells_refusals format = false
 
 -- the format with the slots of a range alone; any other than these six has no range
 abbrev pub format_within : Format → SlotRange → Option Format
@@ -76,12 +85,13 @@ range_of (Windows range) = range
 range_of (Load range) = range
 range_of format = whole
 
--- a picture of more slots than one may show, where n slots were stepped
+-- a picture or a page of more slots than one may show, where n slots were stepped
 abbrev pub is_too_long : Format → ℕ → Bool
 is_too_long (Svg range look) n = nat_lt MOST_SLOTS (slots_of range n)
+is_too_long Html n = nat_lt MOST_PAGE_SLOTS n
 is_too_long format n = false
 
--- why the format can't be shown of n slots: its range is not within them, or it is a picture of too many
+-- why the format can't be shown of n slots: its range is not within them, or it is a picture or a page of too many
 abbrev pub range_fault : Format → ℕ → Option RangeFault
 range_fault format n =
     if not (is_within (range_of format) n) then Some (NotWithin n)

@@ -1,5 +1,5 @@
 ghost use Rattle.std.specs.Prelude.{◌≡◌};
-ghost use Rattle.pf_options.specs.Formats.{format_named, format_with_cell, format_with_style, format_with_wrap, format_within, has_replies, is_too_long, range_fault, range_of};
+ghost use Rattle.pf_options.specs.Formats.{format_named, format_with_cell, format_with_style, format_with_wrap, format_within, has_replies, is_too_long, range_fault, range_of, tells_refusals};
 
 use crate::slot_range::SlotRange;
 use pf_fault::range_fault::RangeFault;
@@ -51,12 +51,19 @@ pub enum Format {
     Trace,
     /// The schedule as a C array.
     C,
+    /// The JSON object of the report, with settings, events, figures and refused records.
+    Full,
+    /// That object in a page of HTML to look around in.
+    Html,
 }
+
+/// The most slots that a page shows.
+pub const MOST_PAGE_SLOTS: u64 = 65_536;
 
 impl Format {
     /// The format of this name: `schedule`, `tables`, `json`, `report`, `replies`, `lags`, `misses`, `denials`, `events`,
-    /// `script`, `processors`, `stats`, `chart`, `svg`, `windows`, `jobs`, `load`, `quanta`, `trace` or `c`, of all slots and in the
-    /// usual look. `None` where the text is none of these.
+    /// `script`, `processors`, `stats`, `chart`, `svg`, `windows`, `jobs`, `load`, `quanta`, `trace`, `c`, `full` or `html`, of all
+    /// slots and in the usual look. `None` where the text is none of these.
     pub fn named(name: &str) -> Option<Format>
         ensures { result ≡ format_named name.now }
     {
@@ -81,6 +88,8 @@ impl Format {
             "quanta" => Some(Format::Quanta(SlotRange::whole())),
             "trace" => Some(Format::Trace),
             "c" => Some(Format::C),
+            "full" => Some(Format::Full),
+            "html" => Some(Format::Html),
             _ => None,
         }
     }
@@ -158,7 +167,7 @@ impl Format {
     }
 
     /// Why it can't be shown where so many slots were stepped: its range is not within them, or else it is a picture of
-    /// more than 4,096 slots. `None` where it can be shown.
+    /// more than 4,096 slots, or a page of more than 65,536. `None` where it can be shown.
     pub fn range_fault(&self, now: u64) -> Option<RangeFault>
         ensures { result ≡ range_fault self.now now }
     {
@@ -171,12 +180,13 @@ impl Format {
         None
     }
 
-    /// Whether it is a picture of more slots than one may show.
+    /// Whether it is a picture or a page of more slots than one may show.
     fn is_too_long(&self, now: u64) -> bool
         ensures { result ≡ is_too_long self.now now }
     {
         match *self {
             Format::Svg(range, _) => range.slots(now) > MOST_SLOTS,
+            Format::Html => now > MOST_PAGE_SLOTS,
             _ => false,
         }
     }
@@ -186,5 +196,12 @@ impl Format {
         ensures { result ≡ has_replies self }
     {
         matches!(self, Format::Tables | Format::Json | Format::Replies)
+    }
+
+    /// Whether the records of which a command was refused are told behind the replies.
+    pub fn tells_refusals(self) -> bool
+        ensures { result ≡ tells_refusals self }
+    {
+        matches!(self, Format::Full | Format::Html)
     }
 }

@@ -4,5 +4,5 @@ use Rattle.pf_page.specs.declared.foot.TheConstants.{FOOT}
 use Rattle.pf_page.specs.declared.head.TheConstants.{HEAD}
 
 -- its head, the data, its foot
-abbrev pub page_text : List ℕ → List ℕ
+unfoldable pub page_text : List ℕ → List ℕ
 page_text run_data = HEAD.now ++ (run_data ++ FOOT.now)

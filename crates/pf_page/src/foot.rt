@@ -4,50 +4,50 @@ pub const FOOT: &str = r#"</script>
 'use strict';
 // One run of pfair, drawn from the data above. Nothing is fetched, and words go in as text alone.
 {
-const data = JSON.parse(document.getElementById('data').textContent);
-const { now, schedule, denials, misses, refusals, figures } = data;
-const { processors, base, cap } = data.settings;
+const { floor, ceil, min, max } = Math;     // all numbers are whole and below 2^53
 const byId = id => document.getElementById(id);
 const isOn = id => byId(id).checked;
-const nameOf = task => (data.names || []).find(n => n.task === task)?.name ?? 'task ' + task;
-const timeOf = slot => String(data.slot ? slot * data.slot.length : slot);
-
-// ---- Arithmetic: all numbers are whole and below 2^53.
-
-const floor = (a, b) => (a - a % b) / b;
-const ceil = (a, b) => floor(a + b - 1, b);
-
-/** How many of these rising numbers are below x. */
-function countBelow(numbers, x) {
-  let from = 0, to = numbers.length;
-  while (from < to) {
-    const middle = (from + to) >> 1;
-    if (numbers[middle] < x) from = middle + 1; else to = middle;
-  }
-  return from;
-}
+const data = JSON.parse(byId('data').textContent);
+const { now, schedule, denials, misses, refusals, figures, slot: time } = data;
+const { processors, base, cap } = data.settings;
+const names = new Map((data.names || []).map(it => [it.task, it.name]));
+const nameOf = task => names.get(task) ?? 'task ' + task;
+const timeOf = slot => String(time ? slot * time.length : slot);
 
 // ---- The run
+
+const COLOURS = '#fdb #755 #3b3 #00d #b99 #035 #b9f #570 #ddf #37b #bf0 #330'.split(' ');
 
 /** A task: its join, what it received, and its windows (Baruah et al. 1996), shifted by its delays. */
 class Task {
   join = Infinity; leave = Infinity; end = -1; missed = 0;
-  delays = []; denied = []; slots = []; processors = []; windows = []; stops = [];
+  delays = []; denied = []; slots = []; windows = []; stops = [];
 
-  constructor(number, rank) { Object.assign(this, { number, rank, name: nameOf(number) }); }
+  constructor(number, rank) {
+    Object.assign(this, { number, rank, name: nameOf(number), colour: COLOURS[rank % COLOURS.length] });
+  }
+
+  get weight() { return this.cost ? `${this.cost}/${this.period}` : '-'; }
 
   /** Quanta in slots before this one. */
-  received(slot) { return countBelow(this.slots, slot); }
+  received(slot) {
+    let from = 0, to = this.slots.length;
+    while (from < to) {
+      const middle = (from + to) >> 1;
+      if (this.slots[middle] < slot) from = middle + 1; else to = middle;
+    }
+    return from;
+  }
 
   /** The window of subtask i, by the delays of slots up to this one. */
   window(i, slot = Infinity) {
     const { cost, period, join } = this, spare = period - cost;
     const shift = this.delays.reduce((sum, d) => d.slot <= slot && d.first <= i ? sum + d.by : sum, join);
-    const end = ceil(i * period, cost), release = floor((i - 1) * period, cost) + shift;
-    const group = spare ? ceil(ceil(end * spare, period) * period, spare) : end;
+    const end = ceil(i * period / cost), release = floor((i - 1) * period / cost) + shift;
+    const group = spare ? ceil(ceil(end * spare / period) * period / spare) : end;
     return {
-      task: this, i, release, deadline: end + shift, from: Math.max(join, release - this.early),
-      bit: end - floor(i * period, cost), group: 2 * cost < period ? 0 : group + shift,
+      task: this, i, release, deadline: end + shift, from: max(join, release - this.early),
+      bit: end - floor(i * period / cost), group: 2 * cost < period ? 0 : group + shift,
     };
   }
 
@@ -60,54 +60,50 @@ class Task {
 
   /** All windows that ran or that were released before the end. */
   close() {
-    this.end = Math.min(this.leave, now);
+    this.end = min(this.leave, now);
     for (let i = 1; ; i++) {
       const w = this.window(i), ran = this.slots[i - 1] ?? Infinity;
       if (w.release >= this.end && ran === Infinity) break;
       w.isMissed = w.deadline <= this.end && ran >= w.deadline;
       this.missed += w.isMissed;
-      this.windows.push(Object.assign(w, { ran, processor: this.processors[i - 1], until: Math.max(w.deadline, Math.min(ran + 1, this.end)) }));
+      this.windows.push({ ...w, ran, until: max(w.deadline, min(ran + 1, this.end)) });
     }
-    this.froms = this.windows.map(w => w.from);
-    this.untils = this.windows.map(w => w.until);
   }
 
   /** The lag after so many slots, in 1/period. */
   lag(slots) {
-    const stopped = this.stops.reduce((sum, s) => sum + Math.max(0, Math.min(slots, s.to) - s.from), 0);
+    const stopped = this.stops.reduce((sum, s) => sum + max(0, min(slots, s.to) - s.from), 0);
     return this.cost * (slots - this.join - stopped) - this.period * this.received(slots);
   }
 }
 
-const KINDS = ['limit', 'leave', 'join', 'delay'];
 const denialOf = new Map(denials.map(d => [d.event, d]));
+const turnOf = e => 'limit leave join delay'.indexOf(e.kind);
 const events = data.events.filter(e => e.slot < now)
-  .sort((a, b) => a.slot - b.slot || KINDS.indexOf(a.kind) - KINDS.indexOf(b.kind) || a.task - b.task || a.event - b.event);
-const tasks = [...new Set(events.filter(e => e.task).map(e => e.task))].sort((a, b) => a - b).map((number, rank) => new Task(number, rank));
+  .sort((a, b) => a.slot - b.slot || turnOf(a) - turnOf(b) || a.task - b.task || a.event - b.event);
+const numbers = new Set(events.filter(e => e.task).map(e => e.task));
+const tasks = [...numbers].sort((a, b) => a - b).map((number, rank) => new Task(number, rank));
 const taskOf = new Map(tasks.map(task => [task.number, task]));
 
-schedule.forEach((row, slot) => row.forEach((quantum, processor) => {
-  if (!quantum) return;
-  const task = taskOf.get(quantum[0]);
-  task.slots.push(slot);
-  task.processors.push(processor);
-}));
+const placeOf = (task, slot) => schedule[slot].findIndex(quantum => quantum?.[0] === task.number);
+schedule.forEach((row, slot) => {
+  for (const quantum of row) if (quantum) taskOf.get(quantum[0]).slots.push(slot);
+});
 
-// the load and the processors in use, from each slot on in which one of them changes
+// load and processors in use, from each slot on in which one of them changes
 const states = [{ slot: 0, load: 0, inUse: processors }];
 for (const e of events) {
   const task = taskOf.get(e.task), last = states.at(-1);
   if (e.kind === 'join') Object.assign(task, { cost: e.cost, period: e.period, early: e.early });
-  if (denialOf.has(e.event)) { task.denied.push(e); continue; }
+  if (denialOf.has(e.event)) { task?.denied.push(e); continue; }
   if (e.kind === 'delay') { task.delay(e); continue; }
-  const state = last.slot === e.slot ? last : { ...last, slot: e.slot };
-  if (state !== last) states.push(state);
+  if (last.slot < e.slot) states.push({ ...last, slot: e.slot });
+  const state = states.at(-1);
   if (e.kind === 'limit') { state.inUse = e.count; continue; }
   task[e.kind] = e.slot;
   state.load += (e.kind === 'join' ? 1 : -1) * task.cost * (base / task.period);
 }
-const stateSlots = states.map(s => s.slot);
-const stateAt = slot => states[countBelow(stateSlots, slot + 1) - 1];
+const stateAt = slot => states.findLast(s => s.slot <= slot);
 for (const task of tasks) if (task.join < now) task.close();
 
 /** The subtasks that may run in a slot, in the order of PD2. */
@@ -122,38 +118,29 @@ function ranking(slot) {
 
 const loadText = state => (state.load / base).toFixed(4);
 const fullest = states.reduce((a, b) => b.load * a.inUse > a.load * b.inUse ? b : a);
-byId('verdict').className = misses.length ? 'missed' : denials.length + refusals.length ? 'warn' : '';
-byId('verdict').textContent = `${misses.length ? 'Windows are missed' : 'No window is missed'}: missed windows ${misses.length}; `
-  + `denied events ${denials.length}; refused changes ${refusals.length}; `
+const [missed, denied, refused] = [misses, denials, refusals].map(list => list.length);
+byId('verdict').className = missed ? 'missed' : denied + refused ? 'warn' : '';
+byId('verdict').textContent = `missed windows ${missed}; denied events ${denied}; refused changes ${refused}; `
   + `load ${loadText(fullest)} of ${fullest.inUse} processors in use (slot ${fullest.slot})`;
-const agrees = tasks.reduce((sum, task) => sum + task.missed, 0) === misses.length
-  && data.lags.every(l => taskOf.get(l.task).lag(now) === l.lag);
-byId('facts').textContent = `slots ${now}${data.slot ? ` of ${data.slot.length} ${data.slot.unit}` : ''}; tasks ${tasks.length}; `
+const agrees = missed === tasks.reduce((sum, task) => sum + task.missed, 0) && data.lags.every(l => taskOf.get(l.task).lag(now) === l.lag);
+byId('facts').textContent = `slots ${now}${time ? ` of ${time.length} ${time.unit}` : ''}; tasks ${tasks.length}; `
   + `processors ${processors}; base ${base}; cap ${cap}; what is drawn ${agrees ? 'agrees with' : 'DIFFERS from'} the data`;
 
 // ---- The picture: one canvas as large as its place, drawn anew as it scrolls
 
 const picture = byId('picture'), plane = byId('plane'), canvas = plane.firstElementChild, pen = canvas.getContext('2d');
-const TASK_COLOURS = '#fdb #755 #3b3 #00d #b99 #035 #b9f #570 #ddf #37b #bf0 #330'.split(' ');
-const colourOf = task => TASK_COLOURS[task.rank % TASK_COLOURS.length];
 const INKS = 'back text soft rule grid window missed fine lag stopped unused chosen'.split(' ');
 const RULER = 24, ROW = 20, LETTER = 6.7, LAG = 34;
-const weightOf = task => task.cost ? `${task.cost}/${task.period}` : '-';
-const longest = Math.max(12, ...tasks.flatMap(task => [task.name.length, weightOf(task).length]));
-const GUTTER = Math.min(200, Math.ceil(16 + LETTER * longest));
-const lagQuanta = Math.max(1, ...figures.map(f => Math.ceil(Math.max(-f.lag_min, f.lag_max) / f.period)));
+const GUTTER = ceil(16 + LETTER * max(12, ...tasks.flatMap(task => [task.name.length, task.weight.length])));
+const lagQuanta = max(1, ...figures.map(f => ceil(max(-f.lag_min, f.lag_max) / f.period)));
 const TASKS_TOP = RULER + ROW * processors + 8;
-const windowsHeight = () => isOn('show-windows') ? 38 : 22;
+const windowsHeight = () => isOn('show-windows') ? 44 : 24;
 const taskHeight = () => windowsHeight() + (isOn('show-lag') ? LAG : 0);
 const room = () => picture.clientWidth - GUTTER;
 let cell = 20, chosen = null, shown = tasks, ink = {};
-let from, to, left, width, height;        // the slots in view, and where
+let from, to, left, width, height;     // the slots in view, and where
 const x = slot => GUTTER + cell * slot - left;
-
-function readColours() {
-  const style = getComputedStyle(document.documentElement);
-  for (const name of INKS) ink[name] = style.getPropertyValue('--' + name);
-}
+const isInView = slot => slot >= from && slot < to;
 
 function fill(colour, ...box) {
   pen.fillStyle = colour;
@@ -166,65 +153,51 @@ function write(colour, words, x, y, align = 'left') {
   pen.fillText(words, x, y);
 }
 
-/** A line through points, or the area between them where it has no width. */
+/** A line through points. */
 function trace(colour, points, width = 1, dashes = []) {
-  pen.strokeStyle = pen.fillStyle = colour;
+  pen.strokeStyle = colour;
   pen.lineWidth = width;
   pen.setLineDash(dashes);
   pen.beginPath();
-  for (const [x, y] of points) pen.lineTo(x, y);
-  if (width) pen.stroke(); else pen.fill();
+  for (const point of points) pen.lineTo(...point);
+  pen.stroke();
 }
 
 const frame = (isMissed, points) => isMissed ? trace(ink.missed, points, 2) : trace(ink.window, points);
-const drawMark = (colour, x, y, corners) => trace(colour, corners.map(([a, b]) => [x + a, y + b]), 0);
-
-function within(drawing, ...box) {
-  pen.save();
-  pen.beginPath();
-  pen.rect(...box);
-  pen.clip();
-  drawing();
-  pen.restore();
-}
 
 function layOut() {
-  const scale = window.devicePixelRatio || 1, { clientWidth: wide, clientHeight: tall } = picture;
+  const scale = devicePixelRatio;
+  ({ clientWidth: width, clientHeight: height } = picture);
   Object.assign(plane.style, { width: GUTTER + cell * now + 16 + 'px', height: TASKS_TOP + taskHeight() * shown.length + 4 + 'px' });
-  Object.assign(canvas, { width: wide * scale, height: tall * scale });
-  Object.assign(canvas.style, { width: wide + 'px', height: tall + 'px' });
+  Object.assign(canvas, { width: width * scale, height: height * scale });
+  Object.assign(canvas.style, { width: width + 'px', height: height + 'px' });
   Object.assign(picture.dataset, { cell, gutter: GUTTER, tasks: shown.length });
+  Object.assign(pen, { font: '11px ui-monospace, monospace', textBaseline: 'middle' });
+  pen.scale(scale, scale);
   draw();
 }
 
-/** Draws what is in view. Names and ruler stay where they are. */
+/** Draws what is in view, and over it the names and the ruler, which stay. */
 function draw() {
-  const { clientWidth, clientHeight, scrollLeft, scrollTop: top } = picture, tall = taskHeight();
-  [width, height, left] = [clientWidth, clientHeight, scrollLeft];
-  [from, to] = [Math.floor(left / cell), Math.min(now, Math.ceil((left + room()) / cell))];
-  const first = Math.max(0, Math.floor((top + RULER - TASKS_TOP) / tall));
-  const rows = shown.slice(first, first + Math.ceil(height / tall) + 1).map((task, k) => ({ task, y: TASKS_TOP + tall * (first + k) - top }));
-  const scale = canvas.width / width || 1;
+  const { scrollTop: top } = picture, tall = taskHeight();
+  left = picture.scrollLeft;
+  [from, to] = [floor(left / cell), min(now, ceil((left + room()) / cell))];
+  const rows = shown.map((task, k) => ({ task, y: TASKS_TOP + tall * k - top })).filter(({ y }) => y > -tall && y < height);
   Object.assign(picture.dataset, { from, to });
-  pen.setTransform(scale, 0, 0, scale, 0, 0);
-  pen.font = '11px ui-monospace, Menlo, Consolas, "DejaVu Sans Mono", monospace';
-  pen.textBaseline = 'middle';
   fill(ink.back, 0, 0, width, height);
   const step = drawGrid();
-  within(() => {
-    for (let p = 0; p < processors; p++) drawProcessor(p, RULER + 2 + ROW * p - top);
-    for (const { task, y } of rows) drawTask(task, y);
-  }, GUTTER, RULER, width, height);
+  for (let p = 0; p < processors; p++) drawProcessor(p, RULER + 2 + ROW * p - top);
+  for (const { task, y } of rows) drawTask(task, y);
   drawNames(rows, top);
   drawRuler(step);
 }
 
-/** A line for each slot, where they are wide enough; answers the slots from one number of the ruler to the next. */
+/** The lines of slots; answers how far the numbers of the ruler lie apart. */
 function drawGrid() {
   const step = [1, 2, 5, 10, 20, 50, 100, 200, 500].find(s => s * cell >= (timeOf(now).length + 2) * LETTER) ?? 1000;
-  if (chosen !== null) fill(ink.chosen, x(chosen), 0, Math.max(cell, 2), height);
+  if (chosen !== null) fill(ink.chosen, x(chosen), 0, max(cell, 2), height);
   for (let t = from; t <= to; t++) {
-    if (cell >= 5 || t % step === 0) trace(t % step ? ink.grid : ink.rule, [[x(t) + .5, 0], [x(t) + .5, height]]);
+    if (cell >= 5 || t % step === 0) fill(t % step ? ink.grid : ink.rule, x(t), 0, 1, height);
   }
   return step;
 }
@@ -233,38 +206,35 @@ function drawProcessor(p, y) {
   if (y < 0 || y > height) return;
   for (let t = from; t < to; t++) {
     const quantum = schedule[t][p];
-    if (p >= stateAt(t).inUse) fill(ink.unused, x(t), y, cell, 16);
-    else if (quantum) drawQuantum(taskOf.get(quantum[0]).windows[quantum[1] - 1], x(t), y, 16, quantum[0]);
+    if (quantum) drawQuantum(taskOf.get(quantum[0]).windows[quantum[1] - 1], x(t), y, 16, quantum[0]);
+    else if (p >= stateAt(t).inUse) fill(ink.unused, x(t), y, cell, 16);
   }
 }
 
 function drawNames(rows, top) {
-  fill(ink.back, 0, RULER, GUTTER, height);
-  within(() => {
-    for (let p = 0; p < processors; p++) write(ink.text, 'p' + p, 8, RULER + 11 + ROW * p - top);
-    for (const { task, y } of rows) {
-      trace(ink.rule, [[0, y - 1.5], [width, y - 1.5]]);
-      write(task.missed ? ink.missed : ink.text, task.name, 8, y + 10);
-      if (taskHeight() > 30) write(ink.soft, weightOf(task), 8, y + 24);
-      if (taskHeight() > 50 && task.missed) write(ink.missed, task.missed + ' missed', 8, y + 38);
-    }
-  }, 0, RULER, width, height);
+  fill(ink.back, 0, 0, GUTTER, height);
+  for (let p = 0; p < processors; p++) write(ink.text, 'p' + p, 8, RULER + 11 + ROW * p - top);
+  for (const { task, y } of rows) {
+    fill(ink.rule, 0, y - 2, width, 1);
+    write(task.missed ? ink.missed : ink.text, task.name, 8, y + 10);
+    if (taskHeight() > 30) write(ink.soft, task.weight, 8, y + 24);
+    if (taskHeight() > 50 && task.missed) write(ink.missed, task.missed + ' missed', 8, y + 38);
+  }
 }
 
 function drawRuler(step) {
   fill(ink.back, 0, 0, width, RULER);
-  within(() => {
-    for (let t = from - from % step; t <= to; t += step) write(ink.soft, timeOf(t), x(t), 13, 'center');
-  }, GUTTER - 12, 0, width, RULER);
-  write(ink.soft, data.slot ? data.slot.unit : 'slot', 8, 13);
-  trace(ink.rule, [[0, RULER - .5], [width, RULER - .5]]);
-  trace(ink.rule, [[GUTTER - .5, RULER], [GUTTER - .5, height]]);
+  for (let t = from - from % step; t <= to; t += step) write(ink.soft, timeOf(t), x(t), 13, 'center');
+  fill(ink.back, 0, 0, GUTTER - 12, RULER);
+  write(ink.soft, time ? time.unit : 'slot', 8, 13);
+  fill(ink.rule, 0, RULER - 1, width, 1);
+  fill(ink.rule, GUTTER - 1, RULER, 1, height);
 }
 
 /** The box of a quantum, with a red and thicker frame where it was late. */
 function drawQuantum({ task, isMissed }, left, y, tall, number) {
   const gap = cell < 6 ? 0 : 1;
-  fill(colourOf(task), left + gap, y, cell - 2 * gap, tall);
+  fill(task.colour, left + gap, y, cell - 2 * gap, tall);
   if (cell < 5) {
     if (isMissed) fill(ink.missed, left, y + tall - 3, cell, 3);
     return;
@@ -275,48 +245,42 @@ function drawQuantum({ task, isMissed }, left, y, tall, number) {
 }
 
 function drawTask(task, y) {
-  const marks = y + windowsHeight() - 4;
-  if (task.join < now) {
-    const inside = { from: Math.max(task.join, from), to: Math.min(task.end, to) };
-    for (const s of task.stops) {
-      const a = Math.max(s.from, inside.from), slots = Math.max(0, Math.min(s.to, inside.to) - a);
-      fill(ink.stopped, x(a), y, cell * slots, taskHeight() - 4);
-    }
-    const first = countBelow(task.untils, from + 1), end = countBelow(task.froms, to);
-    for (const w of task.windows.slice(first, end)) drawWindow(w, y + 2, marks, inside);
-    if (isOn('show-lag') && inside.from < inside.to) drawLag(task, y + taskHeight() - LAG / 2 - 1.5, inside);
-    if (task.join >= from && task.join < to) drawMark(ink.fine, x(task.join), marks, [[0, -3], [6, 0], [0, 3]]);
-    if (task.leave > from && task.leave <= to) drawMark(ink.fine, x(task.leave), marks, [[0, -3], [-6, 0], [0, 3]]);
-  }
-  for (const e of task.denied) if (e.slot >= from && e.slot < to) {
-    for (const d of [3, -3]) trace(ink.missed, [[x(e.slot) - 3, marks - d], [x(e.slot) + 3, marks + d]], 2);
-    if (cell >= 8) write(ink.missed, `event ${e.event} ${denialOf.get(e.event).reason}`, x(e.slot) + 7, marks + 1);
+  const marks = y + windowsHeight() - 6;
+  if (task.join < now) drawInside(task, y, marks);
+  for (const { slot, event } of task.denied) if (isInView(slot)) {
+    write(ink.missed, cell < 8 ? '\u00d7' : `\u00d7 event ${event} ${denialOf.get(event).reason}`, x(slot), marks);
   }
 }
 
-/** A bracket from release to deadline, dashes before it where the task may run early, dots behind it until a late quantum ran. */
-function drawWindow(w, top, marks, inside) {
+function drawInside(task, y, marks) {
+  const start = max(task.join, from), end = min(task.end, to);
+  for (const stop of task.stops) {
+    const a = max(stop.from, start), b = max(a, min(stop.to, end));
+    fill(ink.stopped, x(a), y, cell * (b - a), taskHeight() - 4);
+  }
+  for (const w of task.windows) if (w.from < to && w.until > from) drawWindow(w, y + 2, marks);
+  if (isOn('show-lag') && start < end) drawLag(task, y + taskHeight() - LAG / 2 - 1.5, start, end);
+  if (isInView(task.join)) write(ink.fine, '\u25ba', x(task.join), marks);
+  if (isInView(task.leave - 1)) write(ink.fine, '\u25c4', x(task.leave), marks, 'right');
+}
+
+/** A bracket from release to deadline, dashes before it where the task may run early. */
+function drawWindow(w, top, marks) {
   const brackets = isOn('show-windows'), y = brackets ? top + (w.i - 1) % 2 * 16 : top, foot = y + 13.5;
-  const gap = cell < 8 ? 0 : 2, end = Math.min(w.deadline, w.task.end);
-  if (brackets) {
-    if (w.from < w.release) trace(ink.window, [[x(w.from), foot], [x(w.release), foot]], 1, [2, 2]);
-    if (w.isMissed && w.deadline < to) trace(ink.missed, [[x(Math.max(w.deadline, from)), y + 6.5], [x(Math.min(w.ran, inside.to)), y + 6.5]], 1, [1, 2]);
-    const a = x(w.release) + gap, b = x(end) - gap;
-    if (w.release < end) frame(w.isMissed, [[a, y], [a, foot], [b, foot], [b, end === w.deadline ? y : foot]]);
-  }
-  if (w.ran >= from && w.ran < to) drawQuantum(w, x(w.ran), y, brackets ? 11 : 14, w.processor);
-  if (isOn('show-groups') && w.bit && w.group > inside.from && w.group <= inside.to) {
-    drawMark(ink.window, x(w.group), marks, [[-3, 3], [0, -2], [3, 3]]);
-  }
+  const gap = cell < 8 ? 0 : 2, end = min(w.deadline, w.task.end), a = x(w.release) + gap, b = x(end) - gap;
+  if (brackets && w.from < w.release) trace(ink.window, [[x(w.from), foot], [x(w.release), foot]], 1, [2, 2]);
+  if (brackets && w.release < end) frame(w.isMissed, [[a, y], [a, foot], [b, foot], [b, end === w.deadline ? y : foot]]);
+  if (isInView(w.ran)) drawQuantum(w, x(w.ran), y, brackets ? 11 : 14, placeOf(w.task, w.ran));
+  if (isOn('show-groups') && w.bit && w.group && w.group <= w.task.end) write(ink.window, '\u25b2', x(w.group), marks, 'center');
 }
 
-function drawLag(task, middle, inside) {
+function drawLag(task, middle, start, end) {
   const points = [];
-  for (let t = inside.from; t <= inside.to; t++) {
+  for (let t = start; t <= end; t++) {
     const value = middle - 14 * task.lag(t) / (task.period * lagQuanta);
     points.push([x(t), points.length ? points.at(-1)[1] : value], [x(t), value]);
   }
-  trace(ink.soft, [[x(inside.from), middle], [x(inside.to), middle]], 1, [1, 3]);
+  trace(ink.soft, [[x(start), middle], [x(end), middle]], 1, [1, 3]);
   trace(ink.lag, points);
 }
 
@@ -329,36 +293,44 @@ function add(place, tag, words = '') {
   return made;
 }
 
-/** Chooses a slot: the panel tells it, and the picture goes there where asked. */
-function choose(slot, isToFollow) {
+/** Chooses a slot: the panel tells it, and the picture goes there where it is out of view. */
+function choose(slot) {
   if (!now) return;
-  chosen = Math.min(Math.max(slot, 0), now - 1);
+  chosen = min(max(slot, 0), now - 1);
   byId('slot').value = chosen;
   const at = cell * chosen - picture.scrollLeft;
-  if (isToFollow && (at < 0 || at + cell > room())) picture.scrollLeft += at - room() / 2;
+  if (at <= -cell || at >= room()) picture.scrollLeft += at - room() / 2;
   tellSlot(byId('panel'));
-  requestAnimationFrame(draw);
+  draw();
 }
 
 function tellSlot(panel) {
   const ranked = ranking(chosen), state = stateAt(chosen);
-  const places = ranked.map(w => schedule[chosen].findIndex(quantum => quantum && quantum[0] === w.task.number));
   panel.textContent = '';
   panel.dataset.slot = chosen;
-  add(panel, 'h2', `Slot ${chosen}${data.slot ? `, ${timeOf(chosen)} ${data.slot.unit}` : ''}`);
+  add(panel, 'h2', `Slot ${chosen}${time ? `, ${timeOf(chosen)} ${time.unit}` : ''}`);
   add(panel, 'p', `processors in use ${state.inUse} of ${processors}; load ${loadText(state)}; may run ${ranked.length}`);
   for (const { event, kind, task } of events.filter(e => e.slot === chosen)) {
     const denial = denialOf.get(event);
     add(panel, 'p', `event ${event}: ${kind}${task ? ' of ' + nameOf(task) : ''}${denial ? ', denied: ' + denial.reason : ''}`);
   }
-  const rows = ranked.map((w, k) => [k + 1, w.task.number, w.i, `${w.release} to ${w.deadline}`, w.bit, w.group, places[k] < 0 ? 'waits' : 'p' + places[k]]);
+  const rows = ranked.map((w, k) => {
+    const place = placeOf(w.task, chosen);
+    return [k + 1, w.task.number, w.i, `${w.release} to ${w.deadline}`, w.bit, w.group, place < 0 ? 'waits' : 'p' + place];
+  });
   addTable(panel, ['rank', 'task', 'sub', 'window', 'bit', 'group', 'runs'], rows,
     row => (row[6] === 'waits' ? '' : 'runs ') + (ranked[row[0] - 1].deadline <= chosen ? 'late' : ''));
 }
 
-const WORDS = ['task', 'window', 'runs', 'reason', 'kind'], SLOTS = ['slot', 'deadline', 'ran'], FEW = 500;
+const SLOTS = ['slot', 'deadline', 'ran'], FEW = 500;
 
-/** A table that sorts by a click on a column's head, numbers as numbers, empty ones last. Slots in it are buttons that choose them. */
+/** Numbers as numbers, other words as words, none behind both. */
+function compare(a, b, sign) {
+  if (a === null || b === null) return (a === null) - (b === null);
+  return sign * (typeof a === 'number' ? a - b : a.localeCompare(b, 'en', { numeric: true }));
+}
+
+/** A table that sorts by a click on a column's head. Slots in it are buttons that choose them. */
 function addTable(place, columns, rows, classOf) {
   const table = add(place, 'table'), heads = add(add(table, 'thead'), 'tr'), body = add(table, 'tbody');
   let order = rows, most = FEW;
@@ -372,14 +344,12 @@ function addTable(place, columns, rows, classOf) {
   };
   columns.forEach((name, k) => {
     const head = add(heads, 'th');
-    head.scope = 'col';
-    head.className = WORDS.includes(name) ? 'word' : '';
+    head.className = name;
     add(head, 'button', name).onclick = () => {
-      const direction = head.ariaSort === 'ascending' ? 'descending' : 'ascending', sign = direction === 'ascending' ? 1 : -1;
-      for (const other of heads.children) other.removeAttribute('aria-sort');
-      head.setAttribute('aria-sort', direction);
-      order = [...rows].sort(({ [k]: a }, { [k]: b }) => a === null || b === null ? (a === null) - (b === null)
-        : sign * (typeof a === 'number' ? a - b : a.localeCompare(b, 'en', { numeric: true })));
+      const direction = head.ariaSort === 'ascending' ? 'descending' : 'ascending';
+      for (const other of heads.children) other.ariaSort = null;
+      head.ariaSort = direction;
+      order = [...rows].sort((a, b) => compare(a[k], b[k], direction === 'ascending' ? 1 : -1));
       show();
     };
   });
@@ -392,98 +362,96 @@ function addTable(place, columns, rows, classOf) {
 
 function addCell(line, name, value) {
   const cell = add(line, 'td');
-  if (WORDS.includes(name)) cell.className = 'word';
+  cell.className = name;
   if (value === null) return;
-  if (SLOTS.includes(name) && value < now) add(cell, 'button', value).dataset.slot = value;
+  if (SLOTS.includes(name) && value < now) add(cell, 'button', value).dataset.goal = value;
   else cell.textContent = name === 'task' ? nameOf(value) : value;
-  if (name === 'task' && taskOf.has(value)) cell.style.borderLeft = '12px solid ' + colourOf(taskOf.get(value));
+  if (name === 'task' && taskOf.has(value)) cell.style.borderLeft = '12px solid ' + taskOf.get(value).colour;
 }
 
 for (const place of document.querySelectorAll('.list')) {
-  const list = data[place.dataset.of], columns = place.dataset.columns.split(' ');
+  const list = data[place.dataset.of], columns = place.dataset.columns.split(' '), missed = columns.indexOf('missed');
   place.previousElementSibling.append(` (${list.length})`);
-  const missed = columns.indexOf('missed');
   if (list.length) addTable(place, columns, list.map(item => columns.map(name => item[name])), row => row[missed] ? 'late' : '');
 }
 
 // ---- What the reader does
 
-/** Another width of a slot: what stands there in the picture stays. */
+/** Another width of a slot; what stands there stays. */
 function zoom(wide, at = room() / 2) {
   const slot = (picture.scrollLeft + at) / cell;
-  cell = Math.min(64, Math.max(2, wide));
+  cell = min(64, max(2, wide));
   layOut();
   picture.scrollLeft = slot * cell - at;
 }
-const zoomIn = at => zoom(Math.ceil(cell * 1.2), at);
-const zoomOut = at => zoom(Math.floor(cell / 1.2), at);
+const zoomIn = at => zoom(ceil(cell * 1.2), at);
+const zoomOut = at => zoom(floor(cell / 1.2), at);
 
-/** Shows the tasks that one of the words asks for: a number, a range of numbers, or a part of a name. */
+/** Shows the tasks that one of the words asks for: a number, a range, or a part of the name. */
 function filter() {
   const tests = byId('filter').value.toLowerCase().split(/[\s,]+/).filter(Boolean).map(word => {
-    const range = /^(\d+)(?:-(\d+))?$/.exec(word);
-    if (!range) return task => task.name.toLowerCase().includes(word);
-    return task => task.number >= +range[1] && task.number <= +(range[2] ?? range[1]);
+    const [, first, last] = /^(\d+)(?:-(\d+))?$/.exec(word) ?? [];
+    if (!first) return task => task.name.toLowerCase().includes(word);
+    return ({ number }) => number >= first && number <= (last ?? first);
   });
   shown = tasks.filter(task => (!tests.length || tests.some(test => test(task))) && (task.missed || !isOn('show-late')));
   byId('shown').textContent = `${shown.length} of ${tasks.length} tasks`;
   layOut();
 }
 
-const isPlain = e => !e.ctrlKey && !e.metaKey && !e.altKey;
-
-function press(e) {
-  if (!isPlain(e)) return;
-  const far = e.shiftKey ? 10 : 1, slot = chosen ?? Math.ceil(picture.scrollLeft / cell) - far;
-  const goal = { ArrowRight: slot + far, ArrowLeft: slot - far, Home: 0, End: now - 1 }[e.key];
-  if (goal !== undefined) {
-    e.preventDefault();
-    choose(goal, true);
-  }
-  if (e.key === '+') zoomIn();
-  if (e.key === '-') zoomOut();
-}
-
 function repaint(isPaper) {
-  document.documentElement.classList.toggle('paper', isPaper);
-  readColours();
+  const root = document.documentElement;
+  root.classList.toggle('paper', isPaper);
+  const style = getComputedStyle(root);
+  for (const name of INKS) ink[name] = style.getPropertyValue('--' + name);
   draw();
 }
 
-const listen = (target, kind, act, options) => target.addEventListener(kind, act, options);
-listen(byId('zoom-in'), 'click', () => zoomIn());
-listen(byId('zoom-out'), 'click', () => zoomOut());
-listen(byId('zoom-fit'), 'click', () => zoom(Math.floor((room() - 16) / now)));
-listen(byId('filter'), 'input', filter);
-for (const toggle of document.querySelectorAll('[type=checkbox]')) listen(toggle, 'change', filter);
-listen(byId('slot'), 'change', e => { if (e.target.value !== '') choose(Math.floor(e.target.value), true); });
-listen(picture, 'scroll', () => requestAnimationFrame(draw));
-listen(picture, 'keydown', press);
-listen(picture, 'click', e => {
-  const slot = Math.floor((e.offsetX - GUTTER + picture.scrollLeft) / cell);
-  if (e.offsetX >= GUTTER && slot < now) choose(slot, false);
-});
-listen(picture, 'wheel', e => {
+const isPlain = e => !e.ctrlKey && !e.metaKey && !e.altKey;
+
+picture.onkeydown = e => {
+  if (!isPlain(e)) return;
+  const far = e.shiftKey ? 10 : 1, slot = chosen ?? ceil(picture.scrollLeft / cell) - far;
+  const goal = { ArrowRight: slot + far, ArrowLeft: slot - far, Home: 0, End: now - 1 }[e.key];
+  if (goal !== undefined) {
+    e.preventDefault();
+    choose(goal);
+  }
+  if (e.key === '+') zoomIn();
+  if (e.key === '-') zoomOut();
+};
+picture.onclick = e => {
+  const slot = floor((e.offsetX - GUTTER + picture.scrollLeft) / cell);
+  if (e.offsetX >= GUTTER && slot < now) choose(slot);
+};
+picture.onwheel = e => {
   if (!e.ctrlKey && !e.metaKey) return;
   e.preventDefault();
   (e.deltaY < 0 ? zoomIn : zoomOut)(e.offsetX - GUTTER);
-}, { passive: false });
-listen(document, 'click', e => {
-  if (!e.target.dataset.slot || e.target.tagName !== 'BUTTON') return;
-  choose(+e.target.dataset.slot, true);
+};
+picture.onscroll = () => requestAnimationFrame(draw);
+byId('zoom-in').onclick = () => zoomIn();
+byId('zoom-out').onclick = () => zoomOut();
+byId('zoom-fit').onclick = () => zoom(floor((room() - 16) / now));
+byId('filter').oninput = filter;
+byId('tools').onchange = filter;
+byId('slot').onchange = e => { if (e.target.value !== '') choose(floor(e.target.value)); };
+document.onclick = ({ target }) => {
+  if (!target.dataset.goal) return;
+  choose(+target.dataset.goal);
   picture.scrollIntoView({ block: 'nearest' });
-});
-listen(document, 'keydown', e => {
+};
+document.onkeydown = e => {
   if (e.key !== '/' || e.target.tagName === 'INPUT' || !isPlain(e)) return;
   e.preventDefault();
   byId('filter').focus();
-});
-listen(matchMedia('(prefers-color-scheme: dark)'), 'change', () => repaint(false));
-listen(window, 'beforeprint', () => repaint(true));
-listen(window, 'afterprint', () => repaint(false));
+};
+matchMedia('(prefers-color-scheme: dark)').onchange = () => repaint(false);
+window.onbeforeprint = () => repaint(true);
+window.onafterprint = () => repaint(false);
 new ResizeObserver(layOut).observe(picture);
-readColours();
 filter();
+repaint(false);
 }
 </script>
 </body>

@@ -3,7 +3,7 @@ pub const HEAD: &str = r#"<!doctype html>
 <html lang="en">
 <head>
 <meta charset="utf-8">
-<meta http-equiv="Content-Security-Policy" content="default-src 'none'; style-src 'sha256-uOvrgWGIXdIhdbmYHmPuAcFEV7CvgjqQTLzrlBeq2Eg='; script-src 'sha256-7aJbpzjtLe/ykHdmD2Hgk2gqxIMafyGPrzrXa/9emKM='; base-uri 'none'; form-action 'none'">
+<meta http-equiv="Content-Security-Policy" content="default-src 'none'; style-src 'sha256-zbe5sMmX/EKl+uSGq4LyKCfVldUBaP37l7HhJ5c5eos='; script-src 'sha256-3iAQ0gdeENN0sFinedEY4DOeqMFkOuozSoa+ZPiK2mY='; base-uri 'none'; form-action 'none'">
 <meta name="viewport" content="width=device-width, initial-scale=1">
 <title>pfair: a schedule</title>
 <style>
@@ -34,7 +34,7 @@ button { cursor: pointer; }
 #view { display: flex; gap: .8rem; align-items: flex-start; }
 #picture { flex: 1; min-width: 0; max-height: 70vh; overflow: auto; border: 1px solid var(--rule); }
 #picture canvas { position: sticky; left: 0; top: 0; display: block; }
-#panel { flex: none; width: 430px; max-height: 70vh; overflow: auto; border: 1px solid var(--rule); padding: .2rem .7rem; }
+#panel { flex: none; width: 480px; max-height: 70vh; overflow: auto; border: 1px solid var(--rule); padding: .2rem .7rem; }
 #panel h2 { margin-top: .2rem; }
 @media (max-width: 1000px) {
   #view { flex-direction: column; }
@@ -43,7 +43,7 @@ button { cursor: pointer; }
 .list { overflow-x: auto; }
 table { border-collapse: collapse; font-variant-numeric: tabular-nums; }
 th, td { padding: .05rem .45rem; text-align: right; border-bottom: 1px solid var(--grid); white-space: nowrap; }
-.word { text-align: left; }
+.task, .window, .runs, .reason, .kind { text-align: left; }
 th button { border: 0; padding: .1rem 0; font-weight: 600; }
 [aria-sort=ascending] button::after { content: " \2191"; }
 [aria-sort=descending] button::after { content: " \2193"; }

@@ -14,6 +14,7 @@ pub type PagePieces<P> = Chain<Whole, Chain<P, Whole>>;
 /// # Errors
 ///
 /// Where memory is refused.
+#[tactic(auto, unfolding(crate::specs::Page::page_text))]
 pub fn page_pieces<P: Pieces + Drop>(
     alloc: Global,
     run_data: P,

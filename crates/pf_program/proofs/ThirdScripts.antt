@@ -1,13 +1,11 @@
 -- A task with a script of version 3.
 use Rattle.std.proofs.Common.{◌≡◌, ◌≤◌, ◌<◌, List, [], ℕ, length, Option, Some, None, Result, Ok, Err, inl, refl, sym, subst, ap, ◌∙◌, arith}
-use Rattle.std.specs.Prelude.{⊤, IfOk}
+use Rattle.std.specs.Prelude.{IfOk}
 use Rattle.std.specs.Io.KnownBytes.{Keeps}
 use Rattle.pf_fault.specs.declared.ending.Ending.{Ending}
 use Rattle.pf_fault.specs.declared.fault.Fault.{Fault}
 use Rattle.pf_fault.specs.declared.fault.Fault.TheVariants as why
 use Rattle.pf_fault.specs.Faults.{CountsWrites}
-use Rattle.pf_fault.specs.declared.answer.Answer.{Answer}
-use Rattle.pf_fit_text.specs.declared.fit_format.FitFormat.{FitFormat}
 use Rattle.pf_names.specs.Titled.{untitled}
 use Rattle.pf_plain.specs.declared.origin.Origin.{Origin}
 use Rattle.pf_plain.specs.declared.plain.PlainScript.{PlainScript}
@@ -18,49 +16,17 @@ use Rattle.pf_convert_words.specs.declared.conversion.Conversion.{Conversion}
 use Rattle.pf_words.specs.declared.task.Task.{Task}
 use Rattle.pf_words.specs.declared.task.Task.TheVariants.{Run, Check, Diff, Drill, Convert, Fit, Why}
 use Rattle.pf_words.specs.Asked.{IsSound}
-use Rattle.pf_program.specs.Tasks.{AnswersMade, AnswersTask, FitMade, IsOfScript, IsQuietIfDone}
-use Rattle.pf_program.specs.Versions.{AnswersBytes, AnswersOf, AnswersRecords, AnswersShort, AnswersThird, numbered, since_in, task_in}
+use Rattle.pf_program.specs.Tasks.{AnswersTask, IsOfScript, IsQuietIfDone}
+use Rattle.pf_program.specs.Versions.{AnswersBytes, AnswersOf, AnswersRecords, AnswersShort, AnswersThird, numbered, task_in}
 
--- the task is another than a fit
-abbrev pub IsNoFit : Task → Type 0
-IsNoFit (Fit format) = ⊥
-IsNoFit task = ⊤
-
--- Use: the text and the titles are those of the records.
-text_of_records : (p : Plain) (s : PlainScript) (task : Task) (file : List ℕ) (inner : Result Ending Fault) (old new : Option (List ℕ)) → IsPlain s p
-    → AnswersTask s.titles task file s.text.items inner old new → AnswersTask p.titles task file (table_text p.records) inner old new
-text_of_records p s task file inner old new is h =
-    subst (λ x. AnswersTask p.titles task file x inner old new) is.text
-    (subst (λ t. AnswersTask t task file s.text.items inner old new) is.titles h)
-
--- Use: the task that is another with the script of version 2.
+-- Use: the task was done with the script of version 2: the text, the titles and the origins are those of the records.
 pub task_answered : (p : Plain) (s : PlainScript) (task other : Task) (file : List ℕ) (inner : Result Ending Fault) (old new : Option (List ℕ)) → IsPlain s p
-    → IsNoFit task → other ≡ task_in p task → AnswersTask s.titles other file s.text.items inner old new → AnswersRecords p task file inner old new
-task_answered p s (Run format fail_on) other file inner old new is other_task same h =
-    text_of_records p s (Run format fail_on) file inner old new is (subst (λ t. AnswersTask s.titles t file s.text.items inner old new) same h)
-task_answered p s Check other file inner old new is other_task same h =
-    text_of_records p s Check file inner old new is (subst (λ t. AnswersTask s.titles t file s.text.items inner old new) same h)
-task_answered p s (Diff since options) other file inner old new is other_task same h =
-    text_of_records p s (Diff (Some (since_in p since)) options) file inner old new is
-    (subst (λ t. AnswersTask s.titles t file s.text.items inner old new) same h)
-task_answered p s Drill other file inner old new is other_task same h =
-    text_of_records p s Drill file inner old new is (subst (λ t. AnswersTask s.titles t file s.text.items inner old new) same h)
-task_answered p s (Convert conversion) other file inner old new is other_task same h =
-    text_of_records p s (Convert conversion) file inner old new is (subst (λ t. AnswersTask s.titles t file s.text.items inner old new) same h)
-task_answered p s (Why question) other file inner old new is other_task same h =
-    text_of_records p s (Why question) file inner old new is (subst (λ t. AnswersTask s.titles t file s.text.items inner old new) same h)
-task_answered p s (Fit format) other file inner old new is other_task same h = absurd other_task
-
--- Use: whether the script fits was told by the records of version 3.
-pub fit_answered : (p : Plain) (s : PlainScript) (format : FitFormat) (file : List ℕ) (made : Result Answer Fault) (inner : Result Ending Fault) (old new : Option (List ℕ)) → IsPlain s p
-    → FitMade format file (Some s.origins.items) s.titles s.text.items made → AnswersMade made inner old new → AnswersRecords p (Fit format) file inner old new
-fit_answered p s format file made inner old new is h answers = (
-  made,
-  subst (λ x. FitMade format file (Some p.origins) p.titles x made) is.text
-      (subst (λ t. FitMade format file (Some p.origins) t s.text.items made) is.titles
-      (subst (λ o. FitMade format file (Some o) s.titles s.text.items made) is.origins h)),
-  answers,
-)
+    → other ≡ task_in p task → AnswersTask s.titles (Some s.origins.items) other file s.text.items inner old new → AnswersRecords p task file inner old new
+task_answered p s task other file inner old new is same h =
+    subst (λ x. AnswersTask p.titles (Some p.origins) (task_in p task) file x inner old new) is.text
+    (subst (λ o. AnswersTask p.titles (Some o) (task_in p task) file s.text.items inner old new) is.origins
+    (subst (λ t. AnswersTask t (Some s.origins.items) (task_in p task) file s.text.items inner old new) is.titles
+    (subst (λ t. AnswersTask s.titles (Some s.origins.items) t file s.text.items inner old new) same h)))
 
 -- Use: the script of version 2 was short enough.
 pub short_enough : (p : Plain) (s : PlainScript) (task : Task) (file : List ℕ) (inner answer : Result Ending Fault) (old new : Option (List ℕ)) → IsPlain s p
@@ -112,23 +78,23 @@ pub third_answers : (s : PlainScript) (task : Task) (file script : List ℕ) (an
 third_answers s task file script answer old new made h = inl (third_of (plain script) s task file script answer old new made h)
 
 before_third : (q : Option Plain) (task : Task) (file script : List ℕ) (answer : Result Ending Fault) (old new : Option (List ℕ)) → MakesPlain None q
-    → AnswersTask untitled task file script answer old new → AnswersOf q task file script answer old new
+    → AnswersTask untitled None task file script answer old new → AnswersOf q task file script answer old new
 before_third None task file script answer old new made h = h
 before_third (Some p) task file script answer old new made h = absurd made
 
 -- Use: it is of another version.
 pub other_answers : (task : Task) (file script : List ℕ) (answer : Result Ending Fault) (old new : Option (List ℕ)) → MakesPlain None (plain script)
-    → AnswersTask untitled task file script answer old new → AnswersBytes task file script answer old new
+    → AnswersTask untitled None task file script answer old new → AnswersBytes task file script answer old new
 other_answers task file script answer old new made h = inl (before_third (plain script) task file script answer old new made h)
 
 list_of : (q : Option Plain) (conversion : Conversion) (file list : List ℕ) (answer : Result Ending Fault) (old new : Option (List ℕ))
-    → AnswersTask untitled (Convert conversion) file list answer old new → AnswersOf q (Convert conversion) file list answer old new
+    → AnswersTask untitled None (Convert conversion) file list answer old new → AnswersOf q (Convert conversion) file list answer old new
 list_of None conversion file list answer old new h = h
 list_of (Some p) conversion file list answer old new h = h
 
 -- Use: it is a list of tasks.
 pub list_answers : (conversion : Conversion) (file list : List ℕ) (answer : Result Ending Fault) (old new : Option (List ℕ))
-    → AnswersTask untitled (Convert conversion) file list answer old new → AnswersBytes (Convert conversion) file list answer old new
+    → AnswersTask untitled None (Convert conversion) file list answer old new → AnswersBytes (Convert conversion) file list answer old new
 list_answers conversion file list answer old new h = inl (list_of (plain list) conversion file list answer old new h)
 
 -- Use: a task with a script asks for nothing that could be out of order.

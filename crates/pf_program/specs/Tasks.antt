@@ -36,10 +36,10 @@ use Rattle.pf_drill.specs.Gates.{SomeArrived}
 use Rattle.pf_convert_words.specs.declared.conversion.Conversion.{Conversion}
 use Rattle.pf_conversion.specs.Conversions.{MakesConversion}
 
--- the script, which has these titles, was run in this format: the writer took what it means, or a front of that, and the status tells whether the run
+-- the script, which has these titles and origins where it belongs to one of version 3, was run in this format: the writer took what it means, or a front of that, and the status tells whether the run
 -- fails on what is listed, which it never does on nothing; where the range can't be shown the writer is as it was
-pub record RunsScript (format : Format) (titles : Titles) (fail_on : FailOn) (script : List ℕ) (answer : Result Ending Fault) (old new : Option (List ℕ)) : Type 0 where
-  pub meaning : Answers (script_meaning format titles script) answer old new
+pub record RunsScript (format : Format) (titles : Titles) (origins : Option (List Origin)) (fail_on : FailOn) (script : List ℕ) (answer : Result Ending Fault) (old new : Option (List ℕ)) : Type 0 where
+  pub meaning : Answers (script_meaning format titles origins script) answer old new
   pub failing : IfOk answer (λ ending. option_map run_status (fails_on fail_on script) ≡ Some ending.status)
   pub unasked : fail_on ≡ on_nothing → IfOk answer (λ ending. ending.status ≡ Done)
   pub outside : IsOutside answer → Keeps old new
@@ -73,17 +73,18 @@ pub record FitMade (format : FitFormat) (file : List ℕ) (origins : Option (Lis
   pub answer : IfOk made (fit.FitMade format file origins titles script)
   pub stopped : IfErr made (carried.Stops (told script).rest.fault)
 
--- the answer to a task with a script that has these titles, or with a list, in the file of this name, and what the writer took
-abbrev pub AnswersTask : Titles → Task → List ℕ → List ℕ → Result Ending Fault → Option (List ℕ) → Option (List ℕ) → Type 0
-AnswersTask titles (Run format fail_on) file script answer old new = RunsScript format titles fail_on script answer old new
-AnswersTask titles Check file script answer old new = ChecksBytes script answer old new
-AnswersTask titles (Diff since options) file script answer old new = (made : Result Answer Fault) × ChangeMade since options script made × AnswersMade made answer old new
-AnswersTask titles Drill file script answer old new = (made : Result Answer Fault) × DrillMade script made × AnswersMade made answer old new
-AnswersTask titles (Convert conversion) file list answer old new =
+-- the answer to a task with a script that has these titles, or with a list, in the file of this name, and what the writer took;
+-- origins where it belongs to a script of version 3
+abbrev pub AnswersTask : Titles → Option (List Origin) → Task → List ℕ → List ℕ → Result Ending Fault → Option (List ℕ) → Option (List ℕ) → Type 0
+AnswersTask titles origins (Run format fail_on) file script answer old new = RunsScript format titles origins fail_on script answer old new
+AnswersTask titles origins Check file script answer old new = ChecksBytes script answer old new
+AnswersTask titles origins (Diff since options) file script answer old new = (made : Result Answer Fault) × ChangeMade since options script made × AnswersMade made answer old new
+AnswersTask titles origins Drill file script answer old new = (made : Result Answer Fault) × DrillMade script made × AnswersMade made answer old new
+AnswersTask titles origins (Convert conversion) file list answer old new =
     (made : Result Answer Fault) × ListConverted conversion list made × AnswersMade made answer old new
-AnswersTask titles (Fit format) file script answer old new =
-    (made : Result Answer Fault) × FitMade format file None titles script made × AnswersMade made answer old new
-AnswersTask titles (Why question) file script answer old new =
+AnswersTask titles origins (Fit format) file script answer old new =
+    (made : Result Answer Fault) × FitMade format file origins titles script made × AnswersMade made answer old new
+AnswersTask titles origins (Why question) file script answer old new =
     (made : Result Answer Fault) × WhyMade titles.names question script made × AnswersMade made answer old new
 
 -- a task with a script, and not with a list

@@ -15,7 +15,7 @@ use Rattle.pf_stream.specs.Reading.{longest_script}
 use Rattle.pf_text.specs.Page.{table_text}
 use Rattle.pf_words.specs.declared.task.Task.{Task}
 use Rattle.pf_words.specs.declared.task.Task.TheVariants.{Run, Check, Diff, Drill, Convert, Fit, Why}
-use Rattle.pf_program.specs.Tasks.{AnswersMade, AnswersTask, FitMade}
+use Rattle.pf_program.specs.Tasks.{AnswersMade, AnswersTask}
 
 -- how many come from a record before this one
 abbrev pub count_below : ℕ → List Origin → ℕ
@@ -59,9 +59,7 @@ IsChecked script (Err fault) = fault ≡ why.NoMemory
 
 -- the task was done with the script of version 2, whose records come from those of version 3
 abbrev pub AnswersRecords : Plain → Task → List ℕ → Result Ending Fault → Option (List ℕ) → Option (List ℕ) → Type 0
-AnswersRecords p (Fit format) file inner old new =
-    (made : Result Answer Fault) × FitMade format file (Some p.origins) p.titles (table_text p.records) made × AnswersMade made inner old new
-AnswersRecords p task file inner old new = AnswersTask p.titles (task_in p task) file (table_text p.records) inner old new
+AnswersRecords p task file inner old new = AnswersTask p.titles (Some p.origins) (task_in p task) file (table_text p.records) inner old new
 
 abbrev pub AnswersPlain : Plain → Task → List ℕ → Result Ending Fault → Option (List ℕ) → Option (List ℕ) → Type 0
 AnswersPlain p task file answer old new =
@@ -78,13 +76,13 @@ AnswersThird p Check file script answer old new = (made : Result Answer Fault) �
 AnswersThird p (Run format fail_on) file script answer old new = AnswersShort p (Run format fail_on) file answer old new
 AnswersThird p (Diff since options) file script answer old new = AnswersShort p (Diff since options) file answer old new
 AnswersThird p Drill file script answer old new = AnswersShort p Drill file answer old new
-AnswersThird p (Convert conversion) file list answer old new = AnswersTask untitled (Convert conversion) file list answer old new
+AnswersThird p (Convert conversion) file list answer old new = AnswersTask untitled None (Convert conversion) file list answer old new
 AnswersThird p (Fit format) file script answer old new = AnswersShort p (Fit format) file answer old new
 AnswersThird p (Why question) file script answer old new = AnswersShort p (Why question) file answer old new
 
 -- the answer to a task with a script of any version, in the file of this name
 abbrev pub AnswersOf : Option Plain → Task → List ℕ → List ℕ → Result Ending Fault → Option (List ℕ) → Option (List ℕ) → Type 0
-AnswersOf None task file script answer old new = AnswersTask untitled task file script answer old new
+AnswersOf None task file script answer old new = AnswersTask untitled None task file script answer old new
 AnswersOf (Some p) task file script answer old new = AnswersThird p task file script answer old new
 
 abbrev pub AnswersBytes : Task → List ℕ → List ℕ → Result Ending Fault → Option (List ℕ) → Option (List ℕ) → Type 0

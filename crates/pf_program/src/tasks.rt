@@ -1,4 +1,4 @@
-ghost use Rattle.std.specs.Prelude.{◌≡◌, ◌-◌, ◌^◌, ◌<◌, ◌≤◌, [], length, IfOk, IfErr};
+ghost use Rattle.std.specs.Prelude.{◌≡◌, ◌-◌, ◌^◌, ◌<◌, ◌≤◌, [], length, option_map, IfOk, IfErr};
 ghost use Rattle.pf_fault.specs.Faults.{CountsWrites, IsUnwritten};
 ghost use Rattle.pf_stream.specs.Reading.{longest_script};
 ghost use Rattle.pf_convert_words.specs.Reading.{IsConversion};
@@ -18,6 +18,7 @@ use pf_fault::ending::Ending;
 use pf_fault::fault::Fault;
 use pf_fit_command::fit::fit;
 use pf_names::titles::Titles;
+use pf_plain::origin::Origin;
 use pf_stream::sink::Sink;
 use pf_why_answer::why::why;
 use pf_words::task::Task;
@@ -25,8 +26,9 @@ use std::alloc::Global;
 use std::sync::Wait;
 use std::thread::Threads;
 
-/// Does a task with a script of these bytes, which has these titles, or with a list of tasks, in the file of this name, and writes what it answers. Threads are started for a drill alone, and the call
-/// waits for them. The writer's count of failures must be below `u64::MAX` before the call.
+/// Does a task with a script of these bytes, which has these titles, or with a list of tasks, in the file of this name, and writes
+/// what it answers. Where the script belongs to one of version 3, `origins` are the records there that its own come from. Threads
+/// are started for a drill alone, and the call waits for them. The writer's count of failures must be below `u64::MAX` before the call.
 ///
 /// # Errors
 ///
@@ -37,23 +39,29 @@ pub(crate) fn do_task<H: AllocGlobal + Threads + Wait + Sync, W: Sink>(
     file: &[u8],
     script: &[u8],
     titles: &Titles,
+    origins: Option<&[Origin]>,
     writer: &mut W,
 ) -> Result<Ending, Fault>
     requires short { length script.now ≤ longest_script }
     requires sound { IsSound task }
     requires writes { W.failed writer.old < 2 ^ 64 - 1 }
-    ensures answers { AnswersTask titles.now task file.now script.now result (W.contents writer.old) (W.contents writer.new) }
+    ensures answers { AnswersTask titles.now (option_map (λ o. o.now) origins.entry) task file.now script.now result (W.contents writer.old) (W.contents writer.new) }
     ensures quiet { IsOfScript task → IfOk result IsQuietIfDone }
     ensures writes { CountsWrites result (W.failed writer.old) (W.failed writer.new) }
 {
     let alloc = rt.alloc();
     match task {
-        Task::Run(format, fail_on) => run(alloc, script, writer, format, titles, fail_on),
+        Task::Run(format, fail_on) => {
+            run(alloc, script, writer, format, titles, origins, fail_on)
+        }
         Task::Check => check(alloc, script, writer),
         Task::Diff(since, options) => write_answer(diff(alloc, script, since, options), writer),
         Task::Drill => write_answer(drill(rt, alloc, script, &OpenGate), writer),
         Task::Convert(asked) => write_answer(convert_list(alloc, script, &asked), writer),
-        Task::Fit(format) => write_answer(fit(alloc, format, file, script, None, titles), writer),
+        Task::Fit(format) => write_answer(
+            fit(alloc, format, file, script, origins, titles),
+            writer,
+        ),
         Task::Why(question) => write_answer(why(alloc, script, &titles.names, &question), writer),
     }
 }

@@ -1,9 +1,9 @@
-ghost use Rattle.std.specs.Prelude.{◌≡◌, ◌-◌, ◌^◌, ◌<◌, ◌≤◌, [], length, Some, IfOk, IfErr};
+ghost use Rattle.std.specs.Prelude.{◌≡◌, ◌-◌, ◌^◌, ◌<◌, ◌≤◌, [], length, IfOk, IfErr};
 ghost use Rattle.pf_fault.specs.Faults.{CountsWrites, IsUnwritten};
 ghost use Rattle.pf_stream.specs.Reading.{longest_script};
 ghost use Rattle.pf_plain.specs.Plain.{IsPlain, Plain};
 ghost use Rattle.pf_words.specs.Asked.{IsSound};
-ghost use Rattle.pf_program.specs.Tasks.{FitMade, IsOfScript, IsQuietIfDone};
+ghost use Rattle.pf_program.specs.Tasks.{IsOfScript, IsQuietIfDone};
 ghost use Rattle.pf_program.specs.Versions.{AnswersBytes, AnswersRecords, AnswersShort, AnswersThird, IsChecked, count_below, number_from, numbered, numbered_fault, since_in, task_in};
 
 use crate::answering::write_answer;
@@ -12,8 +12,6 @@ use pf_check3::check::third_check;
 use pf_fault::answer::Answer;
 use pf_fault::ending::Ending;
 use pf_fault::fault::Fault;
-use pf_fit_command::fit::fit;
-use pf_fit_text::fit_format::FitFormat;
 use pf_names::titles::Titles;
 use pf_plain::origin::Origin;
 use pf_plain::plain::{PlainScript, plain_script};
@@ -45,7 +43,15 @@ pub(crate) fn do_script<H: AllocGlobal + Threads + Wait + Sync, W: Sink>(
     ensures writes { CountsWrites result (W.failed writer.old) (W.failed writer.new) }
 {
     match task {
-        Task::Convert(_) => do_task(rt, task, file, script, &Titles::none(rt.alloc()), writer),
+        Task::Convert(_) => do_task(
+            rt,
+            task,
+            file,
+            script,
+            &Titles::none(rt.alloc()),
+            None,
+            writer,
+        ),
         _ => do_version(rt, task, file, script, writer),
     }
 }
@@ -67,7 +73,15 @@ fn do_version<H: AllocGlobal + Threads + Wait + Sync, W: Sink>(
 {
     match plain_script(rt.alloc(), script) {
         Ok(Some(plain)) => do_third(rt, task, file, script, &plain, writer),
-        Ok(None) => do_task(rt, task, file, script, &Titles::none(rt.alloc()), writer),
+        Ok(None) => do_task(
+            rt,
+            task,
+            file,
+            script,
+            &Titles::none(rt.alloc()),
+            None,
+            writer,
+        ),
         Err(_) => Err(Fault::NoMemory),
     }
 }
@@ -115,7 +129,7 @@ fn do_plain<H: AllocGlobal + Threads + Wait + Sync, W: Sink>(
     numbered(&plain.origins, answer)
 }
 
-/// The same by the numbers that records have in this script.
+/// The same, with bad records by the numbers that they have in this script.
 fn do_records<H: AllocGlobal + Threads + Wait + Sync, W: Sink>(
     rt: &H,
     task: Task,
@@ -130,34 +144,16 @@ fn do_records<H: AllocGlobal + Threads + Wait + Sync, W: Sink>(
     ensures quiet { IfOk result IsQuietIfDone }
     ensures writes { CountsWrites result (W.failed writer.old) (W.failed writer.new) }
 {
-    match task {
-        Task::Fit(format) => write_answer(fit_titled(rt.alloc(), format, file, plain), writer),
-        _ => {
-            let told = task_in(task, plain);
-            do_task(rt, told, file, &plain.text, &plain.titles, writer)
-        }
-    }
-}
-
-/// The answer to whether this script of version 2 fits, by the records and the names of that of version 3.
-fn fit_titled(
-    alloc: Global,
-    format: FitFormat,
-    file: &[u8],
-    plain: &PlainScript,
-) -> Result<Answer, Fault>
-    ensures made { FitMade format file.now (Some plain.now.origins.items) plain.now.titles plain.now.text.items result }
-    ensures unwritten { IfErr result IsUnwritten }
-    ensures quiet { IfOk result (λ answer. answer.ending.notes.items ≡ []) }
-{
+    let told = task_in(task, plain);
     let origins = plain.origins.as_slice();
-    fit(
-        alloc,
-        format,
+    do_task(
+        rt,
+        told,
         file,
         &plain.text,
-        Some(origins),
         &plain.titles,
+        Some(origins),
+        writer,
     )
 }
 

@@ -12,4 +12,6 @@ pub mod Anew
 pub mod Whole
 pub mod Examples
 pub mod Desks
+pub mod Unrefused
 pub mod Rerun
+pub mod Titled

@@ -5,3 +5,4 @@ pub mod Whole
 pub mod Examples
 pub mod Asked
 pub mod Rerun
+pub mod Titled

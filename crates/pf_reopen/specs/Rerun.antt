@@ -1,8 +1,9 @@
 -- A desk's script, run by the program.
-use Rattle.std.specs.Prelude.{◌≡◌, ℕ, List, ◌++◌, length, map}
+use Rattle.std.specs.Prelude.{◌≡◌, ℕ, None, List, [], ◌++◌, length, map}
 use Rattle.pf_run.specs.RunRows.{AreOfRun}
 use Rattle.pf_desk.specs.Desk.{Seen}
 use Rattle.pf_names.specs.Titled.{untitled}
+use Rattle.pf_names.specs.declared.titles.Titles.{Titles}
 use Rattle.pf_report.specs.Script.{script_text_of}
 use Rattle.pf_options.specs.declared.format.Format.{Format}
 use Rattle.pf_options.specs.declared.format.Format.TheVariants.{Schedule, Lags, Misses, Script}
@@ -29,30 +30,33 @@ abbrev pub replies_again : Format → ℕ → Seen → List ℕ
 replies_again format every seen =
     text_if_replies format (ready_line ++ reply_lines (opening_course every seen.state.plan.settings) (script_commands seen.state))
 
--- the report of what was seen, where the format can be shown of the slots stepped, and else nothing
-abbrev pub report_of : Format → ℕ → Seen → Meaning
-report_of format every seen = text_unless (range_fault format seen.state.now) (report_text format every seen untitled)
+-- the report of what was seen, with these titles and no refused record, where the format can be shown of the slots stepped, and
+-- else nothing
+abbrev pub report_of : Format → Titles → ℕ → Seen → Meaning
+report_of format titles every seen = text_unless (range_fault format seen.state.now) (report_text format every seen titles [])
 
 -- a script can be written of the snapshot, and its rows and denials are those of its scenario
 pub record CanBeRerun (every : ℕ) (seen : Seen) : Type 0 where
   pub written : CanBeWritten every seen
   pub of_run : AreOfRun seen.state.plan seen.state.now seen.rows seen.denials
 
--- Scripts run again: in any format the script of a snapshot means the replies, and then the report of what was seen.
+-- Scripts run again: in any format, and with any titles, the script of a snapshot means the replies, and then the report of what
+-- was seen.
 abbrev pub ScriptsRunAgain : Type 0
 ScriptsRunAgain =
-    (every : ℕ) (seen : Seen) → CanBeRerun every seen → (format : Format)
-    → script_meaning format untitled (script_text_of every seen untitled) ≡ text_and_then (replies_again format every seen) (report_of format every (seen_again seen))
+    (every : ℕ) (seen : Seen) → CanBeRerun every seen → (titles : Titles) (format : Format)
+    → script_meaning format titles None (script_text_of every seen untitled)
+    ≡ text_and_then (replies_again format every seen) (report_of format titles every (seen_again seen))
 
 -- in this format the script means the report of what was seen, byte for byte
-abbrev pub IsWrittenAgain : ℕ → Seen → Format → Type 0
-IsWrittenAgain every seen format = script_meaning format untitled (script_text_of every seen untitled) ≡ report_of format every seen
+abbrev pub IsWrittenAgain : ℕ → Seen → Titles → Format → Type 0
+IsWrittenAgain every seen titles format = script_meaning format titles None (script_text_of every seen untitled) ≡ report_of format titles every seen
 
-pub record AreWrittenAgain (every : ℕ) (seen : Seen) : Type 0 where
-  pub schedule : (range : SlotRange) → IsWrittenAgain every seen (Schedule range)
-  pub lags : IsWrittenAgain every seen Lags
-  pub misses : IsWrittenAgain every seen Misses
-  pub script : IsWrittenAgain every seen Script
+pub record AreWrittenAgain (every : ℕ) (seen : Seen) (titles : Titles) : Type 0 where
+  pub schedule : (range : SlotRange) → IsWrittenAgain every seen titles (Schedule range)
+  pub lags : IsWrittenAgain every seen titles Lags
+  pub misses : IsWrittenAgain every seen titles Misses
+  pub script : IsWrittenAgain every seen titles Script
 
 abbrev pub ScheduleIsWrittenAgain : Type 0
-ScheduleIsWrittenAgain = (every : ℕ) (seen : Seen) → CanBeRerun every seen → AreWrittenAgain every seen
+ScheduleIsWrittenAgain = (every : ℕ) (seen : Seen) → CanBeRerun every seen → (titles : Titles) → AreWrittenAgain every seen titles

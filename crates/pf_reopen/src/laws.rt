@@ -4,6 +4,7 @@ ghost use Rattle.pf_reopen.specs.Renumbered.{EventsAreNumberedAnew, NumbersChang
 ghost use Rattle.pf_reopen.specs.Reopen.{ScriptsAreReadAgain};
 ghost use Rattle.pf_reopen.specs.Rerun.{ScheduleIsWrittenAgain, ScriptsRunAgain};
 ghost use Rattle.pf_reopen.specs.Taken.{EventsAreTakenAgain};
+ghost use Rattle.pf_reopen.specs.Titled.{TitledScriptsRunAgain};
 ghost use Rattle.pf_reopen.specs.Whole.{CommandsReopenDesks, DesksCanBeReopened};
 
 /// The script of a desk tells what it was written of: the settings, an insert of each event by number, and the steps; no record
@@ -49,8 +50,8 @@ pub fn scripts_reopen_desks()
     ensures { ScriptsReopenDesks }
 {}
 
-/// A run of the script of a snapshot ends with no bad record: it reports what was seen, with the events numbered from 1
-/// on, behind the replies where its format has them.
+/// A run of the script of a snapshot, with whatever titles, ends with no bad record: it reports what was seen, with the events
+/// numbered from 1 on, behind the replies where its format has them.
 pub fn scripts_run_again()
     ensures { ScriptsRunAgain }
 {}
@@ -59,6 +60,12 @@ pub fn scripts_run_again()
 /// it writes the very script that was run.
 pub fn schedule_is_written_again()
     ensures { ScheduleIsWrittenAgain }
+{}
+
+/// The script of a snapshot in version 3, with names of tasks and the length of a slot, run in the format `script`, writes itself
+/// byte for byte.
+pub fn titled_scripts_run_again()
+    ensures { TitledScriptsRunAgain }
 {}
 
 /// A worked example: its events numbered anew, its rows and its denials.

@@ -9,7 +9,7 @@ use Rattle.clap.specs.declared.error.kind.ErrorKind.{ErrorKind}
 use Rattle.clap.specs.declared.error.kind.ErrorKind.TheVariants.{DisplayHelp, DisplayVersion, OutOfMemory}
 use Rattle.pf_options.specs.declared.fail_on.FailOn.{FailOn}
 use Rattle.pf_options.specs.declared.format.Format.{Format}
-use Rattle.pf_options.specs.declared.format.Format.TheVariants.{C, Jobs, Tables, Trace}
+use Rattle.pf_options.specs.declared.format.Format.TheVariants.{C, Full, Html, Jobs, Tables, Trace}
 use Rattle.pf_words.specs.declared.request.Request.{Request}
 use Rattle.pf_words.specs.declared.request.Request.TheVariants.{Do, Compare, Show}
 use Rattle.pf_words.specs.declared.request.WordsFault.{WordsFault}
@@ -76,6 +76,8 @@ abbrev pub range_mistake : Format → Mistake
 range_mistake Jobs = Unranged
 range_mistake Trace = Unranged
 range_mistake C = Unranged
+range_mistake Full = Unranged
+range_mistake Html = Unranged
 range_mistake format = NoRange
 
 -- the format that is named, of the slots of a range

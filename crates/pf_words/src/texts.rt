@@ -51,7 +51,9 @@ Formats:
   jobs        each task's jobs: release, deadline, finish, response, tardiness
   load        load and room, at each slot where one of them changes
   quanta      the schedule, a line for each quantum
+  full        one JSON object: the report with settings, events and figures
   trace       the run as trace events, for Perfetto and chrome://tracing
+  html        a page to look around in, one file
   c           the schedule as a C array
 
 `check` tells of each record that the format does not allow, and where and why, and carries nothing out.

@@ -198,7 +198,7 @@ fn range_mistake(format: Format) -> Mistake
     ensures { result ≡ range_mistake format }
 {
     match format {
-        Format::Jobs | Format::Trace | Format::C => Mistake::Unranged,
+        Format::Jobs | Format::Trace | Format::C | Format::Full | Format::Html => Mistake::Unranged,
         _ => Mistake::NoRange,
     }
 }

@@ -14,12 +14,14 @@ processor; each period divides the base. Only the standard library is needed.
 """
 
 from pfair._desk import Desk
-from pfair._errors import BadRecord, BadSettings, ClosedDesk, OutOfRange, PfairError, Refused, name, sentence
+from pfair._errors import BadRecord, BadSettings, ClosedDesk, OutOfRange, PfairError, Refused
+from pfair._errors import name, record_faults, script_faults, sentence
 from pfair._events import Delay, Event, Join, Leave, Limit
 from pfair._library import VERSION as __version__
 from pfair._told import Denial, Figures, Fit, Lag, Miss, Pick
 
 __all__ = [
     "BadRecord", "BadSettings", "ClosedDesk", "Delay", "Denial", "Desk", "Event", "Figures", "Fit", "Join", "Lag", "Leave",
-    "Limit", "Miss", "OutOfRange", "PfairError", "Pick", "Refused", "__version__", "name", "sentence",
+    "Limit", "Miss", "OutOfRange", "PfairError", "Pick", "Refused", "__version__", "name", "record_faults",
+    "script_faults", "sentence",
 ]

@@ -6,15 +6,19 @@ import threading
 from types import TracebackType
 from typing import Any, Dict, Iterator, List, Optional, Type
 
-from pfair._errors import BadRecord, check, name
+from pfair._errors import BadRecord, check, name, record_faults, script_faults
 from pfair._events import Event, event_of, raw_event, unsigned
-from pfair._library import CALLS, NUMBERS, SIZE, U64, RawBadRecord, RawChange, RawDenial, RawDesk, RawEvent, RawFigures
-from pfair._library import RawFit, RawLag, RawMiss, RawNumbered, RawPick, RawReply, RawSetup, filled
+from pfair._library import CALLS, NUMBERS, SIZE, U64, filled, struct
 from pfair._told import Denial, Figures, Fit, Lag, Miss, Pick
 
 NEVER = (1 << 64) - 1
 
-TEXTS = ("schedule", "lags", "misses", "denials", "events", "script", "json", "processors", "stats")
+TEXTS = (
+    "schedule", "lags", "misses", "denials", "events", "script", "json", "processors", "stats", "chart", "windows", "jobs",
+    "load", "quanta", "trace", "c",
+)
+
+STYLES = ("strips", "stairs")
 
 # Who runs on each processor, or None where it is idle or out of use.
 Row = List[Optional[Pick]]
@@ -43,7 +47,7 @@ class Desk:
         self._processors = processors
 
     def _begin(self, caller: int) -> None:
-        self._raw = RawDesk()
+        self._raw = struct("desk")()
         self._turn = threading.RLock()
         self._caller = unsigned(caller, 32)
 
@@ -53,7 +57,7 @@ class Desk:
         desk = cls.__new__(cls)
         desk._begin(caller)
         desk._carry_out("open_script", script)
-        setup = RawSetup()
+        setup = struct("setup")()
         check(desk._call("settings", setup))
         desk._processors = setup.processors
         return desk
@@ -84,15 +88,15 @@ class Desk:
         if hasattr(self, "_turn"):
             self.close()
 
-    def _edit(self, kind: str, number: int, event: RawEvent, strict: bool) -> int:
-        reply = RawReply()
-        change = RawChange(NUMBERS[kind], unsigned(number), event)
+    def _edit(self, kind: str, number: int, event: Any, strict: bool) -> int:
+        reply = struct("reply")()
+        change = struct("change")(NUMBERS[kind], unsigned(number), event)
         check(self._call("edit", self._caller, change, strict, reply), reply.event, reply.reason)
         return reply.event
 
-    def _what_if(self, text: str, kind: str, number: int, event: RawEvent, strict: bool) -> str:
-        reply = RawReply()
-        change = RawChange(NUMBERS[kind], unsigned(number), event)
+    def _what_if(self, text: str, kind: str, number: int, event: Any, strict: bool) -> str:
+        reply = struct("reply")()
+        change = struct("change")(NUMBERS[kind], unsigned(number), event)
         words = (self._caller, change, strict, reply, text_number(text))
         told: bytes = self._all("what_if", ctypes.c_char, *words, reply=reply)
         return told.decode("ascii")
@@ -107,7 +111,7 @@ class Desk:
 
     def if_struck(self, number: int, text: str = "schedule", strict: bool = False) -> str:
         """The same of a strike."""
-        return self._what_if(text, "STRIKE", number, RawEvent(), strict)
+        return self._what_if(text, "STRIKE", number, struct("event")(), strict)
 
     def insert(self, event: Event, strict: bool = False) -> int:
         """Puts an event into the plan and gives its number.
@@ -123,7 +127,7 @@ class Desk:
 
     def strike(self, number: int, strict: bool = False) -> int:
         """Takes the event of this number out of the plan. Else as insert."""
-        return self._edit("STRIKE", number, RawEvent(), strict)
+        return self._edit("STRIKE", number, struct("event")(), strict)
 
     def run(self, records: str) -> List[str]:
         """Asks for what records say, one after another, as they stand behind the settings in a script of version 2.
@@ -139,10 +143,11 @@ class Desk:
             return self.replies(first)
 
     def _carry_out(self, call: str, records: str) -> None:
-        text, bad = records.encode(), RawBadRecord()
+        text, bad = records.encode(), struct("bad_record")()
         status = self._call(call, self._caller, text, len(text), bad)
         if status == NUMBERS["BAD_RECORD"]:
-            raise BadRecord(bad.number, bad.line, bad.field)
+            faults = record_faults(records) if call == "run" else script_faults(records)
+            raise BadRecord(bad.number, bad.line, bad.field, faults[0])
         check(status)
 
     @property
@@ -178,7 +183,7 @@ class Desk:
 
     def row(self, slot: int) -> Row:
         """Who runs on each processor in a slot. Raises OutOfRange where it was not stepped."""
-        room = (RawPick * self._processors)()
+        room = (struct("pick") * self._processors)()
         check(self._call("row", unsigned(slot), room, len(room)))
         return [Pick(it.task, it.sub) if it.task else None for it in room]
 
@@ -191,7 +196,7 @@ class Desk:
         """All rows as a list, a slot each, with a column for each processor: what pandas.DataFrame takes."""
         return list(self.rows())
 
-    def _all(self, name: str, element: Any, *words: Any, reply: Optional[RawReply] = None) -> Any:
+    def _all(self, name: str, element: Any, *words: Any, reply: Any = None) -> Any:
         """What a call fills, in a room that is made as long as the call asks for."""
         with self._turn:
             status, told = filled(name, element, self._raw, *words)
@@ -200,20 +205,20 @@ class Desk:
 
     def lags(self) -> List[Lag]:
         """How far each task inside is from its fair share, by task."""
-        return [Lag(it.task, it.cost, it.period, it.received, it.scaled) for it in self._all("lags", RawLag)]
+        return [Lag(it.task, it.cost, it.period, it.received, it.scaled) for it in self._all("lags", struct("lag"))]
 
     def misses(self) -> List[Miss]:
         """The missed windows, by deadline, then by task."""
-        raw = self._all("misses", RawMiss)
+        raw = self._all("misses", struct("miss"))
         return [Miss(it.task, it.sub, it.deadline, None if it.ran == NEVER else it.ran) for it in raw]
 
     def denials(self) -> List[Denial]:
         """The denials of the slots stepped, in the order in which the events were taken."""
-        return [Denial(it.slot, it.event, name(it.reason)) for it in self._all("denials", RawDenial)]
+        return [Denial(it.slot, it.event, name(it.reason)) for it in self._all("denials", struct("denial"))]
 
     def figures(self) -> List[Figures]:
         """The figures of each task admitted in a slot stepped, by task."""
-        return [_figures_of(it) for it in self._all("figures", RawFigures)]
+        return [_figures_of(it) for it in self._all("figures", struct("task_figures"))]
 
     def never_misses(self) -> bool:
         """Whether no window can ever be missed, whatever joins, leaves, is delayed and runs early.
@@ -226,39 +231,56 @@ class Desk:
 
     def fits(self) -> Fit:
         """Whether the loads of the slots stepped were within the processors in use, and if not, from which slot on."""
-        raw = RawFit()
+        raw = struct("fit")()
         check(self._call("fits", raw))
         return Fit(None if raw.first == NEVER else raw.first, raw.overload_high << 64 | raw.overload_low)
 
     def events(self) -> Dict[int, Event]:
         """The events held, by number."""
-        return {it.id: event_of(it.event) for it in self._all("events", RawNumbered)}
+        return {it.id: event_of(it.event) for it in self._all("events", struct("numbered"))}
 
     def text(self, kind: str) -> str:
         """A text of the desk as docs/FORMATS.md has it.
 
-        The tables "schedule", "lags", "misses", "denials", "events", "processors" and "stats" are CSV; "script" is for the
-        program pfair; "json" is the whole report.
+        The tables "schedule", "lags", "misses", "denials", "events", "processors", "stats", "windows", "jobs", "load" and
+        "quanta" are CSV; "script" is for the program pfair; "json" is the whole report; "chart" is the schedule in
+        characters; "trace" has the run as trace events, for Perfetto and chrome://tracing; "c" the schedule as a C array.
         """
         text: bytes = self._all("text", ctypes.c_char, text_number(kind))
         return text.decode("ascii")
 
+    def part(self, kind: str, first: int = 0, end: Optional[int] = None) -> str:
+        """The part of a text that has the slots from first on and below end, or all.
+
+        The kind is "schedule", "chart", "windows", "load" or "quanta". Raises OutOfRange, ValueError.
+        """
+        return self._shown("part", first, end, before=(text_number(kind),))
+
     def chart(self, first: int = 0, end: Optional[int] = None) -> str:
         """A chart in characters of the slots from first on and below end, or all. Raises OutOfRange."""
-        return self._shown("chart", first, end)
+        return self.part("chart", first, end)
 
-    def svg(self, first: int = 0, end: Optional[int] = None, cell: int = 20) -> str:
-        """A picture as SVG of these slots, at most 4,096, each `cell` wide, 6 to 40. Raises OutOfRange."""
-        return self._shown("svg", first, end, cell)
+    def svg(
+        self, first: int = 0, end: Optional[int] = None, cell: int = 20, wrap: int = 4096, style: str = "strips"
+    ) -> str:
+        """A picture as SVG of these slots, at most 4,096.
+
+        Each slot is `cell` wide, 6 to 40, and `wrap` of them stand side by side, 1 to 4,096. The style is "strips" or
+        "stairs". Raises OutOfRange, ValueError.
+        """
+        if style not in STYLES:
+            raise ValueError(f"{style!r} is none of {', '.join(STYLES)}")
+        look = struct("look")(unsigned(cell), unsigned(wrap), NUMBERS[style.upper()])
+        return self._shown("svg", first, end, behind=(look,))
 
     def _repr_svg_(self) -> str:
         """What a notebook shows of a desk: its last slots, at most 200."""
         return self.svg(max(0, self.now - 200))
 
-    def _shown(self, name: str, first: int, end: Optional[int], *more: int) -> str:
+    def _shown(self, name: str, first: int, end: Optional[int], before: tuple = (), behind: tuple = ()) -> str:
         with self._turn:
-            slots = (first, self.now if end is None else end, *more)
-            text: bytes = self._all(name, ctypes.c_char, *map(unsigned, slots))
+            slots = map(unsigned, (first, self.now if end is None else end))
+            text: bytes = self._all(name, ctypes.c_char, *before, *slots, *behind)
             return text.decode("ascii")
 
     def report(self) -> Dict[str, Any]:
@@ -273,7 +295,7 @@ def text_number(kind: str) -> int:
     return NUMBERS[kind.upper()]
 
 
-def _figures_of(it: RawFigures) -> Figures:
+def _figures_of(it: Any) -> Figures:
     response = (it.response_least, it.response_greatest) if it.jobs else None
     first = (it.task, it.cost, it.period, it.quanta, it.migrations, it.preemptions, it.jobs)
     return Figures(*first, response, it.missed, it.tardiness, (it.lag_least, it.lag_greatest))

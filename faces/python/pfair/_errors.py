@@ -1,7 +1,7 @@
 """Why a call gave nothing."""
 
 import ctypes
-from typing import Optional
+from typing import List, Optional
 
 from pfair._events import unsigned
 from pfair._library import NUMBERS, filled
@@ -20,7 +20,7 @@ class ClosedDesk(PfairError):
 
 
 class OutOfRange(PfairError):
-    """A slot that was not stepped, or a range of slots that cannot be shown."""
+    """A slot that was not stepped, or a range of slots or a look that cannot be shown."""
 
 
 class Refused(PfairError):
@@ -42,11 +42,33 @@ class Refused(PfairError):
 
 
 class BadRecord(PfairError):
-    """A record is none of a script's: its number, the line on which it begins, and its field at fault, from 1 on."""
+    """A record is none of a script's: its number, the line on which it begins, and its field at fault, from 1 on.
 
-    def __init__(self, number: int, line: int, field: int) -> None:
+    Its text is the line that the program's `check` writes of it.
+    """
+
+    def __init__(self, number: int, line: int, field: int, text: str) -> None:
         self.number, self.line, self.field = number, line, field
-        super().__init__(f"line {line}, record {number}, field {field} is bad")
+        super().__init__(text)
+
+
+def _faults(call: str, records: str) -> List[str]:
+    text = records.encode()
+    status, told = filled(call, ctypes.c_char, text, len(text))
+    if status != NUMBERS["OK"]:
+        raise MemoryError
+    lines: bytes = told
+    return lines.decode("ascii").splitlines()
+
+
+def script_faults(script: str) -> List[str]:
+    """What the program's `check` tells of the bad records of a script: a line for each, where it is and why it is none."""
+    return _faults("script_faults", script)
+
+
+def record_faults(records: str) -> List[str]:
+    """The same of records, as they stand behind the settings in a script of version 2."""
+    return _faults("record_faults", records)
 
 
 def _told(call: str, number: int) -> str:
@@ -72,6 +94,7 @@ _RAISED = {
     NUMBERS["BAD_SETTINGS"]: BadSettings,
     NUMBERS["NOT_OPEN"]: ClosedDesk,
     NUMBERS["OUT_OF_RANGE"]: OutOfRange,
+    NUMBERS["UNKNOWN_KIND"]: ValueError,
 }
 
 

@@ -1,9 +1,9 @@
 """What happens in a slot of a plan."""
 
 from dataclasses import dataclass, fields
-from typing import ClassVar, Union
+from typing import Any, ClassVar, Union
 
-from pfair._library import NUMBERS, RawEvent
+from pfair._library import NUMBERS, struct
 
 
 @dataclass(frozen=True)
@@ -59,10 +59,10 @@ def unsigned(value: int, bits: int = 64) -> int:
     return value
 
 
-def raw_event(event: Event) -> RawEvent:
-    return RawEvent(kind=event.KIND, **{it.name: unsigned(getattr(event, it.name)) for it in fields(event)})
+def raw_event(event: Event) -> Any:
+    return struct("event")(kind=event.KIND, **{it.name: unsigned(getattr(event, it.name)) for it in fields(event)})
 
 
-def event_of(raw: RawEvent) -> Event:
+def event_of(raw: Any) -> Event:
     kind = next(it for it in (Join, Leave, Delay, Limit) if it.KIND == raw.kind)
     return kind(**{it.name: getattr(raw, it.name) for it in fields(kind)})

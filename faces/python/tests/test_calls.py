@@ -1,6 +1,8 @@
 """Each call once, with values worked out by hand from docs/RULES.md."""
 
 import doctest
+import importlib.util
+import json
 import threading
 import unittest
 
@@ -37,8 +39,21 @@ class Calls(unittest.TestCase):
             self.assertTrue(desk.svg(cell=6).endswith("</svg>\n"))
             self.assertTrue(desk._repr_svg_().startswith("<svg "))
             self.assertTrue(desk.text("stats").startswith("task,cost,period,quanta,"))
+            self.assertEqual(desk.part("quanta", 2), "slot,processor,task,sub\n2,0,2,2\n2,1,3,2\n")
+            for kind in ("schedule", "chart", "windows", "load", "quanta"):
+                self.assertEqual(desk.part(kind), desk.text(kind))
+            with self.assertRaises(ValueError):
+                desk.part("jobs")
+            self.assertTrue(desk.text("jobs").startswith("task,job,release,deadline,finish,response,tardiness\n1,1,0,3,"))
+            self.assertIn("[3][2]", desk.text("c"))
+            self.assertIn("traceEvents", json.loads(desk.text("trace")))
+            self.assertEqual(len({desk.svg(), desk.svg(wrap=2), desk.svg(style="stairs")}), 3)
+            with self.assertRaises(ValueError):
+                desk.svg(style="lines")
             with self.assertRaises(OutOfRange):
                 desk.svg(0, 4)
+            with self.assertRaises(OutOfRange):
+                desk.svg(wrap=0)
             report = desk.report()
             self.assertEqual((report["now"], report["entries"]), (3, 6))
             self.assertEqual(report["schedule"], [[list(pick) for pick in row] for row in rows])
@@ -129,13 +144,28 @@ class Calls(unittest.TestCase):
             self.assertEqual((desk.entries, desk.text("script")), (3, "settings,1,2,2,64\njoin,0,1,1,2,0\nstep,2\n"))
         with self.assertRaises(BadRecord) as bad:
             Desk.of_script("settings,65,2,2,64\n")
-        self.assertEqual(str(bad.exception), "line 1, record 1, field 2 is bad")
+        self.assertEqual(str(bad.exception), "line 1, record 1, field 2: 65 is not within 1 to 64")
+
+    def test_what_is_wrong_with_records(self) -> None:
+        self.assertEqual(pfair.script_faults("settings,1,2,2,64\nstep\n"), [])
+        lines = ["line 2, record 2: settings are expected", "line 1, record 1, field 2: 0 is not within 1 to 64"]
+        self.assertEqual(pfair.script_faults("settings,0,2,2,64\nstep\n")[:2], lines[::-1])
+        told = ['line 2, record 2, field 2: "x" is no number of 1 to 15 digits']
+        self.assertEqual(pfair.record_faults("step\nstep,x\n"), told)
 
     def test_names_and_sentences(self) -> None:
         self.assertEqual((pfair.name(16), pfair.sentence(16)), ("JoinTwice", "another event joins the task"))
         for number in (5, -1, 1 << 32):
             with self.assertRaises(ValueError):
                 pfair.name(number)
+
+    @unittest.skipUnless(importlib.util.find_spec("pandas"), "there is no pandas")
+    def test_pandas_takes_a_schedule(self) -> None:
+        import pandas
+
+        with three_of_two_thirds() as desk:
+            desk.advance(3)
+            self.assertEqual(pandas.DataFrame(desk.schedule()).shape, (3, 2))
 
     def test_threads_share_a_desk(self) -> None:
         with three_of_two_thirds() as desk:

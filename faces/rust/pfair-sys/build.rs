@@ -1,4 +1,4 @@
-//! Links libpfair.a, and takes the numbers of its header.
+//! Links libpfair.a, and takes the numbers, structs and calls of its header.
 //!
 //! The library is looked for in PFAIR_LIB_DIR, else in lib/<target>/ beside this file; the header in PFAIR_INCLUDE_DIR, else
 //! beside this file, else where the repository keeps it.
@@ -18,6 +18,72 @@ fn constants(header: &str) -> String {
         }
     }
     text
+}
+
+/// The header without its comments.
+fn code(header: &str) -> String {
+    let mut parts = header.split("/*");
+    let mut text = parts.next().unwrap_or_default().to_string();
+    for part in parts {
+        text += part.split_once("*/").expect("a comment ends").1;
+    }
+    text
+}
+
+/// The name and the type in Rust of what C declares, as `const uint8_t *room`.
+fn declared(text: &str) -> (&str, String) {
+    let (kind, name) = text.trim().rsplit_once(' ').expect("a type and a name");
+    let (constant, kind) = kind.strip_prefix("const ").map_or((false, kind), |kind| (true, kind));
+    let kind = match kind {
+        "uint64_t" => "u64",
+        "uint32_t" => "u32",
+        "int64_t" => "i64",
+        "uint8_t" => "u8",
+        "size_t" => "usize",
+        "void" => "core::ffi::c_void",
+        kind => kind,
+    };
+    match (name.strip_prefix('*'), constant) {
+        (None, _) => (name, kind.to_string()),
+        (Some(name), false) => (name, format!("*mut {kind}")),
+        (Some(name), true) => (name, format!("*const {kind}")),
+    }
+}
+
+/// The structs of the header. Those without a pointer are values.
+fn structs(code: &str) -> String {
+    let mut text = String::new();
+    for part in code.split("typedef struct ").skip(1) {
+        let (name, rest) = part.split_once(" {").expect("a struct has fields");
+        let fields = rest.split_once('}').expect("a struct ends").0;
+        let is_value = !fields.contains('*');
+        let derives = if is_value { "#[derive(Clone, Copy, Debug, Default, PartialEq, Eq)]\n" } else { "" };
+        text += &format!("#[repr(C)]\n{derives}pub struct {name} {{\n");
+        for field in fields.split(';').filter(|it| !it.trim().is_empty()) {
+            let (name, kind) = declared(field);
+            text += &format!("    pub {name}: {kind},\n");
+        }
+        text += "}\n";
+    }
+    text
+}
+
+fn argument(text: &str) -> String {
+    let (name, kind) = declared(text);
+    format!("{name}: {kind}")
+}
+
+/// The calls of the header.
+fn calls(code: &str) -> String {
+    let mut text = String::from("unsafe extern \"C\" {\n");
+    for part in code.split(';').filter(|it| it.contains(" pfair_") && it.trim_end().ends_with(')')) {
+        let (head, rest) = part.split_once('(').expect("a call has arguments");
+        let (name, kind) = declared(head.lines().last().expect("a call has a name"));
+        let takes: Vec<String> = rest.trim_end_matches(')').split(',').map(argument).collect();
+        let gives = if kind.ends_with("c_void") { String::new() } else { format!(" -> {kind}") };
+        text += &format!("    pub fn {name}({}){gives};\n", takes.join(", "));
+    }
+    text + "}\n"
 }
 
 fn header(here: &Path) -> PathBuf {
@@ -42,4 +108,6 @@ fn main() {
     let text = fs::read_to_string(&header).expect("the header can be read");
     let out = PathBuf::from(env::var_os("OUT_DIR").expect("cargo sets it"));
     fs::write(out.join("numbers.rs"), constants(&text)).expect("the folder can be written");
+    let code = code(&text);
+    fs::write(out.join("raw.rs"), structs(&code) + &calls(&code)).expect("the folder can be written");
 }

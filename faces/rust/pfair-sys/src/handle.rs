@@ -1,10 +1,4 @@
-use crate::raw::{
-    pfair_advance, pfair_bad_record, pfair_change, pfair_chart, pfair_close, pfair_denial, pfair_denials, pfair_desk,
-    pfair_edit, pfair_entries, pfair_events, pfair_figures, pfair_fit, pfair_fits, pfair_lag, pfair_lags, pfair_miss,
-    pfair_misses, pfair_name, pfair_never_misses, pfair_now, pfair_numbered, pfair_open, pfair_open_script,
-    pfair_open_wide, pfair_pick, pfair_replies, pfair_reply, pfair_row, pfair_run, pfair_schedule, pfair_sentence,
-    pfair_settings, pfair_setup, pfair_step, pfair_svg, pfair_task_figures, pfair_text, pfair_version, pfair_what_if,
-};
+use crate::raw::*;
 use core::cell::UnsafeCell;
 use core::ptr;
 
@@ -164,28 +158,34 @@ impl Handle {
         unsafe { pfair_text(self.raw.get(), kind, room.as_mut_ptr(), room.len(), count) }
     }
 
-    /// `pfair_schedule`.
-    pub fn schedule(&self, from: u64, to: u64, room: &mut [u8], count: &mut usize) -> u32 {
+    /// `pfair_part`.
+    pub fn part(&self, kind: u64, from: u64, to: u64, room: &mut [u8], count: &mut usize) -> u32 {
         // SAFETY: as in `row`.
-        unsafe { pfair_schedule(self.raw.get(), from, to, room.as_mut_ptr(), room.len(), count) }
-    }
-
-    /// `pfair_chart`.
-    pub fn chart(&self, from: u64, to: u64, room: &mut [u8], count: &mut usize) -> u32 {
-        // SAFETY: as in `row`.
-        unsafe { pfair_chart(self.raw.get(), from, to, room.as_mut_ptr(), room.len(), count) }
+        unsafe { pfair_part(self.raw.get(), kind, from, to, room.as_mut_ptr(), room.len(), count) }
     }
 
     /// `pfair_svg`.
-    pub fn svg(&self, from: u64, to: u64, cell: u64, room: &mut [u8], count: &mut usize) -> u32 {
-        // SAFETY: as in `row`.
-        unsafe { pfair_svg(self.raw.get(), from, to, cell, room.as_mut_ptr(), room.len(), count) }
+    pub fn svg(&self, from: u64, to: u64, look: &pfair_look, room: &mut [u8], count: &mut usize) -> u32 {
+        // SAFETY: as in `row`; the look is a reference.
+        unsafe { pfair_svg(self.raw.get(), from, to, look, room.as_mut_ptr(), room.len(), count) }
     }
 
     fn fill<T>(&self, call: Filling<T>, room: &mut [T], count: &mut usize) -> u32 {
         // SAFETY: as in `row`; the calls passed are those of this shape in `pfair.h`.
         unsafe { call(self.raw.get(), room.as_mut_ptr(), room.len(), count) }
     }
+}
+
+/// `pfair_script_faults`.
+pub fn script_faults(script: &[u8], room: &mut [u8], count: &mut usize) -> u32 {
+    // SAFETY: as in `version`; the script is a slice too, and no two of them overlap.
+    unsafe { pfair_script_faults(script.as_ptr(), script.len(), room.as_mut_ptr(), room.len(), count) }
+}
+
+/// `pfair_record_faults`.
+pub fn record_faults(records: &[u8], room: &mut [u8], count: &mut usize) -> u32 {
+    // SAFETY: as in `script_faults`.
+    unsafe { pfair_record_faults(records.as_ptr(), records.len(), room.as_mut_ptr(), room.len(), count) }
 }
 
 /// `pfair_version`.

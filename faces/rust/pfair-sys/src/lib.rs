@@ -3,8 +3,13 @@
 #![no_std]
 
 mod handle;
-pub mod raw;
 
-pub use handle::{name, sentence, version, Handle};
+/// The calls and structs of `pfair.h`, which documents them.
+#[allow(non_camel_case_types, missing_docs)]
+pub mod raw {
+    include!(concat!(env!("OUT_DIR"), "/raw.rs"));
+}
+
+pub use handle::{name, record_faults, script_faults, sentence, version, Handle};
 
 include!(concat!(env!("OUT_DIR"), "/numbers.rs"));

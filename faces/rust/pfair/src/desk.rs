@@ -1,5 +1,6 @@
 use crate::error::{answer, answer_records};
-use crate::{Change, Denial, Error, Event, Figures, Fit, Lag, Miss, Row, Settings, Text};
+use crate::{record_faults, script_faults};
+use crate::{Change, Denial, Error, Event, Figures, Fit, Lag, Look, Miss, Part, Row, Settings, Text};
 use pfair_sys as sys;
 use pfair_sys::raw::{pfair_bad_record, pfair_fit, pfair_pick, pfair_reply, pfair_setup};
 use pfair_sys::Handle;
@@ -52,7 +53,7 @@ impl Desk {
     pub fn open_script(script: &str) -> Result<Self, Error> {
         let (mut handle, caller) = (Handle::closed(), 0);
         let mut bad = pfair_bad_record::default();
-        answer_records(handle.open_script(caller, script.as_bytes(), &mut bad), bad)?;
+        answer_records(handle.open_script(caller, script.as_bytes(), &mut bad), bad, || script_faults(script))?;
         let mut setup = pfair_setup::default();
         answer(handle.settings(&mut setup), NOTHING)?;
         Ok(Desk { handle, settings: setup.into(), caller })
@@ -165,18 +166,20 @@ impl Desk {
     /// answered. `NoMemory`: the desk answered the first commands.
     ///
     /// ```
-    /// # use pfair::{BadRecord, Desk, Error, Settings};
+    /// # use pfair::{Desk, Error, Settings};
     /// let mut desk = Desk::open(Settings::new(1, 4))?;
     /// assert_eq!(desk.run("join,0,1,3,4,0\nstep,2\n")?, "event 1\nslot 0: 1/1\nslot 1: 1/2\n");
-    /// let records = "step\nstep,none\n";
-    /// assert_eq!(desk.run(records), Err(Error::BadRecord(BadRecord { number: 2, line: 2, field: 2 })));
+    /// let Err(Error::BadRecord(bad)) = desk.run("step\nstep,none\n") else { unreachable!() };
+    /// assert_eq!((bad.number, bad.line, bad.field), (2, 2, 2));
+    /// assert_eq!(bad.to_string(), "line 2, record 2, field 2: \"none\" is no number of 1 to 15 digits");
     /// assert_eq!(desk.replies(3)?, "slot 2: 1/3\n");
     /// # Ok::<(), Error>(())
     /// ```
     pub fn run(&mut self, records: &str) -> Result<String, Error> {
         let first = self.entries();
         let mut bad = pfair_bad_record::default();
-        answer_records(self.handle.run(self.caller, records.as_bytes(), &mut bad), bad)?;
+        let status = self.handle.run(self.caller, records.as_bytes(), &mut bad);
+        answer_records(status, bad, || record_faults(records))?;
         self.replies(first)
     }
 
@@ -331,31 +334,33 @@ impl Desk {
 
 /// Texts of a range of the slots stepped.
 impl Desk {
-    /// The schedule of these slots as CSV.
+    /// The part of a text that has these slots.
     ///
     /// # Errors
     ///
     /// `OutOfRange` where they were not all stepped, `NoMemory`.
-    pub fn schedule(&self, slots: Range<u64>) -> Result<String, Error> {
-        text(|room, count| self.handle.schedule(slots.start, slots.end, room, count))
+    ///
+    /// ```
+    /// # use pfair::{Desk, Event, Part, Settings};
+    /// let mut desk = Desk::open(Settings::new(1, 2))?;
+    /// desk.insert(Event::join(0, 1, 1, 2))?;
+    /// desk.advance(4)?;
+    /// assert_eq!(desk.part(Part::Quanta, 2..4)?, "slot,processor,task,sub\n2,0,1,2\n");
+    /// # Ok::<(), pfair::Error>(())
+    /// ```
+    pub fn part(&self, kind: Part, slots: Range<u64>) -> Result<String, Error> {
+        text(|room, count| self.handle.part(kind.number(), slots.start, slots.end, room, count))
     }
 
-    /// A chart of these slots in characters, at most 80 wide.
+    /// A picture of these slots, at most 4,096, as SVG.
     ///
     /// # Errors
     ///
-    /// As `schedule`.
-    pub fn chart(&self, slots: Range<u64>) -> Result<String, Error> {
-        text(|room, count| self.handle.chart(slots.start, slots.end, room, count))
-    }
-
-    /// A picture of these slots, at most 4,096, as SVG, each `cell` wide, 6 to 40; 20 does for most.
-    ///
-    /// # Errors
-    ///
-    /// As `schedule`; `OutOfRange` for more slots or another width too.
-    pub fn svg(&self, slots: Range<u64>, cell: u64) -> Result<String, Error> {
-        text(|room, count| self.handle.svg(slots.start, slots.end, cell, room, count))
+    /// `OutOfRange` where they were not all stepped, for more slots, and where a number of the look is out of its limits;
+    /// `NoMemory`.
+    pub fn svg(&self, slots: Range<u64>, look: Look) -> Result<String, Error> {
+        let look = look.into();
+        text(|room, count| self.handle.svg(slots.start, slots.end, &look, room, count))
     }
 }
 

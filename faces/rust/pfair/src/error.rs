@@ -4,13 +4,13 @@ use pfair_sys::raw::{pfair_bad_record, pfair_reply};
 use std::fmt;
 
 /// Why a call gave nothing.
-#[derive(Clone, Copy, Debug, PartialEq, Eq)]
+#[derive(Clone, Debug, PartialEq, Eq)]
 pub enum Error {
     /// A number of the settings is out of its limits.
     BadSettings,
     /// Memory was refused: the desk is as before the call.
     NoMemory,
-    /// A slot that was not stepped, or slots that cannot be shown.
+    /// A slot that was not stepped, or slots or a look that cannot be shown.
     OutOfRange,
     /// The desk refused the command: nothing changed but its history.
     Refused(Refusal),
@@ -18,8 +18,8 @@ pub enum Error {
     BadRecord(BadRecord),
 }
 
-/// Where a record is that is none of a script's. All are counted from 1.
-#[derive(Clone, Copy, Debug, PartialEq, Eq)]
+/// A record that is none of a script's: where it is, counted from 1, and why.
+#[derive(Clone, Debug, PartialEq, Eq)]
 pub struct BadRecord {
     /// Its number.
     pub number: u64,
@@ -27,6 +27,8 @@ pub struct BadRecord {
     pub line: u64,
     /// Its field at fault; the first one names the record.
     pub field: u64,
+    /// The line that the program's `check` writes of it.
+    pub text: String,
 }
 
 /// Why the desk refused a command.
@@ -181,12 +183,17 @@ pub(crate) fn answer(status: u32, reply: pfair_reply) -> Result<(), Error> {
     }
 }
 
-/// What a status says of records.
-pub(crate) fn answer_records(status: u32, bad: pfair_bad_record) -> Result<(), Error> {
+/// What a status says of records with these faults.
+pub(crate) fn answer_records(
+    status: u32,
+    bad: pfair_bad_record,
+    faults: impl FnOnce() -> Result<Vec<String>, Error>,
+) -> Result<(), Error> {
     match status {
         sys::PFAIR_BAD_RECORD => {
             let pfair_bad_record { number, line, field } = bad;
-            Err(Error::BadRecord(BadRecord { number, line, field }))
+            let text = faults()?.swap_remove(0);
+            Err(Error::BadRecord(BadRecord { number, line, field, text }))
         }
         status => answer(status, pfair_reply::default()),
     }
@@ -199,11 +206,15 @@ impl fmt::Display for Error {
             Error::NoMemory => sys::PFAIR_NO_MEMORY,
             Error::OutOfRange => sys::PFAIR_OUT_OF_RANGE,
             Error::Refused(refusal) => return write!(f, "refused: {refusal}"),
-            Error::BadRecord(bad) => {
-                return write!(f, "line {}, record {}, field {} is bad", bad.line, bad.number, bad.field)
-            }
+            Error::BadRecord(bad) => return write!(f, "{bad}"),
         };
         f.write_str(&sentence(status).expect("it is a status"))
+    }
+}
+
+impl fmt::Display for BadRecord {
+    fn fmt(&self, f: &mut fmt::Formatter<'_>) -> fmt::Result {
+        f.write_str(&self.text)
     }
 }
 

@@ -21,6 +21,20 @@ pub enum Text {
     Processors,
     /// CSV: the figures of each task.
     Stats,
+    /// The schedule as a chart in characters, at most 80 wide.
+    Chart,
+    /// CSV: the windows of each task.
+    Windows,
+    /// CSV: the jobs of each task.
+    Jobs,
+    /// CSV: load and room, where they change.
+    Load,
+    /// CSV: the schedule with a line for each quantum.
+    Quanta,
+    /// JSON: the run as trace events, for Perfetto and chrome://tracing.
+    Trace,
+    /// The schedule as a C array.
+    C,
 }
 
 impl Text {
@@ -35,7 +49,42 @@ impl Text {
             Text::Json => sys::PFAIR_JSON,
             Text::Processors => sys::PFAIR_PROCESSORS,
             Text::Stats => sys::PFAIR_STATS,
+            Text::Chart => sys::PFAIR_CHART,
+            Text::Windows => sys::PFAIR_WINDOWS,
+            Text::Jobs => sys::PFAIR_JOBS,
+            Text::Load => sys::PFAIR_LOAD,
+            Text::Quanta => sys::PFAIR_QUANTA,
+            Text::Trace => sys::PFAIR_TRACE,
+            Text::C => sys::PFAIR_C,
         };
         number.into()
+    }
+}
+
+/// A text of slots, of which a part can be had.
+#[derive(Clone, Copy, Debug, PartialEq, Eq)]
+pub enum Part {
+    /// As [`Text::Schedule`].
+    Schedule,
+    /// As [`Text::Chart`].
+    Chart,
+    /// As [`Text::Windows`]: the windows that lie in the slots.
+    Windows,
+    /// As [`Text::Load`].
+    Load,
+    /// As [`Text::Quanta`].
+    Quanta,
+}
+
+impl Part {
+    pub(crate) fn number(self) -> u64 {
+        let whole = match self {
+            Part::Schedule => Text::Schedule,
+            Part::Chart => Text::Chart,
+            Part::Windows => Text::Windows,
+            Part::Load => Text::Load,
+            Part::Quanta => Text::Quanta,
+        };
+        whole.number()
     }
 }

@@ -1,5 +1,7 @@
 //! Each call once, with values worked out by hand from docs/RULES.md.
-use pfair::{Change, DenialReason, Desk, Error, Event, Fit, Lag, Miss, Refusal, Settings, Text, WeightFault};
+use pfair::{
+    Change, DenialReason, Desk, Error, Event, Fit, Lag, Look, Miss, Part, Refusal, Settings, Style, Text, WeightFault,
+};
 
 /// Three tasks of 2/3 on two processors: each gets two quanta in three slots.
 fn three_of_two_thirds() -> Desk {
@@ -46,14 +48,48 @@ fn figures_events_and_texts_of_a_plan() {
 fn ranges_of_slots_are_shown() {
     let mut desk = three_of_two_thirds();
     desk.advance(3).unwrap();
-    assert_eq!(desk.schedule(1..2).unwrap(), "slot,p0,p1\n1,1/2,3/1\n");
-    assert!(desk.chart(0..3).unwrap().starts_with("slots 0 to 3 of 3; processors 2; base 3; cap 6\n"));
-    assert!(desk.svg(0..3, 20).unwrap().ends_with("</svg>\n"));
-    assert_eq!(desk.chart(0..4), Err(Error::OutOfRange));
-    assert_eq!(desk.svg(0..3, 41), Err(Error::OutOfRange));
+    assert_eq!(desk.part(Part::Schedule, 1..2).unwrap(), "slot,p0,p1\n1,1/2,3/1\n");
+    assert_eq!(desk.part(Part::Quanta, 2..3).unwrap(), "slot,processor,task,sub\n2,0,2,2\n2,1,3,2\n");
+    assert_eq!(desk.part(Part::Load, 0..3).unwrap(), "slot,load,room\n0,6,6\n");
+    let windows = desk.part(Part::Windows, 0..1).unwrap();
+    assert!(
+        windows.starts_with("task,sub,job,eligible,release,deadline,bit,group,ran,processor\n1,1,1,0,0,2,"),
+        "{windows}"
+    );
+    assert!(desk.part(Part::Chart, 0..3).unwrap().starts_with("slots 0 to 3 of 3; processors 2; base 3; cap 6\n"));
+    assert_eq!(desk.part(Part::Chart, 0..4), Err(Error::OutOfRange));
+    assert_eq!(pfair::version(), "0.3.0");
+}
+
+#[test]
+fn pictures_have_a_look() {
+    let mut desk = three_of_two_thirds();
+    desk.advance(3).unwrap();
+    let usual = desk.svg(0..3, Look::default()).unwrap();
+    assert!(usual.starts_with("<svg ") && usual.ends_with("</svg>\n"));
+    assert_ne!(desk.svg(0..3, Look { wrap: 2, ..Look::default() }).unwrap(), usual);
+    assert_ne!(desk.svg(0..3, Look { style: Style::Stairs, ..Look::default() }).unwrap(), usual);
+    for look in [Look { cell: 41, ..Look::default() }, Look { wrap: 0, ..Look::default() }] {
+        assert_eq!(desk.svg(0..3, look), Err(Error::OutOfRange));
+    }
+    assert_eq!(desk.svg(0..4, Look::default()), Err(Error::OutOfRange));
+}
+
+#[test]
+fn every_text_is_the_whole_of_its_part() {
+    let mut desk = three_of_two_thirds();
+    desk.advance(3).unwrap();
+    let kinds = [Part::Schedule, Part::Chart, Part::Windows, Part::Load, Part::Quanta];
+    let texts = [Text::Schedule, Text::Chart, Text::Windows, Text::Load, Text::Quanta];
+    for (part, whole) in kinds.into_iter().zip(texts) {
+        assert_eq!(desk.part(part, 0..3), desk.text(whole), "{whole:?}");
+    }
     assert!(desk.text(Text::Processors).unwrap().starts_with("processor,quanta,idle,changes\n0,3,0,"));
     assert!(desk.text(Text::Stats).unwrap().starts_with("task,cost,period,quanta,"));
-    assert_eq!(pfair::version(), "0.2.0");
+    let jobs = desk.text(Text::Jobs).unwrap();
+    assert_eq!(jobs.lines().nth(1), Some("1,1,0,3,2,2,0"), "{jobs}");
+    assert!(desk.text(Text::Trace).unwrap().contains("\"ph\":\"X\""));
+    assert!(desk.text(Text::C).unwrap().contains("[3][2]"));
 }
 
 #[test]

@@ -5,7 +5,7 @@
 mod plain;
 mod records;
 
-use pfair::{Change, Desk, Error, Event, Settings, Text};
+use pfair::{Change, Desk, Error, Event, Part, Settings, Text};
 use plain::PlainDesk;
 use records::{record, reply_line, slot_line};
 use std::env;
@@ -84,6 +84,14 @@ fn compare(desk: &Desk, plain: &PlainDesk) {
     assert_eq!(desk.text(Text::Json).unwrap(), plain.json());
 }
 
+/// The tables of quanta and of load are those of the plain desk, in any range of slots.
+fn compare_parts(desk: &Desk, plain: &PlainDesk, random: &mut Random) {
+    let to = random.below(plain.now() + 1);
+    let slots = random.below(to + 1)..to;
+    assert_eq!(desk.part(Part::Quanta, slots.clone()).unwrap(), plain.quanta(slots.clone()));
+    assert_eq!(desk.part(Part::Load, slots.clone()).unwrap(), plain.load(slots));
+}
+
 /// The loads are those of the plain desk, and the laws hold of its own count: without a slot whose load is above the
 /// processors in use no window is missed, and the base times the tardiness of each task is at most the overload.
 fn compare_fit(desk: &Desk, plain: &PlainDesk) {
@@ -117,7 +125,7 @@ struct Seen {
 }
 
 /// Makes a change, by a call or by a record: the number of the event concerned, where it was made, is the same.
-fn edit(desk: &mut Desk, plain: &mut PlainDesk, change: Change, strict: bool, by_record: bool) -> Result<u64, Error> {
+fn edit(desk: &mut Desk, plain: &mut PlainDesk, change: Change, strict: bool, by_record: bool) -> Option<u64> {
     let there = plain.edit(&change, strict);
     let here = match (by_record, strict) {
         (true, _) => {
@@ -128,7 +136,7 @@ fn edit(desk: &mut Desk, plain: &mut PlainDesk, change: Change, strict: bool, by
         (false, false) => desk.edit(change),
     };
     assert_eq!(here, there.map_err(Error::Refused), "{change:?}, strict {strict}");
-    here
+    there.ok()
 }
 
 /// Takes slots, by a call or by records.
@@ -161,15 +169,16 @@ fn round(seed: u64, commands: u64, seen: &mut Seen) {
         } else {
             let change = change(&mut random, processors, plain.now(), given);
             let strict = random.one_in(4);
-            let here = edit(&mut desk, &mut plain, change, strict, number % 3 == 0);
-            given = here.map_or(given, |id| id.max(given));
-            seen.made += u64::from(here.is_ok());
-            promised &= here.is_err() || !brings_a_limit(&change);
+            let made = edit(&mut desk, &mut plain, change, strict, number % 3 == 0);
+            given = made.map_or(given, |id| id.max(given));
+            seen.made += u64::from(made.is_some());
+            promised &= made.is_none() || !brings_a_limit(&change);
         }
         promised = compare_promise(&desk, &plain, promised);
         if number % 8 == 7 || number + 1 == commands {
             compare(&desk, &plain);
             compare_fit(&desk, &plain);
+            compare_parts(&desk, &plain, &mut random);
         }
     }
     seen.promised += u64::from(promised);

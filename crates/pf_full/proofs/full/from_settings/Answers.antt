@@ -13,4 +13,4 @@ returns c =
     c.new-2.ensures ∙ ap₂ (λ a b. a ++ b) (c.new-key.ensures ∙ c.in_ok-from_slice.ensures.items)
     (c.new.ensures ∙ ap₂ (λ a b. a ++ b)
     (c.new-settings.ensures ∙ c.in_ok-settings_text.ensures ∙ ap (λ s. compact_text (settings_data c.args.every s)) c.settings.ensures)
-    (c.new-end.ensures ∙ c.in_ok-from_slice-2.ensures.items))
+    (c.new-end.ensures ∙ c.in_ok-end_text.ensures))

@@ -23,4 +23,4 @@ returns c =
     (items_of (map figures_data (figures_of seen.state.plan (run_of seen.state.plan seen.state.now) seen.rows)))
     (items_of (map lag_data (lags_of seen.state.plan (run_of seen.state.plan seen.state.now))))
     (items_of (map miss_data (misses_of seen.state.plan (run_of seen.state.plan seen.state.now)))) seen.state.now
-    (items_of (map refusal_data c.args.refusals.items)) (items_of (map (array_data sitter_data) seen.rows)) (settings_data c.args.every seen.state.plan.settings)
+    (items_of (map refusal_data c.args.refusals.items)) (items_of (map (array_data sitter_data) seen.rows)) (settings_data c.args.every seen.state.plan.settings) c.args.titles.now

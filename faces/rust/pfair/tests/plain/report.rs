@@ -1,5 +1,7 @@
 use super::PlainDesk;
 use pfair::{Denial, DenialReason, Event, Lag, Miss};
+use std::fmt::Write;
+use std::ops::Range;
 
 fn code(reason: DenialReason) -> u64 {
     match reason {
@@ -70,5 +72,32 @@ impl PlainDesk {
         format!(
             r#"{{"denials":{denials},"entries":{entries},"lags":{lags},"misses":{misses},"now":{now},"schedule":{schedule}}}"#
         )
+    }
+
+    /// The table of the quanta of these slots.
+    pub fn quanta(&self, slots: Range<u64>) -> String {
+        let mut text = String::from("slot,processor,task,sub\n");
+        for slot in slots {
+            for (processor, pick) in self.run.rows[slot as usize].iter().enumerate() {
+                if let Some((task, sub)) = pick {
+                    writeln!(text, "{slot},{processor},{task},{sub}").expect("it is a string");
+                }
+            }
+        }
+        text
+    }
+
+    /// The table of load and room of these slots, where one of them changes.
+    pub fn load(&self, slots: Range<u64>) -> String {
+        let mut text = String::from("slot,load,room\n");
+        let mut before = None;
+        for slot in slots {
+            let (load, room) = self.run.loads[slot as usize];
+            if before != Some((load, room)) {
+                writeln!(text, "{slot},{load},{room}").expect("it is a string");
+            }
+            before = Some((load, room));
+        }
+        text
     }
 }

@@ -1,0 +1,6 @@
+mod Reading
+mod Sizes
+mod Shapes
+mod Opening
+mod Putting
+mod Pushing

@@ -1,0 +1,39 @@
+use Rattle.std.proofs.Common.{rules, ◌≡◌, ◌-◌, ℕ, List, [], ◌∷◌, ◌++◌, length, slice_set, sym, ◌∙◌, ap, arith, length-append}
+use Rattle.pf_journal.specs.Lines.{lines_of, journal_of, texts_of}
+use Rattle.pf_journal.proofs.Reading.{texts_of-all}
+use Rattle.pf_journal.proofs.Pushing.{pushed, pushed_texts}
+use Rattle.pf_journal.proofs.batch.Batch.push.Goals as goal
+
+pub invariant_of-self-2 : goal.invariant_of-self-2
+invariant_of-self-2 c =
+    let had = c.self.inside.bytes.items in
+    let texts = texts_of had in
+    let text = c.args.text.now in
+    let bytes = c.extend_from_slice-2.new.self.items in
+    let gate = c.len-gate.result - 1 in
+    let copied : c.in_ok-added.added.items ≡ text = search rules in
+    let bytes_are : bytes ≡ journal_of texts ++ (text ++ 10 ∷ 35 ∷ []) =
+    c.in_ok-extend_from_slice-2.ensures.items
+    ∙ ap (λ (l : List ℕ). had ++ l) (c.deref.ensures.value ∙ c.in_ok-extend_from_slice.ensures.items ∙ ap (λ (l : List ℕ). l ++ 10 ∷ 35 ∷ []) copied)
+    ∙ ap (λ (l : List ℕ). l ++ (text ++ 10 ∷ 35 ∷ [])) c.self.invariant.0 in
+    let gate_is : gate ≡ length (lines_of texts) = omega (arith, c.len-gate.ensures, ap length c.self.invariant.0, length-append (lines_of texts) (35 ∷ [])) in
+    let whole : slice_set bytes gate 32 ≡ journal_of (texts ++ text ∷ []) = pushed texts text bytes gate bytes_are gate_is in
+    let all : texts_of (slice_set bytes gate 32) ≡ texts ++ text ∷ [] = pushed_texts texts text (texts_of-all had) c.requires.text (slice_set bytes gate 32) whole in
+    (whole ∙ ap (λ (ts : List (List ℕ)). journal_of ts) (sym all), omega (arith, ap length all, length-append texts (text ∷ []), c.self.invariant.1))
+
+pub returns-clause-ok : goal.returns-clause-ok
+returns-clause-ok c =
+    let had = c.self.inside.bytes.items in
+    let texts = texts_of had in
+    let text = c.args.text.now in
+    let bytes = c.extend_from_slice-2.new.self.items in
+    let gate = c.len-gate.result - 1 in
+    let copied : c.in_ok-added.added.items ≡ text = search rules in
+    let bytes_are : bytes ≡ journal_of texts ++ (text ++ 10 ∷ 35 ∷ []) =
+    c.in_ok-extend_from_slice-2.ensures.items
+    ∙ ap (λ (l : List ℕ). had ++ l) (c.deref.ensures.value ∙ c.in_ok-extend_from_slice.ensures.items ∙ ap (λ (l : List ℕ). l ++ 10 ∷ 35 ∷ []) copied)
+    ∙ ap (λ (l : List ℕ). l ++ (text ++ 10 ∷ 35 ∷ [])) c.self.invariant.0 in
+    let gate_is : gate ≡ length (lines_of texts) = omega (arith, c.len-gate.ensures, ap length c.self.invariant.0, length-append (lines_of texts) (35 ∷ [])) in
+    let whole : slice_set bytes gate 32 ≡ journal_of (texts ++ text ∷ []) = pushed texts text bytes gate bytes_are gate_is in
+    let view : texts ≡ c.args.self.now = c.self.view_is in
+    pushed_texts texts text (texts_of-all had) c.requires.text (slice_set bytes gate 32) whole ∙ ap (λ (ts : List (List ℕ)). ts ++ text ∷ []) view

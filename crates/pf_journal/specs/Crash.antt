@@ -1,0 +1,29 @@
+-- A journal at rest, and what a crash may leave of it.
+use Rattle.std.specs.Prelude.{◌≡◌, ◌⊎◌, ℕ, ◌≤◌, true, List, [], ◌∷◌, ◌++◌, length, take}
+use Rattle.std.specs.List.{list_all}
+use Rattle.pf_journal.specs.Lines.{is_text, lines_of, journal_of, heading, records_of}
+
+-- the file ends at this offset with a shut gate
+abbrev pub IsShutAt : ℕ → List ℕ → Type 0
+IsShutAt gate file = file ≡ take gate file ++ 35 ∷ []
+
+-- while bytes are added behind the gate that ends these lines: the gate is shut, or all of them stand behind it
+abbrev pub IsAdding : List ℕ → List ℕ → List ℕ → Type 0
+IsAdding lines added file =
+    ((rest : List ℕ) × (file ≡ lines ++ 35 ∷ rest))
+    ⊎ ((gate : ℕ) × (file ≡ lines ++ gate ∷ added))
+
+-- of a heading its gate was written, and of the rest a part, or any bytes within it
+abbrev pub IsBegun : List ℕ → Type 0
+IsBegun file = (rest : List ℕ) × (length rest ≤ 9) × (file ≡ 32 ∷ rest)
+
+-- the file stands for these records, with all of the new ones or with none of them
+abbrev pub IsBeforeOrAfter : List (List ℕ) → List (List ℕ) → List ℕ → Type 0
+IsBeforeOrAfter records more file = (records_of file ≡ records) ⊎ (records_of file ≡ records ++ more)
+
+-- the file is a journal that ends with a shut gate at this offset
+pub record IsAtRest (file : List ℕ) (gate : ℕ) : Type 0 where
+  pub records : List (List ℕ)
+  pub texts : list_all is_text records ≡ true
+  pub is : file ≡ journal_of (heading ∷ records)
+  pub size : gate ≡ length (lines_of (heading ∷ records))

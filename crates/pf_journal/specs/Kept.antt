@@ -1,0 +1,33 @@
+-- A journal that lines may be added to, and a file as it was found.
+use Rattle.std.specs.Prelude.{◌≡◌, ℕ, Bool, IsTrue, List, length}
+use Rattle.sqlite_disk.specs.Disk.{Only}
+use Rattle.pf_journal.specs.Lines.{lines_of, texts_of}
+use Rattle.pf_journal.specs.Crash.{IsAtRest}
+use Rattle.pf_journal.specs.declared.journal.Journal.{Journal}
+use Rattle.pf_journal.specs.declared.found.Found.{Found}
+
+-- a file that can be used, and all of which is on the disk
+pub record IsSettled {D : Type 0} (seen : D → List ℕ) (may_leave : D → List ℕ → Type 0) (is_usable is_clean : D → Bool) (disk : D) : Type 0 where
+  pub usable : IsTrue (is_usable disk)
+  pub durable : IsTrue (is_clean disk) → Only (seen disk) (may_leave disk)
+
+-- the file of a journal
+abbrev pub disk_of : {D : Type 0} → Journal D → D
+disk_of journal = journal.disk
+
+-- the journal is at rest, all of it on the disk
+pub record IsKept {D : Type 0} (seen : D → List ℕ) (may_leave : D → List ℕ → Type 0) (is_usable is_clean : D → Bool) (journal : Journal D) : Type 0 where
+  pub settled : IsSettled seen may_leave is_usable is_clean journal.disk
+  pub at_rest : IsTrue (is_clean journal.disk) → IsAtRest (seen journal.disk) journal.size
+
+abbrev pub found_disk : {D : Type 0} → Found D → D
+found_disk found = found.disk
+
+abbrev pub found_bytes : {D : Type 0} → Found D → List ℕ
+found_bytes found = found.bytes.items
+
+-- what was found is what the file has
+pub record IsFound {D : Type 0} (seen : D → List ℕ) (may_leave : D → List ℕ → Type 0) (is_usable is_clean : D → Bool) (found : Found D) : Type 0 where
+  pub settled : IsSettled seen may_leave is_usable is_clean found.disk
+  pub bytes : IsTrue (is_clean found.disk) → found.bytes.items ≡ seen found.disk
+  pub size : found.size ≡ length (lines_of (texts_of found.bytes.items))

@@ -1,0 +1,4 @@
+pub mod Lines
+pub mod Crash
+pub mod Kept
+pub mod Batches

@@ -1,0 +1,83 @@
+use std::alloc::{AllocError, Global};
+use std::marker::Model;
+
+/// The lines that a batch has at most.
+const MOST_LINES: usize = 1024;
+
+/// The bytes that its lines have at most: 64 KiB, and the gate and the end of one line.
+const MOST_BYTES: usize = 65_538;
+
+/// Lines that are put into a journal together. Contracts see them as their texts.
+#[derive(Drop)]
+pub struct Batch {
+    /// The lines with open gates, and a shut gate behind them.
+    bytes: Vec<u8>,
+    lines: usize,
+}
+
+impl Model for Batch {
+    ghost use Rattle.std.specs.Prelude.{◌≡◌, ℕ, List, length};
+    ghost use Rattle.pf_journal.specs.Lines.{journal_of, texts_of};
+
+    ghost Value = { List (List ℕ) };
+
+    ghost view = { λ b. texts_of b.bytes.items };
+
+    ghost invariant = { λ b. (b.bytes.items ≡ journal_of (texts_of b.bytes.items)) × (b.lines ≡ length (texts_of b.bytes.items)) };
+}
+
+impl Batch {
+    ghost use Rattle.std.specs.Prelude.{◌≡◌, ◌++◌, ◌∷◌, [], ◌==◌, true, length, IfOk, OnOk, OnErr};
+    ghost use Rattle.std.specs.List.{list_all};
+    ghost use Rattle.pf_journal.specs.Lines.{is_text, journal_of};
+    ghost use Rattle.pf_journal.specs.Batches.{has_room};
+
+    /// A batch without lines.
+    pub fn new(alloc: Global) -> Result<Batch, AllocError>
+        ensures { IfOk result (λ batch. batch ≡ []) }
+    {
+        Ok(Batch {
+            bytes: b"#".to_vec(alloc)?,
+            lines: 0,
+        })
+    }
+
+    /// Whether it has no line.
+    pub fn is_empty(&self) -> bool
+        ensures { result ≡ (length self.now == 0) }
+    {
+        self.lines == 0
+    }
+
+    /// Whether a line fits: a batch has at most 1,024 lines, and 64 KiB beside the gate and the end of one. So each text of at
+    /// most 65,536 bytes fits into an empty one.
+    pub fn has_room(&self, text: &[u8]) -> bool
+        ensures { result ≡ has_room self.now text.now }
+    {
+        self.lines < MOST_LINES && self.bytes.len() + text.len() < MOST_BYTES
+    }
+
+    /// Adds a line. Where memory is refused the batch stays as it was.
+    pub fn push(&mut self, alloc: Global, text: &[u8]) -> Result<(), AllocError>
+        requires text { is_text text.now ≡ true }
+        requires room { has_room self.old text.now ≡ true }
+        ensures ok { OnOk result (self.new ≡ self.old ++ text.now ∷ []) }
+        ensures err { OnErr result (self.new ≡ self.old) }
+    {
+        let mut added = text.to_vec(alloc)?;
+        added.extend_from_slice(b"\n#")?;
+        let gate = self.bytes.len() - 1;
+        self.bytes.extend_from_slice(&added)?;
+        self.bytes[gate] = b' ';
+        self.lines += 1;
+        Ok(())
+    }
+
+    /// Its lines with open gates, and a shut gate behind them.
+    pub(crate) fn bytes(&self) -> &[u8]
+        ensures bytes { result.now ≡ journal_of self.now }
+        ensures texts { list_all is_text self.now ≡ true }
+    {
+        &self.bytes
+    }
+}
