@@ -1,5 +1,5 @@
 -- Texts that are told one behind the other.
-use Rattle.std.proofs.Common.{◌≡◌, ◌+◌, ◌++◌, ◌∷◌, ℕ, List, [], Option, Some, None, arith, refl, sym, ap, subst, ◌∙◌}
+use Rattle.std.proofs.Common.{append_assoc, ◌≡◌, ◌+◌, ◌++◌, ◌∷◌, ℕ, List, [], Option, Some, None, arith, refl, sym, ap, subst, ◌∙◌}
 use Rattle.std.proofs.lemmas.List.{append-nil}
 use Rattle.std.specs.Prelude.{◌≤◌, Bool, true, false, Result, Ok, Err, MatchResult, OnErr, OnOk}
 use Rattle.std.specs.Result.{is_ok}
@@ -61,3 +61,9 @@ kept x = Keeps-refl x
 
 pub told_none : (x : Option (List ℕ)) (a : ℕ) → Tells x x a a []
 told_none x a = record { front = ([], ([], Appends-nil x, refl)); whole = λ e. Appends-nil x }
+
+-- Use: four pieces, each appended to a text.
+pub four_pieces : (old a b c d p q r s : List ℕ) → p ≡ old ++ a → q ≡ p ++ b → r ≡ q ++ c → s ≡ r ++ d → s ≡ old ++ (a ++ (b ++ (c ++ d)))
+four_pieces old a b c d p q r s hp hq hr hs =
+    hs ∙ (ap (λ (x : List ℕ). x ++ d) (hr ∙ ap (λ (x : List ℕ). x ++ c) (hq ∙ ap (λ (x : List ℕ). x ++ b) hp))
+    ∙ (append_assoc ((old ++ a) ++ b) c d ∙ (append_assoc (old ++ a) b (c ++ d) ∙ append_assoc old a (b ++ (c ++ d)))))

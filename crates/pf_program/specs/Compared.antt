@@ -50,7 +50,7 @@ ShowsHad (Err fault) outcome = outcome ≡ Err fault
 
 -- what is to be told of one of two scripts
 abbrev pub pair_noting : Bool → Noting
-pair_noting asked = record { asked = asked; follows = true; range = whole }
+pair_noting asked = record { asked = asked; follows = true; range = Some whole }
 
 -- what is seen at the end of the script of the file that is named, and else of what a reader had left, with its notes
 pub record Shows (file : Option (List ℕ)) (asked : Bool) (outcome : Result Seen Fault) (notes : Result (Vec ℕ Global) Fault)

@@ -1,5 +1,5 @@
 -- What is told behind an answer of a task, or behind its fault.
-use Rattle.std.specs.Prelude.{⊤, ℕ, ◌≡◌, ◌||◌, ◌&&◌, not, Bool, true, false, if◌then◌else◌, List, [], ◌++◌, IfOk, IfSome, Option, Result, Ok, Err, Vec}
+use Rattle.std.specs.Prelude.{⊤, ℕ, ◌≡◌, ◌||◌, ◌&&◌, not, Bool, true, false, if◌then◌else◌, List, [], ◌++◌, IfOk, IfSome, Option, None, Some, Result, Ok, Err, Vec}
 use Rattle.std.specs.declared.alloc.Global.{Global}
 use Rattle.std.specs.declared.io.ErrorKind.{ErrorKind}
 use Rattle.pf_fault.specs.Answers.{status_of}
@@ -15,6 +15,8 @@ use Rattle.pf_options.specs.Formats.{range_of}
 use Rattle.pf_options.specs.Ranges.{whole}
 use Rattle.pf_options.specs.declared.diff_options.DiffOptions.{DiffOptions}
 use Rattle.pf_options.specs.declared.fail_on.FailOn.{FailOn}
+use Rattle.pf_options.specs.declared.format.Format.{Format}
+use Rattle.pf_options.specs.declared.format.Format.TheVariants.{Html}
 use Rattle.pf_options.specs.declared.slot_range.SlotRange.{SlotRange}
 use Rattle.pf_script_notes.specs.Behind.{NotesMade}
 use Rattle.pf_script_notes.specs.Faults.{IsFaultNote}
@@ -32,10 +34,14 @@ is_followed (Convert conversion) = false
 is_followed (Fit format) = false
 is_followed (Why question) = true
 
--- the slots that a task is to show
-abbrev pub shown_range : Task → SlotRange
-shown_range (Run format fail_on) = range_of format
-shown_range task = whole
+-- the slots that a run is to show; a page has no range
+abbrev pub range_shown : Format → Option SlotRange
+range_shown Html = None
+range_shown format = Some (range_of format)
+
+abbrev pub shown_range : Task → Option SlotRange
+shown_range (Run format fail_on) = range_shown format
+shown_range task = Some whole
 
 abbrev pub noting_of : Bool → Task → Noting
 noting_of asked task = record { asked = asked; follows = is_followed task; range = shown_range task }

@@ -5,6 +5,7 @@ ghost use Rattle.pf_program.specs.Noted.{is_followed, noting_behind, noting_of, 
 use pf_fault::ending::Ending;
 use pf_fault::fault::Fault;
 use pf_fault::status::Status;
+use pf_options::format::Format;
 use pf_options::slot_range::SlotRange;
 use pf_words::task::Task;
 
@@ -15,8 +16,8 @@ pub(crate) struct Noting {
     pub(crate) asked: bool,
     /// Whether its notes follow where the task was done.
     pub(crate) follows: bool,
-    /// The slots that the task was to show.
-    pub(crate) range: SlotRange,
+    /// The slots that the task was to show; none of a page, which shows all.
+    pub(crate) range: Option<SlotRange>,
 }
 
 impl Noting {
@@ -52,7 +53,7 @@ impl Noting {
         Noting {
             asked,
             follows: true,
-            range: SlotRange::whole(),
+            range: Some(SlotRange::whole()),
         }
     }
 }
@@ -67,12 +68,13 @@ fn is_followed(task: &Task) -> bool
     }
 }
 
-/// The slots that a task is to show.
-fn shown_range(task: &Task) -> SlotRange
+/// The slots that a task is to show; none of a page, which shows all.
+fn shown_range(task: &Task) -> Option<SlotRange>
     ensures { result ≡ shown_range task.now }
 {
     match task {
-        Task::Run(format, _) => format.range(),
-        _ => SlotRange::whole(),
+        Task::Run(Format::Html, _) => None,
+        Task::Run(format, _) => Some(format.range()),
+        _ => Some(SlotRange::whole()),
     }
 }

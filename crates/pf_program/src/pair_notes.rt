@@ -89,14 +89,14 @@ fn push_sized(text: &mut Vec<u8>, file: &[u8], seen: &Snapshot) -> Result<(), Al
 }
 
 /// Appends so many slots and processors.
-#[tactic(auto, unfolding(crate::specs::Compared::size_text))]
 fn push_size(text: &mut Vec<u8>, slots: u64, processors: u64) -> Result<(), AllocError>
     ensures { OnOk result (text.new.items ≡ text.old.items ++ size_text slots processors) }
 {
     push_number(text, slots)?;
     text.extend_from_slice(b" slots, ")?;
     push_number(text, processors)?;
-    text.extend_from_slice(b" processors")
+    text.extend_from_slice(b" processors")?;
+    Ok(())
 }
 
 /// How many processors it has.

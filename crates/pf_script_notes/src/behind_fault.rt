@@ -2,7 +2,7 @@ ghost use Rattle.std.specs.Prelude.{◌≡◌, List, ℕ, IfOk};
 ghost use Rattle.pf_carry.specs.Carried.{IsOf};
 ghost use Rattle.pf_script.specs.Told.{told};
 ghost use Rattle.pf_script_notes.specs.Behind.{IsSlots, IsSlotsOf};
-ghost use Rattle.pf_script_notes.specs.Faults.{IsFaultNote, IsRangeNote};
+ghost use Rattle.pf_script_notes.specs.Faults.{IsFaultNote, IsRangeNote, long_text, outside_text};
 
 use pf_carry::carry::carry;
 use pf_desk::desk::Desk;
@@ -10,14 +10,14 @@ use pf_fault::fault::Fault;
 use pf_fault::range_fault::RangeFault;
 use pf_fault_notes::file_fault::{FileFault, file_fault_line};
 use pf_fault_notes::first_fault::first_fault_note;
-use pf_fault_notes::range::{long_note, outside_note};
+use pf_fault_notes::range::{long_note, outside_note, page_note};
 use pf_options::slot_range::SlotRange;
 use pf_plain::plain::plain_script;
 use std::alloc::{AllocError, Global};
 
 /// What is told behind the line of a fault of the script of this file: of a bad record, what a check tells of it; of a script that
-/// is too long, that it is; of a range, which end is beyond, or how many slots it has, for which the script is carried out; of any
-/// other nothing.
+/// is too long, that it is; of a range, which end is beyond, or how many slots it has, for which the script is carried out, and of a
+/// page, which has no range, how many were stepped; of any other nothing.
 ///
 /// # Errors
 ///
@@ -26,7 +26,7 @@ pub fn fault_note(
     alloc: Global,
     file: &[u8],
     script: &[u8],
-    range: SlotRange,
+    range: Option<SlotRange>,
     fault: Fault,
 ) -> Result<Vec<u8>, Fault>
     ensures { IfOk result (λ text. IsFaultNote file.now script.now range fault text.items) }
@@ -43,17 +43,37 @@ pub fn fault_note(
 fn range_note(
     alloc: Global,
     script: &[u8],
-    range: SlotRange,
+    range: Option<SlotRange>,
     why: RangeFault,
 ) -> Result<Vec<u8>, Fault>
     ensures { IfOk result (λ text. IsRangeNote script.now range why text.items) }
 {
     match why {
-        RangeFault::NotWithin(now) => Ok(outside_note(alloc, range, now)?),
+        RangeFault::NotWithin(now) => outside(alloc, range, now),
         RangeFault::TooLong => {
             let now = slots_stepped(alloc, script)?;
-            Ok(long_note(alloc, range.slots(now))?)
+            too_long(alloc, range, now)
         }
+    }
+}
+
+/// Which end of a range is not within the slots stepped.
+fn outside(alloc: Global, range: Option<SlotRange>, now: u64) -> Result<Vec<u8>, Fault>
+    ensures { IfOk result (λ text. text.items ≡ outside_text range now) }
+{
+    match range {
+        Some(range) => Ok(outside_note(alloc, range, now)?),
+        None => Ok(Vec::new(alloc)),
+    }
+}
+
+/// How many slots a picture was asked for, or a page, that may not show so many.
+fn too_long(alloc: Global, range: Option<SlotRange>, now: u64) -> Result<Vec<u8>, Fault>
+    ensures { IfOk result (λ text. text.items ≡ long_text range now) }
+{
+    match range {
+        Some(range) => Ok(long_note(alloc, range.slots(now))?),
+        None => Ok(page_note(alloc, now)?),
     }
 }
 
