@@ -27,3 +27,7 @@ outside_note range now = outside_by (first_of range) range.to now
 -- how many slots a picture was asked for that may not show so many
 abbrev pub long_note : ℕ → List ℕ
 long_note slots = codes "a picture shows at most 4096 slots, and " ++ decimal slots ++ codes " are asked for: --from and --to choose some\n"
+
+-- how many slots were stepped that a page may not show
+abbrev pub page_note : ℕ → List ℕ
+page_note slots = codes "a page shows at most 65536 slots, and " ++ decimal slots ++ codes " were stepped\n"

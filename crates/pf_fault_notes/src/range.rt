@@ -1,6 +1,6 @@
 ghost use Rattle.std.specs.Prelude.{◌≡◌, ◌<◌, ◌++◌, codes, IfOk, OnOk};
 ghost use Rattle.std.specs.Fmt.{decimal};
-ghost use Rattle.pf_fault_notes.specs.Ranges.{above_text, long_note, outside_note, order_note};
+ghost use Rattle.pf_fault_notes.specs.Ranges.{above_text, long_note, outside_note, order_note, page_note};
 
 use pf_options::slot_range::SlotRange;
 use pf_text::numbers::push_number;
@@ -59,5 +59,20 @@ pub fn long_note(alloc: Global, slots: u64) -> Result<Vec<u8>, AllocError>
     text.extend_from_slice(b"a picture shows at most 4096 slots, and ")?;
     push_number(&mut text, slots)?;
     text.extend_from_slice(b" are asked for: --from and --to choose some\n")?;
+    Ok(text)
+}
+
+/// How many slots were stepped that a page may not show.
+///
+/// # Errors
+///
+/// Where memory is refused.
+pub fn page_note(alloc: Global, slots: u64) -> Result<Vec<u8>, AllocError>
+    ensures { IfOk result (λ text. text.items ≡ page_note slots) }
+{
+    let mut text = Vec::new(alloc);
+    text.extend_from_slice(b"a page shows at most 65536 slots, and ")?;
+    push_number(&mut text, slots)?;
+    text.extend_from_slice(b" were stepped\n")?;
     Ok(text)
 }

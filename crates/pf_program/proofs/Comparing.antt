@@ -1,6 +1,8 @@
 -- Two scripts that are compared.
 use Rattle.std.proofs.Common.{◌≡◌, ◌≤◌, ◌<◌, ◌∙◌, ℕ, List, [], length, Option, Some, None, Result, Ok, Err, inl, refl, sym, subst, ap, arith}
 use Rattle.std.proofs.KnownBytes.{Keeps-refl}
+use Rattle.std.specs.Prelude.{Bool, Vec}
+use Rattle.std.specs.declared.alloc.Global.{Global}
 use Rattle.pf_desk.specs.Desk.{Seen}
 use Rattle.pf_fault.specs.declared.ending.Ending.{Ending}
 use Rattle.pf_fault.specs.declared.fault.Fault.{Fault}
@@ -15,6 +17,7 @@ use Rattle.pf_words.specs.Diffs.{PairNames}
 use Rattle.pf_program.specs.Compared.{Shows, ShowsBytes, ShowsOf, ShowsText, ShowsThird}
 use Rattle.pf_program.specs.Status.{ComparesBehind, ComparesScripts, Streams, seen_streams}
 use Rattle.pf_program.specs.Versions.{numbered, numbered_fault}
+use Rattle.pf_program.specs.declared.noted.Noted.{Noted}
 
 -- Use: a fault that comes before anything is written is no failure of the writer.
 pub unwritten_counts : (fault : Fault) (count : ℕ) (answer : Result Ending Fault) → IsUnwritten fault → answer ≡ Err fault → CountsWrites answer count count
@@ -74,26 +77,28 @@ other_shows script outcome made h = inl (by (plain script) made)
     by (Some p) m = absurd m
 
 -- Use: the first script had a fault, ..
-pub first_stops : (names : PairNames) (fault : Fault) (input more : Option (List ℕ)) (reads after : ℕ) (output : Option (List ℕ)) (writes : ℕ)
-    → Shows names.first (Err fault) input reads more after → IsUnwritten fault
-    → ComparesScripts names (Err fault) (seen_streams input reads output writes) (seen_streams more after output writes)
-first_stops names fault input more reads after output writes shows h = record {
+pub first_stops : (names : PairNames) (asked : Bool) (fault : Fault) (notes : Result (Vec ℕ Global) Fault) (input more : Option (List ℕ)) (reads after : ℕ)
+    (output : Option (List ℕ)) (writes : ℕ) → Shows names.first asked (Err fault) notes input reads more after → IsUnwritten fault
+    → ComparesScripts names asked (record { outcome = Err fault; notes = notes }) (seen_streams input reads output writes) (seen_streams more after output writes)
+first_stops names asked fault notes input more reads after output writes shows h = record {
   between = seen_streams more after output writes;
   first = Err fault;
+  first_notes = notes;
   shows = shows;
   unwritten = (refl, refl);
-  answers = (refl, refl, refl, Keeps-refl output);
+  answers = (refl, refl, refl, refl, Keeps-refl output);
   writes = unwritten_counts fault writes (Err fault) h refl;
 }
 
 -- .. or none
-pub first_ends : (names : PairNames) (before : Seen) (answer : Result Ending Fault) (input between : Option (List ℕ)) (reads after : ℕ)
-    (output : Option (List ℕ)) (writes : ℕ) (new : Streams) → Shows names.first (Ok before) input reads between after
-    → ComparesBehind names (Ok before) answer (seen_streams between after output writes) new → CountsWrites answer writes new.failed_writes
-    → ComparesScripts names answer (seen_streams input reads output writes) new
-first_ends names before answer input between reads after output writes new shows answers counts = record {
+pub first_ends : (names : PairNames) (asked : Bool) (before : Seen) (notes : Result (Vec ℕ Global) Fault) (noted : Noted) (input between : Option (List ℕ))
+    (reads after : ℕ) (output : Option (List ℕ)) (writes : ℕ) (new : Streams) → Shows names.first asked (Ok before) notes input reads between after
+    → ComparesBehind names asked (Ok before) notes noted (seen_streams between after output writes) new → CountsWrites noted.outcome writes new.failed_writes
+    → ComparesScripts names asked noted (seen_streams input reads output writes) new
+first_ends names asked before notes noted input between reads after output writes new shows answers counts = record {
   between = seen_streams between after output writes;
   first = Ok before;
+  first_notes = notes;
   shows = shows;
   unwritten = (refl, refl);
   answers = answers;

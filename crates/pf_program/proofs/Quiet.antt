@@ -1,6 +1,8 @@
 -- A status of 0 is that of what was done.
-use Rattle.std.proofs.Common.{◌≡◌, ℕ, refl, arith}
-use Rattle.pf_fault.specs.Faults.{number_of}
+use Rattle.std.proofs.Common.{◌≡◌, ◌≢◌, ℕ, refl, arith}
+use Rattle.pf_fault.specs.Faults.{number_of, status_behind}
+use Rattle.pf_fault.specs.declared.fault.Fault.{Fault}
+use Rattle.pf_fault.specs.declared.fault.Fault.TheVariants as why
 use Rattle.pf_fault.specs.declared.status.Status.{Status}
 use Rattle.pf_fault.specs.declared.status.Status.TheVariants.{Done, BadScript, BadWords, StreamFailed, NoMemory, GateShut, FailedOn}
 
@@ -12,3 +14,14 @@ done_of_zero StreamFailed is = absurd (omega (arith, is))
 done_of_zero NoMemory is = absurd (omega (arith, is))
 done_of_zero GateShut is = absurd (omega (arith, is))
 done_of_zero FailedOn is = absurd (omega (arith, is))
+
+-- Use: no fault has the status 0.
+pub never_zero : (f : Fault) → number_of (status_behind f) ≢ 0
+never_zero (why.BadRecord number) is = absurd (omega (arith, is))
+never_zero why.TooLong is = absurd (omega (arith, is))
+never_zero (why.BadRange range) is = absurd (omega (arith, is))
+never_zero why.Read is = absurd (omega (arith, is))
+never_zero why.Write is = absurd (omega (arith, is))
+never_zero why.NoMemory is = absurd (omega (arith, is))
+never_zero why.NoReader is = absurd (omega (arith, is))
+never_zero why.GateShut is = absurd (omega (arith, is))

@@ -1,5 +1,6 @@
 -- What two scripts come to that are compared: the desks at their ends, and what the program answers to them.
-use Rattle.std.specs.Prelude.{ℕ, ◌≡◌, ◌⊎◌, ◌<◌, ◌≤◌, List, [], length, Option, None, Some, IfOk, IfErr, Result, Ok, Err, Vec}
+use Rattle.std.specs.Prelude.{⊤, ℕ, ◌≡◌, ◌⊎◌, ◌<◌, ◌≤◌, ◌==◌, ◌&&◌, min, if◌then◌else◌, Bool, true, List, [], ◌++◌, codes, length, Option, None, Some, IfOk, IfErr, Result, Ok, Err, Vec}
+use Rattle.std.specs.Fmt.{decimal}
 use Rattle.std.specs.declared.alloc.Global.{Global}
 use Rattle.std.specs.Io.KnownBytes.{Keeps}
 use Rattle.pf_desk.specs.Desk.{Seen}
@@ -15,7 +16,12 @@ use Rattle.pf_options.specs.declared.diff_options.DiffOptions.{DiffOptions}
 use Rattle.pf_cli.specs.Carried.{ShowsEnd}
 use Rattle.pf_cli.specs.Meaning.{outcome_told}
 use Rattle.pf_change.specs.Difference.{difference, told_by}
-use Rattle.pf_program.specs.Source.{IsHad, IsSource}
+use Rattle.pf_options.specs.Ranges.{whole}
+use Rattle.pf_words.specs.Diffs.{PairNames}
+use Rattle.pf_program.specs.Noted.{AreNotes, OneOf, notes_in}
+use Rattle.pf_run_notes.specs.File.{file_text}
+use Rattle.pf_program.specs.Source.{IsHad, IsSource, told_name}
+use Rattle.pf_program.specs.declared.noting.Noting.{Noting}
 use Rattle.pf_program.specs.Tasks.{AnswersMade}
 use Rattle.pf_program.specs.Versions.{numbered}
 
@@ -42,12 +48,56 @@ abbrev pub ShowsHad : Result (Vec ℕ Global) Fault → Result Seen Fault → Ty
 ShowsHad (Ok script) outcome = ShowsBytes script.items outcome
 ShowsHad (Err fault) outcome = outcome ≡ Err fault
 
--- what is seen at the end of the script of the file that is named, and else of what a reader had left
-pub record Shows (file : Option (List ℕ)) (outcome : Result Seen Fault) (old : Option (List ℕ)) (old_failed : ℕ) (new : Option (List ℕ)) (new_failed : ℕ) : Type 0 where
+-- what is to be told of one of two scripts
+abbrev pub pair_noting : Bool → Noting
+pair_noting asked = record { asked = asked; follows = true; range = Some whole }
+
+-- what is seen at the end of the script of the file that is named, and else of what a reader had left, with its notes
+pub record Shows (file : Option (List ℕ)) (asked : Bool) (outcome : Result Seen Fault) (notes : Result (Vec ℕ Global) Fault)
+    (old : Option (List ℕ)) (old_failed : ℕ) (new : Option (List ℕ)) (new_failed : ℕ) : Type 0 where
   pub script : Result (Vec ℕ Global) Fault
   pub had : IsHad script
   pub source : IsSource file script old old_failed new new_failed
   pub shows : ShowsHad script outcome
+  pub noted : AreNotes (pair_noting asked) (told_name file) script outcome notes
+
+-- how many slots a script stepped, on how many processors
+unfoldable pub size_text : ℕ → ℕ → List ℕ
+size_text slots processors = decimal slots ++ codes " slots, " ++ decimal processors ++ codes " processors"
+
+abbrev pub size_of : Seen → List ℕ
+size_of seen = size_text seen.state.now seen.state.plan.settings.processors
+
+-- where these differ, those of each script and those that are compared, as a line
+abbrev pub are_as_large : Seen → Seen → Bool
+are_as_large before after =
+    (before.state.now == after.state.now) && (before.state.plan.settings.processors == after.state.plan.settings.processors)
+
+unfoldable pub sized_text : List ℕ → Seen → List ℕ
+sized_text file seen = file_text file ++ codes ": " ++ size_of seen ++ codes "; "
+
+unfoldable pub sizes_line : List ℕ → List ℕ → Seen → Seen → List ℕ
+sizes_line first second before after =
+    sized_text first before ++ sized_text second after ++ codes "compared: "
+    ++ size_text (min before.state.now after.state.now) (min before.state.plan.settings.processors after.state.plan.settings.processors) ++ codes "\n"
+
+abbrev pub sizes_note : PairNames → Seen → Seen → List ℕ
+sizes_note names before after =
+    if are_as_large before after then [] else sizes_line (told_name names.first) (told_name names.second) before after
+
+-- the notes of two scripts that were compared: where their sizes differ, these; then those of the first, and those of the second
+abbrev pub JoinsNotes : Result (Vec ℕ Global) Fault → List ℕ → Result (Vec ℕ Global) Fault → Result (Vec ℕ Global) Fault → Type 0
+JoinsNotes (Err fault) sizes first second = ⊤
+JoinsNotes (Ok notes) sizes (Ok first) (Ok second) = notes.items ≡ sizes ++ first.items ++ second.items
+JoinsNotes (Ok notes) sizes first second = ⊥
+
+-- behind the fault of the second one what is told behind that; nothing where the output failed
+abbrev pub PairNotes : PairNames → Bool → Seen → Result Seen Fault → Result (Vec ℕ Global) Fault → Result (Vec ℕ Global) Fault
+    → Result Ending Fault → Result (Vec ℕ Global) Fault → Type 0
+PairNotes names asked before (Err fault) first second answer notes = notes ≡ second
+PairNotes names asked before (Ok after) first second (Ok ending) notes =
+    OneOf asked (JoinsNotes notes (sizes_note names before after) first second) (notes_in notes ≡ [])
+PairNotes names asked before (Ok after) first second (Err fault) notes = notes_in notes ≡ []
 
 -- the answer to two desks
 pub record DifferenceMade (options : DiffOptions) (before after : Seen) (made : Result Answer Fault) : Type 0 where

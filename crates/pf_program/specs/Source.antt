@@ -1,5 +1,6 @@
 -- Where the script of a task is had from.
-use Rattle.std.specs.Prelude.{ℕ, ⊤, ◌≡◌, ◌+◌, ◌<◌, ◌≤◌, List, length, Option, Some, None, IfSome, Result, Ok, Err, Vec}
+use Rattle.std.specs.Prelude.{ℕ, ⊤, ◌≡◌, ◌+◌, ◌<◌, ◌≤◌, List, length, Option, Some, None, IfSome, Result, Ok, Err, Vec, codes}
+use Rattle.std.specs.Option.{unwrap_or}
 use Rattle.std.specs.declared.alloc.Global.{Global}
 use Rattle.pf_fault.specs.declared.fault.Fault.{Fault}
 use Rattle.pf_fault.specs.declared.fault.Fault.TheVariants as why
@@ -32,3 +33,7 @@ pub record IsReaders (script : Result (Vec ℕ Global) Fault) (old : Option (Lis
 abbrev pub IsSource : Option (List ℕ) → Result (Vec ℕ Global) Fault → Option (List ℕ) → ℕ → Option (List ℕ) → ℕ → Type 0
 IsSource None script old old_failed new new_failed = IsReaders script old old_failed new new_failed
 IsSource (Some file) script old old_failed new new_failed = (new ≡ old) × (new_failed ≡ old_failed)
+
+-- the name by which a file is told: `-` for standard input
+abbrev pub told_name : Option (List ℕ) → List ℕ
+told_name file = unwrap_or file (codes "-")

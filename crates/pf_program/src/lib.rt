@@ -4,11 +4,18 @@
 #![tactic(auto)]
 
 mod answering;
+mod ending;
+mod gone;
+mod noted;
+mod notes;
+mod noting;
 mod open_gate;
+mod pair_notes;
 pub mod program;
 mod script_source;
 mod tasks;
 mod two_scripts;
 mod versions;
 
+pub use pf_kept::{kept_writer, pipe};
 pub use pf_stream::{sink, source};

@@ -1,31 +1,42 @@
-ghost use Rattle.std.specs.Prelude.{false, ◌≡◌, ◌≢◌, ◌^◌, ◌-◌, ◌<◌, ◌+◌, ◌⊎◌, ◌==◌, [], if◌then◌else◌, map, IfOk, IfSome, IsSome};
+ghost use Rattle.std.specs.Prelude.{false, true, ◌≡◌, ◌≢◌, ◌^◌, ◌-◌, ◌<◌, ◌≤◌, ◌+◌, [], length, map, IfOk, IfSome, IsSome};
 ghost use Rattle.std.specs.IoError.{error_kind};
-ghost use Rattle.std.specs.Io.KnownBytes.{Appends, Keeps};
-ghost use Rattle.pf_fault.specs.Answers.{status_of};
-ghost use Rattle.pf_stream.specs.Written.{TookFront};
-ghost use Rattle.pf_words.specs.Asked.{IsSound, name_of, reads_input, task_asked};
+ghost use Rattle.std.specs.Io.KnownBytes.{Keeps};
+ghost use Rattle.pf_fault.specs.Faults.{CountsWrites};
+ghost use Rattle.pf_stream.specs.Reading.{longest_script};
+ghost use Rattle.pf_words.specs.Asked.{IsSound, name_of, reads_input, task_asked, telling_asked};
+ghost use Rattle.pf_program.specs.Noted.{AreNotesOf, notes_in, noting_behind, noting_of};
 ghost use Rattle.pf_program.specs.Tasks.{IsOfScript, IsQuietIfDone};
-ghost use Rattle.pf_program.specs.Status.{AnswersWords, IsDone, Tells, seen_streams, status_of_words, told_name, told_of};
+ghost use Rattle.pf_program.specs.Status.{AnswersWords, IsDone, IsPrompted, IsWritten, Tells, seen_streams, status_of_words, told_of};
+ghost use Rattle.pf_program.specs.Versions.{AnswersBytes};
 
-use crate::script_source::read_source;
+use crate::ending::{end, end_unwritten, tell, tell_text};
+use crate::gone::{gone_diff, gone_of};
+use crate::noted::Noted;
+use crate::notes::{notes_behind, unread_note};
+use crate::noting::Noting;
+use crate::script_source::{read_source, told_name};
 use crate::two_scripts::compare_scripts;
 use crate::versions::do_script;
-use pf_fault::ending::Ending;
 use pf_fault::fault::Fault;
 use pf_fault::status::Status;
+use pf_kept::pipe::Pipe;
 use pf_stream::sink::Sink;
 use pf_stream::source::Source;
 use pf_stream::writing::write_out;
 use pf_words::request::{Request, WordsFault};
 use pf_words::task::Task;
 use pf_words::words::read_words;
+use std::alloc::Global;
 use std::convert::AsStr;
-use std::fmt::Display;
 use std::io;
 use std::io::{ErrorKind, Write};
 use std::rt::Files;
 use std::sync::Wait;
 use std::thread::Threads;
+
+/// What a terminal is told before a script is read from it.
+pub const PROMPT: &str =
+    "reading the script from the terminal: end it with Ctrl-D; pfair --help tells more\n";
 
 // What is told where a word is no text.
 const NO_TEXT: &str = "error: invalid UTF-8 was detected in one or more arguments";
@@ -35,7 +46,9 @@ const NO_TEXT: &str = "error: invalid UTF-8 was detected in one or more argument
 /// at gates that are always open and writes what came of that, or converts a list of tasks, or writes help or the version. The
 /// script is that of the file that the words name, and else the reader's, and so is the list; a drill's is always the reader's.
 /// Of two the first is read first, and the second where the first has no fault. Without words the script is run in the format
-/// `Tables`. The text of a fault goes to `faults`, whose own faults are passed over. Answers the status to exit with: 0 where the
+/// `Tables`. The text of a fault goes to `faults`, whose own faults are passed over, and so do notes, where the words ask for them
+/// or name a file: which file, record or word a fault is of, and behind a script that was carried out what was refused, denied and
+/// missed. Where the output fails since nobody reads it any more, nothing is told. Answers the status to exit with: 0 where the
 /// script was done, a check found no fault, a plan or a quantum fits, or help was shown, 1 where the script has a bad record or is
 /// too long, where the list has a fault, or where something differs and the words ask for a status of that, 2 where the words are
 /// refused or mistaken, or ask for slots that can't be shown, 3 where the reader or the writer failed or the file can't be opened
@@ -48,67 +61,108 @@ pub fn main_words<
     H: AllocGlobal + Files + Threads + Wait + Sync,
     S: AsStr,
     R: Source,
-    W: Sink,
+    W: Pipe,
     F: Sink,
 >(rt: &H, words: &[S], reader: &mut R, writer: &mut W, faults: &mut F) -> u8
     requires reads { R.failed reader.old < 2 ^ 64 - 1 }
     requires writes { W.failed writer.old < 2 ^ 64 - 1 }
     requires tells { F.failed faults.old < 2 ^ 64 - 1 }
-    ensures streams { AnswersWords (map S.text words.now) result
+    ensures streams { AnswersWords (map S.text words.now) (W.closed writer.new) result
         (seen_streams (R.remaining reader.old) (R.failed reader.old) (W.contents writer.old) (W.failed writer.old))
         (seen_streams (R.remaining reader.new) (R.failed reader.new) (W.contents writer.new) (W.failed writer.new))
         (Tells (F.contents faults.old) (F.contents faults.new) (F.failed faults.old) (F.failed faults.new)) }
     ensures unread { reads_input (map S.text words.now) ≡ false → reader.new ≡ reader.old }
-    ensures quiet { IfSome (task_asked (map S.text words.now)) IsOfScript → result ≡ 0 → Keeps (F.contents faults.old) (F.contents faults.new) }
+    ensures quiet { IfSome (task_asked (map S.text words.now)) IsOfScript → (telling_asked (map S.text words.now)).notes ≡ false → result ≡ 0 →
+        Keeps (F.contents faults.old) (F.contents faults.new) }
 {
     match read_words(rt.alloc(), words) {
-        Ok(Request::Do(task, file)) => {
-            let outcome = do_asked(rt, task, &file, reader, writer);
-            end(outcome, faults)
+        Ok(Request::Do(task, file, telling)) => {
+            let gone = gone_of(&task);
+            let noted = do_asked(rt, task, &file, telling.notes, reader, writer);
+            end(rt.alloc(), noted, writer.is_closed(), gone, faults)
         }
-        Ok(Request::Compare(pair)) => {
-            let outcome = compare_scripts(rt, &pair, reader, writer);
-            end(outcome, faults)
+        Ok(Request::Compare(pair, telling)) => {
+            let gone = gone_diff(pair.options);
+            let noted = compare_scripts(rt, &pair, telling.notes, reader, writer);
+            end(rt.alloc(), noted, writer.is_closed(), gone, faults)
         }
-        Ok(Request::Show(text)) => show(text.as_str(), writer, faults),
+        Ok(Request::Show(text)) => show(rt.alloc(), text.as_str(), writer, faults),
         Err(fault) => refuse(&fault, faults),
     }
 }
 
-/// Does a task with the script of a file, or of the reader where none is named.
-///
-/// # Errors
-///
-/// Those of reading and of the task.
+/// Does a task with the script of a file, or of the reader where none is named, and has its notes, where they are asked for.
 fn do_asked<H: AllocGlobal + Files + Threads + Wait + Sync, R: Source, W: Sink>(
     rt: &H,
     task: Task,
     file: &Option<String>,
+    notes: bool,
     reader: &mut R,
     writer: &mut W,
-) -> Result<Ending, Fault>
+) -> Noted
     requires sound { IsSound task }
     requires reads { R.failed reader.old < 2 ^ 64 - 1 }
     requires writes { W.failed writer.old < 2 ^ 64 - 1 }
-    ensures done { IsDone task (name_of file.now) result
+    ensures done { IsDone task (name_of file.now) notes result
         (seen_streams (R.remaining reader.old) (R.failed reader.old) (W.contents writer.old) (W.failed writer.old))
         (seen_streams (R.remaining reader.new) (R.failed reader.new) (W.contents writer.new) (W.failed writer.new)) }
     ensures unread { IsSome file.now → reader.new ≡ reader.old }
-    ensures quiet { IsOfScript task → IfOk result IsQuietIfDone }
+    ensures quiet { IsOfScript task → IfOk result.outcome IsQuietIfDone }
+    ensures unasked { notes ≡ false → notes_in result.notes ≡ [] }
 {
     match read_source(rt, file, reader) {
-        Ok(script) => do_script(rt, task, told_name(file), &script, writer),
-        Err(fault) => Err(fault),
+        Ok(script) => do_noted(rt, task, told_name(file), notes, &script, writer),
+        Err(fault) => Noted {
+            outcome: Err(fault),
+            notes: unread_note(rt, notes, file, fault),
+        },
     }
 }
 
-/// The name by which a file is told: `-` for standard input.
-fn told_name(file: &Option<String>) -> &[u8]
-    ensures { result.now ≡ told_name (name_of file.now) }
+/// Does a task with a script of these bytes in the file of this name, and has its notes.
+fn do_noted<H: AllocGlobal + Threads + Wait + Sync, W: Sink>(
+    rt: &H,
+    task: Task,
+    file: &[u8],
+    notes: bool,
+    script: &[u8],
+    writer: &mut W,
+) -> Noted
+    requires short { length script.now ≤ longest_script }
+    requires sound { IsSound task }
+    requires writes { W.failed writer.old < 2 ^ 64 - 1 }
+    ensures answers { AnswersBytes task file.now script.now result.outcome (W.contents writer.old) (W.contents writer.new) }
+    ensures notes { AreNotesOf (noting_behind (noting_of notes task) result.outcome) file.now script.now result.outcome result.notes }
+    ensures quiet { IsOfScript task → IfOk result.outcome IsQuietIfDone }
+    ensures writes { CountsWrites result.outcome (W.failed writer.old) (W.failed writer.new) }
 {
-    match file {
-        Some(name) => name.as_bytes(),
-        None => b"-",
+    let noting = Noting::of(notes, &task);
+    let outcome = do_script(rt, task, file, script, writer);
+    let noting = noting.behind(&outcome);
+    let notes = notes_behind(rt.alloc(), noting, file, script, &outcome);
+    Noted { outcome, notes }
+}
+
+/// Tells a terminal how a script ends that is read from it, where the words have one read and name none, and do not ask for quiet.
+/// The count of failures must be below `u64::MAX` before the call.
+#[tactic(auto, using(crate::proofs::Telling::told_none))]
+pub fn prompt_words<H: AllocGlobal, S: AsStr, F: Sink>(rt: &H, words: &[S], faults: &mut F)
+    requires { F.failed faults.old < 2 ^ 64 - 1 }
+    ensures told { IsPrompted (telling_asked (map S.text words.now)).prompt (Tells (F.contents faults.old) (F.contents faults.new) (F.failed faults.old) (F.failed faults.new)) }
+    ensures few { F.failed faults.new ≤ F.failed faults.old + 1 }
+{
+    if asks_prompt(rt.alloc(), words) {
+        tell_text(PROMPT.as_bytes(), faults);
+    }
+}
+
+/// Whether words have a script read and name none, and do not ask for quiet; where memory is refused for them, they do not.
+fn asks_prompt<S: AsStr>(alloc: Global, words: &[S]) -> bool
+    ensures { result ≡ true → (telling_asked (map S.text words.now)).prompt ≡ true }
+{
+    match read_words(alloc, words) {
+        Ok(Request::Do(_, _, telling)) => telling.prompt,
+        _ => false,
     }
 }
 
@@ -127,19 +181,16 @@ pub fn tell_unread<F: Write>(fault: &io::Error, faults: &mut F) -> u8
 }
 
 /// Writes a text that was asked for, and answers the status.
-fn show<W: Sink, F: Sink>(text: &str, writer: &mut W, faults: &mut F) -> u8
-    requires { W.failed writer.old < 2 ^ 64 - 1 }
-    ensures shown { result ≡ 0 → Appends (W.contents writer.old) (W.contents writer.new) text.now }
-    ensures cut { result ≡ 3 → TookFront (W.contents writer.old) (W.contents writer.new) text.now }
-    ensures writes { W.failed writer.new ≡ W.failed writer.old + (if result == 3 then 1 else 0) }
-    ensures status { (result ≡ 0) ⊎ (result ≡ 3) }
+fn show<W: Pipe, F: Sink>(alloc: Global, text: &str, writer: &mut W, faults: &mut F) -> u8
+    requires writes { W.failed writer.old < 2 ^ 64 - 1 }
+    requires tells { F.failed faults.old < 2 ^ 64 - 1 }
+    ensures shown { IsWritten (W.closed writer.new) result (W.contents writer.old) (W.contents writer.new) (W.failed writer.old) (W.failed writer.new) text.now }
     ensures quiet { result ≡ 0 → Keeps (F.contents faults.old) (F.contents faults.new) }
 {
-    if write_out(writer, text.as_bytes()).is_ok() {
-        return Status::Done.number();
+    match write_out(writer, text.as_bytes()) {
+        Ok(()) => Status::Done.number(),
+        Err(_) => end_unwritten(alloc, b"", writer.is_closed(), Status::Done, faults),
     }
-    tell(&Fault::Write, faults);
-    Fault::Write.status().number()
 }
 
 /// Tells why the words ask for nothing, and answers the status.
@@ -149,7 +200,7 @@ fn refuse<F: Sink>(fault: &WordsFault, faults: &mut F) -> u8
     ensures told { IfSome (told_of fault.now) (Tells (F.contents faults.old) (F.contents faults.new) (F.failed faults.old) (F.failed faults.new)) }
 {
     match fault {
-        WordsFault::Refused(text) => tell_text(text.as_str().as_bytes(), faults),
+        WordsFault::Refused(text) => tell_text(text, faults),
         WordsFault::Mistaken(line) => tell_text(line, faults),
         WordsFault::NoMemory => {
             tell(fault, faults);
@@ -157,37 +208,4 @@ fn refuse<F: Sink>(fault: &WordsFault, faults: &mut F) -> u8
         }
     }
     Status::BadWords.number()
-}
-
-/// Tells a text. A fault of writing it is passed over: it could be told nowhere.
-fn tell_text<F: Sink>(text: &[u8], faults: &mut F)
-    requires { F.failed faults.old < 2 ^ 64 - 1 }
-    ensures { Tells (F.contents faults.old) (F.contents faults.new) (F.failed faults.old) (F.failed faults.new) text.now }
-{
-    let _ = write_out(faults, text);
-}
-
-/// Tells what a task has to tell, or its fault, and answers the status.
-#[tactic(auto, using(crate::proofs::Quiet::done_of_zero))]
-fn end<F: Sink>(outcome: Result<Ending, Fault>, faults: &mut F) -> u8
-    requires { F.failed faults.old < 2 ^ 64 - 1 }
-    ensures status { result ≡ status_of outcome }
-    ensures told { IfOk outcome (λ ending. Tells (F.contents faults.old) (F.contents faults.new) (F.failed faults.old) (F.failed faults.new) ending.notes.items) }
-    ensures quiet { IfOk outcome IsQuietIfDone → result ≡ 0 → Keeps (F.contents faults.old) (F.contents faults.new) }
-{
-    match outcome {
-        Ok(ending) => {
-            tell_text(&ending.notes, faults);
-            ending.status.number()
-        }
-        Err(fault) => {
-            tell(&fault, faults);
-            fault.status().number()
-        }
-    }
-}
-
-/// The text of a fault, as a line. A fault of writing it is passed over: it could be told nowhere.
-fn tell<D: Display, F: Write>(fault: &D, faults: &mut F) {
-    let _ = writeln!(faults, "{fault}");
 }

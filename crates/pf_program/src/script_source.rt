@@ -1,7 +1,7 @@
 ghost use Rattle.std.specs.Prelude.{◌≡◌, ◌-◌, ◌^◌, ◌<◌, ◌≤◌, IfOk, IsSome, vec_len};
 ghost use Rattle.pf_stream.specs.Reading.{longest_script};
 ghost use Rattle.pf_words.specs.Asked.{name_of};
-ghost use Rattle.pf_program.specs.Source.{IsHad, IsSource};
+ghost use Rattle.pf_program.specs.Source.{IsHad, IsSource, told_name};
 
 use pf_fault::fault::Fault;
 use pf_stream::reading::{ReadingFault, read_script};
@@ -29,6 +29,16 @@ pub(crate) fn read_source<H: AllocGlobal + Files, R: Source>(
     match file {
         None => Ok(read_script(rt.alloc(), reader)?),
         Some(path) => Ok(read_file(rt, path.as_str())?),
+    }
+}
+
+/// The name by which a file is told: `-` for standard input.
+pub(crate) fn told_name(file: &Option<String>) -> &[u8]
+    ensures { result.now ≡ told_name (name_of file.now) }
+{
+    match file {
+        Some(name) => name.as_bytes(),
+        None => b"-",
     }
 }
 

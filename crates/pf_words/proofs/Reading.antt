@@ -1,5 +1,5 @@
 -- What clap's answer says of the words.
-use Rattle.std.proofs.Common.{◌≡◌, ◌⊎◌, ◌∙◌, refl, sym, ap, subst, inl, inr, Bool, true, false, option_map, List, [], Option, Some, None, Result, Ok, Err, codes}
+use Rattle.std.proofs.Common.{◌≡◌, ◌⊎◌, ◌∙◌, refl, sym, ap, subst, inl, inr, Bool, true, false, option_map, List, [], Option, Some, None, Result, Ok, Err}
 use Rattle.std.specs.Prelude.{◌↔◌, string_bytes}
 use Rattle.std.specs.Bool.{Decides}
 use Rattle.std.specs.Str.{bytes_eq}
@@ -11,8 +11,8 @@ use Rattle.pf_words.specs.declared.request.Request.{Request}
 use Rattle.pf_words.specs.declared.request.Request.TheVariants.{Do, Compare, Show}
 use Rattle.pf_words.specs.declared.request.WordsFault.{WordsFault}
 use Rattle.pf_words.specs.declared.request.WordsFault.TheVariants.{Refused, Mistaken, NoMemory}
-use Rattle.pf_words.specs.CommandLine.{file_behind, is_named, kinds_of, program, text_behind}
-use Rattle.pf_words.specs.Asked.{IsAsked, IsRequest, IsShown, IsTextOf, ShowsError, file_asked, file_found, mistake_found, pair_asked, pair_found, task_asked, task_found}
+use Rattle.pf_words.specs.CommandLine.{any_behind, is_named, kinds_of, program, text_behind}
+use Rattle.pf_words.specs.Asked.{IsAsked, IsMistakeText, IsRequest, IsShown, IsTextOf, ShowsError, file_asked, file_found, mistake_found, pair_asked, pair_found, task_asked, task_found, telling_asked, telling_of}
 
 -- one function after another over what may be there
 pub option_map-option_map : {X Y Z : Type 0} (f : Y → Z) (g : X → Y) (o : Option X) → option_map f (option_map g o) ≡ option_map (λ x. f (g x)) o
@@ -29,11 +29,11 @@ behind_named name option (Some p) rows named here =
     let is_rows : p.1 ≡ rows = cc in
     rw (same, is_rows) refl
 
--- the text of FILE is that of the subcommand's rows
-pub behind_any : (found : Option (Text × List Row)) (rows : List Row) → option_map (λ p. p.1) found ≡ Some rows
-    → first_of (codes "file") rows ≡ file_behind found
-behind_any None rows here = cc
-behind_any (Some p) rows here =
+-- whichever that is, the text is that of its rows
+pub behind_any : (option : Text) (found : Option (Text × List Row)) (rows : List Row) → option_map (λ p. p.1) found ≡ Some rows
+    → first_of option rows ≡ any_behind option found
+behind_any option None rows here = cc
+behind_any option (Some p) rows here =
     let is_rows : p.1 ≡ rows = cc in
     rw is_rows refl
 
@@ -64,14 +64,23 @@ taken_file : (words : List Text) (found : Option (Text × List Row)) → kinds_o
 unfolding file_asked
 taken_file words found taken is = rw (taken, is) refl
 
+-- what is to be told, by the same
+taken_telling : (words : List Text) (found : Option (Text × List Row)) → kinds_of words ≡ [] → found ≡ subcommand_of program words
+    → telling_of found ≡ telling_asked words
+unfolding telling_asked
+taken_telling words found taken is = rw (taken, is) refl
+
 -- words that the grammar takes
 pub taken_words : (words : List Text) (found : Option (Text × List Row)) (answer : Result Request WordsFault) → kinds_of words ≡ []
     → found ≡ subcommand_of program words → IsRequest found answer → IsAsked words answer
-taken_words words found (Ok (Do task file)) taken is asks = (taken_task words found taken is ∙ asks.0, asks.1 ∙ taken_file words found taken is)
-taken_words words found (Ok (Compare pair)) taken is asks = (taken_task words found taken is ∙ asks.0, taken_pair words found taken is ∙ asks.1)
+taken_words words found (Ok (Do task file telling)) taken is asks =
+    (taken_task words found taken is ∙ asks.0, asks.1 ∙ taken_file words found taken is, asks.2 ∙ taken_telling words found taken is)
+taken_words words found (Ok (Compare pair telling)) taken is asks =
+    (taken_task words found taken is ∙ asks.0, taken_pair words found taken is ∙ asks.1, asks.2 ∙ taken_telling words found taken is)
 taken_words words found (Ok (Show text)) taken is asks = absurd asks
 taken_words words found (Err (Refused text)) taken is asks = absurd asks
-taken_words words found (Err (Mistaken line)) taken is asks = (asks.0, (taken, ap mistake_found (sym is) ∙ asks.1), asks.2)
+taken_words words found (Err (Mistaken text)) taken is asks =
+    (asks.0, (taken, ap mistake_found (sym is) ∙ asks.1), subst (λ (f : Option (Text × List Row)). IsMistakeText f asks.0 text.items) is asks.2)
 taken_words words found (Err NoMemory) taken is asks = tt
 
 -- whether the subcommand has this name
@@ -102,9 +111,9 @@ kind_shown kind text (inr version) = inr version.0
 
 -- words that it does not take, by the kind of its error
 pub untaken_words : (words : List Text) (kind : ErrorKind) (answer : Result Request WordsFault)
-    → (kind ≡ OutOfMemory) ⊎ IsAmong kind (kinds_of words) → ShowsError kind answer → IsAsked words answer
-untaken_words words kind (Ok (Do task file)) among shows = absurd shows
-untaken_words words kind (Ok (Compare pair)) among shows = absurd shows
+    → (kind ≡ OutOfMemory) ⊎ IsAmong kind (kinds_of words) → ShowsError words kind answer → IsAsked words answer
+untaken_words words kind (Ok (Do task file telling)) among shows = absurd shows
+untaken_words words kind (Ok (Compare pair telling)) among shows = absurd shows
 untaken_words words kind (Ok (Show text)) among shows = elim among [
   | inl memory ↦ absurd (not_shown kind memory (kind_shown kind (string_bytes text) shows))
   | inr here ↦ elim shows [

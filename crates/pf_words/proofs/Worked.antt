@@ -3,13 +3,13 @@ use Rattle.std.proofs.Common.{refl, inl, inr}
 use Rattle.clap.proofs.OnLiterals.{clap_on_literals}
 use Rattle.clap.specs.declared.error.kind.ErrorKind.TheVariants as kind
 use Rattle.pf_words.specs.CommandLine.{kinds_of}
-use Rattle.pf_words.specs.Asked.{IsShown, task_asked, pair_asked, file_asked}
+use Rattle.pf_words.specs.Asked.{IsShown, task_asked, pair_asked, file_asked, telling_asked}
 use Rattle.pf_names.specs.Text.{is_text}
 use Rattle.pf_script.specs.Fields.{number_of}
 use Rattle.pf_names.specs.Slots.{unit_named}
 use Rattle.pf_task_list.specs.Times.{few_digits, time_in}
 use Rattle.pf_convert_words.specs.Reading.{conversion_of, first_not_above, format_named, has_quantum, quanta_from, words_from}
-use Rattle.pf_words.specs.Examples.{Runs, Ranged, Pictured, Styled, FailingRuns, Files, Drilled, Differences, Compared, Conversions, Reasons, Fitting, Showable, WorkedWords}
+use Rattle.pf_words.specs.Examples.{Runs, Ranged, Pictured, Styled, FailingRuns, Files, Drilled, Differences, Compared, Conversions, Reasons, Fitting, Told, Showable, WorkedWords}
 
 runs : Runs
 unfolding clap_on_literals kinds_of task_asked
@@ -185,6 +185,22 @@ fitting = record {
   help = inl refl;
 }
 
+told : Told
+unfolding clap_on_literals kinds_of telling_asked
+told = record {
+  none = refl;
+  of_file = refl;
+  dash = refl;
+  asked = refl;
+  checked = refl;
+  quiet = refl;
+  second = refl;
+  list = refl;
+  fits = refl;
+  of_a_fit = (kind.UnknownArgument, unknown_is_not_shown, inl refl);
+  of_a_check = (kind.UnknownArgument, unknown_is_not_shown, inl refl);
+}
+
 pub worked_words : WorkedWords
 unfolding clap_on_literals kinds_of task_asked
 worked_words = record {
@@ -200,6 +216,7 @@ worked_words = record {
   conversions = conversions;
   reasons = reasons;
   fitting = fitting;
+  told = told;
   showable = showable;
   check = refl;
   unknown = (refl, refl);

@@ -1,5 +1,5 @@
 -- What the words ask for.
-use Rattle.std.specs.Prelude.{◌≡◌, ◌≢◌, ◌⊎◌, ℕ, Bool, false, not, ◌&&◌, is_some, if◌then◌else◌, List, [], Option, Some, None, option_map, Result, Ok, Err, codes, unwrap_or, String, string_bytes, ⊤}
+use Rattle.std.specs.Prelude.{◌≡◌, ◌≢◌, ◌⊎◌, ℕ, Bool, false, not, ◌&&◌, ◌||◌, is_some, if◌then◌else◌, List, [], ◌++◌, Option, Some, None, option_map, Result, Ok, Err, codes, unwrap_or, String, string_bytes, ⊤}
 use Rattle.std.specs.Result.{result_ok, result_err}
 use Rattle.std.specs.Str.{bytes_eq}
 use Rattle.std.specs.declared.alloc.Global.{Global}
@@ -18,6 +18,9 @@ use Rattle.pf_words.specs.declared.mistake.Mistake.{Mistake}
 use Rattle.pf_words.specs.declared.mistake.Mistake.TheVariants as why
 use Rattle.pf_words.specs.declared.mistake.Mistake.TheVariants.{UnknownFormat, BadNumber, NoRange, Unranged, BadCell, NoCell, BadWrap, NoWrap, BadStyle, NoStyle, BadFailOn}
 use Rattle.pf_words.specs.declared.script_pair.ScriptPair.{ScriptPair}
+use Rattle.pf_words.specs.declared.telling.Telling.{Telling}
+use Rattle.pf_words.specs.declared.choices.TheConstants.{CONVERT_FORMATS, RUN_FORMATS, TEXT_FORMATS}
+use Rattle.pf_words.specs.Choices.{IsChoiceNote}
 use Rattle.pf_options.specs.declared.slot_range.SlotRange.{SlotRange}
 use Rattle.pf_words.specs.declared.task.Task.{Task}
 use Rattle.pf_words.specs.declared.task.Task.TheVariants.{Run, Check, Drill, Convert, Fit, Why}
@@ -30,15 +33,17 @@ use Rattle.pf_look.specs.declared.style.Style.{Style}
 use Rattle.pf_words.specs.Diffs.{PairNames, are_two, diff_of, options_of, pair_given, pair_named, second_behind, since_of}
 use Rattle.pf_options.specs.FailLists.{fail_on_named, on_nothing}
 use Rattle.pf_options.specs.Formats.{format_named, format_with_cell, format_with_style, format_with_wrap, format_within}
-use Rattle.pf_words.specs.Texts.{EndsWithLesson, mistake_line, version_line}
-use Rattle.pf_words.specs.CommandLine.{file_behind, is_check, is_convert, is_diff, is_drill, is_fit, is_why, kinds_of, program, text_behind, text_behind_run}
+use Rattle.pf_words.specs.Texts.{EndsWithLesson, IsRefusal, mistake_line, version_line}
+use Rattle.pf_words.specs.CommandLine.{any_flag, file_behind, is_check, is_convert, is_diff, is_drill, is_fit, is_why, kinds_of, program, text_behind, text_behind_run}
 use Rattle.pf_script.specs.Fields.{number_of}
 use Rattle.pf_why_words.specs.Reading.{question_of}
 use Rattle.pf_why_words.specs.declared.mistake.WhyMistake.{WhyMistake}
+use Rattle.pf_why_words.specs.declared.mistake.WhyMistake.TheVariants as asking
 use Rattle.pf_why_words.specs.declared.question.Question.{Question}
 use Rattle.pf_convert_words.specs.Reading.{ConvertTexts, IsConversion, conversion_of}
 use Rattle.pf_convert_words.specs.declared.conversion.Conversion.{Conversion}
 use Rattle.pf_convert_words.specs.declared.mistake.ConvertMistake.{ConvertMistake}
+use Rattle.pf_convert_words.specs.declared.mistake.ConvertMistake.TheVariants as converting
 
 -- without a name the format is `tables`
 abbrev pub format_or_tables : Option Text → Option Format
@@ -244,6 +249,32 @@ file_of (Some text) = if bytes_eq text (codes "-") then None else Some text
 abbrev pub file_found : Option (Text × List Row) → Option Text
 file_found found = if is_drill found then None else file_of (file_behind found)
 
+-- whether a text is the name of a file, and whether a file is named behind a subcommand
+abbrev pub is_file : Option Text → Bool
+is_file name = is_some (file_of name)
+
+abbrev pub names_file : Option (Text × List Row) → Bool
+names_file found = is_file (file_behind found) || is_file (second_behind found)
+
+-- what is to be told: notes of a file, and where `--notes` is there; a prompt where a script has no word; nothing where `--quiet` is
+abbrev pub telling_of : Option (Text × List Row) → Telling
+telling_of found = record {
+  notes = not (any_flag (codes "quiet") found) && (any_flag (codes "notes") found || names_file found);
+  prompt = not (any_flag (codes "quiet") found) && not (is_some (file_behind found)) && not (is_convert found) && not (is_fit found);
+}
+
+-- the names that the text of `--format` is none of, where that is the mistake
+abbrev pub choices_of : Option (Text × List Row) → Mistake → Option Text
+choices_of found UnknownFormat = Some (if is_fit found then TEXT_FORMATS.now else RUN_FORMATS.now)
+choices_of found (why.Why asking.Format) = Some TEXT_FORMATS.now
+choices_of found (why.Convert converting.Format) = Some CONVERT_FORMATS.now
+choices_of found mistake = None
+
+-- what is told of a mistake: its line, and where notes are told, these names
+abbrev pub IsMistakeText : Option (Text × List Row) → Mistake → List ℕ → Type 0
+IsMistakeText found mistake text =
+    (note : List ℕ) × IsChoiceNote (if (telling_of found).notes then choices_of found mistake else None) note × (text ≡ mistake_line mistake ++ note)
+
 -- the two scripts that are to be compared
 abbrev pub pair_of : Option (Text × List Row) → Result PairNames Mistake
 pair_of found = pair_given (since_of found) (pair_named (options_of found) (file_found found) (file_of (second_behind found)))
@@ -268,6 +299,10 @@ pair_asked words = if is_empty (kinds_of words) then pair_found (subcommand_of p
 -- the file that the words name, which is read in place of standard input
 unfoldable pub file_asked : List Text → Option Text
 file_asked words = if is_empty (kinds_of words) then file_found (subcommand_of program words) else None
+
+-- what the words ask to be told; nothing where the grammar does not take them
+unfoldable pub telling_asked : List Text → Telling
+telling_asked words = if is_empty (kinds_of words) then telling_of (subcommand_of program words) else record { notes = false; prompt = false }
 
 -- the text of a file's name
 abbrev pub name_of : Option (String Global) → Option Text
@@ -315,37 +350,37 @@ AreMistaken words mistake = (kinds_of words ≡ []) × (mistake_found (subcomman
 
 -- this answer is what the words ask for; want of memory may stand in place of any
 abbrev pub IsAsked : List Text → Result Request WordsFault → Type 0
-IsAsked words (Ok (Do task file)) = (task_asked words ≡ Some task) × (name_of file ≡ file_asked words)
-IsAsked words (Ok (Compare pair)) = (task_asked words ≡ None) × (pair_asked words ≡ Some (names_of pair))
+IsAsked words (Ok (Do task file telling)) = (task_asked words ≡ Some task) × (name_of file ≡ file_asked words) × (telling ≡ telling_asked words)
+IsAsked words (Ok (Compare pair telling)) = (task_asked words ≡ None) × (pair_asked words ≡ Some (names_of pair)) × (telling ≡ telling_asked words)
 IsAsked words (Ok (Show text)) = IsShownTo words (string_bytes text)
-IsAsked words (Err (Refused text)) = IsRefused words × (string_bytes text ≢ [])
-IsAsked words (Err (Mistaken line)) = (mistake : Mistake) × AreMistaken words mistake × (line.items ≡ mistake_line mistake)
+IsAsked words (Err (Refused text)) = IsRefused words × IsRefusal words text.items
+IsAsked words (Err (Mistaken text)) = (mistake : Mistake) × AreMistaken words mistake × IsMistakeText (subcommand_of program words) mistake text.items
 IsAsked words (Err NoMemory) = Unit {0}
 
 -- this answer is what words ask for that the grammar takes, by what was found of a subcommand
 abbrev pub IsRequest : Option (Text × List Row) → Result Request WordsFault → Type 0
-IsRequest found (Ok (Do task file)) = (task_found found ≡ Some task) × (name_of file ≡ file_found found)
-IsRequest found (Ok (Compare pair)) = (task_found found ≡ None) × (pair_found found ≡ Some (names_of pair))
+IsRequest found (Ok (Do task file telling)) = (task_found found ≡ Some task) × (name_of file ≡ file_found found) × (telling ≡ telling_of found)
+IsRequest found (Ok (Compare pair telling)) = (task_found found ≡ None) × (pair_found found ≡ Some (names_of pair)) × (telling ≡ telling_of found)
 IsRequest found (Ok (Show text)) = ⊥
 IsRequest found (Err (Refused text)) = ⊥
-IsRequest found (Err (Mistaken line)) = (mistake : Mistake) × (mistake_found found ≡ Some mistake) × (line.items ≡ mistake_line mistake)
+IsRequest found (Err (Mistaken text)) = (mistake : Mistake) × (mistake_found found ≡ Some mistake) × IsMistakeText found mistake text.items
 IsRequest found (Err NoMemory) = Unit {0}
 
--- this answer is the two scripts that are asked for
-abbrev pub IsPair : Result PairNames Mistake → Result ScriptPair WordsFault → Type 0
-IsPair asked (Ok pair) = asked ≡ Ok (names_of pair)
-IsPair asked (Err (Refused text)) = ⊥
-IsPair asked (Err (Mistaken line)) = (mistake : Mistake) × (asked ≡ Err mistake) × (line.items ≡ mistake_line mistake)
-IsPair asked (Err NoMemory) = Unit {0}
+-- this answer is the two scripts that are asked for, by what was found of a subcommand
+abbrev pub IsPair : Option (Text × List Row) → Result PairNames Mistake → Result ScriptPair WordsFault → Type 0
+IsPair found asked (Ok pair) = asked ≡ Ok (names_of pair)
+IsPair found asked (Err (Refused text)) = ⊥
+IsPair found asked (Err (Mistaken text)) = (mistake : Mistake) × (asked ≡ Err mistake) × IsMistakeText found mistake text.items
+IsPair found asked (Err NoMemory) = Unit {0}
 
--- what is answered to an error of this kind
-abbrev pub ShowsError : ErrorKind → Result Request WordsFault → Type 0
-ShowsError kind (Ok (Do task file)) = ⊥
-ShowsError kind (Ok (Compare pair)) = ⊥
-ShowsError kind (Ok (Show text)) = IsTextOf (kind ≡ DisplayHelp) (kind ≡ DisplayVersion) (string_bytes text)
-ShowsError kind (Err (Refused text)) = (kind ≢ OutOfMemory) × ¬ IsShown kind × (string_bytes text ≢ [])
-ShowsError kind (Err (Mistaken line)) = ⊥
-ShowsError kind (Err NoMemory) = Unit {0}
+-- what is answered to an error of this kind, of these words
+abbrev pub ShowsError : List Text → ErrorKind → Result Request WordsFault → Type 0
+ShowsError words kind (Ok (Do task file telling)) = ⊥
+ShowsError words kind (Ok (Compare pair telling)) = ⊥
+ShowsError words kind (Ok (Show text)) = IsTextOf (kind ≡ DisplayHelp) (kind ≡ DisplayVersion) (string_bytes text)
+ShowsError words kind (Err (Refused text)) = (kind ≢ OutOfMemory) × ¬ IsShown kind × IsRefusal words text.items
+ShowsError words kind (Err (Mistaken text)) = ⊥
+ShowsError words kind (Err NoMemory) = Unit {0}
 
 -- a conversion that is asked for is in order
 abbrev pub IsSound : Task → Type 0
@@ -353,6 +388,6 @@ IsSound (Convert conversion) = IsConversion conversion
 IsSound task = ⊤
 
 abbrev pub IsSoundRequest : Request → Type 0
-IsSoundRequest (Do task file) = IsSound task
-IsSoundRequest (Compare pair) = ⊤
+IsSoundRequest (Do task file telling) = IsSound task
+IsSoundRequest (Compare pair telling) = ⊤
 IsSoundRequest (Show text) = ⊤

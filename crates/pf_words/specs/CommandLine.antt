@@ -45,14 +45,27 @@ fail_on_option = record (new_rule (codes "fail-on")) { long = Some (codes "fail-
 abbrev pub file_argument : Rule
 file_argument = record (new_rule (codes "file")) { value_names = 1; action = Some Set }
 
+-- a flag of this name
+abbrev pub flag_named : Text → Rule
+flag_named name = record (new_rule name) { long = Some name; action = Some SetTrue }
+
+-- the flag `--quiet`, or `-q`
+abbrev pub quiet_flag : Rule
+quiet_flag = record (new_rule (codes "quiet")) { short = Some 113; long = Some (codes "quiet"); action = Some SetTrue }
+
+-- whether notes are told: the flags `--notes` and `--quiet`
+abbrev pub with_notes : App → App
+with_notes command = with_rule (with_rule command (flag_named (codes "notes"))) quiet_flag
+
 -- `run`, which may have these options and FILE
 abbrev pub run_command : App
 run_command =
-    with_rule (with_rule (with_look (with_rule (with_rule (with_rule (new_app (codes "run")) format_option) from_option) to_option)) fail_on_option) file_argument
+    with_rule (with_notes (with_rule (with_look (with_rule (with_rule (with_rule (new_app (codes "run")) format_option) from_option) to_option)) fail_on_option))
+    file_argument
 
--- `check`, which may have FILE
+-- `check`, which may have `--quiet` and FILE
 abbrev pub check_command : App
-check_command = with_rule (new_app (codes "check")) file_argument
+check_command = with_rule (with_rule (new_app (codes "check")) quiet_flag) file_argument
 
 -- the option `--since`, with one text
 abbrev pub since_option : Rule
@@ -60,10 +73,10 @@ since_option = record (new_rule (codes "since")) { long = Some (codes "since"); 
 
 -- the flags `--summary` and `--exit-code`
 abbrev pub summary_flag : Rule
-summary_flag = record (new_rule (codes "summary")) { long = Some (codes "summary"); action = Some SetTrue }
+summary_flag = flag_named (codes "summary")
 
 abbrev pub exit_code_flag : Rule
-exit_code_flag = record (new_rule (codes "exit-code")) { long = Some (codes "exit-code"); action = Some SetTrue }
+exit_code_flag = flag_named (codes "exit-code")
 
 -- FILE2, a text without a name
 abbrev pub second_argument : Rule
@@ -75,11 +88,11 @@ with_diff_options command = with_rule (with_rule (with_rule command since_option
 
 -- `diff`, which may have these options, FILE and FILE2
 abbrev pub diff_command : App
-diff_command = with_rule (with_rule (with_diff_options (new_app (codes "diff"))) file_argument) second_argument
+diff_command = with_rule (with_rule (with_notes (with_diff_options (new_app (codes "diff")))) file_argument) second_argument
 
--- `drill`, which takes nothing
+-- `drill`, which may have these flags
 abbrev pub drill_command : App
-drill_command = new_app (codes "drill")
+drill_command = with_notes (new_app (codes "drill"))
 
 -- the option `--quantum`, with one text, which has to be there
 abbrev pub quantum_option : Rule
@@ -104,7 +117,8 @@ slot_argument = record (new_rule (codes "slot")) { value_names = 1; action = Som
 
 -- `why`, which has SLOT, and may have these options and FILE
 abbrev pub why_command : App
-why_command = with_rule (with_rule (with_rule (with_rule (new_app (codes "why")) slot_argument) (text_option (codes "task"))) format_option) file_argument
+why_command =
+    with_rule (with_notes (with_rule (with_rule (with_rule (new_app (codes "why")) slot_argument) (text_option (codes "task"))) format_option)) file_argument
 
 -- `fit`, which may have the option `--format` and FILE
 abbrev pub fit_command : App
@@ -140,10 +154,18 @@ text_behind_run option found = text_behind (codes "run") option found
 abbrev pub has_flag : Text → Text → Option (Text × List Row) → Bool
 has_flag name flag found = option_map_or (λ text. bytes_eq text (codes "true")) (text_behind name flag found) false
 
--- the text of FILE, in what clap found of a subcommand
+-- the text of an option behind a subcommand, whichever that is
+abbrev pub any_behind : Text → Option (Text × List Row) → Option Text
+any_behind option None = None
+any_behind option (Some found) = first_of option found.1
+
+-- whether a flag stands there
+abbrev pub any_flag : Text → Option (Text × List Row) → Bool
+any_flag flag found = option_map_or (λ text. bytes_eq text (codes "true")) (any_behind flag found) false
+
+-- the text of FILE
 abbrev pub file_behind : Option (Text × List Row) → Option Text
-file_behind None = None
-file_behind (Some found) = first_of (codes "file") found.1
+file_behind found = any_behind (codes "file") found
 
 -- whether the subcommand has this name
 abbrev pub is_named : Text → Option (Text × List Row) → Bool

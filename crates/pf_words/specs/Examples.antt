@@ -22,10 +22,11 @@ use Rattle.pf_words.specs.Diffs.{PairNames}
 use Rattle.pf_options.specs.FailLists.{on_nothing}
 use Rattle.pf_options.specs.Formats.{range_fault}
 use Rattle.pf_options.specs.Ranges.{whole}
+use Rattle.pf_words.specs.declared.telling.Telling.{Telling}
 use Rattle.pf_words.specs.declared.task.Task.TheVariants.{Run, Check, Diff, Drill, Convert, Fit, Why}
 use Rattle.pf_fit_text.specs.declared.fit_format.FitFormat.TheVariants.{Text as FitText, Json as FitJson}
 use Rattle.pf_options.specs.declared.diff_options.DiffOptions.{DiffOptions}
-use Rattle.pf_words.specs.Asked.{task_asked, pair_asked, file_asked, reads_input, AsksHelp, AsksVersion, IsRefused, AreMistaken}
+use Rattle.pf_words.specs.Asked.{task_asked, pair_asked, file_asked, telling_asked, reads_input, AsksHelp, AsksVersion, IsRefused, AreMistaken}
 
 -- words that ask for a run
 pub record Runs : Type 0 where
@@ -112,7 +113,7 @@ pub record Files : Type 0 where
   pub dash : file_asked (codes "run" ∷ codes "-" ∷ []) ≡ None
   pub none : file_asked (codes "check" ∷ []) ≡ None
 
--- words that ask for a drill, which takes no file and no option
+-- words that ask for a drill, which takes no file
 pub record Drilled : Type 0 where
   pub alone : task_asked (codes "drill" ∷ []) ≡ Some Drill
   pub none : file_asked (codes "drill" ∷ []) ≡ None
@@ -228,6 +229,24 @@ pub record Fitting : Type 0 where
   pub in_range : IsRefused (codes "fit" ∷ codes "--from" ∷ codes "5" ∷ [])
   pub help : AsksHelp (codes "fit" ∷ codes "--help" ∷ [])
 
+-- what words ask to be told
+abbrev pub tells : Bool → Bool → Telling
+tells notes prompt = record { notes = notes; prompt = prompt }
+
+pub record Told : Type 0 where
+  pub none : telling_asked [] ≡ tells false true
+  pub of_file : telling_asked (codes "run" ∷ codes "plan.csv" ∷ []) ≡ tells true false
+  pub dash : telling_asked (codes "run" ∷ codes "-" ∷ []) ≡ tells false false
+  pub asked : telling_asked (codes "drill" ∷ codes "--notes" ∷ []) ≡ tells true true
+  pub checked : telling_asked (codes "check" ∷ codes "plan.csv" ∷ codes "-q" ∷ []) ≡ tells false false
+  pub quiet : telling_asked (codes "why" ∷ codes "3" ∷ codes "--quiet" ∷ codes "--notes" ∷ codes "plan.csv" ∷ []) ≡ tells false false
+  pub second : telling_asked (codes "diff" ∷ codes "-" ∷ codes "b.csv" ∷ []) ≡ tells true false
+  pub list : telling_asked (codes "convert" ∷ codes "--quantum" ∷ codes "1" ∷ []) ≡ tells false false
+  pub fits : telling_asked (codes "fit" ∷ codes "plan.csv" ∷ []) ≡ tells true false
+  -- two commands without these flags
+  pub of_a_fit : IsRefused (codes "fit" ∷ codes "--notes" ∷ [])
+  pub of_a_check : IsRefused (codes "check" ∷ codes "--notes" ∷ [])
+
 -- what can be shown of so many slots
 pub record Showable : Type 0 where
   pub most : range_fault (Svg whole (of_width 20)) 4096 ≡ None
@@ -250,6 +269,7 @@ pub record WorkedWords : Type 0 where
   pub conversions : Conversions
   pub reasons : Reasons
   pub fitting : Fitting
+  pub told : Told
   pub showable : Showable
   pub check : task_asked (codes "check" ∷ []) ≡ Some Check
   -- a name of no format

@@ -1,4 +1,5 @@
 pub mod Asked
+pub mod Choices
 pub mod CommandLine
 pub mod Diffs
 pub mod Examples

@@ -1,5 +1,6 @@
 -- What is told of words that ask for no task.
-use Rattle.std.specs.Prelude.{ℕ, ◌≡◌, List, [], ◌++◌, codes}
+use Rattle.std.specs.Prelude.{ℕ, ◌≡◌, ◌≢◌, List, [], ◌++◌, codes}
+use Rattle.pf_tips.specs.Tips.{tip_of}
 use Rattle.pf_convert_words.specs.Texts.{convert_mistake_line}
 use Rattle.pf_words.specs.declared.mistake.Mistake.{Mistake}
 use Rattle.pf_words.specs.declared.mistake.Mistake.TheVariants.{UnknownFormat, BadNumber, NoRange, Unranged, BadCell, NoCell, BadWrap, NoWrap, BadStyle, NoStyle, BadFailOn, BadSince, SinceOfTwo, InputTwice, Convert, Why}
@@ -13,6 +14,10 @@ version_line = codes "pfair " ++ (VERSION.now ++ codes "\n")
 -- the text ends with the lesson that help teaches, as a line
 abbrev pub EndsWithLesson : List ℕ → Type 0
 EndsWithLesson text = (words : List ℕ) × (text ≡ words ++ (LESSON.now ++ codes "\n"))
+
+-- why the grammar does not take the words, which is some text, and the tip for them
+abbrev pub IsRefusal : List (List ℕ) → List ℕ → Type 0
+IsRefusal words text = (why : List ℕ) × (why ≢ []) × (text ≡ why ++ tip_of words)
 
 -- the line of a mistake that always has the same one
 abbrev pub fixed_line : Mistake → List ℕ

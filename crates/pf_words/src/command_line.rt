@@ -1,11 +1,12 @@
 ghost use Rattle.std.specs.Prelude.{◌≡◌, IfOk, false, codes};
 ghost use Rattle.clap.specs.Words.{app_of, new_app, with_rule, with_subcommand};
 ghost use Rattle.clap.specs.declared.builder.command.Command.TheViews.{out-Command};
-ghost use Rattle.pf_words.specs.CommandLine.{program, as_program, cell_option, check_command, drill_command, fail_on_option, file_argument, format_option, from_option, program_of_scripts, run_command, style_option, to_option, with_look, wrap_option};
+ghost use Rattle.pf_words.specs.CommandLine.{program, as_program, cell_option, check_command, drill_command, fail_on_option, file_argument, format_option, from_option, program_of_scripts, run_command, style_option, to_option, with_look, with_notes, quiet_flag, wrap_option};
 
 use crate::convert_command::convert_command;
 use crate::diff_command::diff_command;
 use crate::fit_command::fit_command;
+use crate::flags::{with_notes, with_quiet};
 use crate::texts::VERSION;
 use crate::why_command::why_command;
 use clap::{Arg, ArgAction, Command};
@@ -30,9 +31,10 @@ fn program_of_scripts<'a>(alloc: Global) -> Result<Command<'a>, AllocError>
     ensures { IfOk result (λ c. app_of c ≡ program_of_scripts) }
 {
     let diff = diff_command(alloc)?;
+    let drill = drill_command(alloc)?;
     let why = why_command(alloc)?;
     let program = program_of_runs(alloc)?.subcommand(diff)?;
-    let program = program.subcommand(drill_command(alloc))?;
+    let program = program.subcommand(drill)?;
     program.subcommand(why)
 }
 
@@ -70,7 +72,8 @@ pub(crate) fn with_file<'a>(alloc: Global, command: Command<'a>) -> Result<Comma
     command.arg(file)
 }
 
-/// `run`, with the options `--format`, `--from`, `--to`, `--cell` and `--fail-on`, each with a text, and FILE.
+/// `run`, with the options `--format`, `--from`, `--to`, `--cell`, `--wrap`, `--style` and `--fail-on`, each with a text, the flags
+/// `--notes` and `--quiet`, and FILE.
 fn run_command<'a>(alloc: Global) -> Result<Command<'a>, AllocError>
     ensures shape { IfOk result (λ c. app_of c ≡ run_command) }
     ensures globals { IfOk result (λ c. (out-Command c).has_globals ≡ false) }
@@ -78,6 +81,7 @@ fn run_command<'a>(alloc: Global) -> Result<Command<'a>, AllocError>
     let ranged = with_range(alloc, bare_run(alloc)?)?;
     let run = with_look(alloc, ranged)?;
     let run = with_fail_on(alloc, run)?;
+    let run = with_notes(alloc, run)?;
     with_file(alloc, run)
 }
 
@@ -208,7 +212,7 @@ fn with_fail_on<'a>(alloc: Global, command: Command<'a>) -> Result<Command<'a>, 
     command.arg(fail_on)
 }
 
-/// `check`, with FILE.
+/// `check`, with the flag `--quiet` and FILE.
 fn check_command<'a>(alloc: Global) -> Result<Command<'a>, AllocError>
     ensures shape { IfOk result (λ c. app_of c ≡ check_command) }
     ensures globals { IfOk result (λ c. (out-Command c).has_globals ≡ false) }
@@ -216,15 +220,17 @@ fn check_command<'a>(alloc: Global) -> Result<Command<'a>, AllocError>
     let check = Command::new(alloc, "check").about(
         "Checks the script: a line for each record that is none, and where and why",
     );
+    let check = with_quiet(alloc, check)?;
     with_file(alloc, check)
 }
 
-/// `drill`, which takes nothing.
-fn drill_command<'a>(alloc: Global) -> Command<'a>
-    ensures shape { app_of result ≡ drill_command }
-    ensures globals { (out-Command result).has_globals ≡ false }
+/// `drill`, with the flags `--notes` and `--quiet`.
+fn drill_command<'a>(alloc: Global) -> Result<Command<'a>, AllocError>
+    ensures shape { IfOk result (λ c. app_of c ≡ drill_command) }
+    ensures globals { IfOk result (λ c. (out-Command c).has_globals ≡ false) }
 {
-    Command::new(alloc, "drill").about(
+    let drill = Command::new(alloc, "drill").about(
         "Carries the script of standard input out with a thread for each processor",
-    )
+    );
+    with_notes(alloc, drill)
 }

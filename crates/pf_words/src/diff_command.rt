@@ -1,19 +1,20 @@
-ghost use Rattle.std.specs.Prelude.{◌≡◌, IfOk, Some, false, codes};
-ghost use Rattle.clap.specs.Words.{app_of, new_app, new_rule, with_rule};
-ghost use Rattle.clap.specs.declared.builder.action.ArgAction.TheVariants.{SetTrue};
+ghost use Rattle.std.specs.Prelude.{◌≡◌, IfOk, false, codes};
+ghost use Rattle.clap.specs.Words.{app_of, new_app, with_rule};
 ghost use Rattle.clap.specs.declared.builder.command.Command.TheViews.{out-Command};
-ghost use Rattle.pf_words.specs.CommandLine.{diff_command, exit_code_flag, second_argument, since_option, summary_flag, with_diff_options};
+ghost use Rattle.pf_words.specs.CommandLine.{diff_command, exit_code_flag, second_argument, since_option, summary_flag, with_diff_options, with_notes};
 
 use crate::command_line::with_file;
+use crate::flags::{with_flag, with_notes};
 use clap::{Arg, ArgAction, Command};
 use std::alloc::{AllocError, Global};
 
-/// `diff`, with the option `--since` and a text, the flags `--summary` and `--exit-code`, FILE and FILE2.
+/// `diff`, with the option `--since` and a text, the flags `--summary`, `--exit-code`, `--notes` and `--quiet`, FILE and FILE2.
 pub(crate) fn diff_command<'a>(alloc: Global) -> Result<Command<'a>, AllocError>
     ensures shape { IfOk result (λ c. app_of c ≡ diff_command) }
     ensures globals { IfOk result (λ c. (out-Command c).has_globals ≡ false) }
 {
-    let diff = with_file(alloc, diff_of_options(alloc)?)?;
+    let diff = with_notes(alloc, diff_of_options(alloc)?)?;
+    let diff = with_file(alloc, diff)?;
     with_second(alloc, diff)
 }
 
@@ -64,25 +65,6 @@ fn with_exit_code<'a>(alloc: Global, command: Command<'a>) -> Result<Command<'a>
         "exit-code",
         "status 1 where something differs",
     )
-}
-
-/// The command with a flag of this name.
-fn with_flag<'a>(
-    alloc: Global,
-    command: Command<'a>,
-    name: &'a str,
-    help: &'a str,
-) -> Result<Command<'a>, AllocError>
-    requires { (out-Command command).has_globals ≡ false }
-    ensures shape { IfOk result (λ c. app_of c ≡ with_rule (app_of command.entry)
-        (record (new_rule name.entry.now) { long = Some name.entry.now; action = Some SetTrue })) }
-    ensures globals { IfOk result (λ c. (out-Command c).has_globals ≡ false) }
-{
-    let flag = Arg::new(alloc, name)
-        .long(name)
-        .help(help)
-        .action(ArgAction::SetTrue);
-    command.arg(flag)
 }
 
 /// The command with FILE2, which may be left out.

@@ -3,11 +3,12 @@ ghost use Rattle.clap.specs.Words.{subcommand_rows_of};
 ghost use Rattle.pf_words.specs.Asked.{IsPair, IsSound, file_found, file_of, name_of, pair_of};
 ghost use Rattle.pf_words.specs.Diffs.{are_two, diff_of, options_of, pair_named, second_behind, since_of};
 
+use crate::choices::mistake_text;
 use crate::mistake::Mistake;
 use crate::request::WordsFault;
 use crate::script_pair::ScriptPair;
 use crate::task::Task;
-use crate::words::{has_flag, mistake_line, option_text, owned_name, read_file};
+use crate::words::{has_flag, option_text, owned_name, read_file};
 use clap::ArgMatches;
 use pf_options::diff_options::DiffOptions;
 use pf_script::fields::parse_number;
@@ -31,24 +32,24 @@ pub(crate) fn are_two(matches: &ArgMatches<'_>) -> bool
 
 /// The two scripts that are to be compared.
 pub(crate) fn read_pair(alloc: Global, matches: &ArgMatches<'_>) -> Result<ScriptPair, WordsFault>
-    ensures { IsPair (pair_of (subcommand_rows_of matches.now)) result }
+    ensures { IsPair (subcommand_rows_of matches.now) (pair_of (subcommand_rows_of matches.now)) result }
 {
     match read_since(matches) {
         Ok(None) => read_names(alloc, matches),
-        Ok(Some(_)) => Err(WordsFault::Mistaken(mistake_line(alloc, Mistake::SinceOfTwo)?)),
-        Err(mistake) => Err(WordsFault::Mistaken(mistake_line(alloc, mistake)?)),
+        Ok(Some(_)) => Err(WordsFault::Mistaken(mistake_text(alloc, matches, Mistake::SinceOfTwo)?)),
+        Err(mistake) => Err(WordsFault::Mistaken(mistake_text(alloc, matches, mistake)?)),
     }
 }
 
 /// The same, of which no record is told apart.
 fn read_names(alloc: Global, matches: &ArgMatches<'_>) -> Result<ScriptPair, WordsFault>
-    ensures { IsPair (pair_named (options_of (subcommand_rows_of matches.now)) (file_found (subcommand_rows_of matches.now))
+    ensures { IsPair (subcommand_rows_of matches.now) (pair_named (options_of (subcommand_rows_of matches.now)) (file_found (subcommand_rows_of matches.now))
         (file_of (second_behind (subcommand_rows_of matches.now)))) result }
 {
     let first = read_file(alloc, matches)?;
     let second = read_second(alloc, matches)?;
     if first.is_none() && second.is_none() {
-        return Err(WordsFault::Mistaken(mistake_line(alloc, Mistake::InputTwice)?));
+        return Err(WordsFault::Mistaken(mistake_text(alloc, matches, Mistake::InputTwice)?));
     }
     let options = read_options(matches);
     Ok(ScriptPair {

@@ -4,17 +4,21 @@
 //! its place.
 #![tactic(auto)]
 
+pub mod choices;
 mod command_line;
 mod conversion_words;
 mod convert_command;
 mod diff_command;
 mod diff_words;
 mod fit_command;
+mod flags;
 pub mod laws;
 pub mod mistake;
 pub mod request;
 pub mod script_pair;
 pub mod task;
+pub mod telling;
+mod telling_words;
 pub mod texts;
 mod why_command;
 mod why_question;

@@ -3,16 +3,17 @@ ghost use Rattle.pf_words.specs.declared.request.WordsFault.TheVariants.{NoMemor
 
 use crate::script_pair::ScriptPair;
 use crate::task::Task;
+use crate::telling::Telling;
 use std::alloc::AllocError;
 use thiserror::Error;
 
 /// What the words ask for.
 #[derive(Drop)]
 pub enum Request {
-    /// To do this with the script or the list of this file, or of standard input.
-    Do(Task, Option<String>),
-    /// To tell what differs between two scripts.
-    Compare(ScriptPair),
+    /// To do this with the script or the list of this file, or of standard input, and to tell so much of it.
+    Do(Task, Option<String>, Telling),
+    /// To tell what differs between two scripts, and so much of each.
+    Compare(ScriptPair, Telling),
     /// To show this text: help, or the version.
     Show(String),
 }
@@ -20,10 +21,10 @@ pub enum Request {
 /// Why the words ask for nothing.
 #[derive(Debug, Drop, Error)]
 pub enum WordsFault {
-    /// They are not the program's: the text says why, and ends its line.
-    #[error("{0}")]
-    Refused(String),
-    /// The grammar takes them, and they ask for nothing: the line that is told of that.
+    /// They are not the program's: the text says why, with a tip where one of them names a script.
+    #[error("the words are refused")]
+    Refused(Vec<u8>),
+    /// The grammar takes them, and they ask for nothing: what is told of that.
     #[error("the words are mistaken")]
     Mistaken(Vec<u8>),
     /// Memory was refused.

@@ -1,8 +1,10 @@
 //! What is told of words that ask for no task.
-ghost use Rattle.std.specs.Prelude.{◌≡◌, ◌≢◌, [], IfOk, string_bytes};
-ghost use Rattle.pf_words.specs.Texts.{EndsWithLesson, version_line};
+ghost use Rattle.std.specs.Prelude.{◌≡◌, IfOk, map, string_bytes};
+ghost use Rattle.pf_words.specs.Texts.{EndsWithLesson, IsRefusal, version_line};
 
+use pf_tips::tip::tip;
 use std::alloc::{AllocError, Global};
+use std::convert::AsStr;
 use std::fmt::Display;
 
 /// What the version is told by, behind the program's name.
@@ -100,17 +102,24 @@ pub(crate) fn version_text(alloc: Global) -> Result<String, AllocError>
     format!(in alloc; "pfair {VERSION}\n")
 }
 
-/// Why the grammar does not take the words, which is some text: where there is none, memory was refused for it.
+/// Why the grammar does not take the words, which is some text, and a tip where one of them names a script: where there is no text,
+/// memory was refused for it.
 ///
 /// # Errors
 ///
 /// Where memory is refused.
-pub(crate) fn refusal_text<E: Display>(alloc: Global, error: &E) -> Result<String, AllocError>
-    ensures { IfOk result (λ text. string_bytes text ≢ []) }
+pub(crate) fn refusal_text<E: Display, S: AsStr>(
+    alloc: Global,
+    error: &E,
+    words: &[S],
+) -> Result<Vec<u8>, AllocError>
+    ensures { IfOk result (λ text. IsRefusal (map S.text words.now) text.items) }
 {
-    let text = format!(in alloc; "{error}")?;
-    if text.is_empty() {
+    let why = format!(in alloc; "{error}")?;
+    if why.is_empty() {
         return Err(AllocError);
     }
+    let mut text = Vec::from_slice(alloc, why.as_bytes())?;
+    text.extend_from_slice(&tip(alloc, words)?)?;
     Ok(text)
 }

@@ -1,20 +1,22 @@
 ghost use Rattle.std.specs.Prelude.{◌≡◌, IfOk, false, codes};
 ghost use Rattle.clap.specs.Words.{app_of, new_app, with_rule};
 ghost use Rattle.clap.specs.declared.builder.command.Command.TheViews.{out-Command};
-ghost use Rattle.pf_words.specs.CommandLine.{format_option, slot_argument, text_option, why_command};
+ghost use Rattle.pf_words.specs.CommandLine.{format_option, slot_argument, text_option, why_command, with_notes};
 
 use crate::command_line::with_file;
+use crate::flags::with_notes;
 use clap::{Arg, ArgAction, Command};
 use std::alloc::{AllocError, Global};
 
-/// `why`, with SLOT, the options `--task` and `--format`, each with a text, and FILE.
+/// `why`, with SLOT, the options `--task` and `--format`, each with a text, the flags `--notes` and `--quiet`, and FILE.
 pub(crate) fn why_command<'a>(alloc: Global) -> Result<Command<'a>, AllocError>
     ensures shape { IfOk result (λ c. app_of c ≡ why_command) }
     ensures globals { IfOk result (λ c. (out-Command c).has_globals ≡ false) }
 {
     let slotted = bare_why(alloc)?;
     let asking = with_task(alloc, slotted)?;
-    let why = with_format(alloc, asking)?;
+    let formed = with_format(alloc, asking)?;
+    let why = with_notes(alloc, formed)?;
     with_file(alloc, why)
 }
 

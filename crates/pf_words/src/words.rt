@@ -1,15 +1,16 @@
 ghost use Rattle.std.specs.Prelude.{◌≡◌, codes, map, option_map, IfOk};
 ghost use Rattle.clap.specs.Words.{kind_of, subcommand_rows_of};
-ghost use Rattle.pf_words.specs.CommandLine.{file_behind, has_flag, is_named, text_behind, text_behind_run};
-ghost use Rattle.pf_words.specs.Texts.{mistake_line};
+ghost use Rattle.pf_words.specs.CommandLine.{has_flag, is_named, text_behind, text_behind_run};
 ghost use Rattle.pf_words.specs.Asked.{IsAsked, IsRequest, IsSound, IsSoundRequest, ShowsError, cell_given, fail_on_given, file_found, file_of, fit_format_given, format_celled, format_found, format_of, format_wrapped, format_or_tables, name_of, number_given, range_given, range_mistake, style_given, task_of, wrap_given};
 
+use crate::choices::mistake_text;
 use crate::command_line::program;
 use crate::conversion_words::read_convert;
 use crate::diff_words::{are_two, read_diff, read_pair};
 use crate::mistake::Mistake;
 use crate::request::{Request, WordsFault};
 use crate::task::Task;
+use crate::telling_words::{any_text, read_telling};
 use crate::texts::{help_text, refusal_text, version_text};
 use crate::why_question::read_why;
 use clap::ArgMatches;
@@ -45,7 +46,7 @@ pub fn read_words<S: AsStr>(alloc: Global, words: &[S]) -> Result<Request, Words
 {
     match program(alloc)?.try_get_matches_from(words) {
         Ok(matches) => read_matches(alloc, &matches),
-        Err(error) => read_error(alloc, &error),
+        Err(error) => read_error(alloc, &error, words),
     }
 }
 
@@ -54,22 +55,14 @@ fn read_matches(alloc: Global, matches: &ArgMatches<'_>) -> Result<Request, Word
     ensures request { IsRequest (subcommand_rows_of matches.now) result }
     ensures sound { IfOk result IsSoundRequest }
 {
+    let telling = read_telling(matches);
     if are_two(matches) {
-        return Ok(Request::Compare(read_pair(alloc, matches)?));
+        return Ok(Request::Compare(read_pair(alloc, matches)?, telling));
     }
     match read_task(matches) {
-        Ok(task) => Ok(Request::Do(task, read_file(alloc, matches)?)),
-        Err(mistake) => Err(WordsFault::Mistaken(mistake_line(alloc, mistake)?)),
+        Ok(task) => Ok(Request::Do(task, read_file(alloc, matches)?, telling)),
+        Err(mistake) => Err(WordsFault::Mistaken(mistake_text(alloc, matches, mistake)?)),
     }
-}
-
-/// What is told of a mistake.
-pub(crate) fn mistake_line(alloc: Global, mistake: Mistake) -> Result<Vec<u8>, AllocError>
-    ensures { IfOk result (λ line. line.items ≡ mistake_line mistake) }
-{
-    let mut line = Vec::new(alloc);
-    mistake.push_line(&mut line)?;
-    Ok(line)
 }
 
 /// What they ask to be done with a script.
@@ -109,7 +102,7 @@ pub(crate) fn read_file(
     if is_asked(matches, "drill") {
         return Ok(None);
     }
-    owned_name(alloc, file_name(matches))
+    owned_name(alloc, any_text(matches, "file"))
 }
 
 /// The file of this name; none where there is no name, or where it is `-`, which is standard input.
@@ -125,15 +118,8 @@ pub(crate) fn owned_name(alloc: Global, name: Option<&str>) -> Result<Option<Str
     Ok(Some(String::from_str(alloc, name)?))
 }
 
-/// The text of FILE behind a subcommand.
-fn file_name<'a>(matches: &ArgMatches<'a>) -> Option<&'a str>
-    ensures { option_map (λ name. name.now) result ≡ file_behind (subcommand_rows_of matches.now) }
-{
-    matches.subcommand()?.1.get_str("file")
-}
-
 /// Whether they ask for the subcommand of this name.
-fn is_asked(matches: &ArgMatches<'_>, name: &str) -> bool
+pub(crate) fn is_asked(matches: &ArgMatches<'_>, name: &str) -> bool
     ensures { result ≡ is_named name.now (subcommand_rows_of matches.now) }
 {
     matches.subcommand_matches(name).is_some()
@@ -326,8 +312,12 @@ pub(crate) fn option_text<'a>(matches: &ArgMatches<'a>, name: &str, option: &str
 }
 
 /// What words ask for that the grammar does not take: help, the version, or nothing.
-fn read_error(alloc: Global, error: &clap::Error) -> Result<Request, WordsFault>
-    ensures { ShowsError (kind_of error.now) result }
+fn read_error<S: AsStr>(
+    alloc: Global,
+    error: &clap::Error,
+    words: &[S],
+) -> Result<Request, WordsFault>
+    ensures { ShowsError (map S.text words.now) (kind_of error.now) result }
 {
     let kind = error.kind();
     if kind == ErrorKind::OutOfMemory {
@@ -339,5 +329,5 @@ fn read_error(alloc: Global, error: &clap::Error) -> Result<Request, WordsFault>
     if kind == ErrorKind::DisplayVersion {
         return Ok(Request::Show(version_text(alloc)?));
     }
-    Err(WordsFault::Refused(refusal_text(alloc, error)?))
+    Err(WordsFault::Refused(refusal_text(alloc, error, words)?))
 }

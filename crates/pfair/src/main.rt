@@ -1,9 +1,12 @@
-//! The program `pfair`: hands its words and streams to `main_words`, and exits with the status that this answers.
+//! The program `pfair`: hands its words and streams to `main_words`, and exits with the status that this answers. Where standard
+//! input is a terminal, `prompt_words` may tell how a script ends there.
 #![tactic(auto)]
 
-use pf_program::program::{main_words, tell_unread};
+use pf_program::kept_writer::KeptWriter;
+use pf_program::program::{main_words, prompt_words, tell_unread};
 use pf_program::sink::CountedWriter;
 use pf_program::source::CountedReader;
+use std::io::IsTerminal;
 use std::process::ExitCode;
 use std::{env, io};
 
@@ -13,8 +16,12 @@ fn main(rt: HostRuntime) -> ExitCode {
         Ok(words) => words,
         Err(fault) => return ExitCode::from(tell_unread(&fault, &mut faults)),
     };
-    let mut reader = CountedReader::new(rt.stdin());
-    let mut writer = CountedWriter::new(rt.stdout());
+    let input = rt.stdin();
+    if input.is_terminal() {
+        prompt_words(&rt, &words, &mut faults);
+    }
+    let mut reader = CountedReader::new(input);
+    let mut writer = KeptWriter::new(rt.stdout());
     let status = main_words(&rt, &words, &mut reader, &mut writer, &mut faults);
     ExitCode::from(status)
 }

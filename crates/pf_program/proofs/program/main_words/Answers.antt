@@ -5,10 +5,10 @@ use Rattle.pf_program.proofs.program.main_words.Goals as goal
 
 pub returns-in-Ok-Show-clause-streams : goal.returns-in-Ok-Show-clause-streams
 returns-in-Ok-Show-clause-streams g c =
-    text_answers (map g.S.AsStr.text c.args.words.now) c.as_str.result.now c.show.result _ _ _
+    text_answers (map g.S.AsStr.text c.args.words.now) c.as_str.result.now _ c.show.result _ _ _
     (subst (λ (t : List ℕ). IsShownTo (map g.S.AsStr.text c.args.words.now) t) (sym c.as_str.ensures.value) (rw c.in-Ok-Show.field-0-is at c.in-Ok-Show.ensures.asked))
-    c.show.ensures.status refl refl c.show.ensures.writes c.show.ensures.shown c.show.ensures.cut
+    refl refl c.show.ensures.shown
 
 pub returns-in-Err-clause-streams : goal.returns-in-Err-clause-streams
 returns-in-Err-clause-streams g c =
-    refusal_answers (map g.S.AsStr.text c.args.words.now) c.in-Err.fault c.refuse.result _ _ c.in-Err.ensures.asked c.refuse.ensures.status c.refuse.ensures.told
+    refusal_answers (map g.S.AsStr.text c.args.words.now) c.in-Err.fault _ c.refuse.result _ _ c.in-Err.ensures.asked c.refuse.ensures.status c.refuse.ensures.told

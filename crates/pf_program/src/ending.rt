@@ -1,0 +1,133 @@
+ghost use Rattle.std.specs.Prelude.{◌≡◌, ◌≢◌, ◌+◌, ◌-◌, ◌^◌, ◌<◌, ◌≤◌, ◌++◌, [], Err, IfOk};
+ghost use Rattle.std.specs.Io.KnownBytes.{Keeps};
+ghost use Rattle.pf_fault.specs.declared.fault.Fault.TheVariants as why;
+ghost use Rattle.pf_fault.specs.Faults.{number_of, status_behind};
+ghost use Rattle.pf_program.specs.Noted.{IsTold, IsToldOfFault, notes_in, status_ended};
+ghost use Rattle.pf_program.specs.Status.{Tells};
+ghost use Rattle.pf_program.specs.Tasks.{IsQuietIfDone};
+
+use crate::noted::Noted;
+use pf_fault::ending::Ending;
+use pf_fault::fault::Fault;
+use pf_fault::status::Status;
+use pf_stream::sink::Sink;
+use pf_stream::writing::write_out;
+use std::alloc::{AllocError, Global};
+use std::fmt::Display;
+use std::io::Write;
+
+/// Tells what a task has to tell, and the notes behind it, or the line of its fault, and what is told behind that; answers the
+/// status. Where the output failed since nobody reads it any more, nothing is told, and the status is `gone`.
+pub(crate) fn end<F: Sink>(
+    alloc: Global,
+    noted: Noted,
+    closed: bool,
+    gone: Status,
+    faults: &mut F,
+) -> u8
+    requires { F.failed faults.old < 2 ^ 64 - 1 }
+    ensures status { result ≡ status_ended closed gone noted.outcome }
+    ensures told { IsTold closed noted.outcome (notes_in noted.notes) (Tells (F.contents faults.old) (F.contents faults.new) (F.failed faults.old) (F.failed faults.new)) }
+    ensures quiet { IfOk noted.outcome IsQuietIfDone → notes_in noted.notes ≡ [] → result ≡ 0 → Keeps (F.contents faults.old) (F.contents faults.new) }
+{
+    let Noted { outcome, notes } = noted;
+    match outcome {
+        Ok(ending) => end_done(&ending, notes_in(&notes), faults),
+        Err(Fault::Write) => end_unwritten(alloc, notes_in(&notes), closed, gone, faults),
+        Err(fault) => end_faulty(alloc, fault, notes_in(&notes), faults),
+    }
+}
+
+/// The text of notes; none where they could not be had.
+fn notes_in(notes: &Result<Vec<u8>, Fault>) -> &[u8]
+    ensures { result.now ≡ notes_in notes.now }
+{
+    match notes {
+        Ok(text) => text,
+        Err(_) => b"",
+    }
+}
+
+/// Tells what a task has to tell that was done, and its notes, and answers its status.
+#[tactic(auto, using(crate::proofs::Quiet::done_of_zero, crate::proofs::Telling::nothing_told))]
+fn end_done<F: Sink>(ending: &Ending, notes: &[u8], faults: &mut F) -> u8
+    requires { F.failed faults.old < 2 ^ 64 - 1 }
+    ensures status { result ≡ number_of ending.now.status }
+    ensures told { Tells (F.contents faults.old) (F.contents faults.new) (F.failed faults.old) (F.failed faults.new) (ending.now.notes.items ++ notes.now) }
+    ensures quiet { IsQuietIfDone ending.now → notes.now ≡ [] → result ≡ 0 → Keeps (F.contents faults.old) (F.contents faults.new) }
+{
+    tell_both(&ending.notes, notes, faults);
+    ending.status.number()
+}
+
+/// Where the output failed: since nobody reads it any more, or for another reason, which is told.
+#[tactic(auto, using(crate::proofs::Telling::kept, crate::proofs::Telling::told_none))]
+pub(crate) fn end_unwritten<F: Sink>(
+    alloc: Global,
+    notes: &[u8],
+    closed: bool,
+    gone: Status,
+    faults: &mut F,
+) -> u8
+    requires { F.failed faults.old < 2 ^ 64 - 1 }
+    ensures status { result ≡ status_ended closed gone (Err why.Write) }
+    ensures told { IsTold closed (Err why.Write) notes.now (Tells (F.contents faults.old) (F.contents faults.new) (F.failed faults.old) (F.failed faults.new)) }
+    ensures quiet { result ≡ 0 → Keeps (F.contents faults.old) (F.contents faults.new) }
+{
+    if closed {
+        return gone.number();
+    }
+    end_faulty(alloc, Fault::Write, notes, faults)
+}
+
+/// Tells a fault, and the notes behind its line, and answers its status, which is not 0.
+#[tactic(auto, using(crate::proofs::Quiet::never_zero))]
+fn end_faulty<F: Sink>(alloc: Global, fault: Fault, notes: &[u8], faults: &mut F) -> u8
+    requires { F.failed faults.old < 2 ^ 64 - 1 }
+    ensures status { result ≡ number_of (status_behind fault) }
+    ensures told { IsToldOfFault notes.now (Tells (F.contents faults.old) (F.contents faults.new) (F.failed faults.old) (F.failed faults.new)) }
+    ensures not_done { result ≢ 0 }
+{
+    tell_fault(alloc, fault, notes, faults);
+    fault.status().number()
+}
+
+/// Tells a fault, and the notes behind its line; where memory is refused for them, the fault alone.
+fn tell_fault<F: Sink>(alloc: Global, fault: Fault, notes: &[u8], faults: &mut F)
+    requires { F.failed faults.old < 2 ^ 64 - 1 }
+    ensures { IsToldOfFault notes.now (Tells (F.contents faults.old) (F.contents faults.new) (F.failed faults.old) (F.failed faults.new)) }
+{
+    match fault_line(alloc, fault) {
+        Ok(line) => tell_both(line.as_bytes(), notes, faults),
+        Err(AllocError) => tell(&fault, faults),
+    }
+}
+
+/// The line of a fault.
+fn fault_line(alloc: Global, fault: Fault) -> Result<String, AllocError> {
+    format!(in alloc; "{fault}\n")
+}
+
+/// Tells a text and then another, which is left out where a write of the first one fails.
+fn tell_both<F: Sink>(first: &[u8], second: &[u8], faults: &mut F)
+    requires { F.failed faults.old < 2 ^ 64 - 1 }
+    ensures { Tells (F.contents faults.old) (F.contents faults.new) (F.failed faults.old) (F.failed faults.new) (first.now ++ second.now) }
+{
+    if write_out(faults, first).is_ok() {
+        let _ = write_out(faults, second);
+    }
+}
+
+/// Tells a text. A fault of writing it is passed over: it could be told nowhere.
+pub(crate) fn tell_text<F: Sink>(text: &[u8], faults: &mut F)
+    requires { F.failed faults.old < 2 ^ 64 - 1 }
+    ensures told { Tells (F.contents faults.old) (F.contents faults.new) (F.failed faults.old) (F.failed faults.new) text.now }
+    ensures few { F.failed faults.new ≤ F.failed faults.old + 1 }
+{
+    let _ = write_out(faults, text);
+}
+
+/// The text of a fault, as a line. A fault of writing it is passed over: it could be told nowhere.
+pub(crate) fn tell<D: Display, F: Write>(fault: &D, faults: &mut F) {
+    let _ = writeln!(faults, "{fault}");
+}
