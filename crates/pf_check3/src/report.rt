@@ -9,7 +9,8 @@ use pf_version3::fault::{BadRecord, Reason};
 use std::alloc::AllocError;
 
 /// What is said of a word that names no record.
-const NO_RECORD: &str = " is no record: settings, slot, name, join, leave, delay, limit, label, alter, strike, strict, step";
+const NO_RECORD: &str =
+    " is no record: settings, slot, name, join, leave, delay, limit, label, alter, strike, strict, step";
 
 /// What is said of a word that names no change.
 const NO_CHANGE: &str = " is no change: join, leave, delay, limit, label, alter, strike";

@@ -1,0 +1,77 @@
+-- `fit` ends as the conversion does.
+use Rattle.std.proofs.Common.{◌≡◌, ◌∙◌, ◌*◌, ◌≤◌, ℕ, Bool, true, false, nat_le, None, Some, List, [], ◌∷◌, map, inl, inr, refl, sym, ap, subst, arith}
+use Rattle.std.specs.Prelude.{◌↔◌, if◌then◌else◌}
+use Rattle.std.proofs.lemmas.Bool.Decides.{nat_tests}
+use Rattle.pf_conversion.specs.Answers.{fit_status}
+use Rattle.pf_conversion.specs.Script.{script_text}
+use Rattle.pf_converted.specs.Records.{heading_record, script_records}
+use Rattle.pf_converted.specs.Written.{WritesPlan}
+use Rattle.pf_converted.proofs.Planned.{lists_become_plans}
+use Rattle.pf_converted.proofs.Whole.{rows_of_script}
+use Rattle.pf_fault.specs.declared.status.Status.TheVariants.{Done, FailedOn}
+use Rattle.pf_fit_command.specs.Fit.{status_of_verdict}
+use Rattle.pf_verdict.specs.Findings.{grounds_of}
+use Rattle.pf_verdict.specs.Verdict.{verdict_of}
+use Rattle.pf_verdict.specs.declared.verdict.Verdict.{Verdict}
+use Rattle.pf_verdict.specs.declared.verdict.Verdict.TheVariants.{Fits, FitsSoFar, DoesNotFit}
+use Rattle.pf_plain.specs.Plain.{Plain, plain, plain_from, plain_of, start, with_heading}
+use Rattle.pf_rows.specs.Rows.{Row, rows}
+use Rattle.pf_task_list.specs.declared.listed.Listed.{Listed}
+use Rattle.pf_text.specs.Page.{table_text}
+use Rattle.pf_script.specs.Fields.{is_word}
+use Rattle.pf_version3.specs.Heading.{is_third_heading}
+use Rattle.pf_retold.specs.Retold.{ScriptsAreRetold}
+use Rattle.pf_agree.proofs.Counted.{fits_are_done}
+use Rattle.pf_agree.specs.Agree.{ConvertAndFitAgree, IsFitAlike}
+use Rattle.pf_agree.proofs.Asked.{asks_plan}
+
+heading_is_third : is_third_heading heading_record ≡ true
+unfolding is_third_heading is_word
+heading_is_third = refl
+
+-- a text whose first row is the heading is a script of version 3
+plain_under : (end : ℕ) (rs : List Row) (behind : List (List (List ℕ))) → map (λ row. row.fields) rs ≡ heading_record ∷ behind → (p : Plain) × (plain_of end rs ≡ Some p)
+plain_under end [] behind is = cc
+plain_under end (r ∷ rs) behind is =
+    let both : r.fields ∷ map (λ row. row.fields) rs ≡ heading_record ∷ behind = is in
+    let same : r.fields ≡ heading_record = cc in
+    let third : is_third_heading r.fields ≡ true = ap is_third_heading same ∙ heading_is_third in
+    let p : Plain = with_heading r.line (plain_from start 2 end rs) in
+    (p, ap (λ b. if b then Some p else None) third)
+
+-- one of two statuses, the same just where both are done
+one_of : (v : Verdict) (load room : ℕ) → (status_of_verdict v ≡ Done) ↔ (load ≤ room) → status_of_verdict v ≡ fit_status load room
+one_of v load room both = by (nat_le load room) refl
+  where
+    failed : (w : Verdict) → (status_of_verdict w ≡ Done → ⊥) → status_of_verdict w ≡ FailedOn
+    failed Fits never = absurd (never refl)
+    failed FitsSoFar never = refl
+    failed DoesNotFit never = refl
+
+    by : (b : Bool) → nat_le load room ≡ b → status_of_verdict v ≡ (if b then Done else FailedOn)
+    by true within = both.1 (grind (arith, nat_tests, within))
+    by false above = failed v (λ done. let le : load ≤ room = both.0 done in grind (arith, nat_tests, above, le))
+
+pub convert_and_fit_agree : ScriptsAreRetold → ConvertAndFitAgree
+convert_and_fit_agree law unit q processors list a is some made =
+    elim (lists_become_plans unit q processors list a is some made) [
+      | inl none ↦ inl none
+      | inr w ↦ inr (alike q.length _ w)
+    ]
+  where
+    alike : (quantum : ℕ) (tasks : List Listed) → WritesPlan quantum tasks a → IsFitAlike a
+    alike quantum tasks w =
+        let m = w.processors in
+        let plan = w.plan in
+        let text = script_text m quantum tasks plan in
+        let third = plain_under (rows text).end (rows text).rows (script_records m quantum tasks plan) (rows_of_script m quantum tasks plan w.written) in
+        record {
+          script = third.0;
+          is = subst (λ (t : List ℕ). plain t ≡ Some third.0) (sym w.text) third.1;
+          alike = λ format file titles answer fit.
+              let done = fits_are_done m quantum tasks plan format file (Some third.0.origins) titles (table_text third.0.records) answer w.written w.measured
+              (asks_plan law m quantum tasks plan third.0 w.written third.1) fit in
+              fit.ends.ends
+              ∙ one_of (verdict_of (grounds_of fit.seen fit.came.refusals.commands)) plan.load (m * plan.base) (λ e. done.0 (fit.ends.ends ∙ e), λ within. sym fit.ends.ends ∙ done.1 within)
+              ∙ sym w.status;
+        }

@@ -1,0 +1,3 @@
+pub mod Counted
+pub mod Asked
+pub mod Agreeing
