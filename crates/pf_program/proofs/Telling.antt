@@ -1,12 +1,14 @@
 -- Texts that are told one behind the other.
 use Rattle.std.proofs.Common.{append_assoc, ◌≡◌, ◌+◌, ◌++◌, ◌∷◌, ℕ, List, [], Option, Some, None, arith, refl, sym, ap, subst, ◌∙◌}
 use Rattle.std.proofs.lemmas.List.{append-nil}
-use Rattle.std.specs.Prelude.{◌≤◌, Bool, true, false, Result, Ok, Err, MatchResult, OnErr, OnOk}
+use Rattle.std.specs.Fmt.{decimal}
+use Rattle.std.specs.Prelude.{codes, ◌≤◌, Bool, true, false, Result, Ok, Err, MatchResult, OnErr, OnOk}
 use Rattle.std.specs.Result.{is_ok}
 use Rattle.std.specs.Io.KnownBytes.{Appends, Keeps}
 use Rattle.std.proofs.KnownBytes.{Appends-nil, Appends-trans, Keeps-refl}
 use Rattle.pf_stream.specs.Written.{TookFront}
 use Rattle.pf_stream.proofs.Sending.{took-after, took-before}
+use Rattle.pf_program.specs.Compared.{size_text}
 use Rattle.pf_program.specs.Status.{Tells}
 
 -- the first one was told, and then the other, ..
@@ -67,3 +69,11 @@ pub four_pieces : (old a b c d p q r s : List ℕ) → p ≡ old ++ a → q ≡ 
 four_pieces old a b c d p q r s hp hq hr hs =
     hs ∙ (ap (λ (x : List ℕ). x ++ d) (hr ∙ ap (λ (x : List ℕ). x ++ c) (hq ∙ ap (λ (x : List ℕ). x ++ b) hp))
     ∙ (append_assoc ((old ++ a) ++ b) c d ∙ (append_assoc (old ++ a) b (c ++ d) ∙ append_assoc old a (b ++ (c ++ d)))))
+
+-- Use: the size of a script, written out.
+pub size_text_is : (slots processors : ℕ)
+    → decimal slots ++ (codes " slots, " ++ (decimal processors ++ codes " processors")) ≡ size_text slots processors
+unfolding size_text
+size_text_is slots processors =
+    sym (append_assoc (decimal slots ++ codes " slots, ") (decimal processors) (codes " processors")
+    ∙ append_assoc (decimal slots) (codes " slots, ") (decimal processors ++ codes " processors"))
