@@ -15,7 +15,8 @@ use std::alloc::{AllocError, Global};
 use strsim::jaro;
 
 /// The names of the formats of a run.
-pub const RUN_FORMATS: &str = "schedule, tables, json, report, replies, lags, misses, denials, events, script, processors, stats, chart, svg, windows, jobs, load, quanta, full, trace, html, c";
+pub const RUN_FORMATS: &str =
+    "schedule, tables, json, report, replies, lags, misses, denials, events, script, processors, stats, chart, svg, windows, jobs, load, quanta, full, trace, html, c";
 
 /// The names of the formats of a fit, and of what is told of a slot.
 pub const TEXT_FORMATS: &str = "text, json";

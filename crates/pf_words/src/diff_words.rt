@@ -36,7 +36,11 @@ pub(crate) fn read_pair(alloc: Global, matches: &ArgMatches<'_>) -> Result<Scrip
 {
     match read_since(matches) {
         Ok(None) => read_names(alloc, matches),
-        Ok(Some(_)) => Err(WordsFault::Mistaken(mistake_text(alloc, matches, Mistake::SinceOfTwo)?)),
+        Ok(Some(_)) => Err(WordsFault::Mistaken(mistake_text(
+            alloc,
+            matches,
+            Mistake::SinceOfTwo,
+        )?)),
         Err(mistake) => Err(WordsFault::Mistaken(mistake_text(alloc, matches, mistake)?)),
     }
 }

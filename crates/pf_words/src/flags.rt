@@ -44,8 +44,7 @@ pub(crate) fn with_notes<'a>(alloc: Global, command: Command<'a>) -> Result<Comm
     ensures shape { IfOk result (λ c. app_of c ≡ with_notes (app_of command.entry)) }
     ensures globals { IfOk result (λ c. (out-Command c).has_globals ≡ false) }
 {
-    let help =
-        "tell on standard error what was refused, denied or missed, also of standard input";
+    let help = "tell on standard error what was refused, denied or missed, also of standard input";
     let noting = with_flag(alloc, command, "notes", help)?;
     with_quiet(alloc, noting)
 }
