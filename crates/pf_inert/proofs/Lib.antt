@@ -1,0 +1,4 @@
+mod Texts
+mod Values
+mod Names
+mod Whole

@@ -1,0 +1,35 @@
+-- Names that a script may give have no `<`.
+use Rattle.std.proofs.Common.{◌≡◌, ◌==◌, not, ℕ, true, List, [], ◌∷◌, refl, rules, tests}
+use Rattle.std.proofs.lemmas.List.Elements.{All-head, All-tail}
+use Rattle.std.specs.List.{list_all}
+use Rattle.serde_json.specs.View.{items_of}
+use Rattle.std.specs.Prelude.{map}
+use Rattle.pf_names.specs.Text.{is_text, is_text_byte}
+use Rattle.pf_names.specs.declared.named.Named.{Named}
+use Rattle.pf_report.specs.Json.{name_data}
+use Rattle.pf_inert.specs.Page.{AreTexts, is_inert}
+use Rattle.pf_inert.proofs.Texts.{behind, both, front}
+use Rattle.pf_inert.proofs.Values.{items_are_inert, value_is_inert}
+
+of_text_bytes : (bytes : List ℕ) → is_text bytes ≡ true → list_all is_text_byte bytes ≡ true
+unfolding is_text
+of_text_bytes bytes text = search (rules, tests)
+
+byte_inert : (byte : ℕ) → is_text_byte byte ≡ true → not (byte == 60) ≡ true
+byte_inert byte text = search (rules, tests)
+
+bytes_inert : (bytes : List ℕ) → list_all is_text_byte bytes ≡ true → is_inert bytes ≡ true
+bytes_inert [] all = refl
+bytes_inert (byte ∷ bytes) all =
+    both (not (byte == 60)) (is_inert bytes) (byte_inert byte (front (is_text_byte byte) (list_all is_text_byte bytes) all))
+    (bytes_inert bytes (behind (is_text_byte byte) (list_all is_text_byte bytes) all))
+
+name_inert : (named : Named) → is_text named.name ≡ true → value_is_inert (name_data named) ≡ true
+name_inert named text = both (is_inert named.name) true (bytes_inert named.name (of_text_bytes named.name text)) refl
+
+pub names_inert : (names : List Named) → AreTexts names → items_are_inert (items_of (map name_data names)) ≡ true
+names_inert [] texts = refl
+names_inert (named ∷ names) texts =
+    both (value_is_inert (name_data named)) (items_are_inert (items_of (map name_data names)))
+    (name_inert named (All-head (λ (n : Named). is_text n.name ≡ true) named names texts))
+    (names_inert names (All-tail (λ (n : Named). is_text n.name ≡ true) named names texts))
