@@ -4,14 +4,13 @@ pub const FOOT: &str = r#"</script>
 'use strict';
 // One run of pfair, drawn from the data above. Nothing is fetched, and words go in as text alone.
 {
-const { floor, ceil, min, max } = Math;     // all numbers are whole and below 2^53
+const { floor, ceil, min, max } = Math; // on whole numbers below 2^53
 const byId = id => document.getElementById(id);
 const isOn = id => byId(id).checked;
 const data = JSON.parse(byId('data').textContent);
 const { now, schedule, denials, misses, refusals, figures, slot: time } = data;
 const { processors, base, cap } = data.settings;
-const names = new Map((data.names || []).map(it => [it.task, it.name]));
-const nameOf = task => names.get(task) ?? 'task ' + task;
+const nameOf = task => data.names?.find(it => it.task === task)?.name ?? 'task ' + task;
 const timeOf = slot => String(time ? slot * time.length : slot);
 
 // ---- The run
@@ -81,8 +80,8 @@ const denialOf = new Map(denials.map(d => [d.event, d]));
 const turnOf = e => 'limit leave join delay'.indexOf(e.kind);
 const events = data.events.filter(e => e.slot < now)
   .sort((a, b) => a.slot - b.slot || turnOf(a) - turnOf(b) || a.task - b.task || a.event - b.event);
-const numbers = new Set(events.filter(e => e.task).map(e => e.task));
-const tasks = [...numbers].sort((a, b) => a - b).map((number, rank) => new Task(number, rank));
+const numbers = [...new Set(events.flatMap(e => e.task ?? []))].sort((a, b) => a - b);
+const tasks = numbers.map((number, rank) => new Task(number, rank));
 const taskOf = new Map(tasks.map(task => [task.number, task]));
 
 const placeOf = (task, slot) => schedule[slot].findIndex(quantum => quantum?.[0] === task.number);
@@ -90,7 +89,7 @@ schedule.forEach((row, slot) => {
   for (const quantum of row) if (quantum) taskOf.get(quantum[0]).slots.push(slot);
 });
 
-// load and processors in use, from each slot on in which one of them changes
+// load and processors in use, from each slot in which one of them changes
 const states = [{ slot: 0, load: 0, inUse: processors }];
 for (const e of events) {
   const task = taskOf.get(e.task), last = states.at(-1);
@@ -118,11 +117,11 @@ function ranking(slot) {
 
 const loadText = state => (state.load / base).toFixed(4);
 const fullest = states.reduce((a, b) => b.load * a.inUse > a.load * b.inUse ? b : a);
-const [missed, denied, refused] = [misses, denials, refusals].map(list => list.length);
-byId('verdict').className = missed ? 'missed' : denied + refused ? 'warn' : '';
-byId('verdict').textContent = `missed windows ${missed}; denied events ${denied}; refused changes ${refused}; `
+const verdict = byId('verdict');
+verdict.className = misses.length ? 'missed' : denials.length + refusals.length ? 'warn' : '';
+verdict.textContent = `missed windows ${misses.length}; denied events ${denials.length}; refused changes ${refusals.length}; `
   + `load ${loadText(fullest)} of ${fullest.inUse} processors in use (slot ${fullest.slot})`;
-const agrees = missed === tasks.reduce((sum, task) => sum + task.missed, 0) && data.lags.every(l => taskOf.get(l.task).lag(now) === l.lag);
+const agrees = misses.length === tasks.reduce((sum, task) => sum + task.missed, 0) && data.lags.every(l => taskOf.get(l.task).lag(now) === l.lag);
 byId('facts').textContent = `slots ${now}${time ? ` of ${time.length} ${time.unit}` : ''}; tasks ${tasks.length}; `
   + `processors ${processors}; base ${base}; cap ${cap}; what is drawn ${agrees ? 'agrees with' : 'DIFFERS from'} the data`;
 
@@ -192,7 +191,7 @@ function draw() {
   drawRuler(step);
 }
 
-/** The lines of slots; answers how far the numbers of the ruler lie apart. */
+/** The lines of slots. Answers the step of the ruler. */
 function drawGrid() {
   const step = [1, 2, 5, 10, 20, 50, 100, 200, 500].find(s => s * cell >= (timeOf(now).length + 2) * LETTER) ?? 1000;
   if (chosen !== null) fill(ink.chosen, x(chosen), 0, max(cell, 2), height);
@@ -248,7 +247,9 @@ function drawTask(task, y) {
   const marks = y + windowsHeight() - 6;
   if (task.join < now) drawInside(task, y, marks);
   for (const { slot, event } of task.denied) if (isInView(slot)) {
-    write(ink.missed, cell < 8 ? '\u00d7' : `\u00d7 event ${event} ${denialOf.get(event).reason}`, x(slot), marks);
+    const words = '\u00d7' + (cell < 8 ? '' : ` event ${event} ${denialOf.get(event).reason}`);
+    fill(ink.back, x(slot), marks - 6, LETTER * words.length, 12);
+    write(ink.missed, words, x(slot), marks);
   }
 }
 
@@ -334,6 +335,7 @@ function compare(a, b, sign) {
 function addTable(place, columns, rows, classOf) {
   const table = add(place, 'table'), heads = add(add(table, 'thead'), 'tr'), body = add(table, 'tbody');
   let order = rows, most = FEW;
+  table.ariaLabel = place.ariaLabel;
   const show = () => {
     body.textContent = '';
     for (const row of order.slice(0, most)) {
@@ -435,7 +437,7 @@ byId('zoom-out').onclick = () => zoomOut();
 byId('zoom-fit').onclick = () => zoom(floor((room() - 16) / now));
 byId('filter').oninput = filter;
 byId('tools').onchange = filter;
-byId('slot').onchange = e => { if (e.target.value !== '') choose(floor(e.target.value)); };
+byId('slot').onchange = ({ target }) => { if (target.value) choose(floor(target.value)); };
 document.onclick = ({ target }) => {
   if (!target.dataset.goal) return;
   choose(+target.dataset.goal);
@@ -447,8 +449,8 @@ document.onkeydown = e => {
   byId('filter').focus();
 };
 matchMedia('(prefers-color-scheme: dark)').onchange = () => repaint(false);
-window.onbeforeprint = () => repaint(true);
-window.onafterprint = () => repaint(false);
+onbeforeprint = () => repaint(true);
+onafterprint = () => repaint(false);
 new ResizeObserver(layOut).observe(picture);
 filter();
 repaint(false);

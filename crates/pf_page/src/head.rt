@@ -3,7 +3,7 @@ pub const HEAD: &str = r#"<!doctype html>
 <html lang="en">
 <head>
 <meta charset="utf-8">
-<meta http-equiv="Content-Security-Policy" content="default-src 'none'; style-src 'sha256-zbe5sMmX/EKl+uSGq4LyKCfVldUBaP37l7HhJ5c5eos='; script-src 'sha256-3iAQ0gdeENN0sFinedEY4DOeqMFkOuozSoa+ZPiK2mY='; base-uri 'none'; form-action 'none'">
+<meta http-equiv="Content-Security-Policy" content="default-src 'none'; style-src 'sha256-vBSjD4OeIWUM0u3EvzbzLUFkqMVfwNsp1noUaL3/FeQ='; script-src 'sha256-a39/5o3YADl0qSkfDuXxwXcGBz8wWvhBDmBV/67MeUY='; base-uri 'none'; form-action 'none'">
 <meta name="viewport" content="width=device-width, initial-scale=1">
 <title>pfair: a schedule</title>
 <style>
@@ -27,7 +27,8 @@ p { margin: .15rem 0; }
 #verdict.missed { color: var(--missed); }
 #facts, #keys { color: var(--soft); }
 #tools { display: flex; flex-wrap: wrap; gap: .4rem 1rem; align-items: center; margin: .7rem 0; }
-button, input { font: inherit; color: inherit; background: var(--back); border: 1px solid var(--rule); border-radius: 4px; padding: .1rem .5rem; }
+button, input { font: inherit; color: inherit; background: var(--back); border: 1px solid var(--soft); border-radius: 4px; padding: .1rem .5rem; }
+::placeholder { color: var(--soft); opacity: 1; }
 #slot { width: 7em; }
 button { cursor: pointer; }
 :focus-visible { outline: 2px solid var(--lag); outline-offset: 1px; }
@@ -56,6 +57,9 @@ td button { border: 0; padding: 0; background: none; color: var(--lag); text-dec
   #picture, #panel { max-height: none; overflow: hidden; border: 0; width: auto; }
   canvas { max-width: 100%; }
   #plane { width: auto !important; height: auto !important; }
+  .list { overflow: visible; }
+  table { font-size: 10px; }
+  th, td { padding: 0 .2rem; }
   tr { break-inside: avoid; }
 }
 </style>
@@ -83,15 +87,15 @@ td button { border: 0; padding: 0; background: none; color: var(--lag); text-dec
 </div>
 <p id="keys">Arrows: one slot, with Shift ten. Home, End: first, last. + and &minus;, or Ctrl and the wheel: width. /: search. Box: quantum, with its processor. Bracket: window. Red and thick: missed. Dashes: it may run before its release. Triangle below: group deadline. Green: joins, leaves. Grey: clock stopped, or processor not in use. Blue line: lag, up where quanta are owed. Cross: event denied.</p>
 <h2>Tasks</h2>
-<div class="list" id="tasks" data-of="figures" data-columns="task cost period quanta migrations preemptions jobs response_min response_max missed tardiness_max lag_min lag_max"></div>
+<div class="list" id="tasks" role="group" aria-label="Tasks" data-of="figures" data-columns="task cost period quanta migrations preemptions jobs response_min response_max missed tardiness_max lag_min lag_max"></div>
 <h2>Missed windows</h2>
-<div class="list" id="misses" data-of="misses" data-columns="task sub deadline ran"></div>
+<div class="list" id="misses" role="group" aria-label="Missed windows" data-of="misses" data-columns="task sub deadline ran"></div>
 <h2>Denied events</h2>
-<div class="list" id="denials" data-of="denials" data-columns="slot event code reason"></div>
+<div class="list" id="denials" role="group" aria-label="Denied events" data-of="denials" data-columns="slot event code reason"></div>
 <h2>Refused changes</h2>
-<div class="list" id="refusals" data-of="refusals" data-columns="record code reason"></div>
+<div class="list" id="refusals" role="group" aria-label="Refused changes" data-of="refusals" data-columns="record code reason"></div>
 <h2>Events</h2>
-<div class="list" id="events" data-of="events" data-columns="event slot kind task cost period early by count"></div>
+<div class="list" id="events" role="group" aria-label="Events" data-of="events" data-columns="event slot kind task cost period early by count"></div>
 </main>
 <noscript><p>This page's script draws the picture and the tables. Without it, see <code>pfair run -f svg</code> and <code>pfair run -f stats</code>.</p></noscript>
 <script type="application/json" id="data">
