@@ -2,3 +2,4 @@ mod Texts
 mod Values
 mod Names
 mod Whole
+mod Pages

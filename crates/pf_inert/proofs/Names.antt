@@ -1,12 +1,13 @@
 -- Names that a script may give have no `<`.
 use Rattle.std.proofs.Common.{◌≡◌, ◌==◌, not, ℕ, true, List, [], ◌∷◌, refl, rules, tests}
-use Rattle.std.proofs.lemmas.List.Elements.{All-head, All-tail}
+use Rattle.std.proofs.lemmas.List.Elements.{All-cons, All-head, All-nil, All-tail}
 use Rattle.std.specs.List.{list_all}
 use Rattle.serde_json.specs.View.{items_of}
 use Rattle.std.specs.Prelude.{map}
 use Rattle.pf_names.specs.Text.{is_text, is_text_byte}
 use Rattle.pf_names.specs.declared.named.Named.{Named}
 use Rattle.pf_report.specs.Json.{name_data}
+use Rattle.pf_retold.specs.Titles.{AreGivable}
 use Rattle.pf_inert.specs.Page.{AreTexts, is_inert}
 use Rattle.pf_inert.proofs.Texts.{behind, both, front}
 use Rattle.pf_inert.proofs.Values.{items_are_inert, value_is_inert}
@@ -33,3 +34,9 @@ names_inert (named ∷ names) texts =
     both (value_is_inert (name_data named)) (items_are_inert (items_of (map name_data names)))
     (name_inert named (All-head (λ (n : Named). is_text n.name ≡ true) named names texts))
     (names_inert names (All-tail (λ (n : Named). is_text n.name ≡ true) named names texts))
+
+pub given_texts : (names : List Named) → AreGivable names → AreTexts names
+unfolding AreGivable
+given_texts [] given = All-nil (λ (n : Named). is_text n.name ≡ true)
+given_texts (named ∷ names) given =
+    All-cons (λ (n : Named). is_text n.name ≡ true) named names given.0.text (given_texts names given.3)
