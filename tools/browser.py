@@ -51,5 +51,6 @@ class Browser:
         return self.tell("/se/log", {"type": "browser"})
 
     def close(self):
+        urllib.request.urlopen(urllib.request.Request(f"{self.at}/session/{self.session}", method="DELETE"), timeout=60).close()
         self.driver.terminate()
         self.driver.wait()
