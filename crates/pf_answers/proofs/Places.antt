@@ -1,5 +1,5 @@
 -- The places of a row, one behind another.
-use Rattle.std.proofs.Common.{◌≡◌, ◌<◌, ℕ, suc, ◌+◌, List, [], ◌∷◌, ◌++◌, Option, None, drop, get_or, length, map, drop-cons, ap, sym, ◌∙◌, append_assoc, arith}
+use Rattle.std.proofs.Common.{◌≡◌, ◌<◌, ℕ, suc, ◌+◌, List, ◌∷◌, ◌++◌, Option, None, drop, get_or, length, map, drop-cons, ap, sym, ◌∙◌, append_assoc, arith}
 use Rattle.pf_order.specs.declared.pick.Pick.{Pick}
 use Rattle.pf_place.specs.Occupancy.{sitter}
 use Rattle.pf_answers.specs.Steps.{comma_before, items_from, place_json}

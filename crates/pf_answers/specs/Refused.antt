@@ -1,5 +1,5 @@
 -- The answer to a command that was refused.
-use Rattle.std.specs.Prelude.{ℕ, Bool, if◌then◌else◌, List, [], ◌++◌, codes}
+use Rattle.std.specs.Prelude.{ℕ, if◌then◌else◌, List, [], ◌++◌, codes}
 use Rattle.std.specs.Fmt.{decimal}
 use Rattle.json.specs.Print.{quoted}
 use Rattle.pf_weight.specs.Refusals.{weight_fault_code}

@@ -1,6 +1,5 @@
 -- The answer to steps.
 use Rattle.std.specs.Prelude.{ℕ, ◌+◌, ◌-◌, ◌==◌, ◌||◌, Bool, true, false, if◌then◌else◌, map, Option, None, Some, List, [], ◌∷◌, ◌++◌, codes}
-use Rattle.std.specs.List.{flat_map}
 use Rattle.std.specs.Fmt.{decimal}
 use Rattle.pf_order.specs.declared.pick.Pick.{Pick}
 use Rattle.pf_desk.specs.Machine.{State, reply_to, state_after}
