@@ -6,7 +6,8 @@ use Rattle.std.proofs.lemmas.Bool.{ne_eqb}
 use Rattle.pf_run_notes.specs.declared.place.Place.{Place}
 use Rattle.pf_check_run.specs.declared.found.Found.{Found}
 use Rattle.pf_check_run.specs.Faults.{FaultLine, count_lacking, count_lines, fault_lines, of_records, or_all, told_of}
-use Rattle.pf_check_run.specs.Lines.{Finds, Lines, behind, behind_end, count_of, is_clean, is_empty, no_lines, text_of}
+use Rattle.pf_check_run.specs.Found.{Finds, is_clean, is_empty}
+use Rattle.pf_check_run.specs.Lines.{Lines, behind, behind_end, count_of, no_lines, text_of}
 use Rattle.pf_check_run.proofs.Told.{before_first, lines_more}
 use Rattle.pf_run.proofs.Counting.{count_by-cons}
 

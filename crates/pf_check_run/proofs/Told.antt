@@ -42,47 +42,51 @@ later_own s f fs some lacks =
     (append_assoc s.tail f.text (own_lines fs)))
 
 -- behind the first record that lacks settings
+first_by : (file : List ℕ) (s : Lines) (f : FaultLine) (fs : List FaultLine) (b : Bool) → f.lacks ≡ b → 0 < s.lacking
+    → ((t : Lines) → 0 < t.lacking → text_of (fold (behind file) t fs) ≡ text_with t (count_lacking fs) (own_lines fs))
+    → text_of (fold (behind file) (if b then behind_lacking file f.place s else behind_own f.text s) fs) ≡ text_with s (count_lacking (f ∷ fs)) (own_lines (f ∷ fs))
+first_by file s f fs true is some rest = rest (behind_lacking file f.place s) (omega arith) ∙ later_lacking file s f fs some is
+first_by file s f fs false is some rest = rest (behind_own f.text s) some ∙ later_own s f fs some is
+
 behind_first : (file : List ℕ) (s : Lines) (fs : List FaultLine) → 0 < s.lacking
     → text_of (fold (behind file) s fs) ≡ text_with s (count_lacking fs) (own_lines fs)
 behind_first file s [] some = text_later s some
-behind_first file s (f ∷ fs) some = by f.lacks refl
-  where
-    by : (b : Bool) → f.lacks ≡ b → text_of (fold (behind file) (behind file s f) fs) ≡ text_with s (count_lacking (f ∷ fs)) (own_lines (f ∷ fs))
-    by true is =
-        ap (λ b. text_of (fold (behind file) (if b then behind_lacking file f.place s else behind_own f.text s) fs)) is
-        ∙ behind_first file (behind_lacking file f.place s) fs (omega arith)
-        ∙ later_lacking file s f fs some is
-    by false is =
-        ap (λ b. text_of (fold (behind file) (if b then behind_lacking file f.place s else behind_own f.text s) fs)) is
-        ∙ behind_first file (behind_own f.text s) fs some
-        ∙ later_own s f fs some is
+behind_first file s (f ∷ fs) some = first_by file s f fs f.lacks refl some (λ t h. behind_first file t fs h)
 
 -- before it
+four : (a b c d : List ℕ) → ((a ++ b) ++ c) ++ codes "\n" ++ d ≡ a ++ ((b ++ c ++ codes "\n") ++ d)
+four a b c d = simp append_assoc refl
+
+before_by : (file : List ℕ) (s : Lines) (f : FaultLine) (fs : List FaultLine) (b : Bool) → f.lacks ≡ b → s.lacking ≡ 0 → s.tail ≡ []
+    → ((t : Lines) → t.lacking ≡ 0 → t.tail ≡ [] → text_of (fold (behind file) t fs) ≡ t.head ++ fault_lines file fs)
+    → text_of (fold (behind file) (if b then behind_lacking file f.place s else behind_own f.text s) fs) ≡ s.head ++ fault_lines file (f ∷ fs)
+before_by file s f fs true is none empty rest =
+    rw is
+    (behind_first file (behind_lacking file f.place s) fs (omega arith)
+    ∙ rw (none, empty) (four s.head (lacking_text file f.place) (others_text (count_lacking fs)) (own_lines fs)))
+before_by file s f fs false is none empty rest =
+    rw (is, none)
+    (rest (record { head = s.head ++ f.text; tail = s.tail; lacking = 0; others = s.others + 1 }) refl empty
+    ∙ append_assoc s.head f.text (fault_lines file fs))
+
 pub before_first : (file : List ℕ) (s : Lines) (fs : List FaultLine) → s.lacking ≡ 0 → s.tail ≡ []
     → text_of (fold (behind file) s fs) ≡ s.head ++ fault_lines file fs
 before_first file s [] none empty = rw none (sym (append-nil s.head))
-before_first file s (f ∷ fs) none empty = by f.lacks refl
-  where
-    by : (b : Bool) → f.lacks ≡ b → text_of (fold (behind file) (behind file s f) fs) ≡ s.head ++ fault_lines file (f ∷ fs)
-    by true is = rw is
-        (behind_first file (behind_lacking file f.place s) fs (omega (arith, none))
-        ∙ rw (none, empty) (four s.head (lacking_text file f.place) (others_text (count_lacking fs)) (own_lines fs)))
-      where
-        four : (a b c d : List ℕ) → ((a ++ b) ++ c) ++ codes "\n" ++ d ≡ a ++ ((b ++ c ++ codes "\n") ++ d)
-        four a b c d = simp append_assoc refl
-    by false is = rw is
-        (rw none (before_first file (record s { head = s.head ++ f.text; others = s.others + 1 }) fs none empty
-        ∙ append_assoc s.head f.text (fault_lines file fs)))
+before_first file s (f ∷ fs) none empty = before_by file s f fs f.lacks refl none empty (λ t n e. before_first file t fs n e)
 
 -- how many lines
+count_by_one : (file : List ℕ) (s : Lines) (f : FaultLine) (fs : List FaultLine) (b : Bool) → f.lacks ≡ b
+    → ((t : Lines) → count_of (fold (behind file) t fs) ≡ t.others + count_by (λ (g : FaultLine). not g.lacks) fs + min (t.lacking + count_lacking fs) 1)
+    → count_of (fold (behind file) (if b then behind_lacking file f.place s else behind_own f.text s) fs)
+    ≡ s.others + count_by (λ (g : FaultLine). not g.lacks) (f ∷ fs) + min (s.lacking + count_lacking (f ∷ fs)) 1
+count_by_one file s f fs true is rest =
+    rest (behind_lacking file f.place s)
+    ∙ omega (arith, lacking_more f fs, own_more f fs, ap (λ b. cond b 1 0) is, ap (λ b. cond (not b) 1 0) is)
+count_by_one file s f fs false is rest =
+    rest (behind_own f.text s)
+    ∙ omega (arith, lacking_more f fs, own_more f fs, ap (λ b. cond b 1 0) is, ap (λ b. cond (not b) 1 0) is)
+
 pub lines_more : (file : List ℕ) (s : Lines) (fs : List FaultLine)
     → count_of (fold (behind file) s fs) ≡ s.others + count_by (λ (f : FaultLine). not f.lacks) fs + min (s.lacking + count_lacking fs) 1
 lines_more file s [] = omega arith
-lines_more file s (f ∷ fs) = by f.lacks refl
-  where
-    by : (b : Bool) → f.lacks ≡ b → count_of (fold (behind file) (behind file s f) fs)
-        ≡ s.others + count_by (λ (g : FaultLine). not g.lacks) (f ∷ fs) + min (s.lacking + count_lacking (f ∷ fs)) 1
-    by true is = rw is (lines_more file (behind_lacking file f.place s) fs
-        ∙ omega (arith, lacking_more f fs, own_more f fs, ap (λ b. cond b 1 0) is, ap (λ b. cond (not b) 1 0) is))
-    by false is = rw is (lines_more file (behind_own f.text s) fs
-        ∙ omega (arith, lacking_more f fs, own_more f fs, ap (λ b. cond b 1 0) is, ap (λ b. cond (not b) 1 0) is))
+lines_more file s (f ∷ fs) = count_by_one file s f fs f.lacks refl (λ t. lines_more file t fs)

@@ -7,7 +7,7 @@ ghost use Rattle.pf_check3.specs.Checked.{faults as third_faults};
 ghost use Rattle.pf_stream.specs.Reading.{longest_script};
 ghost use Rattle.pf_version3.specs.Progress.{at_heading};
 ghost use Rattle.pf_check_run.specs.Faults.{shown, third_shown};
-ghost use Rattle.pf_check_run.specs.Lines.{Finds, TakesRecord};
+ghost use Rattle.pf_check_run.specs.Found.{Finds, TakesRecord};
 
 use crate::found::Found;
 use csv::ByteRecord;

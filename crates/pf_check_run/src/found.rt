@@ -52,7 +52,7 @@ impl Found {
     ghost use Rattle.pf_fault.specs.Answers.{IsQuiet};
     ghost use Rattle.pf_fault.specs.declared.status.Status.TheVariants.{BadScript};
     ghost use Rattle.pf_check_run.specs.Faults.{shown, third_shown};
-    ghost use Rattle.pf_check_run.specs.Lines.{IsFresh, NotRunBy, Takes, is_clean};
+    ghost use Rattle.pf_check_run.specs.Found.{IsFresh, NotRunBy, Takes, is_clean};
 
     /// Nothing yet.
     pub(crate) fn new(alloc: Global) -> Self
