@@ -64,7 +64,7 @@ fn is_followed(task: &Task) -> bool
 {
     match task {
         Task::Run(..) | Task::Diff(..) | Task::Drill | Task::Why(_) => true,
-        Task::Check | Task::Convert(_) | Task::Fit(_) => false,
+        Task::Check | Task::CheckRun | Task::Convert(_) | Task::Fit(_) => false,
     }
 }
 

@@ -23,7 +23,7 @@ use Rattle.pf_words.specs.declared.choices.TheConstants.{CONVERT_FORMATS, RUN_FO
 use Rattle.pf_words.specs.Choices.{IsChoiceNote}
 use Rattle.pf_options.specs.declared.slot_range.SlotRange.{SlotRange}
 use Rattle.pf_words.specs.declared.task.Task.{Task}
-use Rattle.pf_words.specs.declared.task.Task.TheVariants.{Run, Check, Drill, Convert, Fit, Why}
+use Rattle.pf_words.specs.declared.task.Task.TheVariants.{Run, Check, CheckRun, Drill, Convert, Fit, Why}
 use Rattle.pf_fit_text.specs.FitFormats.{fit_format_named}
 use Rattle.pf_fit_text.specs.declared.fit_format.FitFormat.{FitFormat}
 use Rattle.pf_fit_text.specs.declared.fit_format.FitFormat.TheVariants.{Text as FitText}
@@ -34,7 +34,7 @@ use Rattle.pf_words.specs.Diffs.{PairNames, are_two, diff_of, options_of, pair_g
 use Rattle.pf_options.specs.FailLists.{fail_on_named, on_nothing}
 use Rattle.pf_options.specs.Formats.{format_named, format_with_cell, format_with_style, format_with_wrap, format_within}
 use Rattle.pf_words.specs.Texts.{EndsWithLesson, IsRefusal, mistake_line, version_line}
-use Rattle.pf_words.specs.CommandLine.{any_flag, file_behind, is_check, is_convert, is_diff, is_drill, is_fit, is_why, kinds_of, program, text_behind, text_behind_run}
+use Rattle.pf_words.specs.CommandLine.{any_flag, file_behind, has_flag, is_check, is_convert, is_diff, is_drill, is_fit, is_why, kinds_of, program, text_behind, text_behind_run}
 use Rattle.pf_script.specs.Fields.{number_of}
 use Rattle.pf_why_words.specs.Reading.{question_of}
 use Rattle.pf_why_words.specs.declared.mistake.WhyMistake.{WhyMistake}
@@ -213,6 +213,10 @@ why_of found =
     why_given (question_of (text_behind (codes "why") (codes "slot") found) (text_behind (codes "why") (codes "format") found)
     (text_behind (codes "why") (codes "task") found))
 
+-- a check, which may carry the script out too
+abbrev pub check_of : Option (Text × List Row) → Task
+check_of found = if has_flag (codes "check") (codes "run") found then CheckRun else Check
+
 -- the format of a fit that a text names, and text where it is left out
 abbrev pub fit_format_read : Option FitFormat → Result FitFormat Mistake
 fit_format_read None = Err UnknownFormat
@@ -233,7 +237,7 @@ fit_given (Ok format) = Ok (Fit format)
 abbrev pub task_of : Option (Text × List Row) → Result Task Mistake
 task_of found =
     if is_drill found then Ok Drill
-    else if is_check found then Ok Check
+    else if is_check found then Ok (check_of found)
     else if is_diff found then diff_of found
     else if is_convert found then convert_given (conversion_of (convert_texts found))
     else if is_why found then why_of found

@@ -63,9 +63,9 @@ run_command =
     with_rule (with_notes (with_rule (with_look (with_rule (with_rule (with_rule (new_app (codes "run")) format_option) from_option) to_option)) fail_on_option))
     file_argument
 
--- `check`, which may have `--quiet` and FILE
+-- `check`, which may have `--run`, `--quiet` and FILE
 abbrev pub check_command : App
-check_command = with_rule (with_rule (new_app (codes "check")) quiet_flag) file_argument
+check_command = with_rule (with_rule (with_rule (new_app (codes "check")) (flag_named (codes "run"))) quiet_flag) file_argument
 
 -- the option `--since`, with one text
 abbrev pub since_option : Rule

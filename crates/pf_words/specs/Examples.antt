@@ -23,7 +23,7 @@ use Rattle.pf_options.specs.FailLists.{on_nothing}
 use Rattle.pf_options.specs.Formats.{range_fault}
 use Rattle.pf_options.specs.Ranges.{whole}
 use Rattle.pf_words.specs.declared.telling.Telling.{Telling}
-use Rattle.pf_words.specs.declared.task.Task.TheVariants.{Run, Check, Diff, Drill, Convert, Fit, Why}
+use Rattle.pf_words.specs.declared.task.Task.TheVariants.{Run, Check, CheckRun, Diff, Drill, Convert, Fit, Why}
 use Rattle.pf_fit_text.specs.declared.fit_format.FitFormat.TheVariants.{Text as FitText, Json as FitJson}
 use Rattle.pf_options.specs.declared.diff_options.DiffOptions.{DiffOptions}
 use Rattle.pf_words.specs.Asked.{task_asked, pair_asked, file_asked, telling_asked, reads_input, AsksHelp, AsksVersion, IsRefused, AreMistaken}
@@ -272,6 +272,7 @@ pub record WorkedWords : Type 0 where
   pub told : Told
   pub showable : Showable
   pub check : task_asked (codes "check" ∷ []) ≡ Some Check
+  pub check_run : task_asked (codes "check" ∷ codes "--run" ∷ codes "plan.csv" ∷ []) ≡ Some CheckRun
   -- a name of no format
   pub unknown : AreMistaken (codes "run" ∷ codes "--format" ∷ codes "xml" ∷ []) UnknownFormat
   -- the option without `run`, a word that is none of the program's, and a word too many

@@ -6,7 +6,7 @@ ghost use Rattle.pf_words.specs.CommandLine.{program, as_program, cell_option, c
 use crate::convert_command::convert_command;
 use crate::diff_command::diff_command;
 use crate::fit_command::fit_command;
-use crate::flags::{with_notes, with_quiet};
+use crate::flags::{with_flag, with_notes, with_quiet};
 use crate::texts::VERSION;
 use crate::why_command::why_command;
 use clap::{Arg, ArgAction, Command};
@@ -212,7 +212,7 @@ fn with_fail_on<'a>(alloc: Global, command: Command<'a>) -> Result<Command<'a>, 
     command.arg(fail_on)
 }
 
-/// `check`, with the flag `--quiet` and FILE.
+/// `check`, with the flags `--run` and `--quiet` and FILE.
 fn check_command<'a>(alloc: Global) -> Result<Command<'a>, AllocError>
     ensures shape { IfOk result (λ c. app_of c ≡ check_command) }
     ensures globals { IfOk result (λ c. (out-Command c).has_globals ≡ false) }
@@ -220,6 +220,8 @@ fn check_command<'a>(alloc: Global) -> Result<Command<'a>, AllocError>
     let check = Command::new(alloc, "check").about(
         "Checks the script: a line for each record that is none, and where and why",
     );
+    let help = "carry the script out too, and tell what was refused, denied or missed";
+    let check = with_flag(alloc, check, "run", help)?;
     let check = with_quiet(alloc, check)?;
     with_file(alloc, check)
 }

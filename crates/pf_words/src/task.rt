@@ -12,6 +12,8 @@ pub enum Task {
     Run(Format, FailOn),
     /// To check it.
     Check,
+    /// To check it, and where it has no fault to carry it out and tell what was refused, denied and missed.
+    CheckRun,
     /// To tell what its records changed from this one on, or the last one alone. They are counted from 1.
     Diff(Option<u64>, DiffOptions),
     /// To drill it.

@@ -1,7 +1,7 @@
 ghost use Rattle.std.specs.Prelude.{◌≡◌, codes, map, option_map, IfOk};
 ghost use Rattle.clap.specs.Words.{kind_of, subcommand_rows_of};
 ghost use Rattle.pf_words.specs.CommandLine.{has_flag, is_named, text_behind, text_behind_run};
-ghost use Rattle.pf_words.specs.Asked.{IsAsked, IsRequest, IsSound, IsSoundRequest, ShowsError, cell_given, fail_on_given, file_found, file_of, fit_format_given, format_celled, format_found, format_of, format_wrapped, format_or_tables, name_of, number_given, range_given, range_mistake, style_given, task_of, wrap_given};
+ghost use Rattle.pf_words.specs.Asked.{IsAsked, IsRequest, IsSound, IsSoundRequest, ShowsError, cell_given, check_of, fail_on_given, file_found, file_of, fit_format_given, format_celled, format_found, format_of, format_wrapped, format_or_tables, name_of, number_given, range_given, range_mistake, style_given, task_of, wrap_given};
 
 use crate::choices::mistake_text;
 use crate::command_line::program;
@@ -29,7 +29,7 @@ use std::convert::AsStr;
 /// What the program's words ask for, its own name not among them. No words ask for a run with tables, and so does `run`
 /// alone; `run --format NAME` asks for one in the format of that name, of the slots from `--from` on and below `--to`, in
 /// slots of the width `--cell`, in blocks of `--wrap` slots and in the style `--style`, to fail on what `--fail-on` lists, and
-/// `check` for a check. A file may stand behind each, for the script to be read from; `-` is standard input, as no file is.
+/// `check` for a check, and with `--run` for one that carries the script out too. A file may stand behind each, for the script to be read from; `-` is standard input, as no file is.
 /// `diff` asks what the records from `--since` on changed, and with a second file what differs between both scripts, of which one
 /// may be standard input; with their sums first by `--summary`, and a status that tells of a difference by `--exit-code`. `drill`
 /// asks for a drill of standard input. `convert` asks for a list of tasks to be converted, in the quanta of `--quantum`, and
@@ -74,7 +74,7 @@ fn read_task(matches: &ArgMatches<'_>) -> Result<Task, Mistake>
         return Ok(Task::Drill);
     }
     if is_asked(matches, "check") {
-        return Ok(Task::Check);
+        return Ok(read_check(matches));
     }
     if is_asked(matches, "diff") {
         return read_diff(matches);
@@ -90,6 +90,17 @@ fn read_task(matches: &ArgMatches<'_>) -> Result<Task, Mistake>
     }
     let format = read_format(matches)?;
     Ok(Task::Run(format, read_fail_on(matches)?))
+}
+
+/// A check, which may carry the script out too.
+fn read_check(matches: &ArgMatches<'_>) -> Task
+    ensures task { result ≡ check_of (subcommand_rows_of matches.now) }
+    ensures sound { IsSound result }
+{
+    if has_flag(matches, "check", "run") {
+        return Task::CheckRun;
+    }
+    Task::Check
 }
 
 /// The file behind a subcommand; none where standard input is meant, and for a drill.

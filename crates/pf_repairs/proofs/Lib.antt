@@ -1,0 +1,5 @@
+pub mod Bare
+pub mod Inside
+pub mod Judging
+pub mod Altered
+pub mod Early
