@@ -1,2 +1,4 @@
 pub mod Report
 pub mod Left
+pub mod TaskLeft
+pub mod TaskReport

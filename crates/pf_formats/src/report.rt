@@ -149,7 +149,7 @@ fn picture_of<'a>(
 }
 
 /// The quanta of a range of slots, in pieces.
-fn quanta_of(
+pub(crate) fn quanta_of(
     alloc: Global,
     snapshot: &Snapshot,
     range: SlotRange,

@@ -21,13 +21,14 @@ use Rattle.pf_options.specs.declared.slot_range.SlotRange.{SlotRange}
 use Rattle.pf_script_notes.specs.Behind.{NotesMade}
 use Rattle.pf_script_notes.specs.Faults.{IsFaultNote}
 use Rattle.pf_words.specs.declared.task.Task.{Task}
-use Rattle.pf_words.specs.declared.task.Task.TheVariants.{Run, Check, CheckRun, Diff, Drill, Convert, Fit, Why}
+use Rattle.pf_words.specs.declared.task.Task.TheVariants.{Run, RunTasks, Check, CheckRun, Diff, Drill, Convert, Fit, Why}
 use Rattle.pf_program.specs.FaultLines.{fault_line}
 use Rattle.pf_program.specs.declared.noting.Noting.{Noting}
 
 -- notes follow the tasks that carry a script out and tell of it
 abbrev pub is_followed : Task → Bool
 is_followed (Run format fail_on) = true
+is_followed (RunTasks format words fail_on) = true
 is_followed Check = false
 is_followed CheckRun = false
 is_followed (Diff since options) = true
@@ -43,6 +44,7 @@ range_shown format = Some (range_of format)
 
 abbrev pub shown_range : Task → Option SlotRange
 shown_range (Run format fail_on) = range_shown format
+shown_range (RunTasks format words fail_on) = Some (range_of format)
 shown_range task = Some whole
 
 abbrev pub noting_of : Bool → Task → Noting
@@ -96,6 +98,7 @@ gone_diff options = if options.exit_code then StreamFailed else Done
 
 abbrev pub gone_of : Task → Status
 gone_of (Run format fail_on) = if fails_on_some fail_on then StreamFailed else Done
+gone_of (RunTasks format words fail_on) = if fails_on_some fail_on then StreamFailed else Done
 gone_of Check = StreamFailed
 gone_of CheckRun = StreamFailed
 gone_of (Diff since options) = gone_diff options

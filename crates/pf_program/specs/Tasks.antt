@@ -15,12 +15,13 @@ use Rattle.pf_options.specs.declared.diff_options.DiffOptions.{DiffOptions}
 use Rattle.pf_options.specs.declared.fail_on.FailOn.{FailOn}
 use Rattle.pf_options.specs.declared.format.Format.{Format}
 use Rattle.pf_words.specs.declared.task.Task.{Task}
-use Rattle.pf_words.specs.declared.task.Task.TheVariants.{Run, Check, CheckRun, Diff, Drill, Convert, Fit, Why}
+use Rattle.pf_words.specs.declared.task.Task.TheVariants.{Run, RunTasks, Check, CheckRun, Diff, Drill, Convert, Fit, Why}
 use Rattle.pf_options.specs.FailLists.{on_nothing}
 use Rattle.pf_cli.specs.Answers.{Answers}
 use Rattle.pf_cli.specs.Checks.{ChecksBytes}
 use Rattle.pf_cli.specs.Ended.{fails_on, run_status}
 use Rattle.pf_cli.specs.Meaning.{script_meaning}
+use Rattle.pf_cli.specs.Tasks.{RunsTasks}
 use Rattle.pf_change.specs.Change.{change_meaning}
 use Rattle.pf_check_run.specs.Answers.{ChecksRun}
 use Rattle.pf_change.specs.Difference.{told_by}
@@ -83,6 +84,7 @@ pub record CheckRunMade (file script : List ℕ) (made : Result Answer Fault) : 
 -- origins where it belongs to a script of version 3
 abbrev pub AnswersTask : Titles → Option (List Origin) → Task → List ℕ → List ℕ → Result Ending Fault → Option (List ℕ) → Option (List ℕ) → Type 0
 AnswersTask titles origins (Run format fail_on) file script answer old new = RunsScript format titles origins fail_on script answer old new
+AnswersTask titles origins (RunTasks format words fail_on) file script answer old new = RunsTasks format titles words fail_on script answer old new
 AnswersTask titles origins Check file script answer old new = ChecksBytes script answer old new
 AnswersTask titles origins CheckRun file script answer old new = (made : Result Answer Fault) × CheckRunMade file script made × AnswersMade made answer old new
 AnswersTask titles origins (Diff since options) file script answer old new = (made : Result Answer Fault) × ChangeMade since options script made × AnswersMade made answer old new

@@ -15,7 +15,7 @@ use Rattle.pf_plain.specs.Plain.{Plain, plain}
 use Rattle.pf_stream.specs.Reading.{longest_script}
 use Rattle.pf_text.specs.Page.{table_text}
 use Rattle.pf_words.specs.declared.task.Task.{Task}
-use Rattle.pf_words.specs.declared.task.Task.TheVariants.{Run, Check, CheckRun, Diff, Drill, Convert, Fit, Why}
+use Rattle.pf_words.specs.declared.task.Task.TheVariants.{Run, RunTasks, Check, CheckRun, Diff, Drill, Convert, Fit, Why}
 use Rattle.pf_program.specs.Tasks.{AnswersMade, AnswersTask}
 
 -- how many come from a record before this one
@@ -31,6 +31,7 @@ since_in p (Some number) = count_below number p.origins + 1
 -- the task with the script of version 2
 abbrev pub task_in : Plain → Task → Task
 task_in p (Run format fail_on) = Run format fail_on
+task_in p (RunTasks format words fail_on) = RunTasks format words fail_on
 task_in p Check = Check
 task_in p CheckRun = CheckRun
 task_in p (Diff since options) = Diff (Some (since_in p since)) options
@@ -86,6 +87,7 @@ abbrev pub AnswersThird : Plain → Task → List ℕ → List ℕ → Result En
 AnswersThird p Check file script answer old new = (made : Result Answer Fault) × IsChecked script made × AnswersMade made answer old new
 AnswersThird p CheckRun file script answer old new = AnswersThirdRun p file script answer old new
 AnswersThird p (Run format fail_on) file script answer old new = AnswersShort p (Run format fail_on) file answer old new
+AnswersThird p (RunTasks format words fail_on) file script answer old new = AnswersShort p (RunTasks format words fail_on) file answer old new
 AnswersThird p (Diff since options) file script answer old new = AnswersShort p (Diff since options) file answer old new
 AnswersThird p Drill file script answer old new = AnswersShort p Drill file answer old new
 AnswersThird p (Convert conversion) file list answer old new = AnswersTask untitled None (Convert conversion) file list answer old new

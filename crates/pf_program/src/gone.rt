@@ -13,7 +13,9 @@ pub(crate) fn gone_of(task: &Task) -> Status
 {
     match task {
         Task::Check | Task::CheckRun => Status::StreamFailed,
-        Task::Run(_, fail_on) if fails_on_some(*fail_on) => Status::StreamFailed,
+        Task::Run(_, fail_on) | Task::RunTasks(_, _, fail_on) if fails_on_some(*fail_on) => {
+            Status::StreamFailed
+        }
         Task::Diff(_, options) => gone_diff(*options),
         _ => Status::Done,
     }

@@ -11,6 +11,7 @@ use pf_change::diff::diff;
 use pf_check_run::check_run::check_run;
 use pf_cli::check::check;
 use pf_cli::run::run;
+use pf_cli::task_run::run_tasks;
 use pf_conversion::convert::convert;
 use pf_convert_words::conversion::Conversion;
 use pf_drill::drill::drill;
@@ -54,6 +55,9 @@ pub(crate) fn do_task<H: AllocGlobal + Threads + Wait + Sync, W: Sink>(
     match task {
         Task::Run(format, fail_on) => {
             run(alloc, script, writer, format, titles, origins, fail_on)
+        }
+        Task::RunTasks(format, words, fail_on) => {
+            run_tasks(alloc, script, writer, format, titles, &words, fail_on)
         }
         Task::Check => check(alloc, script, writer),
         Task::CheckRun => write_answer(check_run(alloc, file, script), writer),

@@ -1,5 +1,5 @@
 -- What the words ask for.
-use Rattle.std.specs.Prelude.{◌≡◌, ◌≢◌, ◌⊎◌, ℕ, Bool, false, not, ◌&&◌, ◌||◌, is_some, if◌then◌else◌, List, [], ◌++◌, Option, Some, None, option_map, Result, Ok, Err, codes, unwrap_or, String, string_bytes, ⊤}
+use Rattle.std.specs.Prelude.{◌≡◌, ◌≢◌, ◌⊎◌, ℕ, Bool, false, not, ◌&&◌, ◌||◌, true, is_some, if◌then◌else◌, List, [], ◌++◌, Option, Some, None, option_map, Result, Ok, Err, codes, unwrap_or, String, string_bytes, ⊤}
 use Rattle.std.specs.Result.{result_ok, result_err}
 use Rattle.std.specs.Str.{bytes_eq}
 use Rattle.std.specs.declared.alloc.Global.{Global}
@@ -9,21 +9,23 @@ use Rattle.clap.specs.declared.error.kind.ErrorKind.{ErrorKind}
 use Rattle.clap.specs.declared.error.kind.ErrorKind.TheVariants.{DisplayHelp, DisplayVersion, OutOfMemory}
 use Rattle.pf_options.specs.declared.fail_on.FailOn.{FailOn}
 use Rattle.pf_options.specs.declared.format.Format.{Format}
-use Rattle.pf_options.specs.declared.format.Format.TheVariants.{C, Full, Html, Jobs, Tables, Trace}
+use Rattle.pf_options.specs.declared.format.Format.TheVariants.{C, Full, Html, Jobs, Lags, Misses, Quanta, Stats, Tables, Trace, Windows}
 use Rattle.pf_words.specs.declared.request.Request.{Request}
 use Rattle.pf_words.specs.declared.request.Request.TheVariants.{Do, Compare, Show}
 use Rattle.pf_words.specs.declared.request.WordsFault.{WordsFault}
 use Rattle.pf_words.specs.declared.request.WordsFault.TheVariants.{Refused, Mistaken, NoMemory}
 use Rattle.pf_words.specs.declared.mistake.Mistake.{Mistake}
 use Rattle.pf_words.specs.declared.mistake.Mistake.TheVariants as why
-use Rattle.pf_words.specs.declared.mistake.Mistake.TheVariants.{UnknownFormat, BadNumber, NoRange, Unranged, BadCell, NoCell, BadWrap, NoWrap, BadStyle, NoStyle, BadFailOn}
+use Rattle.pf_words.specs.declared.mistake.Mistake.TheVariants.{UnknownFormat, BadNumber, NoRange, Unranged, BadCell, NoCell, BadWrap, NoWrap, BadStyle, NoStyle, BadTasks, NoTasks, BadFailOn}
 use Rattle.pf_words.specs.declared.script_pair.ScriptPair.{ScriptPair}
 use Rattle.pf_words.specs.declared.telling.Telling.{Telling}
 use Rattle.pf_words.specs.declared.choices.TheConstants.{CONVERT_FORMATS, RUN_FORMATS, TEXT_FORMATS}
 use Rattle.pf_words.specs.Choices.{IsChoiceNote}
 use Rattle.pf_options.specs.declared.slot_range.SlotRange.{SlotRange}
+use Rattle.pf_task_words.specs.Reading.{words_in}
+use Rattle.pf_task_words.specs.declared.task_word.TaskWord.{TaskWord}
 use Rattle.pf_words.specs.declared.task.Task.{Task}
-use Rattle.pf_words.specs.declared.task.Task.TheVariants.{Run, Check, CheckRun, Drill, Convert, Fit, Why}
+use Rattle.pf_words.specs.declared.task.Task.TheVariants.{Run, RunTasks, Check, CheckRun, Drill, Convert, Fit, Why}
 use Rattle.pf_fit_text.specs.FitFormats.{fit_format_named}
 use Rattle.pf_fit_text.specs.declared.fit_format.FitFormat.{FitFormat}
 use Rattle.pf_fit_text.specs.declared.fit_format.FitFormat.TheVariants.{Text as FitText}
@@ -177,15 +179,43 @@ abbrev pub fail_on_given : Option Text → Result FailOn Mistake
 fail_on_given None = Ok on_nothing
 fail_on_given (Some list) = fail_on_read (fail_on_named list)
 
--- to run it in that format, and to fail on that
-abbrev pub run_given : Result Format Mistake → Result FailOn Mistake → Result Task Mistake
-run_given (Err mistake) fail_on = Err mistake
-run_given (Ok format) (Err mistake) = Err mistake
-run_given (Ok format) (Ok fail_on) = Ok (Run format fail_on)
+-- the formats that can show some tasks alone
+abbrev pub takes_tasks : Format → Bool
+takes_tasks (Windows range) = true
+takes_tasks Jobs = true
+takes_tasks (Quanta range) = true
+takes_tasks Stats = true
+takes_tasks Lags = true
+takes_tasks Misses = true
+takes_tasks format = false
+
+-- the list of tasks that a text is, of a format that can show these alone
+abbrev pub tasks_for : Format → Option (List TaskWord) → Result (Option (List TaskWord)) Mistake
+tasks_for format None = Err BadTasks
+tasks_for format (Some words) = if takes_tasks format then Ok (Some words) else Err NoTasks
+
+-- the list that is the text of an option, and none where the option is left out
+abbrev pub tasks_given : Format → Option Text → Result (Option (List TaskWord)) Mistake
+tasks_given format None = Ok None
+tasks_given format (Some text) = tasks_for format (words_in text)
+
+-- to run it in that format, of those tasks alone where some are listed, and to fail on that
+abbrev pub run_with : Format → Option (List TaskWord) → FailOn → Task
+run_with format None fail_on = Run format fail_on
+run_with format (Some words) fail_on = RunTasks format words fail_on
+
+abbrev pub run_listed : Format → Result (Option (List TaskWord)) Mistake → Result FailOn Mistake → Result Task Mistake
+run_listed format (Err mistake) fail_on = Err mistake
+run_listed format (Ok tasks) (Err mistake) = Err mistake
+run_listed format (Ok tasks) (Ok fail_on) = Ok (run_with format tasks fail_on)
+
+abbrev pub run_given : Result Format Mistake → Option Text → Result FailOn Mistake → Result Task Mistake
+run_given (Err mistake) tasks fail_on = Err mistake
+run_given (Ok format) tasks fail_on = run_listed format (tasks_given format tasks) fail_on
 
 -- the run that is asked for, by what was found of a subcommand
 abbrev pub run_of : Option (Text × List Row) → Result Task Mistake
-run_of found = run_given (format_of found) (fail_on_given (text_behind_run (codes "fail-on") found))
+run_of found = run_given (format_of found) (text_behind_run (codes "task") found) (fail_on_given (text_behind_run (codes "fail-on") found))
 
 -- the texts of a conversion, by what was found of a subcommand; there always is a quantum
 abbrev pub convert_texts : Option (Text × List Row) → ConvertTexts

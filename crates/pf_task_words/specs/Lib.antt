@@ -1,0 +1,3 @@
+pub use Rattle.pf_script.specs.Fields
+pub mod Finding
+pub mod Reading
