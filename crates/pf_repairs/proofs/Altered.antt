@@ -1,26 +1,21 @@
 -- A leave that was denied, in the scenario that has it in a later slot.
-use Rattle.std.proofs.Common.{◌≡◌, ◌≢◌, ℕ, zero, suc, ◌+◌, ◌-◌, ◌<◌, ◌≤◌, not, ◌&&◌, ◌||◌, ◌==◌, Bool, true, false, nat_lt, nat_le, cond, List, [], ◌∷◌, ◌++◌, length, take, drop, map, filter, Option, None, Some, inl, inr, refl, sym, ap, ap₂, subst, ◌∙◌, ⊎_elim, arith, append-nil, append_assoc}
-use Rattle.std.specs.List.{All, Contains, list_any, position, position_or_len}
+use Rattle.std.proofs.Common.{◌≡◌, ℕ, zero, suc, ◌+◌, ◌-◌, ◌<◌, ◌≤◌, not, ◌&&◌, ◌||◌, ◌==◌, Bool, true, false, nat_lt, cond, List, [], ◌∷◌, ◌++◌, length, take, drop, map, filter, Option, None, Some, refl, sym, ap, ap₂, ◌∙◌, ⊎_elim, arith, append-nil, append_assoc}
+use Rattle.std.specs.List.{All, Contains, list_any, position_or_len}
 use Rattle.std.specs.Option.{option_and_then, option_map, option_map_or, option_or}
 use Rattle.std.specs.Prelude.{find, if◌then◌else◌}
-use Rattle.std.proofs.lemmas.Bool.{cond-true, cond-false, eq-eqb, eqb-true, lt-ltb, ne_eqb, or_left, or_right, or_parts}
+use Rattle.std.proofs.lemmas.Bool.{eq-eqb, eqb-true, lt-ltb, or_left, or_right, or_parts}
 use Rattle.std.proofs.lemmas.Bool.Decides.{nat_tests}
 use Rattle.std.proofs.lemmas.List.{take_all, take-append-drop}
 use Rattle.std.proofs.lemmas.List.Elements.{All-cons, All-contains, All-contains_itself, All-filter, All-head, All-nil, All-tail, All-weaker}
 use Rattle.std.proofs.lemmas.List.Folds.{find-append, list_any-append}
-use Rattle.pf_weight.specs.declared.task.TheConstants.{LARGEST_TASK}
 use Rattle.pf_admit.specs.Admission.{leave_denial}
-use Rattle.pf_admit.specs.declared.denial.Denial.{Denial}
-use Rattle.pf_admit.specs.declared.member.Member.{Member}
 use Rattle.pf_notes.specs.Absence.{join_among, leave_among}
 use Rattle.pf_notes.specs.Laws.{leave_in}
-use Rattle.pf_notes.specs.Point.{before_event, joined_at, member_in}
+use Rattle.pf_notes.specs.Point.{before_event, joined_at}
 use Rattle.pf_repairs.proofs.Inside.{joined_stays}
-use Rattle.pf_order.specs.declared.pick.Pick.{Pick}
-use Rattle.pf_scenario.specs.Edit.{IsEvent, IsScenario, edit_fault, has_task, leave_alike, unless}
-use Rattle.pf_scenario.specs.Event.{in_run_order, is_leave_of, is_of_slot, run_cmp, slot_of}
+use Rattle.pf_scenario.specs.Edit.{IsEvent, IsScenario, edit_fault, has_task, leave_alike}
+use Rattle.pf_scenario.specs.Event.{is_leave_of, is_of_slot, run_cmp, slot_of}
 use Rattle.pf_scenario.specs.Scenario.{Plan, events_of, events_without, is_held, past, plan_after, with_number}
-use Rattle.pf_scenario.specs.System.{System}
 use Rattle.pf_scenario.specs.declared.change.Change.TheVariants.{Alter, Strike}
 use Rattle.pf_scenario.specs.declared.event.Event.{Event}
 use Rattle.pf_scenario.specs.declared.event.Event.TheVariants.{Join, Leave, Delay, Limit}
@@ -31,7 +26,7 @@ use Rattle.pf_scenario.proofs.Lists.{find_none}
 use Rattle.pf_scenario.proofs.Sorting.{All-sorted_by, IsInOrder-sorted_by, list_any-sorted_by}
 use Rattle.pf_tally.proofs.InForce.{in_force-append}
 use Rattle.pf_run.specs.Computed.{RunCourse, course_of, denials_among, picks_of, after_events, run_of}
-use Rattle.pf_run.specs.Inside.{Joined, inside, join_of, member_at, member_of}
+use Rattle.pf_run.specs.Inside.{Joined, join_of, member_at, member_of}
 use Rattle.pf_run.specs.Record.{Slot, denials_of, in_force, is_denied}
 use Rattle.pf_run.specs.Run.{events_in_force, pick_of_key}
 use Rattle.pf_run.specs.declared.denied.Denied.{Denied}
@@ -43,8 +38,8 @@ use Rattle.pf_run.proofs.Numbers.{apart_events_of, held_filter, held_past}
 use Rattle.pf_run.proofs.Runs.{computed_begins, computed_length, course_is_run, run_is_computed}
 use Rattle.pf_promise.proofs.Standing.{in_force_all, standing-take}
 use Rattle.pf_repairs.specs.Repairs.{denial_up_to, leaving_in}
-use Rattle.pf_repairs.proofs.Bare.{bare, course_kept, course_without, denied_out, member_at_kept}
-use Rattle.pf_repairs.proofs.Judging.{AreOfSlot, denial_by, judged, leave}
+use Rattle.pf_repairs.proofs.Bare.{course_kept, course_without, denied_out, member_at_kept}
+use Rattle.pf_repairs.proofs.Judging.{AreOfSlot, denial_by, judged}
 
 -- what an alter makes of each event
 abbrev pub altered : ℕ → Event → Numbered → Numbered
@@ -205,8 +200,8 @@ module _ (s : Plan) (id task slot : ℕ) (scenario : IsScenario s) (x : Numbered
     abbrev q : Plan
     q = leaving_in s id task t
 
-    then : IsScenario q
-    then = changed_scenario s s (Alter id (Leave t task)) refl scenario (taken t low)
+    scenario_then : IsScenario q
+    scenario_then = changed_scenario s s (Alter id (Leave t task)) refl scenario (taken t low)
 
     abbrev here : Numbered
     here = record { id = id; event = Leave t task }
@@ -250,7 +245,7 @@ module _ (s : Plan) (id task slot : ℕ) (scenario : IsScenario s) (x : Numbered
     unfolding events_of
     are r = record {
       ordered = IsInOrder-sorted_by run_cmp_total (filter (is_of_slot t) q.events);
-      apart = apart_events_of q t then;
+      apart = apart_events_of q t scenario_then;
       own = each_of (λ (y : Numbered). (y.id == id) ≡ true → y ≡ here)
           (all_altered (λ (y : Numbered). (y.id == id) ≡ true → y ≡ here) (λ e. refl) s.events
           (All-weaker (Contains s.events) (λ (y : Numbered). (y.id == id) ≡ false → (y.id == id) ≡ true → y ≡ here)
@@ -281,13 +276,13 @@ module _ (s : Plan) (id task slot : ℕ) (scenario : IsScenario s) (x : Numbered
     none_standing : is_held (course_of q t).standing id ≡ false
     unfolding in_force
     none_standing =
-        ap (λ xs. is_held xs id) (course_is_run q t then).stands
+        ap (λ xs. is_held xs id) (course_is_run q t scenario_then).stands
         ∙ none_kept (λ y. not (is_denied (denials_of (run_of q t)) y)) (past q t) id none_past
 
     none_denied : list_any (λ (d : Denied). d.id == id) (denials_of (run_of q t)) ≡ false
     none_denied =
-        denied_past q t (run_of q t) (run_is_computed q t then) id
-        (ap (λ n. is_held (past q n) id) (computed_length q t then) ∙ none_past)
+        denied_past q t (run_of q t) (run_is_computed q t scenario_then) id
+        (ap (λ n. is_held (past q n) id) (computed_length q t scenario_then) ∙ none_past)
 
     -- why it is denied in its slot
     more_of : run_of q (t + 1) ≡ run_of q t ++ record {

@@ -1,17 +1,15 @@
 -- A run without the denials of one event: nothing else looks at them.
-use Rattle.std.proofs.Common.{◌≡◌, ℕ, zero, suc, ◌+◌, ◌<◌, not, ◌&&◌, ◌||◌, ◌==◌, Bool, true, false, nat_le, cond, List, [], ◌∷◌, ◌++◌, length, take, map, filter, count_by, Option, None, Some, refl, sym, ap, ap₂, subst, ◌∙◌, arith}
+use Rattle.std.proofs.Common.{◌≡◌, ℕ, zero, suc, ◌+◌, not, ◌&&◌, ◌||◌, ◌==◌, Bool, true, false, nat_le, cond, List, [], ◌∷◌, ◌++◌, length, take, map, filter, count_by, Option, None, Some, refl, sym, ap, ap₂, ◌∙◌}
 use Rattle.std.proofs.lemmas.Bool.{eqb-true}
 use Rattle.std.proofs.lemmas.List.{length-map, map-append, take-map}
 use Rattle.std.proofs.lemmas.List.Folds.{list_any-append}
 use Rattle.std.specs.List.{list_any}
 use Rattle.std.specs.Option.{option_map}
 use Rattle.std.specs.Prelude.{if◌then◌else◌, find, filter_map, sum_by}
-use Rattle.pf_weight.specs.Share.{share_of}
 use Rattle.pf_order.specs.Priority.{Priority}
 use Rattle.pf_order.specs.First.{first_keys}
-use Rattle.pf_scenario.specs.Edit.{IsScenario}
 use Rattle.pf_scenario.specs.System.{System}
-use Rattle.pf_scenario.specs.Event.{is_of_slot, run_cmp, in_run_order}
+use Rattle.pf_scenario.specs.Event.{is_of_slot, in_run_order}
 use Rattle.pf_scenario.specs.Scenario.{Plan, events_of, is_held, past, plan_after}
 use Rattle.pf_scenario.specs.declared.change.Change.TheVariants.{Strike}
 use Rattle.pf_scenario.specs.declared.event.Event.{Event}
@@ -19,14 +17,14 @@ use Rattle.pf_scenario.specs.declared.event.Event.TheVariants.{Join, Leave, Dela
 use Rattle.pf_scenario.specs.declared.event.Numbered.{Numbered}
 use Rattle.pf_scenario.proofs.Indexing.{run_cmp_total}
 use Rattle.pf_scenario.proofs.Sorting.{filter-sorted_by}
-use Rattle.pf_admit.specs.Admission.{join_denial, leave_denial, delay_denial}
+use Rattle.pf_admit.specs.Admission.{leave_denial, delay_denial}
 use Rattle.pf_admit.specs.declared.member.Member.{Member}
 use Rattle.pf_admit.specs.declared.denial.Denial.{Denial}
 use Rattle.pf_run.specs.declared.denied.Denied.{Denied}
 use Rattle.pf_run.specs.Record.{Slot, runs, done, in_force, is_denied, next_sub, denials_of}
-use Rattle.pf_run.specs.Inside.{Joined, inside, load_of, count_of, hold_back_of, shift_of, member_of, member_at, ready, ready_key}
+use Rattle.pf_run.specs.Inside.{Joined, inside, count_of, hold_back_of, shift_of, member_of, member_at, ready, ready_key}
 use Rattle.pf_run.specs.Denials.{denial_of, denied_for}
-use Rattle.pf_run.specs.Run.{events_in_force, pick_of_key}
+use Rattle.pf_run.specs.Run.{pick_of_key}
 use Rattle.pf_run.specs.Computed.{RunCourse, with_event, after_events, denials_among, picks_of, with_slot, next_course, course_of, run_of}
 use Rattle.pf_run.proofs.Counting.{sum_by-map}
 use Rattle.pf_run.proofs.Runs.{course_is_run}

@@ -1,16 +1,16 @@
 -- Leaves that were too early, and the slot that is told of them.
-use Rattle.std.proofs.Common.{◌≡◌, ℕ, ◌+◌, ◌-◌, ◌<◌, ◌≤◌, ◌&&◌, ◌==◌, min, Bool, true, false, nat_lt, List, [], ◌∷◌, length, Option, None, Some, refl, sym, ap, ap₂, subst, ◌∙◌, arith}
-use Rattle.std.specs.List.{Contains, list_any, slice_get}
+use Rattle.std.proofs.Common.{◌≡◌, ℕ, ◌-◌, ◌<◌, ◌≤◌, ◌&&◌, ◌==◌, min, true, nat_lt, List, length, Option, None, Some, refl, sym, ap, ap₂, ◌∙◌, arith}
+use Rattle.std.specs.List.{Contains, list_any}
 use Rattle.std.specs.Option.{option_and_then, option_map}
 use Rattle.std.proofs.lemmas.Bool.{eq-eqb, eqb-true, lt-ltb}
 use Rattle.std.proofs.lemmas.List.Elements.{All-contains, All-contains_itself}
 use Rattle.std.proofs.lemmas.List.Folds.{list_any_at}
 use Rattle.pf_admit.specs.declared.denial.Denial.{Denial}
 use Rattle.pf_admit.specs.declared.denial.Denial.TheVariants as denied
-use Rattle.pf_notes.specs.Grounds.{early_leave, grounds_for, grounds_of, last_slot, leaves_in}
+use Rattle.pf_notes.specs.Grounds.{early_leave, grounds_for, last_slot, leaves_in}
 use Rattle.pf_notes.specs.Point.{before_event, event_of, joined_at}
 use Rattle.pf_notes.specs.declared.grounds.Grounds.{Grounds}
-use Rattle.pf_notes.specs.declared.grounds.Grounds.TheVariants.{OverCapacity, NotInside, TooEarly, Released}
+use Rattle.pf_notes.specs.declared.grounds.Grounds.TheVariants.{NotInside, TooEarly}
 use Rattle.pf_repairs.proofs.Inside.{found_all, found_passes}
 use Rattle.pf_notes.specs.Laws.{NextLeaveIsFirst}
 use Rattle.pf_scenario.specs.Edit.{IsEvent, IsScenario}
@@ -79,7 +79,7 @@ module _ (s : Plan) (r : List Slot) (task sub slot bound t last : ℕ) (before :
   early_for (Limit slot' count) denied.Released e = cc
 
 -- its event
-record IsFound (s : Plan) (n task slot t : ℕ) (d : Denied) : Type 0 where
+pub record IsFound (s : Plan) (n task slot t : ℕ) (d : Denied) : Type 0 where
   pub x : Numbered
   pub found : event_of d.id (past s n) ≡ Some x
   pub is_leave : x.event ≡ Leave slot task

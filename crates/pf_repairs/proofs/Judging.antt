@@ -1,10 +1,10 @@
 -- A leave among the events of its slot: before it come limits and leaves of other tasks, which change nothing of its own.
-use Rattle.std.proofs.Common.{◌≡◌, ◌≢◌, ℕ, zero, suc, ◌+◌, ◌<◌, not, ◌&&◌, ◌||◌, ◌==◌, Bool, true, false, cond, List, [], ◌∷◌, ◌++◌, length, map, filter, Option, None, Some, refl, sym, ap, ap₂, subst, ◌∙◌, arith}
+use Rattle.std.proofs.Common.{◌≡◌, ℕ, not, ◌||◌, ◌==◌, Bool, true, false, cond, List, [], ◌∷◌, ◌++◌, length, Option, None, Some, refl, sym, ap, subst, ◌∙◌}
 use Rattle.std.specs.List.{All, list_any}
 use Rattle.std.specs.Option.{option_map}
 use Rattle.std.specs.Ordering.{is_lt}
 use Rattle.std.specs.Prelude.{find}
-use Rattle.std.proofs.lemmas.Bool.{eq-eqb, eqb-true, ne_eqb}
+use Rattle.std.proofs.lemmas.Bool.{eq-eqb, eqb-true, ne_eqb, true≢false}
 use Rattle.std.proofs.lemmas.List.Elements.{All-head, All-tail}
 use Rattle.pf_admit.specs.Admission.{leave_denial}
 use Rattle.pf_admit.specs.declared.denial.Denial.{Denial}
@@ -45,10 +45,7 @@ module _ (st : System) (r : List Slot) (id t task : ℕ) where
 
   other_task : (task' : ℕ) → (task' == task) ≡ false → (j : Joined) → (j.task == task) ≡ true → not (j.task == task') ≡ true
   other_task task' other j is = ap not (ne_eqb j.task task' (λ (e : j.task ≡ task').
-      let no : true ≡ false = sym (eq-eqb task' task (sym e ∙ eqb-true j.task task is)) ∙ other in absurd (differ no)))
-    where
-      differ : true ≡ false → ⊥
-      differ no = cc
+      true≢false (sym (eq-eqb task' task (sym e ∙ eqb-true j.task task is)) ∙ other)))
 
   -- an event before the leave, in force or not
   passed : (xs : List Numbered) (number : ℕ) (event : Event) (o : Option Denial) → is_lt (run_cmp leave (record { id = number; event = event })) ≡ false

@@ -1,5 +1,5 @@
 -- What a denied event does to a run, and what comes of a leave that was too early when it is altered.
-use Rattle.std.specs.Prelude.{◌≡◌, ℕ, ◌+◌, ◌-◌, ◌==◌, ◌<◌, true, not, Option, None, Some, List, map, filter, find}
+use Rattle.std.specs.Prelude.{◌≡◌, ℕ, ◌+◌, ◌==◌, ◌<◌, true, not, Option, None, Some, map, filter, find}
 use Rattle.std.specs.List.{Contains, list_any}
 use Rattle.std.specs.Option.{option_map}
 use Rattle.pf_admit.specs.declared.denial.Denial.{Denial}

@@ -236,6 +236,7 @@ worked_words = record {
   told = told;
   showable = showable;
   check = refl;
+  check_run = refl;
   unknown = (refl, refl);
   option_alone = (kind.UnknownArgument, unknown_is_not_shown, inl refl);
   alone = (kind.UnknownArgument, unknown_is_not_shown, inl refl);

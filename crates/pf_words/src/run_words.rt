@@ -26,7 +26,9 @@ pub(crate) fn read_run(
 {
     match read_format(matches) {
         Ok(format) => {
-            let tasks = read_tasks(alloc, matches, format)?;
+            // A copy of its own for each call: so the check follows both.
+            let shown = format;
+            let tasks = read_tasks(alloc, matches, shown)?;
             Ok(run_listed(format, tasks, read_fail_on(matches)))
         }
         Err(mistake) => Ok(Err(mistake)),
