@@ -30,8 +30,8 @@ some_lines : (b : FaultLine) (bs : List FaultLine) → 0 < count_lines (b ∷ bs
 some_lines b bs = by b.lacks refl
   where
     by : (l : Bool) → b.lacks ≡ l → 0 < count_lines (b ∷ bs)
-    by true is = omega (arith, count_by-cons (λ (f : FaultLine). f.lacks) b bs, ap (λ l. cond l 1 0) is)
-    by false is = omega (arith, count_by-cons (λ (f : FaultLine). not f.lacks) b bs, ap (λ l. cond (not l) 1 0) is)
+    by true is = omega (arith, count_by-cons (λ (f : FaultLine). f.lacks) b bs, ap {B = ℕ} (λ l. cond l 1 0) is)
+    by false is = omega (arith, count_by-cons (λ (f : FaultLine). not f.lacks) b bs, ap {B = ℕ} (λ l. cond (not l) 1 0) is)
 
 counted : (file : List ℕ) (fs : List FaultLine) → count_of (fold (behind file) no_lines fs) ≡ count_lines fs
 counted file fs = lines_more file no_lines fs ∙ omega arith
@@ -56,7 +56,7 @@ clean_is file (b ∷ bs) last =
 pub text_found : (file : List ℕ) (bad : List FaultLine) (last : Option FaultLine) → LacksAtEnd last
     → text_of (behind_end file (option_map (λ (f : FaultLine). f.place) last) (fold (behind file) no_lines bad)) ≡ fault_lines file (or_all bad (bad ++ one_of last))
 text_found file [] None lacks = refl
-text_found file [] (Some f) lacks = rw lacks (sym (append-nil _))
+text_found file [] (Some f) lacks = rw lacks refl
 text_found file (b ∷ bs) last lacks =
     ap text_of (end_not_told file (fold (behind file) no_lines (b ∷ bs)) (option_map (λ (f : FaultLine). f.place) last)
     (rw (counted file (b ∷ bs)) (some_lines b bs)))
@@ -66,7 +66,7 @@ pub count_found : (file : List ℕ) (bad : List FaultLine) (last : Option FaultL
     → count_of (behind_end file (option_map (λ (f : FaultLine). f.place) last) (fold (behind file) no_lines bad)) ≡ count_lines (or_all bad (bad ++ one_of last))
 count_found file [] None lacks = refl
 count_found file [] (Some f) lacks =
-    omega (arith, count_by-cons (λ (g : FaultLine). g.lacks) f [], ap (λ l. cond l 1 0) lacks, count_by-cons (λ (g : FaultLine). not g.lacks) f [], ap (λ l. cond (not l) 1 0) lacks)
+    omega (arith, count_by-cons (λ (g : FaultLine). g.lacks) f [], ap {B = ℕ} (λ l. cond l 1 0) lacks, count_by-cons (λ (g : FaultLine). not g.lacks) f [], ap {B = ℕ} (λ l. cond (not l) 1 0) lacks)
 count_found file (b ∷ bs) last lacks =
     ap count_of (end_not_told file (fold (behind file) no_lines (b ∷ bs)) (option_map (λ (f : FaultLine). f.place) last)
     (rw (counted file (b ∷ bs)) (some_lines b bs)))

@@ -8,7 +8,8 @@ use Rattle.pf_script.specs.declared.fault.RecordFault.{RecordFault}
 use Rattle.pf_script.specs.declared.record.Record.{Record}
 use Rattle.pf_script.specs.declared.stage.Stage.{Stage}
 use Rattle.pf_script.specs.declared.stage.Stage.TheVariants.{Beginning, Headed, Opened}
-use Rattle.pf_script.specs.Parsing.{record_at}
+use Rattle.pf_script.specs.Parsing.{fault_at, record_at}
+use Rattle.pf_script.specs.declared.fault.Reason.TheVariants.{NoSettings}
 use Rattle.pf_script.specs.Places.{line_at, lines_behind, record_lines}
 use Rattle.pf_script.specs.Script.{script_records}
 use Rattle.pf_script.specs.Told.{FaultTold, Reading, Good, Bad, Missing, end_fault, end_reading, fault_told, faults, faults_in, reading, readings, readings_from, stage_after}
@@ -46,14 +47,14 @@ behind_all records number is = grind (arith, nat_tests, is)
 split_end : (file : List ℕ) (records number line : ℕ) (stage : Stage) → number ≡ records + 1 → AreSplit file records (end_reading number line (end_fault stage))
 split_end file records number line Beginning is = record {
   bad = [];
-  last = Some (shown file (fault_told number line [] _));
+  last = Some (shown file (fault_told number line [] (fault_at 0 NoSettings)));
   parts = record { all = refl; records_bad = rw (behind_all records number is) refl; end_lacks = refl };
   lines = λ s. refl;
   end = refl;
 }
 split_end file records number line Headed is = record {
   bad = [];
-  last = Some (shown file (fault_told number line [] _));
+  last = Some (shown file (fault_told number line [] (fault_at 0 NoSettings)));
   parts = record { all = refl; records_bad = rw (behind_all records number is) refl; end_lacks = refl };
   lines = λ s. refl;
   end = refl;

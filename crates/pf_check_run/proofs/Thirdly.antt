@@ -14,6 +14,7 @@ use Rattle.pf_version3.specs.declared.state.Progress.{Progress}
 use Rattle.pf_version3.specs.Parsing.{end_fault, fault_at, said_at}
 use Rattle.pf_version3.specs.Progress.{progress_after}
 use Rattle.pf_check_run.specs.Faults.{FaultLine, of_records, third_shown}
+use Rattle.pf_check_run.specs.Found.{end_place}
 use Rattle.pf_check_run.specs.Lines.{Lines, behind, no_lines}
 use Rattle.pf_check_run.proofs.Finding.{AreParts, LacksAtEnd, one_of}
 
@@ -28,10 +29,6 @@ lines_from file p s number (row ∷ rows) =
     lines_next (λ q t. lines_from file q t (number + 1) rows) file number row p s (said_at p row.fields)
 
 -- where the script ends, if it lacks settings there
-abbrev pub end_place : ℕ → ℕ → Option RecordFault → Option Place
-end_place number line None = None
-end_place number line (Some fault) = Some (record { «record» = number; line = line })
-
 abbrev pub end_next : (Progress → Option Place) → Progress → Result Said RecordFault → Option Place
 end_next more p (Ok said) = more (progress_after p said 0)
 end_next more p (Err fault) = more p

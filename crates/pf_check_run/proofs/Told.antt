@@ -31,14 +31,14 @@ later_lacking : (file : List ℕ) (s : Lines) (f : FaultLine) (fs : List FaultLi
 later_lacking file s f fs some lacks =
     rw (above s.lacking some, lacks)
     (ap (λ n. s.head ++ others_text n ++ codes "\n" ++ (s.tail ++ own_lines fs))
-    (omega (arith, some, lacking_more f fs, ap (λ b. cond b 1 0) lacks)))
+    (omega (arith, some, lacking_more f fs, ap {B = ℕ} (λ b. cond b 1 0) lacks)))
 
 later_own : (s : Lines) (f : FaultLine) (fs : List FaultLine) → 0 < s.lacking → f.lacks ≡ false
     → text_with (behind_own f.text s) (count_lacking fs) (own_lines fs) ≡ text_with s (count_lacking (f ∷ fs)) (own_lines (f ∷ fs))
 later_own s f fs some lacks =
     rw (above s.lacking some, lacks)
     (ap₂ (λ n t. s.head ++ others_text n ++ codes "\n" ++ t)
-    (omega (arith, lacking_more f fs, ap (λ b. cond b 1 0) lacks))
+    (omega (arith, lacking_more f fs, ap {B = ℕ} (λ b. cond b 1 0) lacks))
     (append_assoc s.tail f.text (own_lines fs)))
 
 -- behind the first record that lacks settings
@@ -81,10 +81,10 @@ count_by_one : (file : List ℕ) (s : Lines) (f : FaultLine) (fs : List FaultLin
     ≡ s.others + count_by (λ (g : FaultLine). not g.lacks) (f ∷ fs) + min (s.lacking + count_lacking (f ∷ fs)) 1
 count_by_one file s f fs true is rest =
     rest (behind_lacking file f.place s)
-    ∙ omega (arith, lacking_more f fs, own_more f fs, ap (λ b. cond b 1 0) is, ap (λ b. cond (not b) 1 0) is)
+    ∙ omega (arith, lacking_more f fs, own_more f fs, ap {B = ℕ} (λ b. cond b 1 0) is, ap {B = ℕ} (λ b. cond (not b) 1 0) is)
 count_by_one file s f fs false is rest =
     rest (behind_own f.text s)
-    ∙ omega (arith, lacking_more f fs, own_more f fs, ap (λ b. cond b 1 0) is, ap (λ b. cond (not b) 1 0) is)
+    ∙ omega (arith, lacking_more f fs, own_more f fs, ap {B = ℕ} (λ b. cond b 1 0) is, ap {B = ℕ} (λ b. cond (not b) 1 0) is)
 
 pub lines_more : (file : List ℕ) (s : Lines) (fs : List FaultLine)
     → count_of (fold (behind file) s fs) ≡ s.others + count_by (λ (f : FaultLine). not f.lacks) fs + min (s.lacking + count_lacking fs) 1

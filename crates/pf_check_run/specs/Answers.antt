@@ -29,11 +29,14 @@ use Rattle.pf_check_run.specs.Faults.{FaultLine, faults_text, shown, third_shown
 abbrev pub most_lines : ℕ
 most_lines = 2 ^ 64 - 1
 
--- the last line: how many records there were, commands refused, events denied, windows missed
-unfoldable pub totals_line : ℕ → ℕ → ℕ → ℕ → List ℕ
+-- the last line: so many of each; how many records there were, commands refused, events denied, windows missed
+unfoldable pub counted_text : ℕ → List ℕ → List ℕ
+counted_text count words = decimal count ++ words
+
+abbrev pub totals_line : ℕ → ℕ → ℕ → ℕ → List ℕ
 totals_line records refused denied missed =
-    decimal records ++ codes " records, 0 faults, " ++ decimal refused ++ codes " refused, " ++ decimal denied ++ codes " denied, "
-    ++ decimal missed ++ codes " missed\n"
+    counted_text records (codes " records, 0 faults, ") ++ counted_text refused (codes " refused, ") ++ counted_text denied (codes " denied, ")
+    ++ counted_text missed (codes " missed\n")
 
 abbrev pub totals_of : ℕ → Recounted → Seen → List ℕ
 totals_of records came seen =

@@ -3,6 +3,7 @@ use Rattle.std.specs.Prelude.{ℕ, ◌≡◌, ◌≤◌, ◌<◌, ◌+◌, ◌-�
 use Rattle.pf_check3.specs.Checked.{fault_shown}
 use Rattle.pf_fault.specs.declared.answer.Answer.{Answer}
 use Rattle.pf_rows.specs.Rows.{Row}
+use Rattle.pf_run_notes.specs.declared.place.Place.{Place}
 use Rattle.pf_version3.specs.Parsing.{said_at}
 use Rattle.pf_version3.specs.Progress.{progress_after}
 use Rattle.pf_version3.specs.declared.fault.RecordFault.{RecordFault}
@@ -52,3 +53,8 @@ TakesAs file number row (Err fault) p f q g = (q ≡ p) × Takes file (third_sho
 
 abbrev pub TakesRecord : List ℕ → Row → Progress → Found → Progress → Found → Type 0
 TakesRecord file row p f q g = TakesAs file (f.records + 1) row (said_at p row.fields) p f q g
+
+-- where a script ends that lacks settings there
+abbrev pub end_place : ℕ → ℕ → Option RecordFault → Option Place
+end_place number line None = None
+end_place number line (Some fault) = Some (record { «record» = number; line = line })

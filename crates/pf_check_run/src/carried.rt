@@ -4,7 +4,7 @@ ghost use Rattle.pf_carry.specs.Carried.{IsOf, Stops};
 ghost use Rattle.pf_fault.specs.Faults.{IsUnwritten};
 ghost use Rattle.pf_recount.specs.Recount.{recounted};
 ghost use Rattle.pf_script.specs.Told.{told};
-ghost use Rattle.pf_check_run.specs.Answers.{Carries, lists_of, most_lines, status_of_lines, totals_line, totals_of};
+ghost use Rattle.pf_check_run.specs.Answers.{Carries, counted_text, lists_of, most_lines, status_of_lines, totals_line, totals_of};
 
 use pf_carry::carry::carry;
 use pf_desk::desk::Desk;
@@ -136,7 +136,6 @@ fn push_totals(
 }
 
 /// Appends that line by its numbers.
-#[tactic(auto, unfolding(crate::specs::Answers::totals_line))]
 fn push_totals_line(
     text: &mut Vec<u8>,
     records: u64,
@@ -146,12 +145,17 @@ fn push_totals_line(
 ) -> Result<(), AllocError>
     ensures { OnOk result (text.new.items ≡ text.old.items ++ totals_line records refused denied missed) }
 {
-    push_number(text, records)?;
-    text.extend_from_slice(b" records, 0 faults, ")?;
-    push_number(text, refused)?;
-    text.extend_from_slice(b" refused, ")?;
-    push_number(text, denied)?;
-    text.extend_from_slice(b" denied, ")?;
-    push_number(text, missed)?;
-    text.extend_from_slice(b" missed\n")
+    push_counted(text, records, b" records, 0 faults, ")?;
+    push_counted(text, refused, b" refused, ")?;
+    push_counted(text, denied, b" denied, ")?;
+    push_counted(text, missed, b" missed\n")
+}
+
+/// Appends a number, and what there are so many of.
+#[tactic(auto, unfolding(crate::specs::Answers::counted_text))]
+fn push_counted(text: &mut Vec<u8>, count: u64, words: &[u8]) -> Result<(), AllocError>
+    ensures { OnOk result (text.new.items ≡ text.old.items ++ counted_text count words.now) }
+{
+    push_number(text, count)?;
+    text.extend_from_slice(words)
 }

@@ -5,9 +5,10 @@ ghost use Rattle.pf_script.specs.Script.{script_records};
 ghost use Rattle.pf_script.specs.Told.{faults};
 ghost use Rattle.pf_check3.specs.Checked.{faults as third_faults};
 ghost use Rattle.pf_stream.specs.Reading.{longest_script};
+ghost use Rattle.pf_version3.specs.Parsing.{end_fault};
 ghost use Rattle.pf_version3.specs.Progress.{at_heading};
 ghost use Rattle.pf_check_run.specs.Faults.{shown, third_shown};
-ghost use Rattle.pf_check_run.specs.Found.{Finds, TakesRecord};
+ghost use Rattle.pf_check_run.specs.Found.{Finds, TakesRecord, end_place};
 
 use crate::found::Found;
 use csv::ByteRecord;
@@ -77,16 +78,23 @@ fn faults_behind(
                 take_row(alloc, file, &mut progress, &mut found, &Fields::new(&row), line)?;
             }
             NextRow::End(line) => {
-                if progress.end_fault().is_some() {
-                    let number = found.records + 1;
-                    found.end = Some(Place {
-                        record: number,
-                        line,
-                    });
-                }
+                found.end = end_place(&progress, found.records + 1, line);
                 return Ok(found);
             }
         }
+    }
+}
+
+/// The place behind the last record, whose number and line these are, where settings are lacking there.
+fn end_place(progress: &Progress, number: u64, line: u64) -> Option<Place>
+    ensures { result ≡ end_place number line (end_fault progress.now) }
+{
+    match progress.end_fault() {
+        Some(_) => Some(Place {
+            record: number,
+            line,
+        }),
+        None => None,
     }
 }
 
