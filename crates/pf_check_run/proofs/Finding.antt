@@ -82,5 +82,5 @@ found_all file records faults bad last f parts lines end count lacking others fe
       count = ap₂ (λ e (s : Lines). count_of (behind_end file e s)) end lines ∙ count_found file bad last parts.end_lacks ∙ ap count_lines (sym told);
       clean = ap₂ (λ e (s : Lines). (count_of s == 0) && not (is_some e)) end lines ∙ clean_is file bad last ∙ ap is_empty (sym parts.all);
       counted = count;
-      few = (lacking, (others, few));
+      few = (lacking, others, few);
     }

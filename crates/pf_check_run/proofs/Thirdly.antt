@@ -5,7 +5,9 @@ use Rattle.std.specs.Option.{option_map}
 use Rattle.std.proofs.lemmas.Bool.Decides.{nat_tests}
 use Rattle.pf_check3.specs.Checked.{fault_shown, faults_at_end, faults_from, faults_next}
 use Rattle.pf_check3.specs.Reports.{FaultShown}
-use Rattle.pf_rows.specs.Rows.{Row}
+use Rattle.pf_rows.specs.Rows.{Row, Table, TakesRow}
+use Rattle.pf_rows.specs.declared.rows.NextRow.{NextRow}
+use Rattle.pf_rows.specs.declared.rows.NextRow.TheVariants.{End}
 use Rattle.pf_run_notes.specs.declared.place.Place.{Place}
 use Rattle.pf_version3.specs.declared.fault.RecordFault.{RecordFault}
 use Rattle.pf_version3.specs.declared.fault.Reason.TheVariants.{NoSettings}
@@ -94,3 +96,8 @@ split_rows file records number line [] p is = split_end file records number line
 split_rows file records number line (row ∷ rows) p is =
     split_next file records number line row rows p (said_at p row.fields) (grind (arith, nat_tests, is))
     (λ q. split_rows file records (number + 1) line rows q (omega (arith, is)))
+
+-- no row was left
+pub ended : (line : ℕ) (next : NextRow) (fields : List (List ℕ)) (old new : Table) → next ≡ End line → TakesRow next fields old new
+    → old ≡ record { rows = []; end = line }
+ended line next fields old new is taken = rw is at taken

@@ -29,9 +29,10 @@ text_later s some =
 later_lacking : (file : List ℕ) (s : Lines) (f : FaultLine) (fs : List FaultLine) → 0 < s.lacking → f.lacks ≡ true
     → text_with (behind_lacking file f.place s) (count_lacking fs) (own_lines fs) ≡ text_with s (count_lacking (f ∷ fs)) (own_lines (f ∷ fs))
 later_lacking file s f fs some lacks =
-    rw (above s.lacking some, lacks)
-    (ap (λ n. s.head ++ others_text n ++ codes "\n" ++ (s.tail ++ own_lines fs))
-    (omega (arith, some, lacking_more f fs, ap {B = ℕ} (λ b. cond b 1 0) lacks)))
+    let more : s.lacking + 1 - 1 + count_lacking fs ≡ s.lacking - 1 + count_lacking (f ∷ fs) =
+    omega (arith, some, lacking_more f fs, ap {B = ℕ} (λ b. cond b 1 0) lacks) in
+    let own : own_lines fs ≡ own_lines (f ∷ fs) = rw lacks refl in
+    rw (above s.lacking some) (ap₂ (λ n t. s.head ++ others_text n ++ codes "\n" ++ (s.tail ++ t)) more own)
 
 later_own : (s : Lines) (f : FaultLine) (fs : List FaultLine) → 0 < s.lacking → f.lacks ≡ false
     → text_with (behind_own f.text s) (count_lacking fs) (own_lines fs) ≡ text_with s (count_lacking (f ∷ fs)) (own_lines (f ∷ fs))
@@ -57,13 +58,22 @@ behind_first file s (f ∷ fs) some = first_by file s f fs f.lacks refl some (λ
 four : (a b c d : List ℕ) → ((a ++ b) ++ c) ++ codes "\n" ++ d ≡ a ++ ((b ++ c ++ codes "\n") ++ d)
 four a b c d = simp append_assoc refl
 
+no_more : (n : ℕ) → 0 + 1 - 1 + n ≡ n
+no_more n = omega arith
+
+-- four texts behind one
+pub appended : (old a b c d : List ℕ) → (((old ++ a) ++ b) ++ c) ++ d ≡ old ++ (((a ++ b) ++ c) ++ d)
+appended old a b c d = simp append_assoc refl
+
 before_by : (file : List ℕ) (s : Lines) (f : FaultLine) (fs : List FaultLine) (b : Bool) → f.lacks ≡ b → s.lacking ≡ 0 → s.tail ≡ []
     → ((t : Lines) → t.lacking ≡ 0 → t.tail ≡ [] → text_of (fold (behind file) t fs) ≡ t.head ++ fault_lines file fs)
     → text_of (fold (behind file) (if b then behind_lacking file f.place s else behind_own f.text s) fs) ≡ s.head ++ fault_lines file (f ∷ fs)
 before_by file s f fs true is none empty rest =
     rw is
     (behind_first file (behind_lacking file f.place s) fs (omega arith)
-    ∙ rw (none, empty) (four s.head (lacking_text file f.place) (others_text (count_lacking fs)) (own_lines fs)))
+    ∙ rw (none, empty)
+    (ap (λ n. (s.head ++ lacking_text file f.place) ++ others_text n ++ codes "\n" ++ own_lines fs) (no_more (count_lacking fs))
+    ∙ four s.head (lacking_text file f.place) (others_text (count_lacking fs)) (own_lines fs)))
 before_by file s f fs false is none empty rest =
     rw (is, none)
     (rest (record { head = s.head ++ f.text; tail = s.tail; lacking = 0; others = s.others + 1 }) refl empty

@@ -148,7 +148,8 @@ fn push_totals_line(
     push_counted(text, records, b" records, 0 faults, ")?;
     push_counted(text, refused, b" refused, ")?;
     push_counted(text, denied, b" denied, ")?;
-    push_counted(text, missed, b" missed\n")
+    push_counted(text, missed, b" missed\n")?;
+    Ok(())
 }
 
 /// Appends a number, and what there are so many of.

@@ -16,8 +16,9 @@ use Rattle.pf_options.specs.declared.format.Format.{Format}
 use Rattle.pf_script.specs.Told.{told}
 use Rattle.pf_stream.specs.Faults.{fault_of_output}
 use Rattle.pf_stream.specs.Written.{TookFront}
+use Rattle.pf_stream.proofs.Sending.{none_written}
 use Rattle.pf_stream.specs.declared.output_fault.OutputFault.{OutputFault}
-use Rattle.pf_task_words.specs.Finding.{unnamed_in}
+use Rattle.pf_task_words.specs.Finding.{ranges_of, unnamed_in}
 use Rattle.pf_task_words.specs.declared.task_word.TaskWord.{TaskWord}
 use Rattle.pf_tasks.specs.declared.task_range.TaskRange.{TaskRange}
 use Rattle.pf_cli.specs.Answers.{Answers}
@@ -33,10 +34,20 @@ pub ended_listed : (format : Format) (titles : Titles) (words : List TaskWord) (
     → RunsTasks format titles words on script answer old new
 ended_listed format titles words on script desk answer old new ends h = inl (course_at desk, ends, h)
 
+keeps_same : (x : Option (List ℕ)) → Keeps x x
+keeps_same None = tt
+keeps_same (Some bytes) = refl
+
+-- Use: memory was refused for the list.
+pub unlisted : (format : Format) (titles : Titles) (words : List TaskWord) (on : FailOn) (c : ScriptCourse) (unnamed : Option (List ℕ)) (x : Option (List ℕ))
+    → None ≡ unnamed → AnswersListed format titles words on c unnamed (Err why.NoMemory) x x
+unlisted format titles words on c unnamed x none =
+    rw (← none) (none_written x (tasks_meaning format titles (ranges_of titles.names words) c).text, tt)
+
 -- Use: it was not.
 pub stopped_unwritten : (format : Format) (titles : Titles) (words : List TaskWord) (on : FailOn) (script : List ℕ) (fault : Fault) (x : Option (List ℕ))
     → EndsBy (outcome_told (told script)) (Err fault) → RunsTasks format titles words on script (Err fault) x x
-stopped_unwritten format titles words on script fault x h = inr (fault, refl, h, refl)
+stopped_unwritten format titles words on script fault x h = inr (fault, refl, h, keeps_same x)
 
 pub stopped_counts : (outcome : Result ScriptCourse ℕ) (fault : Fault) (n : ℕ) → EndsBy outcome (Err fault) → CountsWrites {A = Ending} (Err fault) n n
 stopped_counts outcome (why.BadRecord number) n h = refl

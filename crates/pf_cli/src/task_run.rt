@@ -56,6 +56,7 @@ pub fn run_tasks<W: Sink>(
 }
 
 /// The answer to a list of tasks of a desk at a script's end.
+#[tactic(auto, using(crate::proofs::Listed::unlisted))]
 fn answer_tasks<W: Sink>(
     alloc: Global,
     desk: &Desk,

@@ -37,7 +37,7 @@ take-requires-clause-records c = omega (arith, c.records.invariant.count, few_re
 pub returns-in-Ok-None : goal.returns-in-Ok-None
 returns-in-Ok-None c =
     let inv = c.records.invariant in
-    let none = c.in-Ok-None.ensures.0 in
+    let none = (rw c.in-Ok-None.field-0-is at c.in-Ok-None.ensures).0 in
     let file = c.args.file.now in
     let script = c.args.script.now in
     let split = split_readings file script in
