@@ -1,4 +1,4 @@
-ghost use Rattle.std.specs.Prelude.{◌≡◌, ◌≤◌, length, IfOk, IfErr};
+ghost use Rattle.std.specs.Prelude.{◌≡◌, ◌≤◌, [], length, IfOk, IfErr};
 ghost use Rattle.pf_fault.specs.declared.fault.Fault.TheVariants as why;
 ghost use Rattle.pf_fault.specs.Faults.{IsUnwritten};
 ghost use Rattle.pf_plain.specs.Plain.{IsPlain, Plain};
@@ -56,6 +56,7 @@ pub fn third_check_run(
     requires { length script.now ≤ longest_script }
     ensures made { (p : Plain) → IsPlain plain.now p → IfOk result (ChecksThirdRun p file.now script.now) }
     ensures stopped { (p : Plain) → IsPlain plain.now p → IfErr result (IsThirdStopped p) }
+    ensures quiet { IfOk result (λ answer. answer.ending.notes.items ≡ []) }
     ensures unwritten { IfErr result IsUnwritten }
 {
     let found = third_faults(alloc, file, script)?;

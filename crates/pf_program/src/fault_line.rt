@@ -38,6 +38,7 @@ pub(crate) fn write_fault<F: Sink>(fault: Fault, faults: &mut F) -> Result<(), W
 }
 
 /// Writes a line with a number in it.
+#[tactic(auto, using(crate::proofs::FaultLines::first_stopped, crate::proofs::FaultLines::rest_stopped, crate::proofs::FaultLines::both_written))]
 fn write_numbered<F: Sink>(
     faults: &mut F,
     before: &[u8],
@@ -52,10 +53,12 @@ fn write_numbered<F: Sink>(
 {
     let mut digits = Buffer::new();
     write_out(faults, before)?;
-    write_two(faults, digits.format(number).as_bytes(), behind)
+    write_two(faults, digits.format(number).as_bytes(), behind)?;
+    Ok(())
 }
 
 /// Writes a text and then another.
+#[tactic(auto, using(crate::proofs::FaultLines::first_stopped, crate::proofs::FaultLines::rest_stopped, crate::proofs::FaultLines::both_written))]
 fn write_two<F: Sink>(faults: &mut F, first: &[u8], second: &[u8]) -> Result<(), WriteFault>
     requires { F.failed faults.old < 2 ^ 64 - 1 }
     ensures ok { OnOk result (Appends (F.contents faults.old) (F.contents faults.new) (first.now ++ second.now)) }
@@ -64,5 +67,6 @@ fn write_two<F: Sink>(faults: &mut F, first: &[u8], second: &[u8]) -> Result<(),
         (λ _. F.failed faults.new ≡ F.failed faults.old + 1) }
 {
     write_out(faults, first)?;
-    write_out(faults, second)
+    write_out(faults, second)?;
+    Ok(())
 }
