@@ -1,4 +1,5 @@
 ghost use Rattle.std.specs.Prelude.{◌≡◌, ◌++◌, ◌≤◌, ◌^◌, IfOk, OnOk};
+ghost use Rattle.pf_look.specs.declared.style.Style.TheVariants.{Stairs, Strips};
 ghost use Rattle.pf_picture.specs.Legend.{event_items, item_at, item_place, item_text, item_words, legend_text, missed_items, stop_items, style_items, window_items};
 
 use crate::element::push_element;
@@ -131,8 +132,69 @@ fn push_missed_items(
     )
 }
 
-/// Appends what each style has of its own.
+/// Appends what strips have of their own: group deadlines as triangles, and lags.
 #[tactic(auto, unfolding(crate::specs::Legend::style_items))]
+fn push_strip_items(
+    alloc: Global,
+    text: &mut Vec<u8>,
+    scale: Scale,
+    end: u128,
+) -> Result<(), AllocError>
+    requires { end ≤ 2 ^ 100 }
+    ensures { OnOk result (text.new.items ≡ text.old.items ++ style_items Strips scale end) }
+{
+    push_item(
+        alloc,
+        text,
+        scale,
+        end,
+        5,
+        "<path class=\"d\" d=\"M11 3l-3 5h6z\"/>",
+        "group deadline",
+    )?;
+    push_item(
+        alloc,
+        text,
+        scale,
+        end,
+        6,
+        "<path class=\"z\" d=\"M1 8H21\"/><path class=\"k\" d=\"M1 8H8V3H14V10H21\"/>",
+        "lag, up where owed",
+    )
+}
+
+/// Appends what stairs have of their own: group deadlines as lines, and slots in two windows.
+#[tactic(auto, unfolding(crate::specs::Legend::style_items))]
+fn push_stair_items(
+    alloc: Global,
+    text: &mut Vec<u8>,
+    scale: Scale,
+    end: u128,
+) -> Result<(), AllocError>
+    requires { end ≤ 2 ^ 100 }
+    ensures { OnOk result (text.new.items ≡ text.old.items ++ style_items Stairs scale end) }
+{
+    push_item(
+        alloc,
+        text,
+        scale,
+        end,
+        5,
+        "<path class=\"l\" d=\"M11 0V12\"/><path class=\"d\" d=\"M11 3l-3 5h6z\"/>",
+        "group deadline",
+    )?;
+    push_item(
+        alloc,
+        text,
+        scale,
+        end,
+        6,
+        "<rect class=\"b\" x=\"1\" width=\"20\" height=\"12\"/>",
+        "in two windows",
+    )
+}
+
+/// Appends what each style has of its own.
 fn push_style_items(
     alloc: Global,
     text: &mut Vec<u8>,
@@ -143,46 +205,8 @@ fn push_style_items(
     ensures { OnOk result (text.new.items ≡ text.old.items ++ style_items scale.style scale end) }
 {
     match scale.style() {
-        Style::Strips => {
-            push_item(
-                alloc,
-                text,
-                scale,
-                end,
-                5,
-                "<path class=\"d\" d=\"M11 3l-3 5h6z\"/>",
-                "group deadline",
-            )?;
-            push_item(
-                alloc,
-                text,
-                scale,
-                end,
-                6,
-                "<path class=\"z\" d=\"M1 8H21\"/><path class=\"k\" d=\"M1 8H8V3H14V10H21\"/>",
-                "lag, up where owed",
-            )
-        }
-        Style::Stairs => {
-            push_item(
-                alloc,
-                text,
-                scale,
-                end,
-                5,
-                "<path class=\"l\" d=\"M11 0V12\"/><path class=\"d\" d=\"M11 3l-3 5h6z\"/>",
-                "group deadline",
-            )?;
-            push_item(
-                alloc,
-                text,
-                scale,
-                end,
-                6,
-                "<rect class=\"b\" x=\"1\" width=\"20\" height=\"12\"/>",
-                "in two windows",
-            )
-        }
+        Style::Strips => push_strip_items(alloc, text, scale, end),
+        Style::Stairs => push_stair_items(alloc, text, scale, end),
     }
 }
 
