@@ -1,0 +1,7 @@
+pub mod Bad
+pub mod Changes
+pub mod Keys
+pub mod Refused
+pub mod Shown
+pub mod Steps
+pub mod Telling

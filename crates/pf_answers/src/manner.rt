@@ -1,0 +1,8 @@
+/// How a session answers.
+#[derive(Clone, Copy, Debug, PartialEq, Eq)]
+pub struct Manner {
+    /// Each answer is one JSON object on one line.
+    pub json: bool,
+    /// Lines that are indented are left out.
+    pub quiet: bool,
+}

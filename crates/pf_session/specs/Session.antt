@@ -1,0 +1,98 @@
+-- A session: how far its script is, and what came of the lines so far.
+use Rattle.std.specs.Prelude.{ℕ, ◌-◌, Bool, true, false, Option, None, Some, List, [], ◌++◌, codes, length}
+use Rattle.std.specs.List.{slice_get}
+use Rattle.std.specs.Option.{option_map}
+use Rattle.pf_answers.specs.declared.manner.Manner.{Manner}
+use Rattle.pf_desk.specs.Machine.{State, reply_to}
+use Rattle.pf_desk.specs.declared.command.Command.TheVariants as command
+use Rattle.pf_plain.specs.Plain.{Course, course_behind, start}
+use Rattle.pf_script.specs.declared.line.Line.{Line}
+use Rattle.pf_script.specs.declared.line.Line.TheVariants.{Edit, Steps}
+use Rattle.pf_version3.specs.Progress.{with_label}
+use Rattle.pf_version3.specs.declared.said.Said.{Said}
+use Rattle.pf_version3.specs.declared.said.Said.TheVariants.{Settings, Slot, Name, Asks}
+use Rattle.pf_session.specs.Made.{change_line, made_behind, made_behind_undo, number_made, taking_back}
+use Rattle.pf_session.specs.declared.made.Made.{Made}
+
+-- how it answers; whether no record was good so far; the course of its script, and that script's text; the changes that were made
+-- and are not taken back, the last one last; and whether a line was bad
+pub record SessionState : Type 0 where
+  pub manner : Manner
+  pub is_first : Bool
+  pub course : Course
+  pub script : List ℕ
+  pub made : List Made
+  pub has_bad : Bool
+
+abbrev pub at_start : Manner → SessionState
+at_start manner = record {
+  manner = manner;
+  is_first = true;
+  course = start;
+  script = codes "pfair,3\n";
+  made = [];
+  has_bad = false;
+}
+
+-- the changes behind a record
+abbrev pub made_behind_line : Option State → Line → List Made → List Made
+made_behind_line None line made = made
+made_behind_line (Some st) (Steps count) made = made
+made_behind_line (Some st) (Edit change strict) made =
+    made_behind st.plan change (number_made (reply_to st (command.Edit change strict))) made
+
+abbrev pub made_behind_said : Option State → Said → List Made → List Made
+made_behind_said desk (Settings s) made = made
+made_behind_said desk (Slot length) made = made
+made_behind_said desk (Name task name) made = made
+made_behind_said desk (Asks line label) made = made_behind_line desk line made
+
+-- behind a record that said this, whose line stands behind the script
+abbrev pub behind_record : SessionState → Said → List ℕ → SessionState
+behind_record s said line = record {
+  manner = s.manner;
+  is_first = false;
+  course = course_behind s.course said;
+  script = s.script ++ line;
+  made = made_behind_said s.course.desk said s.made;
+  has_bad = s.has_bad;
+}
+
+-- behind what a record asked for, whose event was given this number
+abbrev pub behind_asked : SessionState → Option (List ℕ) → ℕ → SessionState
+behind_asked s label number = record s {
+  is_first = false;
+  course = record s.course { progress = record s.course.progress { begun = true; labels = with_label label number s.course.progress.labels } };
+}
+
+-- the last change that was made and is not taken back
+abbrev pub newest_of : List Made → Option Made
+newest_of made = slice_get made (length made - 1)
+
+abbrev pub newest_at : Option State → List Made → Option Made
+newest_at None made = None
+newest_at (Some st) made = newest_of made
+
+-- behind an undo of it: its script has the record of the change that takes it back
+abbrev pub behind_undo_of : SessionState → Option State → Option Made → SessionState
+behind_undo_of s None newest = s
+behind_undo_of s (Some st) None = s
+behind_undo_of s (Some st) (Some newest) = record {
+  manner = s.manner;
+  is_first = s.is_first;
+  course = course_behind s.course (Asks (Edit (taking_back newest) false) None);
+  script = s.script ++ change_line (taking_back newest);
+  made = made_behind_undo newest (number_made (reply_to st (command.Edit (taking_back newest) false))) s.made;
+  has_bad = s.has_bad;
+}
+
+abbrev pub behind_undo : SessionState → SessionState
+behind_undo s = behind_undo_of s s.course.desk (newest_of s.made)
+
+-- behind a bad line
+abbrev pub behind_bad : SessionState → SessionState
+behind_bad s = record s { has_bad = true }
+
+-- the record that an undo makes, as a line
+abbrev pub undo_line : SessionState → Option (List ℕ)
+undo_line s = option_map (λ m. change_line (taking_back m)) (newest_at s.course.desk s.made)

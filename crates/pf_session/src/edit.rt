@@ -1,0 +1,47 @@
+ghost use Rattle.std.specs.Prelude.{◌≡◌, IfOk, OnErr};
+ghost use Rattle.pf_desk.specs.Desk.{IsDesk};
+ghost use Rattle.pf_session.specs.Edits.{AreSame, HasChanged};
+
+use crate::edit_answer::edit_answer;
+use crate::made::number_made;
+use crate::pair::extend_both;
+use pf_answers::manner::Manner;
+use pf_desk::command::Command;
+use pf_desk::desk::Desk;
+use pf_names::names::Names;
+use pf_order::meter::Meter;
+use pf_scenario::change::Change;
+use std::alloc::{AllocError, Global};
+
+/// All commands of a session come from the one caller.
+pub(crate) const CALLER: u32 = 0;
+
+/// Carries a change out: appends its record to the script and the answer to the text, and gives the number of the event of the reply,
+/// where the change was made.
+///
+/// # Errors
+///
+/// Where memory is refused: the desk's state and both texts are as before.
+pub(crate) fn change_desk(
+    alloc: Global,
+    manner: Manner,
+    names: &Names,
+    desk: &mut Desk,
+    change: Change,
+    strict: bool,
+    line: &[u8],
+    script: &mut Vec<u8>,
+    text: &mut Vec<u8>,
+) -> Result<Option<u64>, AllocError>
+    ensures ok { IfOk result (λ number. HasChanged manner names.now desk.old.state change strict number desk.new.state
+        script.old.items line.now text.old.items script.new.items text.new.items) }
+    ensures desk { OnErr result (desk.new.state ≡ desk.old.state) }
+    ensures same { OnErr result (AreSame script.old.items text.old.items script.new.items text.new.items) }
+{
+    let mut meter = Meter::new();
+    let prepared = desk.prepare(&mut meter, CALLER, Command::Edit { change, strict })?;
+    let answer = edit_answer(alloc, manner, names, desk, &prepared, change, strict)?;
+    extend_both(script, line, text, &answer)?;
+    let reply = desk.commit(prepared);
+    Ok(number_made(&reply))
+}

@@ -1,0 +1,116 @@
+ghost use Rattle.std.specs.Prelude.{◌≡◌, ◌++◌, IfOk, OnOk};
+ghost use Rattle.std.specs.Option.{option_map};
+ghost use Rattle.pf_answers.specs.Changes.{counts_of, made_text};
+ghost use Rattle.pf_answers.specs.Refused.{refused_text};
+ghost use Rattle.pf_desk.specs.Desk.{MakesReady};
+ghost use Rattle.pf_desk.specs.declared.command.Command.TheVariants as command;
+ghost use Rattle.pf_notes.specs.Refusal.{refusal_text};
+ghost use Rattle.pf_recount.specs.Recount.{name_of_change, task_of_change};
+ghost use Rattle.pf_session.specs.Answers.{edit_answer};
+
+use pf_answers::changes::push_made;
+use pf_answers::counts::Counts;
+use pf_answers::manner::Manner;
+use pf_answers::refused::push_refused;
+use pf_desk::desk::Desk;
+use pf_desk::prepared::Prepared;
+use pf_desk::reply::{Fault, Reply};
+use pf_desk::snapshot::Snapshot;
+use pf_names::names::Names;
+use pf_notes::refusal::push_refusal;
+use pf_run_notes::notes::name_of;
+use pf_scenario::change::Change;
+use pf_scenario::scenario::Scenario;
+use std::alloc::{AllocError, Global};
+
+/// The task of the event that a change brings.
+fn task_of_change(change: Change) -> Option<u64>
+    ensures { result ≡ task_of_change change }
+{
+    match change {
+        Change::Insert(event) | Change::Alter(_, event) => event.task(),
+        Change::Strike(_) => None,
+    }
+}
+
+/// Its name.
+fn name_of_change(names: &Names, change: Change) -> Option<&[u8]>
+    ensures { option_map (λ n. n.now) result ≡ name_of_change names.now change }
+{
+    match task_of_change(change) {
+        Some(task) => name_of(names, task),
+        None => None,
+    }
+}
+
+/// The answer to a change that this scenario refused.
+fn refused_answer(
+    alloc: Global,
+    manner: Manner,
+    names: &Names,
+    scenario: &Scenario,
+    change: Change,
+    fault: Fault,
+) -> Result<Vec<u8>, AllocError>
+    ensures { IfOk result (λ v. v.items ≡ refused_text manner fault (refusal_text (name_of_change names.now change) scenario.now change fault)) }
+{
+    let mut why = Vec::new(alloc);
+    push_refusal(
+        &mut why,
+        name_of_change(names, change),
+        scenario,
+        change,
+        fault,
+    )?;
+    let mut answer = Vec::new(alloc);
+    push_refused(&mut answer, manner, fault, &why)?;
+    Ok(answer)
+}
+
+/// The answer to a change that was made, of what was there and is there.
+fn made_answer(
+    alloc: Global,
+    manner: Manner,
+    desk: &Desk,
+    snapshot: &Snapshot,
+    id: u64,
+) -> Result<Vec<u8>, AllocError>
+    ensures { IfOk result (λ v. v.items ≡ made_text manner id (counts_of desk.now.state) (counts_of snapshot.now.state)) }
+{
+    let mut answer = Vec::new(alloc);
+    if manner.quiet && !manner.json {
+        let none = Counts {
+            misses: 0,
+            denials: 0,
+        };
+        push_made(&mut answer, manner, id, none, none)?;
+        return Ok(answer);
+    }
+    let before = Counts::of_desk(desk)?;
+    let after = Counts::of_snapshot(snapshot)?;
+    push_made(&mut answer, manner, id, before, after)?;
+    Ok(answer)
+}
+
+/// The answer to a change that was made ready.
+pub(crate) fn edit_answer(
+    alloc: Global,
+    manner: Manner,
+    names: &Names,
+    desk: &Desk,
+    prepared: &Prepared,
+    change: Change,
+    strict: bool,
+) -> Result<Vec<u8>, AllocError>
+    requires { MakesReady 0 (command.Edit change strict) desk.now prepared.now }
+    ensures { IfOk result (λ v. v.items ≡ edit_answer manner names.now desk.now.state change strict) }
+{
+    let _ = strict;
+    match *prepared.reply() {
+        Reply::Edited { id } => made_answer(alloc, manner, desk, prepared.snapshot(), id),
+        Reply::Refused(fault) => {
+            refused_answer(alloc, manner, names, desk.scenario(), change, fault)
+        }
+        Reply::Stepped { .. } => Ok(Vec::new(alloc)),
+    }
+}

@@ -1,0 +1,12 @@
+//! A session at a desk: what came of its lines so far, and the answers to records, to `undo` and to bad lines. The contracts of this
+//! crate: the answers and the state behind them are those of `specs/`; a call that is refused for want of memory changes nothing.
+#![tactic(auto)]
+
+mod edit;
+mod edit_answer;
+pub mod made;
+mod open;
+mod pair;
+pub mod session;
+mod step;
+pub mod stop;

@@ -1,0 +1,21 @@
+ghost use Rattle.std.specs.Prelude.{◌≡◌};
+ghost use Rattle.pf_session.specs.declared.stop.Stop.TheVariants as stop;
+
+use std::alloc::AllocError;
+
+/// Why a line was not answered.
+#[derive(Clone, Copy, Debug, PartialEq, Eq)]
+pub enum Stop {
+    /// Out of memory: nothing has changed, and the session goes on.
+    NoMemory,
+    /// Out of memory behind the first of several steps: nothing is promised of the session any more.
+    Lost,
+}
+
+impl From<AllocError> for Stop {
+    ghost from_gives = { λ _ s. s ≡ stop.NoMemory };
+
+    fn from(_error: AllocError) -> Self {
+        Stop::NoMemory
+    }
+}
