@@ -1,0 +1,104 @@
+-- How rounds follow one another.
+use Rattle.std.proofs.Common.{◌≡◌, ◌<◌, inl, inr, arith, ℕ, List, [], ◌∷◌, ◌++◌, length, Result, Ok, Err, refl}
+use Rattle.std.specs.Prelude.{IfOk, OnErr}
+use Rattle.pf_sitting.specs.declared.answers.Going.{Going}
+use Rattle.pf_sitting.specs.declared.answers.Going.TheVariants.{On}
+use Rattle.pf_sitting.specs.declared.answers.Stopped.{Stopped}
+use Rattle.pf_sitting.specs.declared.fault.SitFault.{SitFault}
+use Rattle.pf_sitting.specs.declared.fault.SitFault.TheVariants.{Deaf, Mute, NoMemory}
+use Rattle.pf_sitting.specs.Answered.{AnswersFront, AnswersLines, SomeAnswered}
+use Rattle.pf_sitting.specs.Lines.{last_line, lines_at, lines_in, rest_in}
+use Rattle.pf_sitting.specs.Sits.{HasRound, HasSat, IsTold, LastRound, Round, Sits, Talk}
+
+-- one more round
+pub sits_more : {A D : Type 0} (talk : Talk A D) (rounds : List Round) (a : A) (d : D) (line : List ℕ) (b : A) (e : D) (rest : List ℕ)
+    (round : Round) (c : A) (f : D) → Sits talk rounds a d line b e rest → HasRound talk b e rest round c f
+    → Sits talk (rounds ++ round ∷ []) a d line c f (rest_in rest round.bytes)
+sits_more talk [] a d line b e rest round c f h k =
+    let here : HasRound talk a d line round c f = rw (h.0, h.1, h.2) at k in
+    (c, f, here, (refl, refl, rw h.2 refl))
+sits_more talk (first ∷ rounds) a d line b e rest round c f h k =
+    (h.0, h.1, h.2, sits_more talk rounds h.0 h.1 (rest_in line first.bytes) b e rest round c f h.3 k)
+
+-- rounds so far
+pub record SatSoFar {A D : Type 0} (talk : Talk A D) (a : A) (d : D) (b : A) (e : D) (rest : List ℕ) : Type 0 where
+  pub rounds : List Round
+  pub sits : Sits talk rounds a d [] b e rest
+
+pub sat_none : {A D : Type 0} (talk : Talk A D) (a : A) (d : D) (rest : List ℕ) → rest ≡ [] → SatSoFar talk a d a d rest
+sat_none talk a d rest none = record { rounds = []; sits = (refl, refl, none) }
+
+pub sat_more : {A D : Type 0} (talk : Talk A D) (a : A) (d : D) (b : A) (e : D) (rest : List ℕ) (round : Round) (c : A) (f : D) (next : List ℕ)
+    → SatSoFar talk a d b e rest → HasRound talk b e rest round c f → next ≡ rest_in rest round.bytes → SatSoFar talk a d c f next
+sat_more talk a d b e rest round c f next h k is =
+    rw is (record { rounds = h.rounds ++ round ∷ []; sits = sits_more talk h.rounds a d [] b e rest round c f h.sits k })
+
+pub sat_ends : {A D : Type 0} (talk : Talk A D) (a : A) (d : D) (b : A) (e : D) (rest : List ℕ) (ending : Result Going SitFault) (c : A) (f : D)
+    → SatSoFar talk a d b e rest → LastRound talk b e rest ending c f → HasSat talk a d ending c f
+sat_ends talk a d b e rest ending c f h k = record { rounds = h.rounds; behind = b; told = e; rest = rest; sits = h.sits; last = k }
+
+-- memory was refused at once
+pub sat_not : {A D : Type 0} (talk : Talk A D) (a : A) (d : D) → HasSat talk a d (Err NoMemory) a d
+sat_not talk a d = record { rounds = []; behind = a; told = d; rest = []; sits = (refl, refl, refl); last = inr refl }
+
+-- the lines of a piece
+pub lines_of_none : (line bytes : List ℕ) → bytes ≡ [] → lines_at line bytes ≡ last_line line
+lines_of_none line bytes none = rw none refl
+
+pub lines_of_some : (line bytes : List ℕ) → 0 < length bytes → lines_at line bytes ≡ lines_in line bytes
+lines_of_some line [] some = absurd (omega (arith, some))
+lines_of_some line (byte ∷ bytes) some = refl
+
+-- however a piece was answered, some of its lines were
+pub some_answered : {A : Type 0} (answers : A → List ℕ → List ℕ → Going → A → Type 0) (a : A) (lines : List (List ℕ)) (text : List ℕ) (b : A)
+    (going : Result Going Stopped) → IfOk going (λ g. AnswersLines answers a lines text g b) → OnErr going (AnswersFront answers a lines text)
+    → SomeAnswered answers a lines text
+some_answered answers a lines text b (Ok g) ok err = inr (g, b, ok)
+some_answered answers a lines text b (Err stopped) ok err = inl err
+
+-- a round that was cut short
+pub cut_round : {A D : Type 0} (talk : Talk A D) (a : A) (d : D) (line bytes : List ℕ) (heard : D) (lines : List (List ℕ)) (text : List ℕ) (b c : A)
+    (going : Result Going Stopped) (fault : SitFault) (e : D) → talk.hears d bytes heard → lines_at line bytes ≡ lines
+    → IfOk going (λ g. AnswersLines talk.answers a lines text g b) → OnErr going (AnswersFront talk.answers a lines text)
+    → IsTold talk.tells talk.is_mute going heard text (Err fault) e → LastRound talk a d line (Err fault) c e
+cut_round talk a d line bytes heard lines text b c going Deaf e hears is ok err told = absurd told
+cut_round talk a d line bytes heard lines text b c going Mute e hears is ok err told = record {
+  round = record { bytes = bytes; text = text };
+  heard = heard;
+  hears = hears;
+  answers = rw is (some_answered talk.answers a lines text b going ok err);
+  told = told;
+}
+cut_round talk a d line bytes heard lines text b c going NoMemory e hears is ok err told = inl (record {
+  round = record { bytes = bytes; text = text };
+  heard = heard;
+  hears = hears;
+  answers = rw is (some_answered talk.answers a lines text b going ok err);
+  told = told;
+})
+
+-- the last round
+pub end_round : {A D : Type 0} (talk : Talk A D) (a : A) (d : D) (line bytes : List ℕ) (heard : D) (lines : List (List ℕ)) (text : List ℕ) (b : A)
+    (going : Result Going Stopped) (last : Going) (e : D) → talk.hears d bytes heard → lines_at line bytes ≡ lines → (last ≡ On → bytes ≡ [])
+    → IfOk going (λ g. AnswersLines talk.answers a lines text g b) → IsTold talk.tells talk.is_mute going heard text (Ok last) e
+    → LastRound talk a d line (Ok last) b e
+end_round talk a d line bytes heard lines text b going last e hears is all ok told = record {
+  round = record { bytes = bytes; text = text };
+  heard = heard;
+  hears = hears;
+  answers = rw is (rw told.0 at ok);
+  tells = told.1;
+  all = all;
+}
+
+-- a round behind which more is asked for
+pub go_round : {A D : Type 0} (talk : Talk A D) (a : A) (d : D) (line bytes : List ℕ) (heard : D) (text : List ℕ) (b : A)
+    (going : Result Going Stopped) (e : D) → talk.hears d bytes heard
+    → IfOk going (λ g. AnswersLines talk.answers a (lines_in line bytes) text g b) → IsTold talk.tells talk.is_mute going heard text (Ok On) e
+    → HasRound talk a d line (record { bytes = bytes; text = text }) b e
+go_round talk a d line bytes heard text b going e hears ok told = record {
+  heard = heard;
+  hears = hears;
+  answers = rw told.0 at ok;
+  tells = told.1;
+}

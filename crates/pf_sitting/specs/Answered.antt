@@ -1,0 +1,48 @@
+-- Lines and their answers.
+use Rattle.std.specs.Prelude.{ℕ, ◌≡◌, ◌⊎◌, ◌==◌, true, false, List, [], ◌∷◌, ◌++◌}
+use Rattle.pf_sitting.specs.declared.answers.Going.{Going}
+use Rattle.pf_sitting.specs.declared.answers.Going.TheVariants.{On, Ends}
+use Rattle.pf_sitting.specs.Lines.{longer}
+
+-- lines were answered, each in its turn, and more are wanted: the text of all answers, and what answers behind them
+abbrev pub AnswersAll : {A : Type 0} → (A → List ℕ → List ℕ → Going → A → Type 0) → A → List (List ℕ) → List ℕ → A → Type 0
+AnswersAll answers a [] text b = (text ≡ []) × (b ≡ a)
+AnswersAll answers a (line ∷ lines) text b =
+    (answer : List ℕ) × (rest : List ℕ) × (mid : _) × answers a line answer On mid × AnswersAll answers mid lines rest b × (text ≡ answer ++ rest)
+
+-- some of these lines were: all up to one that can't be answered, or to nothing
+pub record AnswersFront {A : Type 0} (answers : A → List ℕ → List ℕ → Going → A → Type 0) (a : A) (lines : List (List ℕ)) (text : List ℕ) : Type 0 where
+  pub done : List (List ℕ)
+  pub left : List (List ℕ)
+  pub parts : lines ≡ done ++ left
+  pub behind : A
+  pub answered : AnswersAll answers a done text behind
+
+-- all were up to one that is the last
+pub record AnswersTo {A : Type 0} (answers : A → List ℕ → List ℕ → Going → A → Type 0) (a : A) (lines : List (List ℕ)) (text : List ℕ) (b : A) : Type 0 where
+  pub done : List (List ℕ)
+  pub last : List ℕ
+  pub left : List (List ℕ)
+  pub parts : lines ≡ done ++ last ∷ left
+  pub mid : A
+  pub front : List ℕ
+  pub answer : List ℕ
+  pub answered : AnswersAll answers a done front mid
+  pub ended : answers mid last answer Ends b
+  pub text_is : text ≡ front ++ answer
+
+-- whether all were, or all up to the last one
+abbrev pub AnswersLines : {A : Type 0} → (A → List ℕ → List ℕ → Going → A → Type 0) → A → List (List ℕ) → List ℕ → Going → A → Type 0
+AnswersLines answers a lines text On b = AnswersAll answers a lines text b
+AnswersLines answers a lines text Ends b = AnswersTo answers a lines text b
+
+-- some lines were answered: those up to one that was not, or to the last one, or all
+abbrev pub SomeAnswered : {A : Type 0} → (A → List ℕ → List ℕ → Going → A → Type 0) → A → List (List ℕ) → List ℕ → Type 0
+SomeAnswered answers a lines text =
+    AnswersFront answers a lines text ⊎ ((going : Going) × (b : _) × AnswersLines answers a lines text going b)
+
+-- one byte behind the front of a line: it makes the line longer, or ends it, and then the line was answered
+abbrev pub TakesByte : {A : Type 0} → (A → List ℕ → List ℕ → Going → A → Type 0) → A → List ℕ → ℕ → List ℕ → Going → A → List ℕ → List ℕ → Type 0
+TakesByte answers a line byte text going b new_line new_text =
+    (((byte == 10) ≡ false) × (going ≡ On) × (b ≡ a) × (new_line ≡ longer line byte) × (new_text ≡ text))
+    ⊎ (((byte == 10) ≡ true) × ((answer : List ℕ) × answers a line answer going b × (new_text ≡ text ++ answer)) × (new_line ≡ []))

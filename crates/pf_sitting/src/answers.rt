@@ -1,0 +1,31 @@
+ghost use Rattle.std.specs.Prelude.{◌≡◌, ◌++◌, ℕ, List, IfOk, OnErr};
+ghost use Rattle.pf_sitting.specs.declared.answers.Going.{Going};
+
+/// Whether more lines are wanted behind one.
+#[derive(Clone, Copy, Debug, PartialEq, Eq)]
+pub enum Going {
+    /// They are.
+    On,
+    /// The line was the last one.
+    Ends,
+}
+
+/// Memory was refused, and no further line can be answered.
+#[derive(Clone, Copy, Debug, PartialEq, Eq)]
+pub struct Stopped;
+
+/// What answers lines.
+pub trait Answers {
+    // what it was answers a line by a text, and is then something else, which more lines are given to or not
+    ghost answers: { Self → List ℕ → List ℕ → Going → Self → Type 0 };
+
+    /// Answers a line, which has no line feed at its end: appends the text of the answer.
+    ///
+    /// # Errors
+    ///
+    /// Where no further line can be answered: the text is as before.
+    fn take(&mut self, line: &[u8], text: &mut Vec<u8>) -> Result<Going, Stopped>
+        ensures ok { IfOk result (λ going. (answer : List ℕ) × answers self.old line.now answer going self.new
+            × (text.new.items ≡ text.old.items ++ answer)) }
+        ensures err { OnErr result (text.new.items ≡ text.old.items) };
+}

@@ -1,0 +1,49 @@
+ghost use Rattle.std.specs.Prelude.{◌≡◌};
+ghost use Rattle.pf_sitting.specs.declared.fault.SitFault.TheVariants as fault;
+
+use crate::answers::Stopped;
+use crate::dialogue::{Deaf, Mute};
+use std::alloc::AllocError;
+
+/// Why a sitting did not come to its end.
+#[derive(Clone, Copy, Debug, PartialEq, Eq)]
+pub enum SitFault {
+    /// Nothing more could be heard.
+    Deaf,
+    /// Answers could not be told.
+    Mute,
+    /// Memory was refused, and no further line could be answered.
+    NoMemory,
+}
+
+impl From<Deaf> for SitFault {
+    ghost from_gives = { λ _ f. f ≡ fault.Deaf };
+
+    fn from(_deaf: Deaf) -> Self {
+        SitFault::Deaf
+    }
+}
+
+impl From<Mute> for SitFault {
+    ghost from_gives = { λ _ f. f ≡ fault.Mute };
+
+    fn from(_mute: Mute) -> Self {
+        SitFault::Mute
+    }
+}
+
+impl From<Stopped> for SitFault {
+    ghost from_gives = { λ _ f. f ≡ fault.NoMemory };
+
+    fn from(_stopped: Stopped) -> Self {
+        SitFault::NoMemory
+    }
+}
+
+impl From<AllocError> for SitFault {
+    ghost from_gives = { λ _ f. f ≡ fault.NoMemory };
+
+    fn from(_error: AllocError) -> Self {
+        SitFault::NoMemory
+    }
+}

@@ -1,0 +1,9 @@
+//! A sitting: lines come in, and each is answered before more is asked for. The one contract of this crate: whatever comes in, and
+//! in whatever pieces, what was told when more is asked for is the answers to the lines that are whole so far.
+#![tactic(auto)]
+
+pub mod answers;
+pub mod dialogue;
+pub mod fault;
+mod lines;
+pub mod sitting;

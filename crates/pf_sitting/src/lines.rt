@@ -1,0 +1,76 @@
+ghost use Rattle.std.specs.Prelude.{◌≡◌, ◌++◌, ℕ, List, [], length, IfOk, OnOk, OnErr};
+ghost use Rattle.pf_sitting.specs.Answered.{AnswersFront, AnswersLines, TakesByte};
+ghost use Rattle.pf_sitting.specs.Lines.{last_line, lines_in, longer, rest_in};
+ghost use Rattle.pf_sitting.specs.declared.answers.Going.TheVariants.{On};
+
+use crate::answers::{Answers, Going, Stopped};
+
+/// The most bytes of a line that are kept: two more than a line may have, its line feed left out.
+pub const LINE_KEPT: usize = 65_538;
+
+/// Adds a byte to a line that isn't at its end.
+fn lengthen(line: &mut Vec<u8>, byte: u8) -> Result<(), Stopped>
+    ensures ok { OnOk result (line.new.items ≡ longer line.old.items byte) }
+{
+    if line.len() < LINE_KEPT && line.push(byte).is_err() {
+        return Err(Stopped);
+    }
+    Ok(())
+}
+
+/// Takes one more byte, behind the front of a line.
+fn take_byte<A: Answers>(
+    answers: &mut A,
+    line: &mut Vec<u8>,
+    byte: u8,
+    text: &mut Vec<u8>,
+) -> Result<Going, Stopped>
+    ensures ok { IfOk result (λ going. TakesByte A.answers answers.old line.old.items byte text.old.items going answers.new line.new.items text.new.items) }
+    ensures err { OnErr result (text.new.items ≡ text.old.items) }
+{
+    if byte != b'\n' {
+        lengthen(line, byte)?;
+        return Ok(Going::On);
+    }
+    let going = answers.take(line, text)?;
+    line.clear();
+    Ok(going)
+}
+
+/// Answers the lines that end in these bytes, behind the front of the first one, and keeps the front of the line that doesn't.
+pub(crate) fn take_bytes<A: Answers>(
+    answers: &mut A,
+    line: &mut Vec<u8>,
+    bytes: &[u8],
+    text: &mut Vec<u8>,
+) -> Result<Going, Stopped>
+    requires { text.old.items ≡ [] }
+    ensures ok { IfOk result (λ going. AnswersLines A.answers answers.old (lines_in line.old.items bytes.now) text.new.items going answers.new) }
+    ensures rest { IfOk result (λ going. going ≡ On → line.new.items ≡ rest_in line.old.items bytes.now) }
+    ensures err { OnErr result (AnswersFront A.answers answers.old (lines_in line.old.items bytes.now) text.new.items) }
+{
+    for byte in bytes {
+        match take_byte(answers, line, *byte, text) {
+            Ok(Going::On) => {}
+            Ok(Going::Ends) => return Ok(Going::Ends),
+            Err(stopped) => return Err(stopped),
+        }
+    }
+    Ok(Going::On)
+}
+
+/// Answers the last line, where there is one.
+pub(crate) fn take_last<A: Answers>(
+    answers: &mut A,
+    line: &[u8],
+    text: &mut Vec<u8>,
+) -> Result<Going, Stopped>
+    requires { text.old.items ≡ [] }
+    ensures ok { IfOk result (λ going. AnswersLines A.answers answers.old (last_line line.now) text.new.items going answers.new) }
+    ensures err { OnErr result (AnswersFront A.answers answers.old (last_line line.now) text.new.items) }
+{
+    if line.is_empty() {
+        return Ok(Going::On);
+    }
+    answers.take(line, text)
+}
