@@ -30,14 +30,7 @@ pub fn check_run(alloc: Global, file: &[u8], script: &[u8]) -> Result<Answer, Fa
 {
     let found = plain_faults(alloc, file, script)?;
     if found.is_clean() {
-        return carried(
-            alloc,
-            file,
-            script,
-            None,
-            &Names::new(alloc),
-            found.records,
-        );
+        return carried(alloc, file, script, None, &Names::new(alloc), found.records);
     }
     Ok(found.into_answer(alloc, file)?)
 }

@@ -75,7 +75,14 @@ fn faults_behind(
     'rows: loop {
         match rows.next(&mut row)? {
             NextRow::Found(line) => {
-                take_row(alloc, file, &mut progress, &mut found, &Fields::new(&row), line)?;
+                take_row(
+                    alloc,
+                    file,
+                    &mut progress,
+                    &mut found,
+                    &Fields::new(&row),
+                    line,
+                )?;
             }
             NextRow::End(line) => {
                 found.end = end_place(&progress, found.records + 1, line);

@@ -80,7 +80,9 @@ impl Found {
     {
         self.records += 1;
         if is_lacking(bad.fault.reason) {
-            return self.lines.note_lacking(file, place_of(bad.number, bad.line));
+            return self
+                .lines
+                .note_lacking(file, place_of(bad.number, bad.line));
         }
         let mut line = Vec::new(alloc);
         push_fault(alloc, &mut line, file, fields, bad)?;
@@ -102,7 +104,9 @@ impl Found {
     {
         self.records += 1;
         if is_third_lacking(bad.fault.reason) {
-            return self.lines.note_lacking(file, place_of(bad.number, bad.line));
+            return self
+                .lines
+                .note_lacking(file, place_of(bad.number, bad.line));
         }
         let mut line = Vec::new(alloc);
         push_third_fault(alloc, &mut line, file, at, bad)?;

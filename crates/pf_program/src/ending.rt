@@ -19,12 +19,7 @@ use std::io::Write;
 
 /// Tells what a task has to tell, and the notes behind it, or the line of its fault, and what is told behind that; answers the
 /// status. Where the output failed since nobody reads it any more, nothing is told, and the status is `gone`.
-pub(crate) fn end<F: Sink>(
-    noted: Noted,
-    closed: bool,
-    gone: Status,
-    faults: &mut F,
-) -> u8
+pub(crate) fn end<F: Sink>(noted: Noted, closed: bool, gone: Status, faults: &mut F) -> u8
     requires { F.failed faults.old < 2 ^ 64 - 1 }
     ensures status { result ≡ status_ended closed gone noted.outcome }
     ensures told { IsTold closed noted.outcome (notes_in noted.notes) (Tells (F.contents faults.old) (F.contents faults.new) (F.failed faults.old) (F.failed faults.new)) }
@@ -62,12 +57,7 @@ fn end_done<F: Sink>(ending: &Ending, notes: &[u8], faults: &mut F) -> u8
 
 /// Where the output failed: since nobody reads it any more, or for another reason, which is told.
 #[tactic(auto, using(crate::proofs::Telling::kept, crate::proofs::Telling::told_none))]
-pub(crate) fn end_unwritten<F: Sink>(
-    notes: &[u8],
-    closed: bool,
-    gone: Status,
-    faults: &mut F,
-) -> u8
+pub(crate) fn end_unwritten<F: Sink>(notes: &[u8], closed: bool, gone: Status, faults: &mut F) -> u8
     requires { F.failed faults.old < 2 ^ 64 - 1 }
     ensures status { result ≡ status_ended closed gone (Err why.Write) }
     ensures told { IsTold closed (Err why.Write) notes.now (Tells (F.contents faults.old) (F.contents faults.new) (F.failed faults.old) (F.failed faults.new)) }

@@ -8,8 +8,8 @@ ghost use Rattle.pf_program.specs.Versions.{AnswersBytes, AnswersRecords, Answer
 
 use crate::answering::write_answer;
 use crate::tasks::do_task;
-use pf_check3::check::third_check;
 use pf_check_run::check_run::third_check_run;
+use pf_check3::check::third_check;
 use pf_fault::answer::Answer;
 use pf_fault::ending::Ending;
 use pf_fault::fault::Fault;
