@@ -1,5 +1,6 @@
 //! The line that is told of a fault.
 ghost use Rattle.std.specs.Prelude.{◌≡◌, ◌+◌, ◌-◌, ◌^◌, ◌<◌, ◌++◌, OnOk, OnErr, MatchResult};
+ghost use Rattle.std.specs.Fmt.{decimal};
 ghost use Rattle.std.specs.Io.KnownBytes.{Appends};
 ghost use Rattle.pf_stream.specs.Written.{TookFront};
 ghost use Rattle.pf_program.specs.FaultLines.{fault_line, numbered_line};
@@ -51,10 +52,21 @@ fn write_numbered<F: Sink>(
     ensures count { MatchResult result (λ _. F.failed faults.new ≡ F.failed faults.old)
         (λ _. F.failed faults.new ≡ F.failed faults.old + 1) }
 {
-    let mut digits = Buffer::new();
     write_out(faults, before)?;
-    write_two(faults, digits.format(number).as_bytes(), behind)?;
+    write_number(faults, number, behind)?;
     Ok(())
+}
+
+/// Writes a number and then a text.
+fn write_number<F: Sink>(faults: &mut F, number: u64, behind: &[u8]) -> Result<(), WriteFault>
+    requires { F.failed faults.old < 2 ^ 64 - 1 }
+    ensures ok { OnOk result (Appends (F.contents faults.old) (F.contents faults.new) (decimal number ++ behind.now)) }
+    ensures err { OnErr result (TookFront (F.contents faults.old) (F.contents faults.new) (decimal number ++ behind.now)) }
+    ensures count { MatchResult result (λ _. F.failed faults.new ≡ F.failed faults.old)
+        (λ _. F.failed faults.new ≡ F.failed faults.old + 1) }
+{
+    let mut digits = Buffer::new();
+    write_two(faults, digits.format(number).as_bytes(), behind)
 }
 
 /// Writes a text and then another.
