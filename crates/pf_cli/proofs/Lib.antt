@@ -6,6 +6,7 @@ pub mod Carrying
 pub mod Checking
 pub mod Courses
 pub mod Ends
+pub mod Listed
 pub mod Outside
 pub mod Refusing
 pub mod Replying

@@ -20,3 +20,4 @@ pub mod Examples
 pub mod Laws
 pub mod Meaning
 pub mod Refusals
+pub mod Tasks

@@ -12,3 +12,4 @@ pub mod laws;
 mod refusals;
 pub mod run;
 mod script_replies;
+pub mod task_run;

@@ -180,7 +180,7 @@ fn write_report<W: Sink>(
 }
 
 /// Writes all of some pieces, and lets them go, by a call of its own: so nobody else looks at their kinds.
-fn write_whole<P: Pieces + Drop, W: Sink>(
+pub(crate) fn write_whole<P: Pieces + Drop, W: Sink>(
     alloc: Global,
     mut pieces: P,
     writer: &mut W,

@@ -1,4 +1,5 @@
 mod Comparing
+pub mod FaultLines
 pub mod Quiet
 pub mod Telling
 mod WordsAnswered

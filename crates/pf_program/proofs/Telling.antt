@@ -9,6 +9,10 @@ use Rattle.std.proofs.KnownBytes.{Appends-nil, Appends-trans, Keeps-refl}
 use Rattle.pf_stream.specs.Written.{TookFront}
 use Rattle.pf_stream.proofs.Sending.{took-after, took-before}
 use Rattle.pf_program.specs.Compared.{size_text}
+use Rattle.pf_fault.specs.declared.ending.Ending.{Ending}
+use Rattle.pf_fault.specs.declared.fault.Fault.{Fault}
+use Rattle.pf_fault.specs.declared.fault.Fault.TheVariants as why
+use Rattle.pf_program.specs.Noted.{IsTold}
 use Rattle.pf_program.specs.Status.{Tells}
 
 -- the first one was told, and then the other, ..
@@ -77,3 +81,8 @@ unfolding size_text
 size_text_is slots processors =
     sym (append_assoc (decimal slots ++ codes " slots, ") (decimal processors) (codes " processors")
     ∙ append_assoc (decimal slots) (codes " slots, ") (decimal processors ++ codes " processors"))
+
+-- Use: the output failed.
+pub told_unwritten : (closed : Bool) (outcome : Result Ending Fault) (notes : List ℕ) (told : List ℕ → Type 0) → outcome ≡ Err why.Write
+    → IsTold closed (Err why.Write) notes told → IsTold closed outcome notes told
+told_unwritten closed outcome notes told is h = rw is h

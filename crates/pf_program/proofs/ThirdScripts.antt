@@ -14,7 +14,7 @@ use Rattle.pf_stream.specs.Reading.{longest_script}
 use Rattle.pf_text.specs.Page.{table_text}
 use Rattle.pf_convert_words.specs.declared.conversion.Conversion.{Conversion}
 use Rattle.pf_words.specs.declared.task.Task.{Task}
-use Rattle.pf_words.specs.declared.task.Task.TheVariants.{Run, Check, Diff, Drill, Convert, Fit, Why}
+use Rattle.pf_words.specs.declared.task.Task.TheVariants.{Run, RunTasks, Check, CheckRun, Diff, Drill, Convert, Fit, Why}
 use Rattle.pf_words.specs.Asked.{IsSound}
 use Rattle.pf_program.specs.Tasks.{AnswersTask, IsOfScript, IsQuietIfDone}
 use Rattle.pf_program.specs.Versions.{AnswersBytes, AnswersOf, AnswersRecords, AnswersShort, AnswersThird, numbered, task_in}
@@ -100,7 +100,9 @@ list_answers conversion file list answer old new h = inl (list_of (plain list) c
 -- Use: a task with a script asks for nothing that could be out of order.
 pub script_is_sound : (task : Task) → IsOfScript task → IsSound task
 script_is_sound (Run format fail_on) h = tt
+script_is_sound (RunTasks format words fail_on) h = tt
 script_is_sound Check h = tt
+script_is_sound CheckRun h = tt
 script_is_sound (Diff since options) h = tt
 script_is_sound Drill h = tt
 script_is_sound (Convert conversion) h = absurd h

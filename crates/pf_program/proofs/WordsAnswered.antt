@@ -1,5 +1,5 @@
 -- What the program does for words, whether they ask for a task or for nothing.
-use Rattle.std.proofs.Common.{◌≡◌, ◌+◌, ◌⊎◌, ℕ, refl, sym, subst, inl, inr, arith, Bool, true, false, List, [], Option, Some, None, Ok, Err}
+use Rattle.std.proofs.Common.{◌≡◌, ◌+◌, ◌⊎◌, ℕ, append-nil, refl, sym, subst, inl, inr, arith, Bool, true, false, List, [], Option, Some, None, Ok, Err}
 use Rattle.std.specs.Prelude.{◌&&◌, not, is_some, IfSome, IsSome, String, string_bytes}
 use Rattle.std.specs.declared.alloc.Global.{Global}
 use Rattle.std.proofs.KnownBytes.{Keeps-refl, Consumes-nil}
@@ -17,6 +17,7 @@ use Rattle.pf_words.specs.declared.mistake.Mistake.{Mistake}
 use Rattle.pf_words.proofs.Unasked.{mistaken_asks_no_pair, mistaken_asks_none, untaken_asks_no_pair, untaken_asks_none}
 use Rattle.pf_stream.specs.Reading.{longest_script, TakesAtMost}
 use Rattle.pf_program.specs.Source.{IsOf, IsSource}
+use Rattle.pf_program.specs.FaultLines.{fault_line}
 use Rattle.pf_program.specs.Noted.{IsTold, gone_diff, gone_of, notes_in, status_ended}
 use Rattle.pf_program.specs.Status.{AnswersAsked, AnswersWords, Compares, ComparesScripts, Does, IsDone, IsToldOf, IsWritten, ReadsNothing, Streams, status_of_words, told_of}
 use Rattle.pf_program.specs.declared.noted.Noted.{Noted}
@@ -59,14 +60,15 @@ text_answers words text closed status old new told asks input reads written =
       shown = λ done. (text, asks, written);
       unwritten = λ other. absurd (omega (arith, ended, other));
       tells = λ two. absurd (omega (arith, ended, two));
+      memory = λ four. absurd (omega (arith, ended, four));
     })
 
 -- the status of want of memory, whoever reads the output
 status_of_memory : (closed : Bool) (otherwise : Status) → 4 ≡ status_ended closed otherwise (Err stop.NoMemory)
 status_of_memory closed otherwise = refl
 
-memory_told : (closed : Bool) (told : List ℕ → Type 0) → IsTold closed (Err stop.NoMemory) [] told
-memory_told closed told = (None, tt)
+memory_told : (closed : Bool) (told : List ℕ → Type 0) → told (fault_line stop.NoMemory) → IsTold closed (Err stop.NoMemory) [] told
+memory_told closed told is = subst told (sym (append-nil (fault_line stop.NoMemory))) is
 
 -- words that ask for nothing, and are not refused for want of memory, read nothing
 pub refused_asks_none : (words : List (List ℕ)) (why : WordsFault) → IsAsked words (Err why) → (why ≡ fault.NoMemory) ⊎ (task_asked words ≡ None)
@@ -87,13 +89,14 @@ none_had : (file : Option (List ℕ)) (old : Streams) → IsSource file (Err sto
 none_had None old = record { bytes = unknown old.input; reads = refl; taken = none_taken old.input }
 none_had (Some name) old = (refl, refl)
 
--- want of memory, of which nothing is told
+-- want of memory, behind which nothing is told
 abbrev no_memory_noted : Noted
 no_memory_noted = record { outcome = Err stop.NoMemory; notes = Err stop.NoMemory }
 
 -- it is an answer to each task
-no_memory : (task : Task) (file : Option (List ℕ)) (asked closed : Bool) (old : Streams) (told : List ℕ → Type 0) → Does task file asked closed 4 old old told
-no_memory task file asked closed old told = record {
+no_memory : (task : Task) (file : Option (List ℕ)) (asked closed : Bool) (old : Streams) (told : List ℕ → Type 0) → told (fault_line stop.NoMemory)
+    → Does task file asked closed 4 old old told
+no_memory task file asked closed old told is = record {
   noted = no_memory_noted;
   status_is = status_of_memory closed (gone_of task);
   done = record {
@@ -104,12 +107,13 @@ no_memory task file asked closed old told = record {
     writes = refl;
     notes = tt;
   };
-  told_is = memory_told closed told;
+  told_is = memory_told closed told is;
 }
 
 -- and to two scripts
-no_memory_for_two : (names : PairNames) (asked closed : Bool) (old : Streams) (told : List ℕ → Type 0) → Compares names asked closed 4 old old told
-no_memory_for_two names asked closed old told = record {
+no_memory_for_two : (names : PairNames) (asked closed : Bool) (old : Streams) (told : List ℕ → Type 0) → told (fault_line stop.NoMemory)
+    → Compares names asked closed 4 old old told
+no_memory_for_two names asked closed old told is = record {
   noted = no_memory_noted;
   status_is = status_of_memory closed (gone_diff names.options);
   done = record {
@@ -121,22 +125,23 @@ no_memory_for_two names asked closed old told = record {
     answers = (refl, refl, refl, refl, Keeps-refl old.output);
     writes = refl;
   };
-  told_is = memory_told closed told;
+  told_is = memory_told closed told is;
 }
 
 -- and to all words
 memory_answers : (words : List (List ℕ)) (old : Streams) (told : List ℕ → Type 0) (want : Option Task) (pair : Option PairNames) (file : Option (List ℕ))
-    (asked closed : Bool) → AnswersAsked words want pair file asked closed 4 old old told
-memory_answers words old told None None file asked closed = record {
+    (asked closed : Bool) → told (fault_line stop.NoMemory) → AnswersAsked words want pair file asked closed 4 old old told
+memory_answers words old told None None file asked closed is = record {
   ended = inr (inr refl);
   input = refl;
   reads = refl;
   shown = λ done. absurd (omega (arith, done));
   unwritten = λ other. record { output = Keeps-refl old.output; writes = refl };
   tells = λ two. absurd (omega (arith, two));
+  memory = λ four. is;
 }
-memory_answers words old told None (Some names) file asked closed = no_memory_for_two names asked closed old told
-memory_answers words old told (Some task) pair file asked closed = no_memory task file asked closed old told
+memory_answers words old told None (Some names) file asked closed is = no_memory_for_two names asked closed old told is
+memory_answers words old told (Some task) pair file asked closed is = no_memory task file asked closed old told is
 
 -- the words are not the program's
 mistaken : (words : List (List ℕ)) (closed : Bool) (old : Streams) (told : List ℕ → Type 0) (text : List ℕ)
@@ -148,11 +153,12 @@ mistaken words closed old told text are of is = record {
   shown = λ done. absurd (omega (arith, done));
   unwritten = λ other. record { output = Keeps-refl old.output; writes = refl };
   tells = λ two. (text, of, is);
+  memory = λ four. absurd (omega (arith, four));
 }
 
 -- the same by its cases
 untouched : (words : List (List ℕ)) (why : WordsFault) (closed : Bool) (old : Streams) (told : List ℕ → Type 0) → IsAsked words (Err why)
-    → IfSome (told_of why) told → AnswersWords words closed (status_of_words why) old old told
+    → told (told_of why) → AnswersWords words closed (status_of_words why) old old told
 untouched words (fault.Refused text) closed old told refused is =
     nothing_read words closed 2 old old told (untaken_asks_none words _ refused.0.2) (untaken_asks_no_pair words _ refused.0.2)
     (mistaken words closed old told text.items (inl refused.0) (inl refused) is)
@@ -160,11 +166,11 @@ untouched words (fault.Mistaken text) closed old told are is =
     nothing_read words closed 2 old old told (mistaken_asks_none words are.0 are.1) (mistaken_asks_no_pair words are.0 are.1)
     (mistaken words closed old told text.items (inr (are.0, are.1)) (inr (are.0, are.1, are.2)) is)
 untouched words fault.NoMemory closed old told any is =
-    memory_answers words old told (task_asked words) (pair_asked words) (file_asked words) (telling_asked words).notes closed
+    memory_answers words old told (task_asked words) (pair_asked words) (file_asked words) (telling_asked words).notes closed is
 
 -- words that ask for nothing, and want of memory, leave the streams as they were
 pub refusal_answers : (words : List (List ℕ)) (why : WordsFault) (closed : Bool) (status : ℕ) (old : Streams) (told : List ℕ → Type 0) → IsAsked words (Err why)
-    → status ≡ status_of_words why → IfSome (told_of why) told → AnswersWords words closed status old old told
+    → status ≡ status_of_words why → told (told_of why) → AnswersWords words closed status old old told
 refusal_answers words why closed status old told asked is tells =
     subst (λ (n : ℕ). AnswersWords words closed n old old told) (sym is) (untouched words why closed old told asked tells)
 

@@ -1,5 +1,5 @@
 -- What is told behind an answer of a task, or behind its fault.
-use Rattle.std.specs.Prelude.{⊤, ℕ, ◌≡◌, ◌||◌, ◌&&◌, not, Bool, true, false, if◌then◌else◌, List, [], ◌++◌, IfOk, IfSome, Option, None, Some, Result, Ok, Err, Vec}
+use Rattle.std.specs.Prelude.{⊤, ℕ, ◌≡◌, ◌||◌, ◌&&◌, not, Bool, true, false, if◌then◌else◌, List, [], ◌++◌, IfOk, Option, None, Some, Result, Ok, Err, Vec}
 use Rattle.std.specs.declared.alloc.Global.{Global}
 use Rattle.std.specs.declared.io.ErrorKind.{ErrorKind}
 use Rattle.pf_fault.specs.Answers.{status_of}
@@ -21,13 +21,16 @@ use Rattle.pf_options.specs.declared.slot_range.SlotRange.{SlotRange}
 use Rattle.pf_script_notes.specs.Behind.{NotesMade}
 use Rattle.pf_script_notes.specs.Faults.{IsFaultNote}
 use Rattle.pf_words.specs.declared.task.Task.{Task}
-use Rattle.pf_words.specs.declared.task.Task.TheVariants.{Run, Check, Diff, Drill, Convert, Fit, Why}
+use Rattle.pf_words.specs.declared.task.Task.TheVariants.{Run, RunTasks, Check, CheckRun, Diff, Drill, Convert, Fit, Why}
+use Rattle.pf_program.specs.FaultLines.{fault_line}
 use Rattle.pf_program.specs.declared.noting.Noting.{Noting}
 
 -- notes follow the tasks that carry a script out and tell of it
 abbrev pub is_followed : Task → Bool
 is_followed (Run format fail_on) = true
+is_followed (RunTasks format words fail_on) = true
 is_followed Check = false
+is_followed CheckRun = false
 is_followed (Diff since options) = true
 is_followed Drill = true
 is_followed (Convert conversion) = false
@@ -41,6 +44,7 @@ range_shown format = Some (range_of format)
 
 abbrev pub shown_range : Task → Option SlotRange
 shown_range (Run format fail_on) = range_shown format
+shown_range (RunTasks format words fail_on) = Some (range_of format)
 shown_range task = Some whole
 
 abbrev pub noting_of : Bool → Task → Noting
@@ -94,7 +98,9 @@ gone_diff options = if options.exit_code then StreamFailed else Done
 
 abbrev pub gone_of : Task → Status
 gone_of (Run format fail_on) = if fails_on_some fail_on then StreamFailed else Done
+gone_of (RunTasks format words fail_on) = if fails_on_some fail_on then StreamFailed else Done
 gone_of Check = StreamFailed
+gone_of CheckRun = StreamFailed
 gone_of (Diff since options) = gone_diff options
 gone_of task = Done
 
@@ -103,12 +109,9 @@ abbrev pub status_ended : Bool → Status → Result Ending Fault → ℕ
 status_ended closed otherwise (Err why.Write) = number_of (if closed then otherwise else StreamFailed)
 status_ended closed otherwise answer = status_of answer
 
--- the line of a fault is told, and the notes behind it; where memory is refused for the line, no more is known
-abbrev pub IsToldOfFault : List ℕ → (List ℕ → Type 0) → Type 0
-IsToldOfFault notes told = (line : Option (List ℕ)) × IfSome line (λ l. told (l ++ notes))
-
--- what a task has to tell and the notes behind it, or its fault; nothing where nobody reads the output any more
+-- what a task has to tell and the notes behind it, or the line of its fault and the notes behind that; nothing where nobody reads
+-- the output any more
 abbrev pub IsTold : Bool → Result Ending Fault → List ℕ → (List ℕ → Type 0) → Type 0
 IsTold closed (Ok ending) notes told = told (ending.notes.items ++ notes)
-IsTold closed (Err why.Write) notes told = OneOf closed (told []) (IsToldOfFault notes told)
-IsTold closed (Err fault) notes told = IsToldOfFault notes told
+IsTold closed (Err why.Write) notes told = OneOf closed (told []) (told (fault_line why.Write ++ notes))
+IsTold closed (Err fault) notes told = told (fault_line fault ++ notes)

@@ -4,6 +4,7 @@ use Rattle.std.specs.declared.alloc.Global.{Global}
 use Rattle.std.specs.Io.KnownBytes.{Appends, Keeps}
 use Rattle.pf_fault.specs.declared.ending.Ending.{Ending}
 use Rattle.pf_fault.specs.declared.fault.Fault.{Fault}
+use Rattle.pf_fault.specs.declared.fault.Fault.TheVariants as why
 use Rattle.pf_fault.specs.declared.status.Status.TheVariants.{Done, StreamFailed}
 use Rattle.pf_desk.specs.Desk.{Seen}
 use Rattle.pf_fault.specs.Faults.{CountsWrites, number_of}
@@ -18,6 +19,7 @@ use Rattle.pf_words.specs.Texts.{IsRefusal}
 use Rattle.pf_words.specs.declared.mistake.Mistake.{Mistake}
 use Rattle.pf_stream.specs.Written.{TookFront}
 use Rattle.pf_program.specs.Compared.{AnswersSecond, PairNotes, Shows}
+use Rattle.pf_program.specs.FaultLines.{fault_line}
 use Rattle.pf_program.specs.Noted.{AreNotes, IsTold, gone_diff, gone_of, notes_in, noting_behind, noting_of, status_ended}
 use Rattle.pf_program.specs.declared.noted.Noted.{Noted}
 use Rattle.pf_program.specs.declared.program.TheConstants.{PROMPT}
@@ -74,7 +76,7 @@ pub record IsUntouched (old new : Streams) : Type 0 where
   pub writes : new.failed_writes ≡ old.failed_writes
 
 -- no script was read, and nothing was written but the text that was asked for, where the status is 0 or 3; where it is 2, `told`
--- holds of what is told of the words
+-- holds of what is told of the words, and where it is 4 of that memory was refused
 pub record ReadsNothing (words : List (List ℕ)) (closed : Bool) (status : ℕ) (old new : Streams) (told : List ℕ → Type 0) : Type 0 where
   pub ended : EndsUnread words status
   pub input : new.input ≡ old.input
@@ -83,6 +85,7 @@ pub record ReadsNothing (words : List (List ℕ)) (closed : Bool) (status : ℕ)
       × IsWritten closed status old.output new.output old.failed_writes new.failed_writes text
   pub unwritten : (status ≡ 2) ⊎ (status ≡ 4) → IsUntouched old new
   pub tells : status ≡ 2 → (text : List ℕ) × IsToldOf words text × told text
+  pub memory : status ≡ 4 → told (fault_line why.NoMemory)
 
 -- this answer is one to a task with this script; where that was not had, its fault is the answer, and the writer is as it was
 abbrev pub AnswersScript : Task → List ℕ → Result (Vec ℕ Global) Fault → Result Ending Fault → Option (List ℕ) → Option (List ℕ) → Type 0
@@ -152,8 +155,8 @@ pub record IsPrompted (asked : Bool) (told : List ℕ → Type 0) : Type 0 where
   pub asked_so : asked ≡ true → told PROMPT.now ⊎ told []
   pub unasked : asked ≡ false → told []
 
--- the text that is told of words that ask for nothing, but where memory was refused
-abbrev pub told_of : WordsFault → Option (List ℕ)
-told_of (words.Refused text) = Some text.items
-told_of (words.Mistaken text) = Some text.items
-told_of words.NoMemory = None
+-- the text that is told of words that ask for nothing
+abbrev pub told_of : WordsFault → List ℕ
+told_of (words.Refused text) = text.items
+told_of (words.Mistaken text) = text.items
+told_of words.NoMemory = fault_line why.NoMemory

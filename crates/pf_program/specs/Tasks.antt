@@ -15,13 +15,15 @@ use Rattle.pf_options.specs.declared.diff_options.DiffOptions.{DiffOptions}
 use Rattle.pf_options.specs.declared.fail_on.FailOn.{FailOn}
 use Rattle.pf_options.specs.declared.format.Format.{Format}
 use Rattle.pf_words.specs.declared.task.Task.{Task}
-use Rattle.pf_words.specs.declared.task.Task.TheVariants.{Run, Check, Diff, Drill, Convert, Fit, Why}
+use Rattle.pf_words.specs.declared.task.Task.TheVariants.{Run, RunTasks, Check, CheckRun, Diff, Drill, Convert, Fit, Why}
 use Rattle.pf_options.specs.FailLists.{on_nothing}
 use Rattle.pf_cli.specs.Answers.{Answers}
 use Rattle.pf_cli.specs.Checks.{ChecksBytes}
 use Rattle.pf_cli.specs.Ended.{fails_on, run_status}
 use Rattle.pf_cli.specs.Meaning.{script_meaning}
+use Rattle.pf_cli.specs.Tasks.{RunsTasks}
 use Rattle.pf_change.specs.Change.{change_meaning}
+use Rattle.pf_check_run.specs.Answers.{ChecksRun}
 use Rattle.pf_change.specs.Difference.{told_by}
 use Rattle.pf_change.specs.Made as change
 use Rattle.pf_why_answer.specs.Answer.{WhyMade}
@@ -73,11 +75,18 @@ pub record FitMade (format : FitFormat) (file : List ℕ) (origins : Option (Lis
   pub answer : IfOk made (fit.FitMade format file origins titles script)
   pub stopped : IfErr made (carried.Stops (told script).rest.fault)
 
+-- the answer to a script that is checked and carried out, in the file of this name
+pub record CheckRunMade (file script : List ℕ) (made : Result Answer Fault) : Type 0 where
+  pub answer : IfOk made (ChecksRun file script)
+  pub stopped : IfErr made (λ fault. fault ≡ why.NoMemory)
+
 -- the answer to a task with a script that has these titles, or with a list, in the file of this name, and what the writer took;
 -- origins where it belongs to a script of version 3
 abbrev pub AnswersTask : Titles → Option (List Origin) → Task → List ℕ → List ℕ → Result Ending Fault → Option (List ℕ) → Option (List ℕ) → Type 0
 AnswersTask titles origins (Run format fail_on) file script answer old new = RunsScript format titles origins fail_on script answer old new
+AnswersTask titles origins (RunTasks format words fail_on) file script answer old new = RunsTasks format titles words fail_on script answer old new
 AnswersTask titles origins Check file script answer old new = ChecksBytes script answer old new
+AnswersTask titles origins CheckRun file script answer old new = (made : Result Answer Fault) × CheckRunMade file script made × AnswersMade made answer old new
 AnswersTask titles origins (Diff since options) file script answer old new = (made : Result Answer Fault) × ChangeMade since options script made × AnswersMade made answer old new
 AnswersTask titles origins Drill file script answer old new = (made : Result Answer Fault) × DrillMade script made × AnswersMade made answer old new
 AnswersTask titles origins (Convert conversion) file list answer old new =

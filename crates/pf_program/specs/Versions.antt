@@ -1,9 +1,10 @@
 -- What the program answers to a task with a script of any version: with one of version 3 by the script of version 2 that belongs
 -- to it.
-use Rattle.std.specs.Prelude.{ℕ, ◌≡◌, ◌+◌, ◌-◌, ◌⊎◌, ◌<◌, ◌≤◌, ◌==◌, ◌||◌, nat_lt, if◌then◌else◌, List, [], ◌∷◌, length, Option, None, Some, Result, Ok, Err}
+use Rattle.std.specs.Prelude.{ℕ, ◌≡◌, ◌+◌, ◌-◌, ◌⊎◌, ◌<◌, ◌≤◌, ◌==◌, ◌||◌, nat_lt, if◌then◌else◌, List, [], ◌∷◌, length, Option, None, Some, IfOk, IfErr, Result, Ok, Err}
 use Rattle.std.specs.List.{slice_index_or}
 use Rattle.std.specs.Io.KnownBytes.{Keeps}
 use Rattle.pf_check3.specs.Checked.{ChecksThird}
+use Rattle.pf_check_run.specs.Answers.{ChecksThirdRun, IsThirdStopped}
 use Rattle.pf_fault.specs.declared.answer.Answer.{Answer}
 use Rattle.pf_fault.specs.declared.ending.Ending.{Ending}
 use Rattle.pf_fault.specs.declared.fault.Fault.{Fault}
@@ -14,7 +15,7 @@ use Rattle.pf_plain.specs.Plain.{Plain, plain}
 use Rattle.pf_stream.specs.Reading.{longest_script}
 use Rattle.pf_text.specs.Page.{table_text}
 use Rattle.pf_words.specs.declared.task.Task.{Task}
-use Rattle.pf_words.specs.declared.task.Task.TheVariants.{Run, Check, Diff, Drill, Convert, Fit, Why}
+use Rattle.pf_words.specs.declared.task.Task.TheVariants.{Run, RunTasks, Check, CheckRun, Diff, Drill, Convert, Fit, Why}
 use Rattle.pf_program.specs.Tasks.{AnswersMade, AnswersTask}
 
 -- how many come from a record before this one
@@ -30,7 +31,9 @@ since_in p (Some number) = count_below number p.origins + 1
 -- the task with the script of version 2
 abbrev pub task_in : Plain → Task → Task
 task_in p (Run format fail_on) = Run format fail_on
+task_in p (RunTasks format words fail_on) = RunTasks format words fail_on
 task_in p Check = Check
+task_in p CheckRun = CheckRun
 task_in p (Diff since options) = Diff (Some (since_in p since)) options
 task_in p Drill = Drill
 task_in p (Convert conversion) = Convert conversion
@@ -57,6 +60,15 @@ abbrev pub IsChecked : List ℕ → Result Answer Fault → Type 0
 IsChecked script (Ok made) = ChecksThird script made
 IsChecked script (Err fault) = fault ≡ why.NoMemory
 
+-- the answer to a script of version 3 that is checked and carried out
+pub record ThirdRunMade (p : Plain) (file script : List ℕ) (made : Result Answer Fault) : Type 0 where
+  pub answer : IfOk made (ChecksThirdRun p file script)
+  pub stopped : IfErr made (IsThirdStopped p)
+
+abbrev pub AnswersThirdRun : Plain → List ℕ → List ℕ → Result Ending Fault → Option (List ℕ) → Option (List ℕ) → Type 0
+AnswersThirdRun p file script answer old new =
+    (made : Result Answer Fault) × ThirdRunMade p file script made × ((inner : Result Ending Fault) × AnswersMade made inner old new × (answer ≡ numbered p.origins inner))
+
 -- the task was done with the script of version 2, whose records come from those of version 3
 abbrev pub AnswersRecords : Plain → Task → List ℕ → Result Ending Fault → Option (List ℕ) → Option (List ℕ) → Type 0
 AnswersRecords p task file inner old new = AnswersTask p.titles (Some p.origins) (task_in p task) file (table_text p.records) inner old new
@@ -73,7 +85,9 @@ pub record AnswersShort (p : Plain) (task : Task) (file : List ℕ) (answer : Re
 -- the answer to a task with a script of version 3; a list of tasks is no script, however it begins
 abbrev pub AnswersThird : Plain → Task → List ℕ → List ℕ → Result Ending Fault → Option (List ℕ) → Option (List ℕ) → Type 0
 AnswersThird p Check file script answer old new = (made : Result Answer Fault) × IsChecked script made × AnswersMade made answer old new
+AnswersThird p CheckRun file script answer old new = AnswersThirdRun p file script answer old new
 AnswersThird p (Run format fail_on) file script answer old new = AnswersShort p (Run format fail_on) file answer old new
+AnswersThird p (RunTasks format words fail_on) file script answer old new = AnswersShort p (RunTasks format words fail_on) file answer old new
 AnswersThird p (Diff since options) file script answer old new = AnswersShort p (Diff since options) file answer old new
 AnswersThird p Drill file script answer old new = AnswersShort p Drill file answer old new
 AnswersThird p (Convert conversion) file list answer old new = AnswersTask untitled None (Convert conversion) file list answer old new

@@ -2,29 +2,24 @@ ghost use Rattle.std.specs.Prelude.{◌≡◌, ◌≢◌, ◌+◌, ◌-◌, ◌^
 ghost use Rattle.std.specs.Io.KnownBytes.{Keeps};
 ghost use Rattle.pf_fault.specs.declared.fault.Fault.TheVariants as why;
 ghost use Rattle.pf_fault.specs.Faults.{number_of, status_behind};
-ghost use Rattle.pf_program.specs.Noted.{IsTold, IsToldOfFault, notes_in, status_ended};
+ghost use Rattle.pf_program.specs.FaultLines.{fault_line};
+ghost use Rattle.pf_program.specs.Noted.{IsTold, notes_in, status_ended};
 ghost use Rattle.pf_program.specs.Status.{Tells};
 ghost use Rattle.pf_program.specs.Tasks.{IsQuietIfDone};
 
+use crate::fault_line::write_fault;
 use crate::noted::Noted;
 use pf_fault::ending::Ending;
 use pf_fault::fault::Fault;
 use pf_fault::status::Status;
 use pf_stream::sink::Sink;
 use pf_stream::writing::write_out;
-use std::alloc::{AllocError, Global};
 use std::fmt::Display;
 use std::io::Write;
 
 /// Tells what a task has to tell, and the notes behind it, or the line of its fault, and what is told behind that; answers the
 /// status. Where the output failed since nobody reads it any more, nothing is told, and the status is `gone`.
-pub(crate) fn end<F: Sink>(
-    alloc: Global,
-    noted: Noted,
-    closed: bool,
-    gone: Status,
-    faults: &mut F,
-) -> u8
+pub(crate) fn end<F: Sink>(noted: Noted, closed: bool, gone: Status, faults: &mut F) -> u8
     requires { F.failed faults.old < 2 ^ 64 - 1 }
     ensures status { result ≡ status_ended closed gone noted.outcome }
     ensures told { IsTold closed noted.outcome (notes_in noted.notes) (Tells (F.contents faults.old) (F.contents faults.new) (F.failed faults.old) (F.failed faults.new)) }
@@ -33,8 +28,8 @@ pub(crate) fn end<F: Sink>(
     let Noted { outcome, notes } = noted;
     match outcome {
         Ok(ending) => end_done(&ending, notes_in(&notes), faults),
-        Err(Fault::Write) => end_unwritten(alloc, notes_in(&notes), closed, gone, faults),
-        Err(fault) => end_faulty(alloc, fault, notes_in(&notes), faults),
+        Err(Fault::Write) => end_unwritten(notes_in(&notes), closed, gone, faults),
+        Err(fault) => end_faulty(fault, notes_in(&notes), faults),
     }
 }
 
@@ -62,13 +57,7 @@ fn end_done<F: Sink>(ending: &Ending, notes: &[u8], faults: &mut F) -> u8
 
 /// Where the output failed: since nobody reads it any more, or for another reason, which is told.
 #[tactic(auto, using(crate::proofs::Telling::kept, crate::proofs::Telling::told_none))]
-pub(crate) fn end_unwritten<F: Sink>(
-    alloc: Global,
-    notes: &[u8],
-    closed: bool,
-    gone: Status,
-    faults: &mut F,
-) -> u8
+pub(crate) fn end_unwritten<F: Sink>(notes: &[u8], closed: bool, gone: Status, faults: &mut F) -> u8
     requires { F.failed faults.old < 2 ^ 64 - 1 }
     ensures status { result ≡ status_ended closed gone (Err why.Write) }
     ensures told { IsTold closed (Err why.Write) notes.now (Tells (F.contents faults.old) (F.contents faults.new) (F.failed faults.old) (F.failed faults.new)) }
@@ -77,35 +66,30 @@ pub(crate) fn end_unwritten<F: Sink>(
     if closed {
         return gone.number();
     }
-    end_faulty(alloc, Fault::Write, notes, faults)
+    end_faulty(Fault::Write, notes, faults)
 }
 
 /// Tells a fault, and the notes behind its line, and answers its status, which is not 0.
 #[tactic(auto, using(crate::proofs::Quiet::never_zero))]
-fn end_faulty<F: Sink>(alloc: Global, fault: Fault, notes: &[u8], faults: &mut F) -> u8
+fn end_faulty<F: Sink>(fault: Fault, notes: &[u8], faults: &mut F) -> u8
     requires { F.failed faults.old < 2 ^ 64 - 1 }
     ensures status { result ≡ number_of (status_behind fault) }
-    ensures told { IsToldOfFault notes.now (Tells (F.contents faults.old) (F.contents faults.new) (F.failed faults.old) (F.failed faults.new)) }
+    ensures told { Tells (F.contents faults.old) (F.contents faults.new) (F.failed faults.old) (F.failed faults.new) (fault_line fault ++ notes.now) }
     ensures not_done { result ≢ 0 }
 {
-    tell_fault(alloc, fault, notes, faults);
+    tell_fault(fault, notes, faults);
     fault.status().number()
 }
 
-/// Tells a fault, and the notes behind its line; where memory is refused for them, the fault alone.
-fn tell_fault<F: Sink>(alloc: Global, fault: Fault, notes: &[u8], faults: &mut F)
+/// Tells a fault, and the notes behind its line, which are left out where a write of that line fails. A fault of writing is passed
+/// over: it could be told nowhere.
+pub(crate) fn tell_fault<F: Sink>(fault: Fault, notes: &[u8], faults: &mut F)
     requires { F.failed faults.old < 2 ^ 64 - 1 }
-    ensures { IsToldOfFault notes.now (Tells (F.contents faults.old) (F.contents faults.new) (F.failed faults.old) (F.failed faults.new)) }
+    ensures { Tells (F.contents faults.old) (F.contents faults.new) (F.failed faults.old) (F.failed faults.new) (fault_line fault ++ notes.now) }
 {
-    match fault_line(alloc, fault) {
-        Ok(line) => tell_both(line.as_bytes(), notes, faults),
-        Err(AllocError) => tell(&fault, faults),
+    if write_fault(fault, faults).is_ok() {
+        let _ = write_out(faults, notes);
     }
-}
-
-/// The line of a fault.
-fn fault_line(alloc: Global, fault: Fault) -> Result<String, AllocError> {
-    format!(in alloc; "{fault}\n")
 }
 
 /// Tells a text and then another, which is left out where a write of the first one fails.

@@ -12,8 +12,10 @@ pub(crate) fn gone_of(task: &Task) -> Status
     ensures { result ≡ gone_of task.now }
 {
     match task {
-        Task::Check => Status::StreamFailed,
-        Task::Run(_, fail_on) if fails_on_some(*fail_on) => Status::StreamFailed,
+        Task::Check | Task::CheckRun => Status::StreamFailed,
+        Task::Run(_, fail_on) | Task::RunTasks(_, _, fail_on) if fails_on_some(*fail_on) => {
+            Status::StreamFailed
+        }
         Task::Diff(_, options) => gone_diff(*options),
         _ => Status::Done,
     }

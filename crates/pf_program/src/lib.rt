@@ -5,6 +5,7 @@
 
 mod answering;
 mod ending;
+mod fault_line;
 mod gone;
 mod noted;
 mod notes;

@@ -63,8 +63,8 @@ fn is_followed(task: &Task) -> bool
     ensures { result ≡ is_followed task.now }
 {
     match task {
-        Task::Run(..) | Task::Diff(..) | Task::Drill | Task::Why(_) => true,
-        Task::Check | Task::Convert(_) | Task::Fit(_) => false,
+        Task::Run(..) | Task::RunTasks(..) | Task::Diff(..) | Task::Drill | Task::Why(_) => true,
+        Task::Check | Task::CheckRun | Task::Convert(_) | Task::Fit(_) => false,
     }
 }
 
@@ -74,7 +74,7 @@ fn shown_range(task: &Task) -> Option<SlotRange>
 {
     match task {
         Task::Run(Format::Html, _) => None,
-        Task::Run(format, _) => Some(format.range()),
+        Task::Run(format, _) | Task::RunTasks(format, _, _) => Some(format.range()),
         _ => Some(SlotRange::whole()),
     }
 }

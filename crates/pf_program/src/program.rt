@@ -9,7 +9,7 @@ ghost use Rattle.pf_program.specs.Tasks.{IsOfScript, IsQuietIfDone};
 ghost use Rattle.pf_program.specs.Status.{AnswersWords, IsDone, IsPrompted, IsWritten, Tells, seen_streams, status_of_words, told_of};
 ghost use Rattle.pf_program.specs.Versions.{AnswersBytes};
 
-use crate::ending::{end, end_unwritten, tell, tell_text};
+use crate::ending::{end, end_unwritten, tell, tell_fault, tell_text};
 use crate::gone::{gone_diff, gone_of};
 use crate::noted::Noted;
 use crate::notes::{notes_behind, unread_note};
@@ -79,14 +79,14 @@ pub fn main_words<
         Ok(Request::Do(task, file, telling)) => {
             let gone = gone_of(&task);
             let noted = do_asked(rt, task, &file, telling.notes, reader, writer);
-            end(rt.alloc(), noted, writer.is_closed(), gone, faults)
+            end(noted, writer.is_closed(), gone, faults)
         }
         Ok(Request::Compare(pair, telling)) => {
             let gone = gone_diff(pair.options);
             let noted = compare_scripts(rt, &pair, telling.notes, reader, writer);
-            end(rt.alloc(), noted, writer.is_closed(), gone, faults)
+            end(noted, writer.is_closed(), gone, faults)
         }
-        Ok(Request::Show(text)) => show(rt.alloc(), text.as_str(), writer, faults),
+        Ok(Request::Show(text)) => show(text.as_str(), writer, faults),
         Err(fault) => refuse(&fault, faults),
     }
 }
@@ -181,7 +181,7 @@ pub fn tell_unread<F: Write>(fault: &io::Error, faults: &mut F) -> u8
 }
 
 /// Writes a text that was asked for, and answers the status.
-fn show<W: Pipe, F: Sink>(alloc: Global, text: &str, writer: &mut W, faults: &mut F) -> u8
+fn show<W: Pipe, F: Sink>(text: &str, writer: &mut W, faults: &mut F) -> u8
     requires writes { W.failed writer.old < 2 ^ 64 - 1 }
     requires tells { F.failed faults.old < 2 ^ 64 - 1 }
     ensures shown { IsWritten (W.closed writer.new) result (W.contents writer.old) (W.contents writer.new) (W.failed writer.old) (W.failed writer.new) text.now }
@@ -189,7 +189,7 @@ fn show<W: Pipe, F: Sink>(alloc: Global, text: &str, writer: &mut W, faults: &mu
 {
     match write_out(writer, text.as_bytes()) {
         Ok(()) => Status::Done.number(),
-        Err(_) => end_unwritten(alloc, b"", writer.is_closed(), Status::Done, faults),
+        Err(_) => end_unwritten(b"", writer.is_closed(), Status::Done, faults),
     }
 }
 
@@ -197,13 +197,13 @@ fn show<W: Pipe, F: Sink>(alloc: Global, text: &str, writer: &mut W, faults: &mu
 fn refuse<F: Sink>(fault: &WordsFault, faults: &mut F) -> u8
     requires { F.failed faults.old < 2 ^ 64 - 1 }
     ensures status { result ≡ status_of_words fault.now }
-    ensures told { IfSome (told_of fault.now) (Tells (F.contents faults.old) (F.contents faults.new) (F.failed faults.old) (F.failed faults.new)) }
+    ensures told { Tells (F.contents faults.old) (F.contents faults.new) (F.failed faults.old) (F.failed faults.new) (told_of fault.now) }
 {
     match fault {
         WordsFault::Refused(text) => tell_text(text, faults),
         WordsFault::Mistaken(line) => tell_text(line, faults),
         WordsFault::NoMemory => {
-            tell(fault, faults);
+            tell_fault(Fault::NoMemory, b"", faults);
             return Status::NoMemory.number();
         }
     }

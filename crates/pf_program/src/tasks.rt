@@ -8,8 +8,10 @@ ghost use Rattle.pf_program.specs.Tasks.{AnswersTask, ListConverted, IsOfScript,
 use crate::answering::write_answer;
 use crate::open_gate::OpenGate;
 use pf_change::diff::diff;
+use pf_check_run::check_run::check_run;
 use pf_cli::check::check;
 use pf_cli::run::run;
+use pf_cli::task_run::run_tasks;
 use pf_conversion::convert::convert;
 use pf_convert_words::conversion::Conversion;
 use pf_drill::drill::drill;
@@ -54,7 +56,11 @@ pub(crate) fn do_task<H: AllocGlobal + Threads + Wait + Sync, W: Sink>(
         Task::Run(format, fail_on) => {
             run(alloc, script, writer, format, titles, origins, fail_on)
         }
+        Task::RunTasks(format, words, fail_on) => {
+            run_tasks(alloc, script, writer, format, titles, &words, fail_on)
+        }
         Task::Check => check(alloc, script, writer),
+        Task::CheckRun => write_answer(check_run(alloc, file, script), writer),
         Task::Diff(since, options) => write_answer(diff(alloc, script, since, options), writer),
         Task::Drill => write_answer(drill(rt, alloc, script, &OpenGate), writer),
         Task::Convert(asked) => write_answer(convert_list(alloc, script, &asked), writer),

@@ -9,7 +9,8 @@ use Rattle.pf_script.specs.Fields.{number_of}
 use Rattle.pf_names.specs.Slots.{unit_named}
 use Rattle.pf_task_list.specs.Times.{few_digits, time_in}
 use Rattle.pf_convert_words.specs.Reading.{conversion_of, first_not_above, format_named, has_quantum, quanta_from, words_from}
-use Rattle.pf_words.specs.Examples.{Runs, Ranged, Pictured, Styled, FailingRuns, Files, Drilled, Differences, Compared, Conversions, Reasons, Fitting, Told, Showable, WorkedWords}
+use Rattle.pf_task_words.specs.Reading.{with_items}
+use Rattle.pf_words.specs.Examples.{Runs, Ranged, Pictured, Styled, Listed, FailingRuns, Files, Drilled, Differences, Compared, Conversions, Reasons, Fitting, Told, Showable, WorkedWords}
 
 runs : Runs
 unfolding clap_on_literals kinds_of task_asked
@@ -46,6 +47,21 @@ styled = record {
   styled_chart = (refl, refl);
   cell_first = (refl, refl);
   wrap_next = (refl, refl);
+}
+
+listed : Listed
+unfolding clap_on_literals kinds_of task_asked with_items number_of is_text
+listed = record {
+  one = refl;
+  several = refl;
+  failing = refl;
+  empty = (refl, refl);
+  turned = (refl, refl);
+  nobody = (refl, refl);
+  large = (refl, refl);
+  no_name = (refl, refl);
+  tables = (refl, refl);
+  list_first = (refl, refl);
 }
 
 unknown_is_not_shown : ¬ IsShown kind.UnknownArgument
@@ -208,6 +224,7 @@ worked_words = record {
   ranged = ranged;
   pictured = pictured;
   styled = styled;
+  listed = listed;
   failing = failing;
   files = files;
   drilled = drilled;
@@ -219,6 +236,7 @@ worked_words = record {
   told = told;
   showable = showable;
   check = refl;
+  check_run = refl;
   unknown = (refl, refl);
   option_alone = (kind.UnknownArgument, unknown_is_not_shown, inl refl);
   alone = (kind.UnknownArgument, unknown_is_not_shown, inl refl);

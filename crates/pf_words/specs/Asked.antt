@@ -1,5 +1,5 @@
 -- What the words ask for.
-use Rattle.std.specs.Prelude.{◌≡◌, ◌≢◌, ◌⊎◌, ℕ, Bool, false, not, ◌&&◌, ◌||◌, is_some, if◌then◌else◌, List, [], ◌++◌, Option, Some, None, option_map, Result, Ok, Err, codes, unwrap_or, String, string_bytes, ⊤}
+use Rattle.std.specs.Prelude.{◌≡◌, ◌≢◌, ◌⊎◌, ℕ, Bool, false, not, ◌&&◌, ◌||◌, true, is_some, if◌then◌else◌, List, [], ◌++◌, Option, Some, None, option_map, Result, Ok, Err, codes, unwrap_or, String, string_bytes, ⊤}
 use Rattle.std.specs.Result.{result_ok, result_err}
 use Rattle.std.specs.Str.{bytes_eq}
 use Rattle.std.specs.declared.alloc.Global.{Global}
@@ -9,21 +9,23 @@ use Rattle.clap.specs.declared.error.kind.ErrorKind.{ErrorKind}
 use Rattle.clap.specs.declared.error.kind.ErrorKind.TheVariants.{DisplayHelp, DisplayVersion, OutOfMemory}
 use Rattle.pf_options.specs.declared.fail_on.FailOn.{FailOn}
 use Rattle.pf_options.specs.declared.format.Format.{Format}
-use Rattle.pf_options.specs.declared.format.Format.TheVariants.{C, Full, Html, Jobs, Tables, Trace}
+use Rattle.pf_options.specs.declared.format.Format.TheVariants.{C, Full, Html, Jobs, Lags, Misses, Quanta, Stats, Tables, Trace, Windows}
 use Rattle.pf_words.specs.declared.request.Request.{Request}
 use Rattle.pf_words.specs.declared.request.Request.TheVariants.{Do, Compare, Show}
 use Rattle.pf_words.specs.declared.request.WordsFault.{WordsFault}
 use Rattle.pf_words.specs.declared.request.WordsFault.TheVariants.{Refused, Mistaken, NoMemory}
 use Rattle.pf_words.specs.declared.mistake.Mistake.{Mistake}
 use Rattle.pf_words.specs.declared.mistake.Mistake.TheVariants as why
-use Rattle.pf_words.specs.declared.mistake.Mistake.TheVariants.{UnknownFormat, BadNumber, NoRange, Unranged, BadCell, NoCell, BadWrap, NoWrap, BadStyle, NoStyle, BadFailOn}
+use Rattle.pf_words.specs.declared.mistake.Mistake.TheVariants.{UnknownFormat, BadNumber, NoRange, Unranged, BadCell, NoCell, BadWrap, NoWrap, BadStyle, NoStyle, BadTasks, NoTasks, BadFailOn}
 use Rattle.pf_words.specs.declared.script_pair.ScriptPair.{ScriptPair}
 use Rattle.pf_words.specs.declared.telling.Telling.{Telling}
 use Rattle.pf_words.specs.declared.choices.TheConstants.{CONVERT_FORMATS, RUN_FORMATS, TEXT_FORMATS}
 use Rattle.pf_words.specs.Choices.{IsChoiceNote}
 use Rattle.pf_options.specs.declared.slot_range.SlotRange.{SlotRange}
+use Rattle.pf_task_words.specs.Reading.{words_in}
+use Rattle.pf_task_words.specs.declared.task_word.TaskWord.{TaskWord}
 use Rattle.pf_words.specs.declared.task.Task.{Task}
-use Rattle.pf_words.specs.declared.task.Task.TheVariants.{Run, Check, Drill, Convert, Fit, Why}
+use Rattle.pf_words.specs.declared.task.Task.TheVariants.{Run, RunTasks, Check, CheckRun, Drill, Convert, Fit, Why}
 use Rattle.pf_fit_text.specs.FitFormats.{fit_format_named}
 use Rattle.pf_fit_text.specs.declared.fit_format.FitFormat.{FitFormat}
 use Rattle.pf_fit_text.specs.declared.fit_format.FitFormat.TheVariants.{Text as FitText}
@@ -34,7 +36,7 @@ use Rattle.pf_words.specs.Diffs.{PairNames, are_two, diff_of, options_of, pair_g
 use Rattle.pf_options.specs.FailLists.{fail_on_named, on_nothing}
 use Rattle.pf_options.specs.Formats.{format_named, format_with_cell, format_with_style, format_with_wrap, format_within}
 use Rattle.pf_words.specs.Texts.{EndsWithLesson, IsRefusal, mistake_line, version_line}
-use Rattle.pf_words.specs.CommandLine.{any_flag, file_behind, is_check, is_convert, is_diff, is_drill, is_fit, is_why, kinds_of, program, text_behind, text_behind_run}
+use Rattle.pf_words.specs.CommandLine.{any_flag, file_behind, has_flag, is_check, is_convert, is_diff, is_drill, is_fit, is_why, kinds_of, program, text_behind, text_behind_run}
 use Rattle.pf_script.specs.Fields.{number_of}
 use Rattle.pf_why_words.specs.Reading.{question_of}
 use Rattle.pf_why_words.specs.declared.mistake.WhyMistake.{WhyMistake}
@@ -177,15 +179,43 @@ abbrev pub fail_on_given : Option Text → Result FailOn Mistake
 fail_on_given None = Ok on_nothing
 fail_on_given (Some list) = fail_on_read (fail_on_named list)
 
--- to run it in that format, and to fail on that
-abbrev pub run_given : Result Format Mistake → Result FailOn Mistake → Result Task Mistake
-run_given (Err mistake) fail_on = Err mistake
-run_given (Ok format) (Err mistake) = Err mistake
-run_given (Ok format) (Ok fail_on) = Ok (Run format fail_on)
+-- the formats that can show some tasks alone
+abbrev pub takes_tasks : Format → Bool
+takes_tasks (Windows range) = true
+takes_tasks Jobs = true
+takes_tasks (Quanta range) = true
+takes_tasks Stats = true
+takes_tasks Lags = true
+takes_tasks Misses = true
+takes_tasks format = false
+
+-- the list of tasks that a text is, of a format that can show these alone
+abbrev pub tasks_for : Format → Option (List TaskWord) → Result (Option (List TaskWord)) Mistake
+tasks_for format None = Err BadTasks
+tasks_for format (Some words) = if takes_tasks format then Ok (Some words) else Err NoTasks
+
+-- the list that is the text of an option, and none where the option is left out
+abbrev pub tasks_given : Format → Option Text → Result (Option (List TaskWord)) Mistake
+tasks_given format None = Ok None
+tasks_given format (Some text) = tasks_for format (words_in text)
+
+-- to run it in that format, of those tasks alone where some are listed, and to fail on that
+abbrev pub run_with : Format → Option (List TaskWord) → FailOn → Task
+run_with format None fail_on = Run format fail_on
+run_with format (Some words) fail_on = RunTasks format words fail_on
+
+abbrev pub run_listed : Format → Result (Option (List TaskWord)) Mistake → Result FailOn Mistake → Result Task Mistake
+run_listed format (Err mistake) fail_on = Err mistake
+run_listed format (Ok tasks) (Err mistake) = Err mistake
+run_listed format (Ok tasks) (Ok fail_on) = Ok (run_with format tasks fail_on)
+
+abbrev pub run_given : Result Format Mistake → Option Text → Result FailOn Mistake → Result Task Mistake
+run_given (Err mistake) tasks fail_on = Err mistake
+run_given (Ok format) tasks fail_on = run_listed format (tasks_given format tasks) fail_on
 
 -- the run that is asked for, by what was found of a subcommand
 abbrev pub run_of : Option (Text × List Row) → Result Task Mistake
-run_of found = run_given (format_of found) (fail_on_given (text_behind_run (codes "fail-on") found))
+run_of found = run_given (format_of found) (text_behind_run (codes "task") found) (fail_on_given (text_behind_run (codes "fail-on") found))
 
 -- the texts of a conversion, by what was found of a subcommand; there always is a quantum
 abbrev pub convert_texts : Option (Text × List Row) → ConvertTexts
@@ -213,6 +243,10 @@ why_of found =
     why_given (question_of (text_behind (codes "why") (codes "slot") found) (text_behind (codes "why") (codes "format") found)
     (text_behind (codes "why") (codes "task") found))
 
+-- a check, which may carry the script out too
+abbrev pub check_of : Option (Text × List Row) → Task
+check_of found = if has_flag (codes "check") (codes "run") found then CheckRun else Check
+
 -- the format of a fit that a text names, and text where it is left out
 abbrev pub fit_format_read : Option FitFormat → Result FitFormat Mistake
 fit_format_read None = Err UnknownFormat
@@ -233,7 +267,7 @@ fit_given (Ok format) = Ok (Fit format)
 abbrev pub task_of : Option (Text × List Row) → Result Task Mistake
 task_of found =
     if is_drill found then Ok Drill
-    else if is_check found then Ok Check
+    else if is_check found then Ok (check_of found)
     else if is_diff found then diff_of found
     else if is_convert found then convert_given (conversion_of (convert_texts found))
     else if is_why found then why_of found

@@ -37,6 +37,10 @@ style_option = record (new_rule (codes "style")) { long = Some (codes "style"); 
 abbrev pub with_look : App → App
 with_look command = with_rule (with_rule (with_rule command cell_option) wrap_option) style_option
 
+-- the option `--task`, with one text
+abbrev pub task_option : Rule
+task_option = record (new_rule (codes "task")) { long = Some (codes "task"); value_names = 1; action = Some Set }
+
 -- the option `--fail-on`, with one text
 abbrev pub fail_on_option : Rule
 fail_on_option = record (new_rule (codes "fail-on")) { long = Some (codes "fail-on"); value_names = 1; action = Some Set }
@@ -60,12 +64,14 @@ with_notes command = with_rule (with_rule command (flag_named (codes "notes"))) 
 -- `run`, which may have these options and FILE
 abbrev pub run_command : App
 run_command =
-    with_rule (with_notes (with_rule (with_look (with_rule (with_rule (with_rule (new_app (codes "run")) format_option) from_option) to_option)) fail_on_option))
+    with_rule
+    (with_notes (with_rule (with_rule (with_look (with_rule (with_rule (with_rule (new_app (codes "run")) format_option) from_option) to_option)) task_option)
+    fail_on_option))
     file_argument
 
--- `check`, which may have `--quiet` and FILE
+-- `check`, which may have `--run`, `--quiet` and FILE
 abbrev pub check_command : App
-check_command = with_rule (with_rule (new_app (codes "check")) quiet_flag) file_argument
+check_command = with_rule (with_rule (with_rule (new_app (codes "check")) (flag_named (codes "run"))) quiet_flag) file_argument
 
 -- the option `--since`, with one text
 abbrev pub since_option : Rule

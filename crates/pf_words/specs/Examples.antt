@@ -3,7 +3,7 @@ use Rattle.std.specs.Prelude.{◌≡◌, ℕ, Bool, true, false, List, [], ◌�
 use Rattle.pf_look.specs.declared.look.Look.{Look}
 use Rattle.pf_look.specs.declared.style.Style.TheVariants.{Strips, Stairs}
 use Rattle.pf_options.specs.declared.fail_on.FailOn.{FailOn}
-use Rattle.pf_options.specs.declared.format.Format.TheVariants.{Schedule, Tables, Json, Lags, Script, Chart, Svg}
+use Rattle.pf_options.specs.declared.format.Format.TheVariants.{Schedule, Tables, Json, Jobs, Lags, Script, Chart, Svg, Windows}
 use Rattle.pf_convert_words.specs.declared.conversion.Conversion.{Conversion}
 use Rattle.pf_convert_words.specs.declared.conversion.ConvertFormat.TheVariants as made
 use Rattle.pf_convert_words.specs.declared.mistake.ConvertMistake.TheVariants.{Format, Quantum, Processors, SwitchNotBelow, SeveralQuanta}
@@ -15,15 +15,18 @@ use Rattle.pf_why_words.specs.declared.question.WhyFormat.{WhyFormat}
 use Rattle.pf_why_words.specs.declared.question.WhyFormat.TheVariants as answer
 use Rattle.pf_why_words.specs.declared.task_asked.TaskAsked.{TaskAsked}
 use Rattle.pf_why_words.specs.declared.task_asked.TaskAsked.TheVariants.{Number, Named}
-use Rattle.pf_words.specs.declared.mistake.Mistake.TheVariants.{UnknownFormat, BadNumber, NoRange, Unranged, BadCell, NoCell, BadWrap, NoWrap, BadStyle, NoStyle, BadFailOn, BadSince, SinceOfTwo, InputTwice}
+use Rattle.pf_words.specs.declared.mistake.Mistake.TheVariants.{UnknownFormat, BadNumber, NoRange, Unranged, BadCell, NoCell, BadWrap, NoWrap, BadStyle, NoStyle, BadTasks, NoTasks, BadFailOn, BadSince, SinceOfTwo, InputTwice}
 use Rattle.pf_options.specs.declared.slot_range.SlotRange.{SlotRange}
 use Rattle.pf_fault.specs.declared.range_fault.RangeFault.TheVariants.{NotWithin, TooLong}
 use Rattle.pf_words.specs.Diffs.{PairNames}
 use Rattle.pf_options.specs.FailLists.{on_nothing}
 use Rattle.pf_options.specs.Formats.{range_fault}
 use Rattle.pf_options.specs.Ranges.{whole}
+use Rattle.pf_tasks.specs.declared.task_range.TaskRange.{TaskRange}
+use Rattle.pf_task_words.specs.declared.task_word.TaskWord.{TaskWord}
+use Rattle.pf_task_words.specs.declared.task_word.TaskWord.TheVariants as listed
 use Rattle.pf_words.specs.declared.telling.Telling.{Telling}
-use Rattle.pf_words.specs.declared.task.Task.TheVariants.{Run, Check, Diff, Drill, Convert, Fit, Why}
+use Rattle.pf_words.specs.declared.task.Task.TheVariants.{Run, RunTasks, Check, CheckRun, Diff, Drill, Convert, Fit, Why}
 use Rattle.pf_fit_text.specs.declared.fit_format.FitFormat.TheVariants.{Text as FitText, Json as FitJson}
 use Rattle.pf_options.specs.declared.diff_options.DiffOptions.{DiffOptions}
 use Rattle.pf_words.specs.Asked.{task_asked, pair_asked, file_asked, telling_asked, reads_input, AsksHelp, AsksVersion, IsRefused, AreMistaken}
@@ -83,6 +86,26 @@ pub record Styled : Type 0 where
   -- the first mistake is told, and of one word its value before the format
   pub cell_first : AreMistaken (codes "run" ∷ codes "-f" ∷ codes "svg" ∷ codes "--style" ∷ codes "x" ∷ codes "--wrap" ∷ codes "y" ∷ codes "--cell" ∷ codes "5" ∷ []) BadCell
   pub wrap_next : AreMistaken (codes "run" ∷ codes "-f" ∷ codes "chart" ∷ codes "--style" ∷ codes "x" ∷ codes "--wrap" ∷ codes "y" ∷ []) BadWrap
+
+-- words that ask for some tasks alone
+abbrev pub from_to : ℕ → ℕ → TaskWord
+from_to first last = listed.Numbers (record { first = first; last = last })
+
+pub record Listed : Type 0 where
+  pub one : task_asked (codes "run" ∷ codes "-f" ∷ codes "jobs" ∷ codes "--task" ∷ codes "7" ∷ []) ≡ Some (RunTasks Jobs (from_to 7 7 ∷ []) on_nothing)
+  pub several : task_asked (codes "run" ∷ codes "-f" ∷ codes "windows" ∷ codes "--task=4,1-2,rear-left" ∷ [])
+      ≡ Some (RunTasks (Windows whole) (from_to 4 4 ∷ from_to 1 2 ∷ listed.Named (codes "rear-left") ∷ []) on_nothing)
+  pub failing : task_asked (codes "run" ∷ codes "-f" ∷ codes "lags" ∷ codes "--task" ∷ codes "0012" ∷ codes "--fail-on" ∷ codes "missed" ∷ [])
+      ≡ Some (RunTasks Lags (from_to 12 12 ∷ []) (record { refused = false; denied = false; missed = true }))
+  -- no item, numbers in no order, a number of no task, and no name
+  pub empty : AreMistaken (codes "run" ∷ codes "-f" ∷ codes "jobs" ∷ codes "--task" ∷ codes "1,,2" ∷ []) BadTasks
+  pub turned : AreMistaken (codes "run" ∷ codes "-f" ∷ codes "jobs" ∷ codes "--task" ∷ codes "3-1" ∷ []) BadTasks
+  pub nobody : AreMistaken (codes "run" ∷ codes "-f" ∷ codes "jobs" ∷ codes "--task" ∷ codes "0-3" ∷ []) BadTasks
+  pub large : AreMistaken (codes "run" ∷ codes "-f" ∷ codes "jobs" ∷ codes "--task" ∷ codes "4096" ∷ []) BadTasks
+  pub no_name : AreMistaken (codes "run" ∷ codes "-f" ∷ codes "jobs" ∷ codes "--task" ∷ codes "a/b" ∷ []) BadTasks
+  -- a format that can't show some alone; the list comes before the format, and before what a run is to fail on
+  pub tables : AreMistaken (codes "run" ∷ codes "--task" ∷ codes "1" ∷ []) NoTasks
+  pub list_first : AreMistaken (codes "run" ∷ codes "--fail-on" ∷ codes "late" ∷ codes "--task" ∷ codes "x," ∷ []) BadTasks
 
 -- words that ask for a run that fails on something
 abbrev pub fails_on : Bool → Bool → Bool → FailOn
@@ -261,6 +284,7 @@ pub record WorkedWords : Type 0 where
   pub ranged : Ranged
   pub pictured : Pictured
   pub styled : Styled
+  pub listed : Listed
   pub failing : FailingRuns
   pub files : Files
   pub drilled : Drilled
@@ -272,6 +296,7 @@ pub record WorkedWords : Type 0 where
   pub told : Told
   pub showable : Showable
   pub check : task_asked (codes "check" ∷ []) ≡ Some Check
+  pub check_run : task_asked (codes "check" ∷ codes "--run" ∷ codes "plan.csv" ∷ []) ≡ Some CheckRun
   -- a name of no format
   pub unknown : AreMistaken (codes "run" ∷ codes "--format" ∷ codes "xml" ∷ []) UnknownFormat
   -- the option without `run`, a word that is none of the program's, and a word too many

@@ -3,7 +3,7 @@ use Rattle.std.specs.Prelude.{ℕ, ◌≡◌, ◌≢◌, List, [], ◌++◌, cod
 use Rattle.pf_tips.specs.Tips.{tip_of}
 use Rattle.pf_convert_words.specs.Texts.{convert_mistake_line}
 use Rattle.pf_words.specs.declared.mistake.Mistake.{Mistake}
-use Rattle.pf_words.specs.declared.mistake.Mistake.TheVariants.{UnknownFormat, BadNumber, NoRange, Unranged, BadCell, NoCell, BadWrap, NoWrap, BadStyle, NoStyle, BadFailOn, BadSince, SinceOfTwo, InputTwice, Convert, Why}
+use Rattle.pf_words.specs.declared.mistake.Mistake.TheVariants.{UnknownFormat, BadNumber, NoRange, Unranged, BadCell, NoCell, BadWrap, NoWrap, BadStyle, NoStyle, BadTasks, NoTasks, BadFailOn, BadSince, SinceOfTwo, InputTwice, Convert, Why}
 use Rattle.pf_why_words.specs.Reading.{mistake_text}
 use Rattle.pf_words.specs.declared.texts.TheConstants.{LESSON, VERSION}
 
@@ -31,6 +31,8 @@ fixed_line BadWrap = codes "--wrap takes a number of 1 to 4096\n"
 fixed_line NoWrap = codes "--wrap is for the format svg\n"
 fixed_line BadStyle = codes "--style takes strips or stairs\n"
 fixed_line NoStyle = codes "--style is for the format svg\n"
+fixed_line BadTasks = codes "--task takes task numbers of 1 to 4095, ranges of them and names, joined by commas\n"
+fixed_line NoTasks = codes "--task is for the formats windows, jobs, quanta, stats, lags and misses\n"
 fixed_line BadFailOn = codes "--fail-on takes refused, denied and missed, joined by commas\n"
 fixed_line BadSince = codes "--since takes a number of 1 to 15 digits, from 1 on\n"
 fixed_line SinceOfTwo = codes "--since is for one script\n"

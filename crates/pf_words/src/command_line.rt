@@ -1,12 +1,12 @@
 ghost use Rattle.std.specs.Prelude.{◌≡◌, IfOk, false, codes};
 ghost use Rattle.clap.specs.Words.{app_of, new_app, with_rule, with_subcommand};
 ghost use Rattle.clap.specs.declared.builder.command.Command.TheViews.{out-Command};
-ghost use Rattle.pf_words.specs.CommandLine.{program, as_program, cell_option, check_command, drill_command, fail_on_option, file_argument, format_option, from_option, program_of_scripts, run_command, style_option, to_option, with_look, with_notes, quiet_flag, wrap_option};
+ghost use Rattle.pf_words.specs.CommandLine.{program, as_program, cell_option, check_command, drill_command, fail_on_option, file_argument, format_option, from_option, program_of_scripts, run_command, style_option, task_option, to_option, with_look, with_notes, quiet_flag, wrap_option};
 
 use crate::convert_command::convert_command;
 use crate::diff_command::diff_command;
 use crate::fit_command::fit_command;
-use crate::flags::{with_notes, with_quiet};
+use crate::flags::{with_flag, with_notes, with_quiet};
 use crate::texts::VERSION;
 use crate::why_command::why_command;
 use clap::{Arg, ArgAction, Command};
@@ -72,7 +72,7 @@ pub(crate) fn with_file<'a>(alloc: Global, command: Command<'a>) -> Result<Comma
     command.arg(file)
 }
 
-/// `run`, with the options `--format`, `--from`, `--to`, `--cell`, `--wrap`, `--style` and `--fail-on`, each with a text, the flags
+/// `run`, with the options `--format`, `--from`, `--to`, `--cell`, `--wrap`, `--style`, `--task` and `--fail-on`, each with a text, the flags
 /// `--notes` and `--quiet`, and FILE.
 fn run_command<'a>(alloc: Global) -> Result<Command<'a>, AllocError>
     ensures shape { IfOk result (λ c. app_of c ≡ run_command) }
@@ -80,6 +80,7 @@ fn run_command<'a>(alloc: Global) -> Result<Command<'a>, AllocError>
 {
     let ranged = with_range(alloc, bare_run(alloc)?)?;
     let run = with_look(alloc, ranged)?;
+    let run = with_task(alloc, run)?;
     let run = with_fail_on(alloc, run)?;
     let run = with_notes(alloc, run)?;
     with_file(alloc, run)
@@ -198,6 +199,20 @@ fn with_look<'a>(alloc: Global, command: Command<'a>) -> Result<Command<'a>, All
     with_style(alloc, wrapped)
 }
 
+/// The command with `--task` and a text.
+fn with_task<'a>(alloc: Global, command: Command<'a>) -> Result<Command<'a>, AllocError>
+    requires { (out-Command command).has_globals ≡ false }
+    ensures shape { IfOk result (λ c. app_of c ≡ with_rule (app_of command.entry) task_option) }
+    ensures globals { IfOk result (λ c. (out-Command c).has_globals ≡ false) }
+{
+    let task = Arg::new(alloc, "task")
+        .long("task")
+        .value_name("LIST")
+        .help("windows, jobs, quanta, stats, lags, misses: these tasks alone, as 3,7-9")
+        .action(ArgAction::Set);
+    command.arg(task)
+}
+
 /// The command with `--fail-on` and a text.
 fn with_fail_on<'a>(alloc: Global, command: Command<'a>) -> Result<Command<'a>, AllocError>
     requires { (out-Command command).has_globals ≡ false }
@@ -212,7 +227,7 @@ fn with_fail_on<'a>(alloc: Global, command: Command<'a>) -> Result<Command<'a>, 
     command.arg(fail_on)
 }
 
-/// `check`, with the flag `--quiet` and FILE.
+/// `check`, with the flags `--run` and `--quiet` and FILE.
 fn check_command<'a>(alloc: Global) -> Result<Command<'a>, AllocError>
     ensures shape { IfOk result (λ c. app_of c ≡ check_command) }
     ensures globals { IfOk result (λ c. (out-Command c).has_globals ≡ false) }
@@ -220,6 +235,8 @@ fn check_command<'a>(alloc: Global) -> Result<Command<'a>, AllocError>
     let check = Command::new(alloc, "check").about(
         "Checks the script: a line for each record that is none, and where and why",
     );
+    let help = "carry the script out too, and tell what was refused, denied or missed";
+    let check = with_flag(alloc, check, "run", help)?;
     let check = with_quiet(alloc, check)?;
     with_file(alloc, check)
 }

@@ -15,6 +15,7 @@ mod flags;
 pub mod laws;
 pub mod mistake;
 pub mod request;
+mod run_words;
 pub mod script_pair;
 pub mod task;
 pub mod telling;

@@ -28,6 +28,10 @@ pub enum Mistake {
     BadStyle,
     /// `--style` stands beside a format other than `svg`.
     NoStyle,
+    /// The text of `--task` is no list of tasks.
+    BadTasks,
+    /// `--task` stands beside a format that tells of no tasks, or of all of them.
+    NoTasks,
     /// The text of `--fail-on` is no list of what a run may fail on.
     BadFailOn,
     /// The text of `--since` is no number of a record.
@@ -74,6 +78,12 @@ impl Mistake {
             Mistake::NoWrap => "--wrap is for the format svg\n",
             Mistake::BadStyle => "--style takes strips or stairs\n",
             Mistake::NoStyle => "--style is for the format svg\n",
+            Mistake::BadTasks => {
+                "--task takes task numbers of 1 to 4095, ranges of them and names, joined by commas\n"
+            }
+            Mistake::NoTasks => {
+                "--task is for the formats windows, jobs, quanta, stats, lags and misses\n"
+            }
             Mistake::BadFailOn => "--fail-on takes refused, denied and missed, joined by commas\n",
             Mistake::BadSince => "--since takes a number of 1 to 15 digits, from 1 on\n",
             Mistake::SinceOfTwo => "--since is for one script\n",

@@ -3,6 +3,7 @@ use pf_fit_text::fit_format::FitFormat;
 use pf_options::diff_options::DiffOptions;
 use pf_options::fail_on::FailOn;
 use pf_options::format::Format;
+use pf_task_words::task_words::TaskWords;
 use pf_why_words::question::Question;
 
 /// What the program can be asked to do with a script, or with a list of tasks.
@@ -10,8 +11,12 @@ use pf_why_words::question::Question;
 pub enum Task {
     /// To run it in this format, and to fail on this.
     Run(Format, FailOn),
+    /// To run it in this format, to show these tasks alone, and to fail on this.
+    RunTasks(Format, TaskWords, FailOn),
     /// To check it.
     Check,
+    /// To check it, and where it has no fault to carry it out and tell what was refused, denied and missed.
+    CheckRun,
     /// To tell what its records changed from this one on, or the last one alone. They are counted from 1.
     Diff(Option<u64>, DiffOptions),
     /// To drill it.

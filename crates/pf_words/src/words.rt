@@ -1,7 +1,7 @@
 ghost use Rattle.std.specs.Prelude.{◌≡◌, codes, map, option_map, IfOk};
 ghost use Rattle.clap.specs.Words.{kind_of, subcommand_rows_of};
 ghost use Rattle.pf_words.specs.CommandLine.{has_flag, is_named, text_behind, text_behind_run};
-ghost use Rattle.pf_words.specs.Asked.{IsAsked, IsRequest, IsSound, IsSoundRequest, ShowsError, cell_given, fail_on_given, file_found, file_of, fit_format_given, format_celled, format_found, format_of, format_wrapped, format_or_tables, name_of, number_given, range_given, range_mistake, style_given, task_of, wrap_given};
+ghost use Rattle.pf_words.specs.Asked.{IsAsked, IsRequest, IsSound, IsSoundRequest, ShowsError, cell_given, check_of, fail_on_given, file_found, file_of, fit_format_given, format_celled, format_found, format_of, format_wrapped, format_or_tables, name_of, number_given, range_given, range_mistake, style_given, task_of, wrap_given, fit_given};
 
 use crate::choices::mistake_text;
 use crate::command_line::program;
@@ -9,6 +9,7 @@ use crate::conversion_words::read_convert;
 use crate::diff_words::{are_two, read_diff, read_pair};
 use crate::mistake::Mistake;
 use crate::request::{Request, WordsFault};
+use crate::run_words::read_run;
 use crate::task::Task;
 use crate::telling_words::{any_text, read_telling};
 use crate::texts::{help_text, refusal_text, version_text};
@@ -28,8 +29,8 @@ use std::convert::AsStr;
 
 /// What the program's words ask for, its own name not among them. No words ask for a run with tables, and so does `run`
 /// alone; `run --format NAME` asks for one in the format of that name, of the slots from `--from` on and below `--to`, in
-/// slots of the width `--cell`, in blocks of `--wrap` slots and in the style `--style`, to fail on what `--fail-on` lists, and
-/// `check` for a check. A file may stand behind each, for the script to be read from; `-` is standard input, as no file is.
+/// slots of the width `--cell`, in blocks of `--wrap` slots and in the style `--style`, of the tasks of `--task` alone, to fail on
+/// what `--fail-on` lists, and `check` for a check, and with `--run` for one that carries the script out too. A file may stand behind each, for the script to be read from; `-` is standard input, as no file is.
 /// `diff` asks what the records from `--since` on changed, and with a second file what differs between both scripts, of which one
 /// may be standard input; with their sums first by `--summary`, and a status that tells of a difference by `--exit-code`. `drill`
 /// asks for a drill of standard input. `convert` asks for a list of tasks to be converted, in the quanta of `--quantum`, and
@@ -37,7 +38,7 @@ use std::convert::AsStr;
 /// `Refused` where the words are not the program's, `Mistaken` where the text of
 /// `--format` names no format, where that of `--from` or `--to` is no number, where the format has no range, where the text of
 /// `--cell` is no number of 6 to 40, `--wrap` no number of 1 to 4096 or `--style` no style, where the format has none of these,
-/// and where the text of `--fail-on` is no list of what a run may fail on, the first of these, and where the text of `--since` is
+/// where the text of `--task` is no list of tasks or the format can't show some alone, and where the text of `--fail-on` is no list of what a run may fail on, the first of these, and where the text of `--since` is
 /// no number above 0, where it stands beside two scripts, or both of these are standard input, the first of these, and the first
 /// word of a conversion, or of what is asked of a slot, that is not as it has to be; and `NoMemory`, in place of any answer, where memory was refused.
 pub fn read_words<S: AsStr>(alloc: Global, words: &[S]) -> Result<Request, WordsFault>
@@ -59,37 +60,59 @@ fn read_matches(alloc: Global, matches: &ArgMatches<'_>) -> Result<Request, Word
     if are_two(matches) {
         return Ok(Request::Compare(read_pair(alloc, matches)?, telling));
     }
-    match read_task(matches) {
+    match read_task(alloc, matches)? {
         Ok(task) => Ok(Request::Do(task, read_file(alloc, matches)?, telling)),
         Err(mistake) => Err(WordsFault::Mistaken(mistake_text(alloc, matches, mistake)?)),
     }
 }
 
 /// What they ask to be done with a script.
-fn read_task(matches: &ArgMatches<'_>) -> Result<Task, Mistake>
-    ensures task { result ≡ task_of (subcommand_rows_of matches.now) }
-    ensures sound { IfOk result IsSound }
+///
+/// # Errors
+///
+/// Where memory is refused.
+fn read_task(alloc: Global, matches: &ArgMatches<'_>) -> Result<Result<Task, Mistake>, AllocError>
+    ensures task { IfOk result (λ task. task ≡ task_of (subcommand_rows_of matches.now)) }
+    ensures sound { IfOk result (λ task. IfOk task IsSound) }
 {
     if is_asked(matches, "drill") {
-        return Ok(Task::Drill);
+        return Ok(Ok(Task::Drill));
     }
     if is_asked(matches, "check") {
-        return Ok(Task::Check);
+        return Ok(Ok(read_check(matches)));
     }
     if is_asked(matches, "diff") {
-        return read_diff(matches);
+        return Ok(read_diff(matches));
     }
     if is_asked(matches, "convert") {
-        return read_convert(matches);
+        return Ok(read_convert(matches));
     }
     if is_asked(matches, "why") {
-        return read_why(matches);
+        return Ok(read_why(matches));
     }
     if is_asked(matches, "fit") {
-        return Ok(Task::Fit(read_fit_format(matches)?));
+        return Ok(read_fit(matches));
     }
-    let format = read_format(matches)?;
-    Ok(Task::Run(format, read_fail_on(matches)?))
+    read_run(alloc, matches)
+}
+
+/// The fit that they ask for.
+fn read_fit(matches: &ArgMatches<'_>) -> Result<Task, Mistake>
+    ensures task { result ≡ fit_given (fit_format_given (text_behind (codes "fit") (codes "format") (subcommand_rows_of matches.now))) }
+    ensures sound { IfOk result IsSound }
+{
+    Ok(Task::Fit(read_fit_format(matches)?))
+}
+
+/// A check, which may carry the script out too.
+fn read_check(matches: &ArgMatches<'_>) -> Task
+    ensures task { result ≡ check_of (subcommand_rows_of matches.now) }
+    ensures sound { IsSound result }
+{
+    if has_flag(matches, "check", "run") {
+        return Task::CheckRun;
+    }
+    Task::Check
 }
 
 /// The file behind a subcommand; none where standard input is meant, and for a drill.
@@ -139,7 +162,7 @@ fn read_fit_format(matches: &ArgMatches<'_>) -> Result<FitFormat, Mistake>
 }
 
 /// The format of a run, of the slots and in the look that they ask for.
-fn read_format(matches: &ArgMatches<'_>) -> Result<Format, Mistake>
+pub(crate) fn read_format(matches: &ArgMatches<'_>) -> Result<Format, Mistake>
     ensures { result ≡ format_of (subcommand_rows_of matches.now) }
 {
     let format = read_wrapped(matches)?;
@@ -269,7 +292,7 @@ fn read_style(matches: &ArgMatches<'_>) -> Result<Option<Style>, Mistake>
 }
 
 /// What the run is to fail on; nothing where `--fail-on` is left out.
-fn read_fail_on(matches: &ArgMatches<'_>) -> Result<FailOn, Mistake>
+pub(crate) fn read_fail_on(matches: &ArgMatches<'_>) -> Result<FailOn, Mistake>
     ensures { result ≡ fail_on_given (text_behind_run (codes "fail-on") (subcommand_rows_of matches.now)) }
 {
     let Some(list) = option_text(matches, "run", "fail-on") else {

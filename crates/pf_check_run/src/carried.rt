@@ -1,0 +1,162 @@
+ghost use Rattle.std.specs.Prelude.{false, ◌≡◌, ◌++◌, Some, IfOk, IfErr, OnOk};
+ghost use Rattle.std.specs.Option.{option_map};
+ghost use Rattle.pf_carry.specs.Carried.{IsOf, Stops};
+ghost use Rattle.pf_fault.specs.Faults.{IsUnwritten};
+ghost use Rattle.pf_recount.specs.Recount.{recounted};
+ghost use Rattle.pf_script.specs.Told.{told};
+ghost use Rattle.pf_check_run.specs.Answers.{Carries, counted_text, lists_of, most_lines, status_of_lines, totals_line, totals_of};
+
+use pf_carry::carry::carry;
+use pf_desk::desk::Desk;
+use pf_desk::snapshot::Snapshot;
+use pf_fault::answer::Answer;
+use pf_fault::ending::Ending;
+use pf_fault::fault::Fault;
+use pf_fault::status::Status;
+use pf_names::names::Names;
+use pf_plain::origin::Origin;
+use pf_recount::recount::Recount;
+use pf_recount::recounting::recount;
+use pf_run_notes::behind_run::lists;
+use pf_text::numbers::push_number;
+use std::alloc::{AllocError, Global};
+
+/// Carries a script of version 1 or 2 of this file out, which has so many records, and tells what was refused, denied and missed.
+/// Where it belongs to a script of version 3, `origins` are the records there that its own come from, and the names those of its
+/// tasks.
+///
+/// # Errors
+///
+/// `BadRecord` at the first record that is none of the script's, and `NoMemory` where memory is refused.
+pub(crate) fn carried(
+    alloc: Global,
+    file: &[u8],
+    script: &[u8],
+    origins: Option<&[Origin]>,
+    names: &Names,
+    records: u64,
+) -> Result<Answer, Fault>
+    ensures made { IfOk result (Carries file.now (option_map (λ o. o.now) origins.entry) names.now script.now records) }
+    ensures stopped { IfErr result (Stops (told script.now).rest.fault) }
+    ensures unwritten { IfErr result IsUnwritten }
+{
+    match carry(alloc, script) {
+        Ok(desk) => match desk_answer(alloc, file, script, origins, names, records, &desk) {
+            Ok(answer) => Ok(answer),
+            Err(AllocError) => Err(Fault::NoMemory),
+        },
+        Err(fault) => Err(fault),
+    }
+}
+
+/// The same of the desk on which the script was carried out.
+fn desk_answer(
+    alloc: Global,
+    file: &[u8],
+    script: &[u8],
+    origins: Option<&[Origin]>,
+    names: &Names,
+    records: u64,
+    desk: &Desk,
+) -> Result<Answer, AllocError>
+    requires { IsOf (told script.now) desk.now }
+    ensures { IfOk result (Carries file.now (option_map (λ o. o.now) origins.entry) names.now script.now records) }
+{
+    let recount = recount_of(alloc, file, script, origins, names, desk)?;
+    let snapshot = desk.snapshot()?;
+    let mut text = lists_of(alloc, file, names, &recount, &snapshot)?;
+    let status = status_of_lines(&text);
+    push_totals(&mut text, records, &recount, &snapshot)?;
+    let ending = Ending::quiet(alloc, status);
+    Ok(Answer { text, ending })
+}
+
+/// What the script's records came to.
+fn recount_of(
+    alloc: Global,
+    file: &[u8],
+    script: &[u8],
+    origins: Option<&[Origin]>,
+    names: &Names,
+    desk: &Desk,
+) -> Result<Recount, AllocError>
+    requires { IsOf (told script.now) desk.now }
+    ensures { IfOk result (λ r. Some r ≡ recounted file.now names.now (option_map (λ o. o.now) origins.entry) most_lines false script.now) }
+{
+    let found = recount(alloc, file, names, script, origins, desk, u64::MAX, false)?;
+    match found {
+        Some(recount) => Ok(recount),
+        None => unreachable!(),
+    }
+}
+
+/// The lines of what was refused, denied and missed.
+fn lists_of(
+    alloc: Global,
+    file: &[u8],
+    names: &Names,
+    recount: &Recount,
+    snapshot: &Snapshot,
+) -> Result<Vec<u8>, AllocError>
+    ensures { IfOk result (λ text. text.items ≡ lists_of file.now names.now recount.now snapshot.now) }
+{
+    lists(
+        alloc,
+        file,
+        names,
+        &recount.made,
+        &recount.refusals,
+        snapshot,
+    )
+}
+
+/// The status behind these lines.
+fn status_of_lines(lines: &[u8]) -> Status
+    ensures { result ≡ status_of_lines lines.now }
+{
+    match lines {
+        [] => Status::Done,
+        _ => Status::BadScript,
+    }
+}
+
+/// Appends the last line.
+fn push_totals(
+    text: &mut Vec<u8>,
+    records: u64,
+    recount: &Recount,
+    snapshot: &Snapshot,
+) -> Result<(), AllocError>
+    ensures { OnOk result (text.new.items ≡ text.old.items ++ totals_of records recount.now snapshot.now) }
+{
+    let refused = recount.refusals.commands();
+    let denied = snapshot.denials().len() as u64;
+    let misses = snapshot.misses()?;
+    push_totals_line(text, records, refused, denied, misses.len() as u64)
+}
+
+/// Appends that line by its numbers.
+fn push_totals_line(
+    text: &mut Vec<u8>,
+    records: u64,
+    refused: u64,
+    denied: u64,
+    missed: u64,
+) -> Result<(), AllocError>
+    ensures { OnOk result (text.new.items ≡ text.old.items ++ totals_line records refused denied missed) }
+{
+    push_counted(text, records, b" records, 0 faults, ")?;
+    push_counted(text, refused, b" refused, ")?;
+    push_counted(text, denied, b" denied, ")?;
+    push_counted(text, missed, b" missed\n")?;
+    Ok(())
+}
+
+/// Appends a number, and what there are so many of.
+#[tactic(auto, unfolding(crate::specs::Answers::counted_text))]
+fn push_counted(text: &mut Vec<u8>, count: u64, words: &[u8]) -> Result<(), AllocError>
+    ensures { OnOk result (text.new.items ≡ text.old.items ++ counted_text count words.now) }
+{
+    push_number(text, count)?;
+    text.extend_from_slice(words)
+}
