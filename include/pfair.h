@@ -26,9 +26,9 @@ extern "C" {
 /* Semantic versioning of this header: a caller that was compiled against one major version, or before 1.0 one minor
  * version, works with each library of that version. */
 #define PFAIR_VERSION_MAJOR 0
-#define PFAIR_VERSION_MINOR 3
+#define PFAIR_VERSION_MINOR 4
 #define PFAIR_VERSION_PATCH 0
-#define PFAIR_VERSION "0.3.0"
+#define PFAIR_VERSION "0.4.0"
 
 /*
  * A desk, or none. All zero bits are none, as PFAIR_NO_DESK is. It owns memory, which pfair_close gives back. It may be
@@ -66,7 +66,7 @@ enum {
     PFAIR_ALREADY_OPEN = 65,       /* the handle has a desk already */
     PFAIR_NO_MEMORY = 66,          /* memory was refused: the desk is as before the call */
     PFAIR_UNKNOWN_KIND = 67,       /* a kind that is none of those below, or a number that tells nothing */
-    PFAIR_OUT_OF_RANGE = 68,       /* a slot that was not stepped, a range or a look that cannot be shown */
+    PFAIR_OUT_OF_RANGE = 68,       /* a slot that was not stepped, a range, a page or a look that cannot be shown */
     PFAIR_TOO_SHORT = 69,          /* the caller's room is too short: *count tells how long it must be */
     PFAIR_BAD_RECORD = 70          /* a record is bad: pfair_bad_record tells where, pfair_script_faults why */
 };
@@ -98,7 +98,8 @@ enum {
 };
 
 /*
- * The texts that a desk has of itself, as docs/FORMATS.md has them. Of those with a star a part can be had, by pfair_part.
+ * The texts that a desk has of itself: each is what the program pfair writes in a format (docs/FORMATS.md), without reply
+ * lines, which pfair_replies gives. Of those with a star a part can be had, by pfair_part. pfair_svg gives the picture.
  */
 enum {
     PFAIR_SCHEDULE = 0,   /* CSV: the slots stepped, with a column for each processor (*) */
@@ -107,7 +108,7 @@ enum {
     PFAIR_DENIALS = 3,    /* CSV: the denials */
     PFAIR_EVENTS = 4,     /* CSV: the events held */
     PFAIR_SCRIPT = 5,     /* a script that opens a desk as this one stands, for the program pfair */
-    PFAIR_JSON = 6,       /* the whole report as one JSON object, without an end of line */
+    PFAIR_JSON = 6,       /* the report as a line of JSON, one object: the format report */
     PFAIR_PROCESSORS = 7, /* CSV: how the processors were used */
     PFAIR_STATS = 8,      /* CSV: the figures of each task */
     PFAIR_CHART = 9,      /* the schedule as a chart in characters, at most 80 wide (*) */
@@ -116,7 +117,10 @@ enum {
     PFAIR_LOAD = 12,      /* CSV: load and room, where they change (*) */
     PFAIR_QUANTA = 13,    /* CSV: the schedule with a line for each quantum (*) */
     PFAIR_TRACE = 14,     /* JSON: the run as trace events, for Perfetto and chrome://tracing */
-    PFAIR_C = 15          /* the schedule as a C array; its PFAIR_PROCESSORS keeps it out of files with this header */
+    PFAIR_C = 15,         /* the schedule as a C array; its PFAIR_PROCESSORS keeps it out of files with this header */
+    PFAIR_FULL = 16,      /* the report with settings, events, figures and refused commands, as a line of JSON */
+    PFAIR_HTML = 17,      /* a page to look around in, one file, of at most 65,536 slots */
+    PFAIR_TABLES = 18     /* the tables schedule, lags, misses and denials, each behind a line with its name */
 };
 
 /* How the tasks of a picture are drawn. */
@@ -275,9 +279,9 @@ uint32_t pfair_edit(pfair_desk *desk, uint32_t caller, const pfair_change *chang
 
 /*
  * Tells what a change would be answered, as pfair_edit does, but makes it not: the desk is as before. Where it would be
- * made, the room gets the text of this kind, PFAIR_SCHEDULE to PFAIR_C, of the desk as it would then be, with *count as
- * for pfair_text. PFAIR_TOO_SHORT: *reply is told. PFAIR_NOT_OPEN, PFAIR_NO_MEMORY, PFAIR_UNKNOWN_KIND: *reply is as
- * before. The room is as before at every status but PFAIR_OK.
+ * made, the room gets the text of this kind, PFAIR_SCHEDULE to PFAIR_TABLES, of the desk as it would then be, with *count as
+ * for pfair_text. PFAIR_TOO_SHORT, PFAIR_OUT_OF_RANGE: *reply is told. PFAIR_NOT_OPEN, PFAIR_NO_MEMORY, PFAIR_UNKNOWN_KIND:
+ * *reply is as before. The room is as before at every status but PFAIR_OK.
  */
 uint32_t pfair_what_if(pfair_desk *desk, uint32_t caller, const pfair_change *change, bool strict, pfair_reply *reply,
                        uint64_t kind, uint8_t *room, size_t length, size_t *count);
@@ -358,8 +362,10 @@ uint32_t pfair_never_misses(pfair_desk *desk, bool *never);
 uint32_t pfair_fits(pfair_desk *desk, pfair_fit *fit);
 
 /*
- * A text of a kind, PFAIR_SCHEDULE to PFAIR_C: *count bytes, all of them ASCII, with no byte 0 after them. Each call
- * makes the whole text, a call with length 0 too. PFAIR_UNKNOWN_KIND, PFAIR_TOO_SHORT, PFAIR_NO_MEMORY, PFAIR_NOT_OPEN.
+ * A text of a kind, PFAIR_SCHEDULE to PFAIR_TABLES: *count bytes, all of them ASCII, with no byte 0 after them. Each call
+ * makes the whole text, a call with length 0 too. PFAIR_FULL and PFAIR_HTML tell of refused commands as of records: each by
+ * its number among those that the desk has answered, from 1 on. PFAIR_UNKNOWN_KIND; PFAIR_OUT_OF_RANGE: a page of more than
+ * 65,536 slots; PFAIR_TOO_SHORT, PFAIR_NO_MEMORY, PFAIR_NOT_OPEN.
  */
 uint32_t pfair_text(pfair_desk *desk, uint64_t kind, uint8_t *room, size_t length, size_t *count);
 

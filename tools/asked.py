@@ -1,18 +1,28 @@
-"""Words and what pfair must answer them, byte for byte: help, the version, and what it refuses.
+"""Words and what pfair must answer them, byte for byte: help, the version, and what it refuses; and what new users mistake.
 
 crates/pfair/cases/words has the expected bytes: WORD.help is the front of what help tells of that word, and of the program in
 pfair.help, and behind each stands the file lesson; version is what is told of the version. The file refusals has the words
 that are refused: lines '$ pfair WORDS', as a shell reads them, then what is told of each on standard error, and the status in
 brackets.
+
+The file crates/pfair/cases/mistakes has what new users mistake, forty or more, a block for each: what it is, the words, behind
+'| ' the lines of the file plan.csv, which stand on standard input too, behind '> ' the sentence by which standard error tells
+what is wrong or what would be right, and the status in brackets. Each is run in a folder that has this file, and the folder
+`folder.csv`.
 """
 import difflib
+import pathlib
 import shlex
+import tempfile
 from dataclasses import dataclass
 
 from programs import CASES, case_bytes, run_to_end
 
 # A script that is bad, so that words which are answered before anything is read are seen to be.
 BAD_SCRIPT = b"step\n"
+
+# So many mistakes at least are tried.
+FEWEST_MISTAKES = 40
 
 # Each word behind which help may be asked for, and `pfair` for the program; what help tells of itself is another text.
 TAUGHT = sorted(it.stem for it in (CASES / "words").glob("*.help") if it.stem != "help")
@@ -33,6 +43,38 @@ class Answer:
         if (done.stdout, done.stderr, done.returncode) != (self.written, self.told, self.status):
             return (f"{self.words} {self.script[:200]!r}: status {done.returncode}, not {self.status}; what is written and told:\n"
                     f"{difference(self.written, done.stdout)}{difference(self.told, done.stderr)}")
+
+
+@dataclass
+class Mistake:
+    """What a new user mistakes: the words, the file and standard input, the sentence that is to be told, and the status."""
+    what: str
+    words: list
+    script: bytes
+    sentence: bytes
+    status: int
+
+    def fault(self, program):
+        """What the program did instead, if it did."""
+        with tempfile.TemporaryDirectory(prefix="mistakes-") as room:
+            pathlib.Path(room, "plan.csv").write_bytes(self.script)
+            pathlib.Path(room, "folder.csv").mkdir()
+            done = run_to_end([program, *self.words], self.what, input=self.script, cwd=room)
+        if self.sentence not in done.stderr or done.returncode != self.status:
+            return f"{self.what} {self.words}: {done.stderr!r} status {done.returncode}, not {self.sentence!r} and {self.status}"
+
+
+def behind(mark, lines):
+    """What stands in the lines with this mark, each ended."""
+    return "".join(f"{line[len(mark):]}\n" for line in lines if line.startswith(mark))
+
+
+def mistaken():
+    """What new users mistake."""
+    for block in case_bytes("mistakes").decode().split("\n\n"):
+        what, *lines = block.splitlines()
+        words, sentence = behind("$ pfair ", lines).strip(), behind("> ", lines).strip()
+        yield Mistake(what, shlex.split(words), behind("| ", lines).encode(), sentence.encode(), int(lines[-1].strip("[]")))
 
 
 def difference(wanted, given):
@@ -79,11 +121,13 @@ def listed(text, heading):
 
 def untaught(formats):
     """A text for each format that the lesson has no line for, each line of no format, each word without a help text, or with one
-    that the program's help does not list, and an example that is none."""
+    that the program's help does not list, an example that is none, and mistakes that are too few or have no sentence."""
     lesson = case_bytes("words/lesson")
     taught = listed(lesson, "Formats")
     faults = [f"words/lesson: {it}: a format without a line, or a line without a format" for it in sorted(taught ^ set(formats))]
     words = listed(case_bytes("words/pfair.help"), "Commands") ^ {"help", *TAUGHT} - {"pfair"}
     faults += [f"words/pfair.help: {it}: a word without a help text, or a help text without a word" for it in sorted(words)]
     example = b"".join(b"  " + line for line in case_bytes("three-tasks.csv").splitlines(keepends=True))
-    return faults + ([] if example in lesson else ["words/lesson: its example is not the script three-tasks"])
+    faults += [] if example in lesson else ["words/lesson: its example is not the script three-tasks"]
+    told = [it for it in mistaken() if it.sentence]
+    return faults + ([] if len(told) >= FEWEST_MISTAKES else [f"mistakes: {len(told)} with a sentence, not {FEWEST_MISTAKES}"])

@@ -29,12 +29,17 @@ def static_libraries():
 
 
 def all_below(name, uses):
-    """The crates of the repository below this one."""
-    found = []
-    for it in uses[name]:
-        if it in uses:
-            found += [*all_below(it, uses), it]
-    return list(dict.fromkeys(found))
+    """The crates of the repository below this one, each after those that it uses."""
+    found = {}
+
+    def visit(crate):
+        for it in uses[crate]:
+            if it in uses and it not in found:
+                visit(it)
+                found[it] = None
+
+    visit(name)
+    return list(found)
 
 
 def words_for(name, uses):

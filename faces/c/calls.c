@@ -145,7 +145,7 @@ static int what_if(pfair_desk *desk) {
     CHECK(pfair_what_if(desk, 7, &change, false, &reply, PFAIR_SCHEDULE, text, 4, &count) == PFAIR_TOO_SHORT);
     change.id = 9;
     CHECK(pfair_what_if(desk, 7, &change, false, &reply, PFAIR_SCHEDULE, text, 256, &count) == PFAIR_EVENT_NOT_FOUND);
-    CHECK(pfair_what_if(desk, 7, &change, false, &reply, PFAIR_C + 1, text, 256, &count) == PFAIR_UNKNOWN_KIND);
+    CHECK(pfair_what_if(desk, 7, &change, false, &reply, PFAIR_TABLES + 1, text, 256, &count) == PFAIR_UNKNOWN_KIND);
     memset(text, 0, sizeof text);
     CHECK(pfair_text(desk, PFAIR_SCHEDULE, text, sizeof text, &count) == PFAIR_OK && strcmp((const char *)text, now) == 0);
     return 0;
@@ -206,7 +206,7 @@ static int tasks_and_events(pfair_desk *desk) {
     return 0;
 }
 
-/* Of each kind its front, or the whole of it; the report ends in no end of line. */
+/* Of each kind its front, or the whole of it; each ends in an end of line. */
 static int texts(pfair_desk *desk) {
     static const char *const fronts[] = {
         [PFAIR_SCHEDULE] = "slot,p0,p1\n0,1/1,2/1\n1,1/2,3/1\n2,2/2,3/2\n",
@@ -225,20 +225,23 @@ static int texts(pfair_desk *desk) {
         [PFAIR_QUANTA] = "slot,processor,task,sub\n0,0,1,1\n0,1,2,1\n1,0,1,2\n1,1,3,1\n2,0,2,2\n2,1,3,2\n",
         [PFAIR_TRACE] = "",
         [PFAIR_C] = "/*",
+        [PFAIR_FULL] = "{\"denials\":[],\"entries\":6,\"events\":[{\"by\":null,\"cost\":2,",
+        [PFAIR_HTML] = "<!doctype html>\n",
+        [PFAIR_TABLES] = "schedule\nslot,p0,p1\n0,1/1,2/1\n1,1/2,3/1\n2,2/2,3/2\nlags\n",
     };
-    uint8_t text[8192];
+    static uint8_t text[262144];
     uint64_t kind;
     size_t count = 0, again = 0;
-    for (kind = PFAIR_SCHEDULE; kind <= PFAIR_C; kind++) {
+    for (kind = PFAIR_SCHEDULE; kind <= PFAIR_TABLES; kind++) {
         size_t front = strlen(fronts[kind]);
         memset(text, 0, sizeof text);
         CHECK(pfair_text(desk, kind, text, 0, &count) == PFAIR_TOO_SHORT && count < sizeof text && text[0] == 0);
         CHECK(pfair_text(desk, kind, text, count, &again) == PFAIR_OK && again == count && text[count] == 0);
         CHECK(count >= front && memcmp(text, fronts[kind], front) == 0);
-        CHECK(text[count - 1] == (kind == PFAIR_JSON ? '}' : '\n'));
+        CHECK(text[count - 1] == '\n');
     }
     count = 9;
-    CHECK(pfair_text(desk, PFAIR_C + 1, text, sizeof text, &count) == PFAIR_UNKNOWN_KIND && count == 9);
+    CHECK(pfair_text(desk, PFAIR_TABLES + 1, text, sizeof text, &count) == PFAIR_UNKNOWN_KIND && count == 9);
     return 0;
 }
 
@@ -263,7 +266,7 @@ static int parts(pfair_desk *desk) {
         CHECK(pfair_part(desk, kinds[k], 0, 4, text, sizeof text, &count) == PFAIR_OUT_OF_RANGE);
     }
     CHECK(pfair_part(desk, PFAIR_JOBS, 0, 3, text, sizeof text, &count) == PFAIR_UNKNOWN_KIND);
-    CHECK(pfair_part(desk, PFAIR_C + 1, 0, 3, text, sizeof text, &count) == PFAIR_UNKNOWN_KIND);
+    CHECK(pfair_part(desk, PFAIR_TABLES + 1, 0, 3, text, sizeof text, &count) == PFAIR_UNKNOWN_KIND);
     return 0;
 }
 

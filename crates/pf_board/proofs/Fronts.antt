@@ -9,7 +9,7 @@ use Rattle.pf_board.specs.Passes.{calls_by}
 use Rattle.pf_board.specs.Views.{with_turn, without_turn, hand_of, carrier_of, hosting, without_guests}
 use Rattle.pf_board.specs.Seats.{IsPass, IsKeeper}
 use Rattle.pf_board.specs.Quanta.{total, one_if, is_same, times}
-use Rattle.pf_board.specs.Told.{Meets, Noted, Looked, Settled, Peeked, Checked, Put, Taken, after_take}
+use Rattle.pf_board.specs.Told.{Meets, Noted, Settled, Peeked, Checked, Put, Taken, after_take}
 use Rattle.pf_board.proofs.Looks.{calls_by-own}
 use Rattle.pf_board.proofs.Sums.{total-append}
 use Rattle.pf_board.proofs.Weights.{weigh-append}
@@ -59,10 +59,6 @@ module _ {E T : Type 0} (legal : T → List (ℕ × E) → Type 0) where
     alone = ap (λ u. u.guests) m.same ∙ p.alone;
   }
 
-  -- the keeper with the turn had seen the whole
-  pub keeper_met : (g v w : View E T) → IsKeeper legal v → v.turn ≡ true → Meets legal g v w → w ≡ v
-  keeper_met g v w k on m = m.same ∙ ap (λ (l : List (ℕ × E)). record v { seen = l }) (sym (m.whole on) ∙ k.whole on)
-
   pub keeper_checked : (p : ℕ) (v : View E T) (n : ℕ) (w : View E T) → IsKeeper legal v → Checked p v n w → IsKeeper legal w
   keeper_checked p v n w k made = subst (λ (u : View E T). IsKeeper legal u) (sym made.same) (record { unnamed = k.unnamed; is_legal = k.is_legal; none = k.none; alone = k.alone; whole = k.whole })
 
@@ -78,9 +74,6 @@ module _ {E T : Type 0} (legal : T → List (ℕ × E) → Type 0) where
 
   pub pass_taken : (p old : ℕ) (v : View E T) (n : ℕ) (w : View E T) → IsPass legal v → Taken p old v n w → IsPass legal w
   pass_taken p old v n w k made = subst (λ (u : View E T). IsPass legal u) (sym made.same) (pass_takes (n == old) p old v n k)
-
-  pub pass_looked : (quanta : E → List Quantum) (v : View E T) (n : ℕ) (w : View E T) → IsPass legal v → Looked legal quanta v n w → IsPass legal w
-  pass_looked quanta v n w k l = subst (λ (u : View E T). IsPass legal u) (sym l.same) (record { named = k.named; off = k.off; is_legal = l.learns.is_legal; mine = l.learns.mine k.named; alone = k.alone })
 
 module _ {E T : Type 0} where
   takes_me : (b : Bool) (p old : ℕ) (v : View E T) (n : ℕ) → (after_take b p old v n).me ≡ v.me

@@ -82,9 +82,6 @@ one_below_most n m = grind (arith, common_steps, nat_tests)
 pub one_below_next : (n m : ℕ) → one_below (n + 1) m ≡ one_below n m + one_if (n == m)
 one_below_next n m = grind (arith, common_steps, nat_tests)
 
-pub one_same : (m : ℕ) → one_if (m == m) ≡ 1
-one_same m = grind (arith, common_steps, nat_tests)
-
 pub one_as : (a b : ℕ) → a ≡ b → one_if (a == b) ≡ 1
 one_as a b e = grind (arith, common_steps, nat_tests)
 

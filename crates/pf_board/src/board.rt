@@ -136,7 +136,7 @@ impl<E, I: Issues<E>> Board<E, I> {
         self.table.shared.load::<Look<I>>(&mut pass.seat, 0)
     }
 
-    /// Leave to note once.
+    /// Permission to append one entry.
     pub fn turn(&self, keeper: &mut Keeper<E, I>) -> Turn<E, I>
         requires board { keeper.old.board ≡ self.now.id }
         requires here { keeper.old.has_turn ≡ true }
@@ -290,7 +290,7 @@ impl<E, I: Issues<E>> Board<E, I> {
         None
     }
 
-    /// What the keeper's loads found is listed by the pass, for which they were made, and no longer by the keeper.
+    /// Moves the keeper's log of loads to the pass for which they were made.
     pub fn report(&self, keeper: &mut Keeper<E, I>, pass: &mut Pass<E, I>)
         requires { (keeper.old.board ≡ self.now.id) × (pass.old.board ≡ self.now.id) }
         ensures keeper { keeper.new ≡ record keeper.old { loads = [] } }

@@ -2,7 +2,7 @@ use crate::issues::Issues;
 use crate::rule::BoardSeat;
 use std::marker::{Model, PhantomData};
 
-/// Leave to note once.
+/// Permission to append one entry: a one-shot token.
 #[derive(Drop)]
 pub struct Turn<E, I: Issues<E>> {
     pub(crate) seat: BoardSeat<E, I::Terms>,

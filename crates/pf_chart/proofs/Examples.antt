@@ -15,11 +15,11 @@ use Rattle.pf_names.specs.Titled.{number_label}
 use Rattle.pf_tally.specs.Clock.{clock_of}
 use Rattle.pf_chart.specs.Course.{tracks_of}
 use Rattle.pf_chart.specs.Listing.{listings_of}
-use Rattle.pf_chart.specs.Chart.{chart_text_of}
+use Rattle.pf_chart.specs.Chart.{chart_text_of, task_chart_text_of}
 use Rattle.pf_chart.specs.Examples.{WorkedCharts}
 
 pub worked_charts : WorkedCharts
-unfolding digits number_label release_of deadline_of bit_of group_of priority_cmp row_of run_cmp events_of done in_force inside load_of count_of shift_of member_of ready course_of rows_in denials_in clock_of tracks_of listings_of chart_text_of
+unfolding digits number_label release_of deadline_of bit_of group_of priority_cmp row_of run_cmp events_of done in_force inside load_of count_of shift_of member_of ready course_of rows_in denials_in clock_of tracks_of listings_of chart_text_of task_chart_text_of
 worked_charts = record {
   three_tasks = refl;
   delay = refl;
@@ -29,4 +29,5 @@ worked_charts = record {
   overload = refl;
   out_of_use = refl;
   from_six = refl;
+  second_alone = refl;
 }

@@ -17,7 +17,9 @@ use Rattle.pf_chart.specs.Listing.{Listing, listings_of, count_in}
 use Rattle.pf_chart.specs.declared.track_row.TrackRow.{TrackRow}
 use Rattle.pf_chart.specs.declared.track_row.TrackRow.TheVariants.{Runs, Windows, Lag, Marks}
 use Rattle.pf_chart.specs.Labels.{Labels, block_length, labels_of, task_label}
-use Rattle.pf_chart.specs.Symbols.{blank, rank_symbol}
+use Rattle.pf_chart.specs.Symbols.{blank, left_out, rank_symbol}
+use Rattle.pf_chart.specs.Shown.{shown_of}
+use Rattle.pf_tasks.specs.declared.task_range.TaskRange.{TaskRange}
 
 -- a line without the blanks at its end
 abbrev pub with_first : ℕ → List ℕ → List ℕ
@@ -52,9 +54,9 @@ tick_cell t =
 abbrev pub rulers_text : ℕ → ℕ → List ℕ → List ℕ
 rulers_text places a slots = line_text places [] (map (number_cell a) slots) ++ line_text places [] (map tick_cell slots)
 
--- the symbol of a listed task, by its rank
+-- the symbol of a task by its rank among these, and a dot for one that is none of them
 abbrev pub symbol_of : List Listing → ℕ → ℕ
-symbol_of listed task = option_map_or (λ i. rank_symbol (i + 1)) (position (λ l. l.task == task) listed) blank
+symbol_of listed task = option_map_or (λ i. rank_symbol (i + 1)) (position (λ l. l.task == task) listed) left_out
 
 -- `#` out of use, `-` idle, else the task's symbol
 abbrev pub processor_cell : List Listing → ℕ → List (Option Pick) → ℕ → ℕ
@@ -126,13 +128,31 @@ head_with system slot now from to = range_text now from to ++ settings_text syst
 abbrev pub head_text : Seen → Option SlotLength → ℕ → ℕ → List ℕ
 head_text seen slot from to = head_with seen.state.plan.settings slot seen.state.now from to
 
-abbrev pub legend_text : List ℕ
-legend_text =
-    codes "\nprocessors: a task by its symbol, - idle, # out of use\n"
-    ++ codes "task: its processor where it runs, . waits, ! waits behind its deadline\n"
+-- so many of the listed tasks are shown
+abbrev pub count_text : ℕ → ℕ → List ℕ
+count_text shown listed = codes "; tasks " ++ decimal shown ++ codes " of " ++ decimal listed
+
+abbrev pub task_head_with : System → Option SlotLength → ℕ → ℕ → ℕ → ℕ → ℕ → List ℕ
+task_head_with system slot shown listed now from to =
+    range_text now from to ++ settings_text system ++ length_text slot ++ count_text shown listed ++ codes "\n"
+
+abbrev pub task_head_text : Seen → Option SlotLength → ℕ → ℕ → ℕ → ℕ → List ℕ
+task_head_text seen slot shown listed from to = task_head_with seen.state.plan.settings slot shown listed seen.state.now from to
+
+-- what the signs of the lines of tasks mean
+abbrev pub signs_text : List ℕ
+signs_text =
+    codes "task: its processor where it runs, . waits, ! waits behind its deadline\n"
     ++ codes "windows: [ first slot, ] last, X last and next first, I only slot\n"
     ++ codes "lag: = none, + - owed or ahead by less than one quantum, 1-9 * owed, a-z ~ ahead\n"
     ++ codes "marks: > joins, < left, ~ clock stopped, ^ runs late, x denied\n"
+
+abbrev pub legend_text : List ℕ
+legend_text = codes "\nprocessors: a task by its symbol, - idle, # out of use\n" ++ signs_text
+
+-- where tasks may be left out
+abbrev pub task_legend_text : List ℕ
+task_legend_text = codes "\nprocessors: a task by its symbol, . one left out, - idle, # out of use\n" ++ signs_text
 
 -- a block for each so many slots from `from` on, below `to`
 abbrev pub blocks_by : ℕ → Seen → Labels → List Listing → ℕ → ℕ → List ℕ
@@ -142,10 +162,23 @@ blocks_by size seen labels listed from to =
 abbrev pub blocks_text : Seen → Labels → List Listing → ℕ → ℕ → List ℕ
 blocks_text seen labels listed from to = blocks_by (block_length labels.places) seen labels listed from to
 
+-- behind this head and before this legend, the blocks of these tasks
+abbrev pub text_between : Seen → Titles → ℕ → ℕ → List ℕ → List ℕ → List Listing → List ℕ
+text_between seen titles from to head legend shown =
+    head ++ blocks_text seen (labels_of titles.names shown) shown from to ++ legend
+
 abbrev pub text_with : Seen → Titles → ℕ → ℕ → List Listing → List ℕ
-text_with seen titles from to listed =
-    head_text seen titles.slot from to ++ blocks_text seen (labels_of titles.names listed) listed from to ++ legend_text
+text_with seen titles from to listed = text_between seen titles from to (head_text seen titles.slot from to) legend_text listed
+
+-- where these of the listed tasks are shown
+abbrev pub task_text_with : Seen → Titles → ℕ → ℕ → List Listing → List Listing → List ℕ
+task_text_with seen titles from to listed shown =
+    text_between seen titles from to (task_head_text seen titles.slot (length shown) (length listed) from to) task_legend_text shown
 
 -- the chart of the slots from `from` on and below `to`, with the names of tasks and the length of a slot
 unfoldable pub chart_text_of : Seen → Titles → ℕ → ℕ → List ℕ
 chart_text_of seen titles from to = text_with seen titles from to (listings_of seen)
+
+-- that chart with the tasks of these ranges alone: their ranks are those among themselves
+unfoldable pub task_chart_text_of : Seen → Titles → List TaskRange → ℕ → ℕ → List ℕ
+task_chart_text_of seen titles tasks from to = task_text_with seen titles from to (listings_of seen) (shown_of tasks (listings_of seen))

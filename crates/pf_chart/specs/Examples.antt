@@ -6,7 +6,7 @@ use Rattle.pf_run.specs.RunRows.{rows_in, denials_in}
 use Rattle.pf_run.specs.Examples.{plan_with}
 use Rattle.pf_desk.specs.Desk.{Seen}
 use Rattle.pf_names.specs.Titled.{untitled}
-use Rattle.pf_chart.specs.Chart.{chart_text_of, legend_text}
+use Rattle.pf_chart.specs.Chart.{chart_text_of, legend_text, task_chart_text_of, task_legend_text}
 
 -- what is seen of the scenario after n slots and so many entries
 abbrev pub seen_after : ℕ → Plan → ℕ → Seen
@@ -61,3 +61,7 @@ pub record WorkedCharts : Type 0 where
       ++ codes "p0          44344-\np1          31213-\n1 task 1     1 1\n  windows   -X-X-]\n  lag       ------\n"
       ++ codes "2 task 2      1\n  windows   -][--]\n  lag       --=---\n3 task 3    1 0 1\n  windows   [][][]\n"
       ++ codes "  lag       =-=-=-\n4 task 4    00 00\n  windows   [X][X]\n  lag       =--=--\n" ++ legend_text
+  -- the second of three tasks alone
+  pub second_alone : task_chart_text_of (seen_after 6 (plan_with 2 3 6 (Join 0 1 2 3 0 ∷ Join 0 2 2 3 0 ∷ Join 0 3 2 3 0 ∷ [])) 3) untitled (record { first = 2; last = 2 } ∷ []) 0 3 ≡
+      codes "slots 0 to 3 of 3; processors 2; base 3; cap 6; tasks 1 of 3\n\n            0\n            |..\n"
+      ++ codes "p0          ..1\np1          1..\n1 task 2    1.0\n  windows   [X]\n  lag       =-+\n  marks     >\n" ++ task_legend_text

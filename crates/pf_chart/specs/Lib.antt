@@ -4,6 +4,7 @@ pub mod Course
 pub mod Cells
 pub mod Cut
 pub mod Listing
+pub mod Shown
 pub mod Built
 pub mod Labels
 pub mod Chart

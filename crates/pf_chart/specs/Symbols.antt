@@ -10,6 +10,10 @@ letters = codes "0123456789abcdefghijklmnopqrstuvwxyzABCDEFGHIJKLMNOPQRSTUVWXYZ"
 abbrev pub blank : ℕ
 blank = slice_index_or (codes " ") 0 0
 
+-- a task that is not shown
+abbrev pub left_out : ℕ
+left_out = slice_index_or (codes ".") 0 0
+
 abbrev pub star : ℕ
 star = slice_index_or (codes "*") 0 0
 

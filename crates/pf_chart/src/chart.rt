@@ -1,15 +1,17 @@
 ghost use Rattle.std.specs.Prelude.{◌≡◌, ◌≤◌, length, IfOk};
-ghost use Rattle.pf_chart.specs.Chart.{chart_text_of};
+ghost use Rattle.pf_chart.specs.Chart.{chart_text_of, task_chart_text_of, text_between};
 ghost use Rattle.pf_chart.specs.Listing.{counts_of};
+ghost use Rattle.pf_chart.specs.Shown.{shown_of};
 
 use crate::block::block_text;
 use crate::counts::counts_in_use;
-use crate::frame::{head, legend};
+use crate::frame::{head, legend, task_head, task_legend};
 use crate::labels::Labels;
 use crate::listed::Listed;
 use crate::listings::listings;
 use pf_desk::snapshot::Snapshot;
 use pf_names::titles::Titles;
+use pf_tasks::task_list::TaskList;
 use pf_text::pieces::{Chain, Pieces, Whole, gathered};
 use std::alloc::{AllocError, Global};
 use std::marker::Model;
@@ -79,6 +81,36 @@ pub fn counts(alloc: Global, snapshot: &Snapshot) -> Result<Vec<u64>, AllocError
 /// A chart in pieces: its head, its blocks, and the legend.
 pub type ChartPieces<'a> = Chain<Whole, Chain<Blocks<'a>, Whole>>;
 
+/// The chart of these tasks in pieces, behind this head and before this legend.
+fn pieces_between<'a>(
+    alloc: Global,
+    snapshot: &'a Snapshot,
+    titles: &'a Titles,
+    head: Vec<u8>,
+    legend: Vec<u8>,
+    shown: Vec<Listed>,
+    from: u64,
+    to: u64,
+) -> Result<ChartPieces<'a>, AllocError>
+    requires { to ≤ snapshot.now.state.now }
+    ensures { IfOk result
+        (λ pieces. pieces ≡ text_between snapshot.now titles.now from to head.items legend.items shown.items) }
+{
+    // That there are rows of all slots below now is known from this call alone.
+    let _ = snapshot.now();
+    let counts = counts(alloc, snapshot)?;
+    let labels = Labels::of(alloc, &titles.names, &shown)?;
+    let blocks = Blocks {
+        snapshot,
+        labels,
+        listed: shown,
+        counts,
+        from,
+        to,
+    };
+    Ok(Chain::new(Whole::new(head), Chain::new(blocks, Whole::new(legend))))
+}
+
 /// The chart of the slots from `from` on, below `to`, in pieces, each of which is a block at most. A task is told by its name,
 /// where it has one, and else by its number. `is_range` tells
 /// whether the snapshot has these slots.
@@ -99,18 +131,45 @@ pub fn chart_pieces<'a>(
     let settings = snapshot.settings();
     let head = head(alloc, settings, titles.slot, snapshot.now(), from, to)?;
     let legend = legend(alloc)?;
-    let counts = counts(alloc, snapshot)?;
     let listed = listings(alloc, snapshot)?;
-    let labels = Labels::of(alloc, &titles.names, &listed)?;
-    let blocks = Blocks {
-        snapshot,
-        labels,
-        listed,
-        counts,
-        from,
-        to,
-    };
-    Ok(Chain::new(Whole::new(head), Chain::new(blocks, Whole::new(legend))))
+    pieces_between(alloc, snapshot, titles, head, legend, listed, from, to)
+}
+
+/// Those of the listed tasks that are in the list.
+fn shown_of(listed: Vec<Listed>, tasks: &TaskList) -> Vec<Listed>
+    ensures { result.items ≡ shown_of tasks.now listed.items }
+{
+    let mut shown = listed;
+    shown.retain(|listing| tasks.has(u64::from(listing.task())));
+    shown
+}
+
+/// That chart with the tasks of a list alone, in pieces. Another task that runs is a dot, and the head tells how many of the
+/// listed tasks are shown.
+///
+/// # Errors
+///
+/// Where memory is refused.
+pub fn task_chart_pieces<'a>(
+    alloc: Global,
+    snapshot: &'a Snapshot,
+    titles: &'a Titles,
+    tasks: &TaskList,
+    from: u64,
+    to: u64,
+) -> Result<ChartPieces<'a>, AllocError>
+    requires { to ≤ snapshot.now.state.now }
+    ensures { IfOk result (λ pieces. pieces ≡ task_chart_text_of snapshot.now titles.now tasks.now from to) }
+{
+    let settings = snapshot.settings();
+    let now = snapshot.now();
+    let listed = listings(alloc, snapshot)?;
+    let count = listed.len() as u64;
+    let shown = shown_of(listed, tasks);
+    let many = shown.len() as u64;
+    let head = task_head(alloc, settings, titles.slot, many, count, now, from, to)?;
+    let legend = task_legend(alloc)?;
+    pieces_between(alloc, snapshot, titles, head, legend, shown, from, to)
 }
 
 /// The chart of the slots from `from` on, below `to`, in whole.

@@ -1,15 +1,20 @@
-ghost use Rattle.std.specs.Prelude.{◌≡◌, ◌++◌, ◌&&◌, nat_le, IfOk, OnOk};
+ghost use Rattle.std.specs.Prelude.{◌≡◌, ◌++◌, ◌&&◌, codes, nat_le, IfOk, OnOk};
 ghost use Rattle.std.specs.Fmt.{decimal};
-ghost use Rattle.pf_chart.specs.Chart.{head_with, legend_text, length_text, range_text, settings_with};
+ghost use Rattle.pf_chart.specs.Chart.{count_text, head_with, legend_text, length_text, range_text, settings_text, settings_with, signs_text, task_head_with, task_legend_text};
 
 use pf_names::slot_length::SlotLength;
 use pf_scenario::settings::Settings;
 use std::alloc::{AllocError, Global};
 
-/// What the signs of a chart mean.
-const LEGEND: &[u8] = b"
-processors: a task by its symbol, - idle, # out of use
-task: its processor where it runs, . waits, ! waits behind its deadline
+/// What the signs of the processors' lines mean.
+const PROCESSORS: &[u8] = b"\nprocessors: a task by its symbol, - idle, # out of use\n";
+
+/// What they mean where tasks may be left out.
+const SOME_LEFT_OUT: &[u8] =
+    b"\nprocessors: a task by its symbol, . one left out, - idle, # out of use\n";
+
+/// What the signs of the tasks' lines mean.
+const SIGNS: &[u8] = b"task: its processor where it runs, . waits, ! waits behind its deadline
 windows: [ first slot, ] last, X last and next first, I only slot
 lag: = none, + - owed or ahead by less than one quantum, 1-9 * owed, a-z ~ ahead
 marks: > joins, < left, ~ clock stopped, ^ runs late, x denied
@@ -22,15 +27,13 @@ pub fn is_range(from: u64, to: u64, now: u64) -> bool
     from <= to && to <= now
 }
 
-/// Appends the legend.
-///
-/// # Errors
-///
-/// Where memory is refused; a part of it may stand there then.
-pub fn push_legend(text: &mut Vec<u8>) -> Result<(), AllocError>
-    ensures { OnOk result (text.new.items ≡ text.old.items ++ legend_text) }
+/// The legend that begins with this line.
+fn legend_behind(alloc: Global, line: &[u8]) -> Result<Vec<u8>, AllocError>
+    ensures { IfOk result (λ text. text.items ≡ line.now ++ signs_text) }
 {
-    text.extend_from_slice(LEGEND)
+    let mut text = Vec::from_slice(alloc, line)?;
+    text.extend_from_slice(SIGNS)?;
+    Ok(text)
 }
 
 /// The legend.
@@ -41,9 +44,18 @@ pub fn push_legend(text: &mut Vec<u8>) -> Result<(), AllocError>
 pub fn legend(alloc: Global) -> Result<Vec<u8>, AllocError>
     ensures { IfOk result (λ text. text.items ≡ legend_text) }
 {
-    let mut text = Vec::new(alloc);
-    push_legend(&mut text)?;
-    Ok(text)
+    legend_behind(alloc, PROCESSORS)
+}
+
+/// The legend of a chart from which tasks may be left out.
+///
+/// # Errors
+///
+/// Where memory is refused.
+pub fn task_legend(alloc: Global) -> Result<Vec<u8>, AllocError>
+    ensures { IfOk result (λ text. text.items ≡ task_legend_text) }
+{
+    legend_behind(alloc, SOME_LEFT_OUT)
 }
 
 /// Appends a word and a number.
@@ -106,6 +118,25 @@ fn push_length(
     text.extend_from_slice(told.as_bytes())
 }
 
+/// Appends the range of the `now` slots, the settings, and how long a slot is, where that is told.
+fn push_words(
+    alloc: Global,
+    text: &mut Vec<u8>,
+    settings: Settings,
+    slot: Option<SlotLength>,
+    now: u64,
+    from: u64,
+    to: u64,
+) -> Result<(), AllocError>
+    ensures { OnOk result (text.new.items ≡ text.old.items ++ (range_text now from to ++ settings_text settings ++ length_text slot)) }
+{
+    push_range(alloc, text, now, from, to)?;
+    let processors = u64::from(settings.processors());
+    let base = settings.base().get();
+    push_settings(alloc, text, processors, base, settings.cap())?;
+    push_length(alloc, text, slot)
+}
+
 /// The head: the range of the `now` slots, the settings, and how long a slot is, where that is told.
 ///
 /// # Errors
@@ -122,11 +153,39 @@ pub fn head(
     ensures { IfOk result (λ text. text.items ≡ head_with settings slot now from to) }
 {
     let mut text = Vec::new(alloc);
-    push_range(alloc, &mut text, now, from, to)?;
-    let processors = u64::from(settings.processors());
-    let base = settings.base().get();
-    push_settings(alloc, &mut text, processors, base, settings.cap())?;
-    push_length(alloc, &mut text, slot)?;
+    push_words(alloc, &mut text, settings, slot, now, from, to)?;
+    text.push(b'\n')?;
+    Ok(text)
+}
+
+/// Appends how many of the listed tasks are shown.
+fn push_count(alloc: Global, text: &mut Vec<u8>, shown: u64, listed: u64) -> Result<(), AllocError>
+    ensures { OnOk result (text.new.items ≡ text.old.items ++ count_text shown listed) }
+{
+    push_number(alloc, text, b"; tasks ", shown)?;
+    push_number(alloc, text, b" of ", listed)
+}
+
+/// The head of a chart that shows so many of the listed tasks.
+///
+/// # Errors
+///
+/// Where memory is refused.
+pub fn task_head(
+    alloc: Global,
+    settings: Settings,
+    slot: Option<SlotLength>,
+    shown: u64,
+    listed: u64,
+    now: u64,
+    from: u64,
+    to: u64,
+) -> Result<Vec<u8>, AllocError>
+    ensures { IfOk result (λ text. text.items ≡ task_head_with settings slot shown listed now from to) }
+{
+    let mut text = Vec::new(alloc);
+    push_words(alloc, &mut text, settings, slot, now, from, to)?;
+    push_count(alloc, &mut text, shown, listed)?;
     text.push(b'\n')?;
     Ok(text)
 }

@@ -5,7 +5,7 @@ ghost use Rattle.pf_chart.specs.Chart.{symbol_of};
 use crate::course::Course;
 use crate::labels::Labels;
 use crate::line::{are_blank, push_line, push_line_if_any};
-use crate::symbols::{BLANK, rank_symbol};
+use crate::symbols::{BLANK, LEFT_OUT, rank_symbol};
 use crate::track_row::TrackRow;
 use std::alloc::{AllocError, Global};
 use std::marker::Model;
@@ -121,19 +121,19 @@ impl Listed {
     }
 }
 
-/// The place of a task among the listed ones.
+/// The place of a task among these.
 fn place_of(listed: &[Listed], task: u32) -> Option<usize>
     ensures { result ≡ position (λ l. l.task == task) listed.now }
 {
     listed.iter().position(|listing| listing.task == task)
 }
 
-/// The symbol of a task among the listed ones; blank where it is none of them.
+/// The symbol of a task among these; a dot where it is none of them.
 pub(crate) fn symbol_of(listed: &[Listed], task: u32) -> u8
     ensures { result ≡ symbol_of listed.now task }
 {
     match place_of(listed, task) {
         Some(place) => rank_symbol(place + 1),
-        None => BLANK,
+        None => LEFT_OUT,
     }
 }

@@ -6,6 +6,9 @@ ghost use Rattle.pf_chart.specs.Symbols.{ahead_symbol, lag_symbol, owed_symbol, 
 /// What stands where nothing is told.
 pub const BLANK: u8 = b' ';
 
+/// A task that is not shown.
+pub const LEFT_OUT: u8 = b'.';
+
 /// The symbol at this place, or another one where there are no more.
 fn symbol_at(symbols: &[u8], place: usize, other: u8) -> u8
     ensures { result ≡ unwrap_or (slice_get symbols.now place) other }

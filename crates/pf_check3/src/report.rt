@@ -28,9 +28,13 @@ pub fn push_report(text: &mut String, at: &[u8], bad: BadRecord) -> Result<(), A
     text.push_str("\n")
 }
 
-/// Why the record is none.
+/// Adds why a record is none, of its field that is at fault.
+///
+/// # Errors
+///
+/// Where memory is refused: the text is given up.
 #[tactic(auto, unfolding(crate::specs::Reports::third_reason_text))]
-fn push_reason(text: &mut String, at: &[u8], reason: Reason) -> Result<(), AllocError>
+pub fn push_reason(text: &mut String, at: &[u8], reason: Reason) -> Result<(), AllocError>
     ensures { OnOk result (string_bytes text.new ≡ string_bytes text.old ++ third_reason_text at.now reason) }
 {
     match reason {

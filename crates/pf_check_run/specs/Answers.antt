@@ -4,7 +4,6 @@ use Rattle.std.specs.Fmt.{decimal}
 use Rattle.pf_check3.specs.Checked.{faults as third_faults}
 use Rattle.pf_desk.specs.Desk.{Seen}
 use Rattle.pf_fault.specs.Answers.{IsQuiet}
-use Rattle.pf_carry.specs.Carried.{Stops}
 use Rattle.pf_fault.specs.declared.answer.Answer.{Answer}
 use Rattle.pf_fault.specs.declared.fault.Fault.{Fault}
 use Rattle.pf_fault.specs.declared.fault.Fault.TheVariants as why
@@ -13,7 +12,8 @@ use Rattle.pf_fault.specs.declared.status.Status.{Status}
 use Rattle.pf_fault.specs.declared.status.Status.TheVariants.{BadScript, Done}
 use Rattle.pf_fit_command.specs.Fit.{IsSeenBehind}
 use Rattle.pf_names.specs.declared.named.Named.{Named}
-use Rattle.pf_plain.specs.Plain.{Plain}
+use Rattle.pf_plain.specs.Plain.{IsPlain, Plain, plain}
+use Rattle.pf_plain.specs.declared.plain.PlainScript.{PlainScript}
 use Rattle.pf_plain.specs.declared.origin.Origin.{Origin}
 use Rattle.pf_recount.specs.Recount.{Recounted, recounted}
 use Rattle.pf_rows.specs.Rows.{rows}
@@ -84,8 +84,11 @@ ChecksThirdRun p file script answer =
     IsAnswer file (length (rows script).rows) (map (third_shown file) (third_faults (rows script)))
     (Carries file (Some p.origins) p.titles.names (table_text p.records) (length (rows script).rows)) answer
 
--- why there is no answer: memory was refused, or the script of version 2 is too long to be carried out, or its first bad record
--- stops it
+-- this script of version 2 belongs to a script of version 3
+pub record Belongs (script : List ℕ) (s : PlainScript) (p : Plain) : Type 0 where
+  pub is : plain script ≡ Some p
+  pub written : IsPlain s p
+
+-- why there is no answer: memory was refused, or the script of version 2 is too long to be carried out
 abbrev pub IsThirdStopped : Plain → Fault → Type 0
-IsThirdStopped p fault =
-    Stops (told (table_text p.records)).rest.fault fault ⊎ ((fault ≡ why.TooLong) × (longest_script < length (table_text p.records)))
+IsThirdStopped p fault = (fault ≡ why.NoMemory) ⊎ ((fault ≡ why.TooLong) × (longest_script < length (table_text p.records)))

@@ -3,7 +3,7 @@ ghost use Rattle.pf_fault.specs.declared.fault.Fault.TheVariants as why;
 ghost use Rattle.pf_fault.specs.Faults.{IsUnwritten};
 ghost use Rattle.pf_plain.specs.Plain.{IsPlain, Plain};
 ghost use Rattle.pf_stream.specs.Reading.{longest_script};
-ghost use Rattle.pf_check_run.specs.Answers.{ChecksRun, ChecksThirdRun, IsThirdStopped};
+ghost use Rattle.pf_check_run.specs.Answers.{Belongs, ChecksRun, ChecksThirdRun, IsThirdStopped};
 
 use crate::carried::carried;
 use crate::faults::{plain_faults, third_faults};
@@ -48,7 +48,7 @@ pub fn third_check_run(
 ) -> Result<Answer, Fault>
     requires { length script.now ≤ longest_script }
     ensures made { (p : Plain) → IsPlain plain.now p → IfOk result (ChecksThirdRun p file.now script.now) }
-    ensures stopped { (p : Plain) → IsPlain plain.now p → IfErr result (IsThirdStopped p) }
+    ensures stopped { (p : Plain) → Belongs script.now plain.now p → IfErr result (IsThirdStopped p) }
     ensures quiet { IfOk result (λ answer. answer.ending.notes.items ≡ []) }
     ensures unwritten { IfErr result IsUnwritten }
 {

@@ -28,11 +28,6 @@ pub record IsQuotient (a b places parts rest : ℕ) : Type 0 where
   pub is_rest : rest ≡ a * 10 ^ places % b
   pub small : parts + 1 ≤ 2 ^ 100 * 10 ^ places
 
-pub whole_quotient : (a b : ℕ) → a / b < 2 ^ 100 → IsQuotient a b 0 (a / b) (a % b)
-whole_quotient a b low =
-    let one : a * 10 ^ 0 ≡ a = omega arith in
-    record { is_parts = sym (ap (λ v. v / b) one); is_rest = sym (ap (λ v. v % b) one); small = omega (arith, low) }
-
 pub one_more : (a b i parts rest : ℕ) → 1 ≤ b → IsQuotient a b i parts rest → IsQuotient a b (i + 1) (parts * 10 + rest * 10 / b) (rest * 10 % b)
 one_more a b i parts rest some q =
     let n = a * 10 ^ i in

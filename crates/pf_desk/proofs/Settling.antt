@@ -1,7 +1,7 @@
 -- Commands that took no slot, with one more.
-use Rattle.std.proofs.Common.{◌≡◌, ℕ, ◌+◌, ◌<◌, ◌≤◌, not, cond, min, List, [], ◌∷◌, ◌++◌, length, map, take, drop, All, refl, sym, ap, ap₂, ◌∙◌, arith}
+use Rattle.std.proofs.Common.{◌≡◌, ℕ, ◌+◌, ◌<◌, ◌≤◌, not, cond, List, [], ◌∷◌, ◌++◌, length, map, take, drop, All, refl, sym, ap, ap₂, ◌∙◌, arith}
 use Rattle.std.proofs.lemmas.List.{length-map, get_or_push, get_or_append_left, take-append-drop, map-append, map_push}
-use Rattle.std.proofs.lemmas.List.Sums.{sum_by-append, count_by-le-length}
+use Rattle.std.proofs.lemmas.List.Sums.{sum_by-append}
 use Rattle.std.proofs.lemmas.List.Elements.{All-head, All-tail}
 use Rattle.pf_desk.specs.declared.entry.Entry.{Entry}
 use Rattle.pf_desk.specs.declared.settled.Settled.{Settled}
@@ -31,12 +31,6 @@ kept_apart wide s kept index within at =
 
 wide-append : (xs ys : List Settled) → count_wide (xs ++ ys) ≡ count_wide xs + count_wide ys
 wide-append xs ys = sum_by-append (λ s. cond (not (is_small s)) 1 0) xs ys
-
-pub room_for_one : (list : Listed) (s : Settled) → 1 ≤ min list.room list.wide_room → HasRoomFor list (s ∷ [])
-room_for_one list s room = record {
-  for_all = omega arith;
-  for_wide = omega (arith, count_by-le-length (λ s. not (is_small s)) (s ∷ []));
-}
 
 -- of these entries one more is kept
 module _ (es : List Entry) (i : ℕ) (e : Entry) (within : i < length es) (taken : take (i + 1) es ≡ take i es ++ e ∷ []) where

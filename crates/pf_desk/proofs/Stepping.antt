@@ -1,15 +1,14 @@
 -- A step: the next slot taken, and one entry more.
 use Rattle.std.proofs.Common.{◌≡◌, ◌≢◌, ℕ, ◌+◌, ◌==◌, Ok, Option, List, [], ◌∷◌, ◌++◌, length, refl, sym, ap, ap₂, ◌∙◌, subst}
 use Rattle.std.specs.List.{slice_index_or}
-use Rattle.std.proofs.lemmas.Bool.{cond-false, cond-true, ne_eqb, eq-eqb}
+use Rattle.std.proofs.lemmas.Bool.{cond-false, ne_eqb}
 use Rattle.pf_order.specs.declared.pick.Pick.{Pick}
 use Rattle.pf_scenario.specs.Scenario.{Plan}
 use Rattle.pf_run.specs.declared.denied.Denied.{Denied}
 use Rattle.pf_run.specs.RunRows.{AreOfRun}
 use Rattle.pf_timeline.specs.Timeline.{KeptRun, StandsFor}
 use Rattle.pf_desk.specs.declared.command.Command.TheVariants.{Step}
-use Rattle.pf_desk.specs.declared.reply.Fault.TheVariants.{AtHorizon}
-use Rattle.pf_desk.specs.declared.reply.Reply.TheVariants.{Stepped, Refused}
+use Rattle.pf_desk.specs.declared.reply.Reply.TheVariants.{Stepped}
 use Rattle.pf_desk.specs.declared.entry.Entry.{Entry}
 use Rattle.pf_desk.specs.Machine.{State, row_at, reply_to, state_after}
 use Rattle.pf_desk.specs.Desk.{Handles, Seen, StandsForHistory, entry_of}
@@ -30,9 +29,6 @@ pub record Steps (plan : Plan) (kept kept' : KeptRun) (es : List Entry) (caller 
 -- the machine's reply, on either side of the horizon
 pub reply_below : (st : State) → st.now ≢ st.plan.settings.horizon → reply_to st Step ≡ Stepped st.now (row_at st.plan st.now)
 reply_below st below = cond-false (st.now == st.plan.settings.horizon) _ _ (ne_eqb _ _ below)
-
-pub reply_at : (st : State) → st.now ≡ st.plan.settings.horizon → reply_to st Step ≡ Refused AtHorizon
-reply_at st at = cond-true (st.now == st.plan.settings.horizon) _ _ (eq-eqb _ _ at)
 
 pub step_reply_is : (plan : Plan) (kept kept' : KeptRun) (es : List Entry) (caller slot : ℕ) (row : List (Option Pick)) →
     Steps plan kept kept' es caller slot row → Stepped slot row ≡ reply_to (state_of plan kept) Step

@@ -157,7 +157,7 @@ impl Desk {
         self.make_ready(caller, command, outcome)
     }
 
-    /// Makes what was made ready so: answers and leaves what `apply` would have. It takes no memory and counts nothing.
+    /// Commits a prepared command: the same reply and the same desk as `apply` would give. It takes no memory and counts nothing.
     ///
     /// The desk must have the settings, the distance of checkpoints and the history that the command was made ready for,
     /// and room for an entry.

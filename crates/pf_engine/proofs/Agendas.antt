@@ -81,9 +81,6 @@ task_kept false f k = refl
 same_task : (task : ℕ) (f : Member → Member) (k : KeptTask) → (changed_task task f k).task ≡ k.task
 same_task task f k = task_kept (k.task == task) f k
 
-is_changed : (task : ℕ) (f : Member → Member) (k : KeptTask) → k.task ≡ task → changed_task task f k ≡ record { task = k.task; member = f k.member }
-is_changed task f k e = ap (λ b. cond b (record { task = k.task; member = f k.member }) k) (eq-eqb k.task task e)
-
 is_unchanged : (task : ℕ) (f : Member → Member) (k : KeptTask) → task ≢ k.task → changed_task task f k ≡ k
 is_unchanged task f k ne = ap (λ b. cond b (record { task = k.task; member = f k.member }) k) (ne_eqb k.task task (λ e. ne (sym e)))
 

@@ -17,22 +17,11 @@ turn i x y within far more = compares_within (omega (arith, one_more i x, within
 pub turns : (i n x : ℕ) {c d : Counts} → i ≤ n → Compares (i * x) c d → Compares (n * x) c d
 turns i n x few far = compares_within (mul-le-mul few (let e : x ≤ x = omega arith in e)) far
 
--- of no more keys
-pub digits_of : {n m : ℕ} {c d : Counts} (k : ℕ) → n ≤ m → Compares (k * digits n) c d → Compares (k * digits m) c d
-digits_of {n} {m} k few made = compares_within (mul-le-mul (let e : k ≤ k = omega arith in e) (digits-mono n m few)) made
-
-pub digits_once : {n m : ℕ} {c d : Counts} → n ≤ m → Compares (digits n) c d → Compares (digits m) c d
-digits_once {n} {m} few made = compares_within (digits-mono n m few) made
-
 pub none_made : (n : ℕ) (c : Counts) → Compares n c c
 none_made n c = compares_within (omega arith) (compares_none c)
 
 pub two_of : (n m : ℕ) → n ≤ m → 2 * digits n ≤ 2 * digits m
 two_of n m few = mul-le-mul (let e : 2 ≤ 2 = omega arith in e) (digits-mono n m few)
-
--- a key is put
-pub put_made : {n m : ℕ} {c d : Counts} → n ≤ m → Compares (digits n) c d → Compares (3 * digits m) c d
-put_made {n} {m} few made = compares_within (omega (arith, digits-mono n m few)) made
 
 -- a key is taken out
 pub out_made : {n m : ℕ} {c d : Counts} → n ≤ m → Compares (2 * digits n) c d → Compares (3 * digits m) c d

@@ -96,23 +96,6 @@ next_taken q q' now task a key of_task takes once n = record {
       (left_in q q' key takes h.0 (key_for k) h.1 (λ e. among.1 (sym of_task ∙ ap (λ (y : Priority). y.task) (sym e))));
 }
 
--- none was there
-pub next_untaken : (q : Queues) (now task : ℕ) (a : Are) → ¬ (IsQueued q task) → HasNext q now a → HasNext q now (λ k. a k × (task ≢ k.task))
-next_untaken q now task a none n = record {
-  only = λ place x h.
-      let o = n.only place x h in
-      record {
-        kept = o.kept;
-        among = (
-          o.among,
-          λ e. none (record { key = x; has = holds_from q place x h; of_task = ap (λ (y : Priority). y.task) o.is ∙ sym e }),
-        );
-        is = o.is;
-        stands = o.stands;
-      };
-  each = λ k among. n.each k among.0;
-}
-
 -- ---- a slot begins
 
 -- what is due is ready, the lists that wait are of later slots

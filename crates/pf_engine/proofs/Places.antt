@@ -1,12 +1,10 @@
 -- Where the task of a number stands in a roster, and what an edit leaves.
-use Rattle.std.proofs.Common.{◌≡◌, ◌≢◌, ℕ, zero, suc, ◌+◌, ◌<◌, ◌≤◌, Bool, true, false, not, ◌==◌, cond, Option, Some, None, List, [], ◌∷◌, ◌++◌, length, filter, find, slice_get, get_or, set, remove, option_map, All, ⊎_elim, refl, sym, ap, ◌∙◌, subst, arith}
+use Rattle.std.proofs.Common.{◌≡◌, ◌≢◌, ℕ, zero, suc, ◌+◌, ◌<◌, ◌≤◌, Bool, true, false, not, ◌==◌, cond, Option, Some, None, List, [], ◌∷◌, ◌++◌, length, filter, find, slice_get, get_or, set, remove, option_map, All, ⊎_elim, refl, sym, ap, ◌∙◌, arith}
 use Rattle.std.proofs.lemmas.Bool.{cases_lt, cases_eq, eq-eqb, ne_eqb, true≢false}
 use Rattle.std.proofs.lemmas.Option.{slice_get-get_or}
 use Rattle.std.proofs.lemmas.List.{get_or-map, length-map, length-set, get_or-set_same, get_or-set_other, get_or_append_left, get_or_push, length_push, same_lists, get_or_default}
-use Rattle.std.proofs.lemmas.List.Edits.{length-remove, get_or-remove_below, get_or-remove_above}
-use Rattle.std.proofs.lemmas.List.Elements.{All-nil, All-cons, All-push, All-set}
+use Rattle.std.proofs.lemmas.List.Elements.{All-nil, All-cons, All-push}
 use Rattle.std.proofs.lemmas.List.Folds.{find_at, map_fixed, list_any_none}
-use Rattle.std.proofs.lemmas.List.Quantifiers.{all_pairs_remove}
 use Rattle.std.proofs.lemmas.List.Sums.{position_or_len_is}
 use Rattle.pf_table.specs.Grown.{Grown, value_of, size_of, with_value}
 use Rattle.pf_admit.specs.declared.member.Member.{Member}
@@ -96,26 +94,6 @@ listed_push places tasks x is small none =
           (cases_lt k (length tasks));
     }
 
--- one task changed
-pub listed_set : (places : Grown ℕ) (tasks : List KeptTask) (place : ℕ) (x y : KeptTask) → IsListed places tasks → place < length tasks →
-    x ≡ get_or tasks place x → y.task ≡ x.task → IsListed places (set tasks place y)
-listed_set places tasks place x y is at read same =
-    let own : (d : KeptTask) → get_or tasks place d ≡ x = λ d. get_or_default tasks place d x at ∙ sym read in
-    record {
-      few = is.few;
-      numbers = All-set (λ k. k.task < size_of places) tasks place y (omega (arith, is.numbers place x at, ap (λ (k : KeptTask). k.task) read, same)) is.numbers;
-      listed = λ k d within. let inside : k < length tasks = omega (arith, length-set tasks place y) in
-          ap (value_of places)
-          (⊎_elim
-          (λ here. ap (λ (i : ℕ). (get_or (set tasks place y) i d).task) here
-          ∙ ap (λ (q : KeptTask). q.task) (get_or-set_same tasks place y d at) ∙ same
-          ∙ ap (λ (q : KeptTask). q.task) (sym (own d))
-          ∙ ap (λ (i : ℕ). (get_or tasks i d).task) (sym here))
-          (λ other. ap (λ (q : KeptTask). q.task) (get_or-set_other tasks place k y d other))
-          (cases_eq k place))
-          ∙ is.listed k d inside;
-    }
-
 here_changed : (b : Bool) (f : Member → Member) (k : KeptTask) → b ≡ true →
     cond b (record { task = k.task; member = f k.member }) k ≡ record { task = k.task; member = f k.member }
 here_changed true f k e = refl
@@ -178,22 +156,6 @@ pub tasks_removed : (tasks : List KeptTask) (task place : ℕ) (d : KeptTask) �
 tasks_removed tasks task place d is =
     sym (one_out (has_number task) tasks place d is.within (λ e. eq-eqb _ _ (is.here e)) (λ k e within other. ne_eqb _ _ (is.alone k e within other)))
 
--- what is listed where one task was taken out
-pub listed_before : (places : Grown ℕ) (tasks : List KeptTask) (place : ℕ) → IsListed places tasks → place < length tasks →
-    IsListedTo place places (remove tasks place)
-listed_before places tasks place is at = record {
-  few = is.few;
-  numbers = λ k d within. ⊎_elim
-      (λ below. subst (λ (y : KeptTask). y.task < size_of places) (sym (get_or-remove_below tasks place d k below at)) (is.numbers k d (omega arith)))
-      (λ above. subst (λ (y : KeptTask). y.task < size_of places) (sym (get_or-remove_above tasks place d k above at))
-      (is.numbers (k + 1) d (omega (arith, length-remove tasks place at))))
-      (cases_lt k place);
-  apart = all_pairs_remove (λ (x y : KeptTask). x.task ≢ y.task) tasks place at
-      (λ i j d before within same. absurd (omega (arith, is.listed i d (omega arith), is.listed j d within, ap (value_of places) same)));
-  listed = λ k d within below.
-      ap (λ (y : KeptTask). value_of places y.task) (get_or-remove_below tasks place d k below at) ∙ is.listed k d (omega arith);
-}
-
 -- one place more written down
 pub listed_more : (places : Grown ℕ) (tasks : List KeptTask) (place : ℕ) (x : KeptTask) → IsListedTo place places tasks → place < length tasks →
     x ≡ get_or tasks place x → IsListedTo (place + 1) (with_value places x.task place) tasks
@@ -216,9 +178,6 @@ listed_more places tasks place x is at read =
           ∙ sym here)
           (cases_lt k place);
     }
-
-pub all_listed : (places : Grown ℕ) (tasks : List KeptTask) (n : ℕ) → length tasks ≤ n → IsListedTo n places tasks → IsListed places tasks
-all_listed places tasks n past is = record { few = is.few; numbers = is.numbers; listed = λ k d within. is.listed k d within (omega arith) }
 
 -- the member of a number, once its task is changed
 pub member_edited : (tasks : List KeptTask) (task place : ℕ) (x y : KeptTask) (f : Member → Member) → IsOnlyAt task tasks place →

@@ -4,11 +4,11 @@ pub mod Replied
 pub mod Told
 pub mod Notices
 pub mod Fitting
+pub mod Refused
 pub mod Texts
 pub mod Commanded
 pub mod Running
 pub mod Faults
 pub mod Entries
-pub mod Ranges
 pub mod Pictures
 pub mod Supposed

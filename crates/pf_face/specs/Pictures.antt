@@ -1,17 +1,15 @@
 -- Pictures.
-use Rattle.std.specs.Prelude.{ℕ, ◌≡◌, ◌≤◌, ◌-◌, ◌==◌, if◌then◌else◌, Option, None, Some, List}
-use Rattle.pf_desk.specs.Desk.{Shown, seen_of}
-use Rattle.pf_picture.specs.Picture.{picture_text_of}
-use Rattle.pf_names.specs.Titled.{untitled}
+use Rattle.std.specs.Prelude.{ℕ, ◌≡◌, ◌==◌, if◌then◌else◌, Option, None, Some, List}
+use Rattle.pf_desk.specs.Desk.{Shown}
 use Rattle.pf_look.specs.Sizes.{cell_of, wrap_of}
 use Rattle.pf_look.specs.declared.look.Look.{Look}
 use Rattle.pf_look.specs.declared.style.Style.{Style}
 use Rattle.pf_look.specs.declared.style.Style.TheVariants.{Stairs, Strips}
-use Rattle.pf_look.specs.declared.wrap.TheConstants.{MOST_SLOTS}
+use Rattle.pf_options.specs.declared.format.Format.TheVariants.{Svg}
 use Rattle.pf_face.specs.declared.raw_look.RawLook.{RawLook}
 use Rattle.pf_face.specs.declared.raw_look.TheConstants.{STAIRS, STRIPS}
 use Rattle.pf_face.specs.declared.status.TheConstants.{OUT_OF_RANGE}
-use Rattle.pf_face.specs.Ranges.{IsRange, TellsPart}
+use Rattle.pf_face.specs.Texts.{TellsFormat, slots_between}
 
 abbrev pub style_in : ℕ → Option Style
 style_in number = if number == STRIPS then Some Strips else if number == STAIRS then Some Stairs else None
@@ -27,15 +25,8 @@ look_of (Some cell) (Some wrap) (Some style) = Some (record { cell = cell; wrap 
 abbrev pub look_in : RawLook → Option Look
 look_in raw = look_of (cell_of raw.cell) (wrap_of raw.wrap) (style_in raw.style)
 
--- these slots were stepped, and are not too many for a picture
-abbrev pub CanBeDrawn : ℕ → ℕ → Shown → Type 0
-CanBeDrawn from to d = IsRange from to d × (to - from ≤ MOST_SLOTS)
-
-abbrev pub picture_of : Shown → ℕ → ℕ → Look → List ℕ
-picture_of d from to look = picture_text_of (seen_of d) untitled from to look
-
 -- the room has the picture of slots that can be drawn; or they cannot, or there is no such look
 abbrev pub TellsPicture : Option Look → ℕ → ℕ → Shown → ℕ → ℕ → List ℕ → List ℕ → Type 0
 TellsPicture None from to d status count room filled = status ≡ OUT_OF_RANGE
 TellsPicture (Some look) from to d status count room filled =
-    TellsPart (CanBeDrawn from to d) (picture_of d from to look) status count room filled
+    TellsFormat (Svg (slots_between from to) look) d status count room filled

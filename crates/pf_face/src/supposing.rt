@@ -1,33 +1,37 @@
-ghost use Rattle.std.specs.Prelude.{◌≡◌, ◌⊎◌, None, IfSome};
+ghost use Rattle.std.specs.Prelude.{◌≡◌, ◌⊎◌, None, IfOk, IfSome};
 ghost use Rattle.pf_desk.specs.declared.command.Command.TheVariants.{Edit};
 ghost use Rattle.pf_desk.specs.Desk.{IsAsBefore};
+ghost use Rattle.pf_options.specs.Formats.{range_fault};
 ghost use Rattle.pf_face.specs.declared.status.TheConstants.{OK, UNKNOWN_KIND};
 ghost use Rattle.pf_face.specs.Asked.{change_in};
 ghost use Rattle.pf_face.specs.Supposed.{StaysAsBefore, Supposes, TellsReady};
-ghost use Rattle.pf_face.specs.Texts.{kind_numbered};
+ghost use Rattle.pf_face.specs.Texts.{format_numbered, text_seen};
 ghost use Rattle.pf_face.specs.Told.{Tells};
 
 use crate::handle::Handle;
 use crate::raw_change::RawChange;
 use crate::raw_reply::{RawReply, status};
+use crate::refusals::refusals_told;
 use crate::room::fill_text;
-use crate::status::{NO_MEMORY, NOT_OPEN, OK, UNKNOWN_KIND};
-use crate::text_kind::TextKind;
+use crate::status::{NO_MEMORY, NOT_OPEN, OK, OUT_OF_RANGE, UNKNOWN_KIND};
+use crate::text_kind::format_numbered;
 use crate::texts::text_of_snapshot;
 use pf_desk::command::Command;
 use pf_desk::desk::Desk;
 use pf_desk::prepared::Prepared;
+use pf_options::format::Format;
 use pf_order::meter::Meter;
 use pf_scenario::change::Change;
-use std::alloc::Global;
+use std::alloc::{AllocError, Global};
 
 /// Tells what a caller's change would be answered, and where it would be made, writes a text of the desk as it would then
 /// be. The desk is as before. `count` is how many bytes the text has, where the room is too short too.
 ///
 /// # Errors
 ///
-/// The number of the refusal that the change would get, which `reply` tells more of; `TOO_SHORT`; `NOT_OPEN`, `NO_MEMORY`
-/// and `UNKNOWN_KIND`, of the change or the text: `reply` is as before. The room is as before with each of them.
+/// The number of the refusal that the change would get, which `reply` tells more of; `TOO_SHORT`; `OUT_OF_RANGE` where the text is
+/// a page of more slots than one may show; `NOT_OPEN`, `NO_MEMORY` and `UNKNOWN_KIND`, of the change or the text: `reply` is as
+/// before. The room is as before with each of them.
 #[unsafe(no_mangle)]
 pub extern "C" fn pfair_what_if(
     alloc: Global,
@@ -40,23 +44,45 @@ pub extern "C" fn pfair_what_if(
     room: &mut [u8],
     count: &mut usize,
 ) -> u32
-    ensures unknown { (change_in change.now ≡ None) ⊎ (kind_numbered kind ≡ None) → (result ≡ UNKNOWN_KIND) × (reply.new ≡ reply.old) }
-    ensures supposes { IfSome (change_in change.now) (λ c. IfSome (kind_numbered kind) (λ k. Tells desk.old.value result
-        (λ d. Supposes caller (Edit c strict) k d result reply.old reply.new count.new room.old room.new))) }
+    ensures unknown { (change_in change.now ≡ None) ⊎ (format_numbered kind ≡ None) → (result ≡ UNKNOWN_KIND) × (reply.new ≡ reply.old) }
+    ensures supposes { IfSome (change_in change.now) (λ c. IfSome (format_numbered kind) (λ f. Tells desk.old.value result
+        (λ d. Supposes caller (Edit c strict) f d result reply.old reply.new count.new room.old room.new))) }
     ensures desk { StaysAsBefore desk.old.value desk.new.value }
     ensures rest { (result ≡ OK → ⊥) → room.new ≡ room.old }
 {
     let Some(change) = change.change() else {
         return UNKNOWN_KIND;
     };
-    let Some(kind) = TextKind::numbered(kind) else {
+    let Some(format) = format_numbered(kind) else {
         return UNKNOWN_KIND;
     };
+    suppose_at(
+        alloc, desk, caller, change, strict, reply, format, room, count,
+    )
+}
+
+/// Tells of the desk at a handle what a change would be answered, and a text of it as it would then be.
+fn suppose_at(
+    alloc: Global,
+    desk: &mut Handle,
+    caller: u32,
+    change: Change,
+    strict: bool,
+    reply: &mut RawReply,
+    format: Format,
+    room: &mut [u8],
+    count: &mut usize,
+) -> u32
+    ensures supposes { Tells desk.old.value result
+        (λ d. Supposes caller (Edit change strict) format d result reply.old reply.new count.new room.old room.new) }
+    ensures desk { StaysAsBefore desk.old.value desk.new.value }
+    ensures rest { (result ≡ OK → ⊥) → room.new ≡ room.old }
+{
     match desk.take(alloc) {
         None => NOT_OPEN,
         Some(mut held) => {
             let status = suppose(
-                alloc, &mut held, caller, change, strict, reply, kind, room, count,
+                alloc, &mut held, caller, change, strict, reply, format, room, count,
             );
             desk.put(alloc, held);
             status
@@ -72,41 +98,32 @@ fn suppose(
     change: Change,
     strict: bool,
     telling: &mut RawReply,
-    kind: TextKind,
+    format: Format,
     room: &mut [u8],
     count: &mut usize,
 ) -> u32
-    ensures supposes { Supposes caller (Edit change strict) kind desk.old result telling.old telling.new count.new room.old room.new }
+    ensures supposes { Supposes caller (Edit change strict) format desk.old result telling.old telling.new count.new room.old room.new }
     ensures desk { IsAsBefore desk.old desk.new }
     ensures rest { (result ≡ OK → ⊥) → room.new ≡ room.old }
 {
     let mut meter = Meter::new();
     match desk.prepare(&mut meter, caller, Command::Edit { change, strict }) {
-        Ok(prepared) => tell_ready(
-            alloc,
-            &prepared,
-            desk.distance(),
-            telling,
-            kind,
-            room,
-            count,
-        ),
+        Ok(prepared) => tell_ready(alloc, desk, &prepared, telling, format, room, count),
         Err(_) => NO_MEMORY,
     }
 }
 
-/// Tells the reply of a command that was made ready for a desk with such a distance of checkpoints, and a text of that desk
-/// as it would then be.
+/// Tells the reply of a command that was made ready for a desk, and a text of the desk as it would then be.
 fn tell_ready(
     alloc: Global,
+    desk: &Desk,
     prepared: &Prepared,
-    every: u64,
     telling: &mut RawReply,
-    kind: TextKind,
+    format: Format,
     room: &mut [u8],
     count: &mut usize,
 ) -> u32
-    ensures tells { TellsReady prepared.now.entry.reply prepared.now.seen kind every result telling.old telling.new count.new room.old room.new }
+    ensures tells { TellsReady prepared.now.entry.reply prepared.now.seen format desk.now.every desk.now.history result telling.old telling.new count.new room.old room.new }
     ensures rest { (result ≡ OK → ⊥) → room.new ≡ room.old }
 {
     let answer = status(prepared.reply());
@@ -114,11 +131,31 @@ fn tell_ready(
         *telling = RawReply::of(prepared.reply());
         return answer;
     }
-    match text_of_snapshot(alloc, prepared.snapshot(), kind, every) {
+    if format.range_fault(prepared.snapshot().now()).is_some() {
+        *telling = RawReply::of(prepared.reply());
+        return OUT_OF_RANGE;
+    }
+    match text_ready(alloc, desk, prepared, format) {
         Ok(text) => {
             *telling = RawReply::of(prepared.reply());
             fill_text(&text, room, count)
         }
         Err(_) => NO_MEMORY,
     }
+}
+
+/// A text of a desk as it would be behind what was made ready for it.
+fn text_ready(
+    alloc: Global,
+    desk: &Desk,
+    prepared: &Prepared,
+    format: Format,
+) -> Result<Vec<u8>, AllocError>
+    requires { range_fault format prepared.now.seen.state.now ≡ None }
+    ensures { IfOk result (λ text. text.items ≡ text_seen format desk.now.every prepared.now.seen desk.now.history) }
+{
+    // A copy of its own for each call: so the check follows both.
+    let shown = format;
+    let refusals = refusals_told(alloc, desk.history(), format)?;
+    text_of_snapshot(alloc, prepared.snapshot(), shown, desk.distance(), refusals)
 }

@@ -1,39 +1,32 @@
-ghost use Rattle.std.specs.Prelude.{◌≡◌, IfOk};
-ghost use Rattle.pf_jobs.specs.Jobs.{jobs_text};
-ghost use Rattle.pf_tasks.specs.Listed.{all_tasks};
+ghost use Rattle.std.specs.Prelude.{◌≡◌, None, IfOk};
+ghost use Rattle.pf_formats.specs.Report.{report_text};
+ghost use Rattle.pf_names.specs.Titled.{untitled};
+ghost use Rattle.pf_options.specs.Formats.{range_fault};
 ghost use Rattle.pf_face.specs.declared.status.TheConstants.{OK};
-ghost use Rattle.pf_face.specs.Told.{MayFillRoom, Tells};
-ghost use Rattle.pf_face.specs.Texts.{TellsText, kind_numbered, text_of, text_seen};
+ghost use Rattle.pf_face.specs.Told.{Tells};
+ghost use Rattle.pf_face.specs.Texts.{TellsFormat, TellsText, format_numbered, part_numbered, text_of};
 
 use crate::handle::Handle;
-use crate::ranges::part_of_snapshot;
+use crate::refusals::refusals_told;
 use crate::room::fill_text;
-use crate::status::{NO_MEMORY, NOT_OPEN, UNKNOWN_KIND};
-use crate::text_kind::TextKind;
-use pf_code::array::c_pieces;
+use crate::status::{NO_MEMORY, NOT_OPEN, OUT_OF_RANGE, UNKNOWN_KIND};
+use crate::text_kind::{format_numbered, part_numbered};
 use pf_desk::desk::Desk;
 use pf_desk::snapshot::Snapshot;
-use pf_jobs::jobs::job_pieces;
+use pf_formats::report::report_pieces;
+use pf_full::refusal::Refusal;
 use pf_names::titles::Titles;
-use pf_report::denials::denials_csv;
-use pf_report::events::events_csv;
-use pf_report::json::report_json;
-use pf_report::lags::lags_csv;
-use pf_report::misses::misses_csv;
-use pf_report::script::script_text;
-use pf_stats::processors::processors_csv;
-use pf_stats::stats::stats_csv;
-use pf_tasks::task_list::TaskList;
+use pf_options::format::Format;
 use pf_text::pieces::gathered;
-use pf_trace::trace::trace_pieces;
 use std::alloc::{AllocError, Global};
 
-/// Writes a text of a desk, of the kind of this number: `SCHEDULE` to `C`. `count` is how many bytes it has, where the
+/// Writes a text of a desk, of the kind of this number: `SCHEDULE` to `TABLES`. `count` is how many bytes it has, where the
 /// room is too short too.
 ///
 /// # Errors
 ///
-/// `UNKNOWN_KIND`, `TOO_SHORT`, `NO_MEMORY`, `NOT_OPEN`: the room is as before.
+/// `UNKNOWN_KIND`; `OUT_OF_RANGE` where it is a page of more slots than one may show; `TOO_SHORT`, `NO_MEMORY`, `NOT_OPEN`: the
+/// room is as before.
 #[unsafe(no_mangle)]
 pub extern "C" fn pfair_text(
     alloc: Global,
@@ -43,15 +36,55 @@ pub extern "C" fn pfair_text(
     count: &mut usize,
 ) -> u32
     ensures same { desk.new.value ≡ desk.old.value }
-    ensures text { Tells desk.old.value result (λ d. TellsText (kind_numbered kind) d result count.new room.old room.new) }
+    ensures text { Tells desk.old.value result (λ d. TellsText (format_numbered kind) d result count.new room.old room.new) }
+    ensures rest { (result ≡ OK → ⊥) → room.new ≡ room.old }
+{
+    tell_text(alloc, desk, format_numbered(kind), room, count)
+}
+
+/// Writes the part of a text of slots, of the kind of this number, `SCHEDULE`, `CHART`, `WINDOWS`, `LOAD` or `QUANTA`, that
+/// has the slots from `from` on and below `to`. `count` is how many bytes it has, where the room is too short too.
+///
+/// # Errors
+///
+/// `UNKNOWN_KIND` where the kind is none of these; `OUT_OF_RANGE` where `from` is above `to` or that above the slots stepped;
+/// `TOO_SHORT`, `NO_MEMORY`, `NOT_OPEN`. The room is as before.
+#[unsafe(no_mangle)]
+pub extern "C" fn pfair_part(
+    alloc: Global,
+    desk: &mut Handle,
+    kind: u64,
+    from: u64,
+    to: u64,
+    room: &mut [u8],
+    count: &mut usize,
+) -> u32
+    ensures same { desk.new.value ≡ desk.old.value }
+    ensures part { Tells desk.old.value result
+        (λ d. TellsText (part_numbered kind from to) d result count.new room.old room.new) }
+    ensures rest { (result ≡ OK → ⊥) → room.new ≡ room.old }
+{
+    tell_text(alloc, desk, part_numbered(kind, from, to), room, count)
+}
+
+/// Writes the text of a format, where there is one, of the desk at a handle.
+fn tell_text(
+    alloc: Global,
+    desk: &mut Handle,
+    format: Option<Format>,
+    room: &mut [u8],
+    count: &mut usize,
+) -> u32
+    ensures same { desk.new.value ≡ desk.old.value }
+    ensures text { Tells desk.old.value result (λ d. TellsText format d result count.new room.old room.new) }
     ensures rest { (result ≡ OK → ⊥) → room.new ≡ room.old }
 {
     match desk.take(alloc) {
         None => NOT_OPEN,
         Some(held) => {
-            let status = match TextKind::numbered(kind) {
+            let status = match format {
                 None => UNKNOWN_KIND,
-                Some(kind) => fill_text_of(alloc, &held, kind, room, count),
+                Some(format) => fill_format(alloc, &held, format, room, count),
             };
             desk.put(alloc, held);
             status
@@ -59,61 +92,53 @@ pub extern "C" fn pfair_text(
     }
 }
 
-/// Writes a text of a desk.
-fn fill_text_of(
+/// Writes the text of a format of a desk, where it can be shown.
+pub(crate) fn fill_format(
     alloc: Global,
     desk: &Desk,
-    kind: TextKind,
+    format: Format,
     room: &mut [u8],
     count: &mut usize,
 ) -> u32
-    ensures text { MayFillRoom (text_of kind desk.now) result count.new room.old room.new }
+    ensures text { TellsFormat format desk.now result count.new room.old room.new }
     ensures rest { (result ≡ OK → ⊥) → room.new ≡ room.old }
 {
-    match text(alloc, desk, kind) {
+    if format.range_fault(desk.now()).is_some() {
+        return OUT_OF_RANGE;
+    }
+    match text(alloc, desk, format) {
         Ok(text) => fill_text(&text, room, count),
         Err(_) => NO_MEMORY,
     }
 }
 
-/// A text of a desk.
-fn text(alloc: Global, desk: &Desk, kind: TextKind) -> Result<Vec<u8>, AllocError>
-    ensures { IfOk result (λ text. text.items ≡ text_of kind desk.now) }
+/// The text of a format of a desk.
+fn text(alloc: Global, desk: &Desk, format: Format) -> Result<Vec<u8>, AllocError>
+    requires { range_fault format desk.now.state.now ≡ None }
+    ensures { IfOk result (λ text. text.items ≡ text_of format desk.now) }
 {
+    // A copy of its own for each call: so the check follows both.
+    let shown = format;
+    let refusals = refusals_told(alloc, desk.history(), format)?;
     let snapshot = desk.snapshot()?;
-    text_of_snapshot(alloc, &snapshot, kind, desk.distance())
+    text_of_snapshot(alloc, &snapshot, shown, desk.distance(), refusals)
 }
 
-/// A text of what a snapshot of a desk with such a distance of checkpoints shows.
+/// The text of a format of what a snapshot of a desk with such a distance of checkpoints shows, of which these commands were
+/// refused.
 pub(crate) fn text_of_snapshot(
     alloc: Global,
     snapshot: &Snapshot,
-    kind: TextKind,
+    format: Format,
     every: u64,
+    refusals: Vec<Refusal>,
 ) -> Result<Vec<u8>, AllocError>
-    ensures { IfOk result (λ text. text.items ≡ text_seen kind every snapshot.now) }
+    requires { range_fault format snapshot.now.state.now ≡ None }
+    ensures { IfOk result (λ text. text.items ≡ report_text format every snapshot.now untitled refusals.items) }
 {
     let titles = Titles::none(alloc);
-    match kind {
-        TextKind::Slots(part) => part_of_snapshot(alloc, snapshot, part, 0, snapshot.now()),
-        TextKind::Lags => lags_csv(alloc, snapshot, &titles),
-        TextKind::Misses => misses_csv(alloc, snapshot),
-        TextKind::Denials => denials_csv(alloc, snapshot),
-        TextKind::Events => events_csv(alloc, snapshot),
-        TextKind::Script => script_text(alloc, snapshot, every, &titles),
-        TextKind::Json => report_json(alloc, snapshot, &titles),
-        TextKind::Processors => processors_csv(alloc, snapshot),
-        TextKind::Stats => stats_csv(alloc, snapshot, &titles),
-        TextKind::Jobs => jobs(alloc, snapshot, &titles),
-        TextKind::Trace => gathered(alloc, trace_pieces(alloc, snapshot, &titles)?),
-        TextKind::Code => gathered(alloc, c_pieces(alloc, snapshot, &titles)?),
-    }
-}
-
-/// The jobs of all tasks.
-fn jobs(alloc: Global, snapshot: &Snapshot, titles: &Titles) -> Result<Vec<u8>, AllocError>
-    ensures { IfOk result (λ text. text.items ≡ jobs_text snapshot.now all_tasks titles.now) }
-{
-    let tasks = TaskList::all(alloc)?;
-    gathered(alloc, job_pieces(alloc, snapshot, &tasks, titles)?)
+    gathered(
+        alloc,
+        report_pieces(alloc, snapshot, every, format, &titles, refusals)?,
+    )
 }

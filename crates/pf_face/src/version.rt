@@ -4,7 +4,7 @@ ghost use Rattle.pf_face.specs.Told.{FillsRoom};
 use crate::room::fill_text;
 
 /// The version of the header.
-const VERSION: &str = "0.3.0";
+const VERSION: &str = "0.4.0";
 
 /// Tells the version of the header that the library was made with, as a text. `count` is how many bytes it has, where the
 /// room is too short too.
@@ -14,7 +14,7 @@ const VERSION: &str = "0.3.0";
 /// `TOO_SHORT`: the room is as before.
 #[unsafe(no_mangle)]
 pub extern "C" fn pfair_version(room: &mut [u8], count: &mut usize) -> u32
-    ensures { FillsRoom (codes "0.3.0") result count.new room.old room.new }
+    ensures { FillsRoom (codes "0.4.0") result count.new room.old room.new }
 {
     fill_text(VERSION.as_bytes(), room, count)
 }

@@ -82,10 +82,6 @@ module _ (s : Plan) (n : ℕ) (ledger : Ledger) (known : IsLedger s n ledger) wh
           most.base.within,
         )
 
-    pub few_slots : from ≤ WIDE_HORIZON
-    few_slots =
-        omega (arith, at.short, known.slots, known.log.within, horizon_within s.settings known.log.settings)
-
     -- the next event, at its slot
     module _ (x : Numbered) (lt : k < length ledger.events.items) (is : get_or ledger.events.items k x ≡ x) where
       slot : ℕ

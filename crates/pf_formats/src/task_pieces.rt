@@ -1,4 +1,6 @@
+use pf_chart::chart::ChartPieces;
 use pf_jobs::jobs::JobPieces;
+use pf_picture::picture::PicturePieces;
 use pf_report::lags::LagPieces;
 use pf_report::misses::MissPieces;
 use pf_report::quanta::QuantaPieces;
@@ -24,6 +26,10 @@ pub enum TaskPieces<'a> {
     Lags(ListedLines<LagPieces<'a>>),
     /// The missed windows.
     Misses(ListedLines<MissPieces>),
+    /// The chart of a range.
+    Chart(ChartPieces<'a>),
+    /// The picture of a range.
+    Picture(PicturePieces<'a>),
 }
 
 impl Pieces for TaskPieces<'_> {
@@ -42,6 +48,8 @@ impl Pieces for TaskPieces<'_> {
             TaskPieces::Stats(pieces) => pieces.next_piece(alloc),
             TaskPieces::Lags(pieces) => pieces.next_piece(alloc),
             TaskPieces::Misses(pieces) => pieces.next_piece(alloc),
+            TaskPieces::Chart(pieces) => pieces.next_piece(alloc),
+            TaskPieces::Picture(pieces) => pieces.next_piece(alloc),
         }
     }
 }

@@ -89,11 +89,6 @@ size_from_tree r (tree at key rank kids (tree at' key' rank' kids' rest')) h = a
 
 -- ---- weights
 
-pub forest_weight-ext : (v w : ℕ → Priority → ℕ) (f : Forest) → ((at : ℕ) (key : Priority) → v at key ≡ w at key) → forest_weight v f ≡ forest_weight w f
-forest_weight-ext v w none e = refl
-forest_weight-ext v w (tree at key rank kids rest) e =
-    omega (arith, e at key, forest_weight-ext v w kids e, forest_weight-ext v w rest e)
-
 pub forest_weight-add : (u v w : ℕ → Priority → ℕ) (f : Forest) → ((at : ℕ) (key : Priority) → w at key ≡ u at key + v at key) → forest_weight w f ≡ forest_weight u f + forest_weight v f
 forest_weight-add u v w none e = refl
 forest_weight-add u v w (tree at key rank kids rest) e =

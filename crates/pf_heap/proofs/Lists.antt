@@ -1,10 +1,9 @@
 -- The list of an arena's heaps.
-use Rattle.std.proofs.Common.{◌≡◌, ◌≢◌, ℕ, zero, suc, ◌+◌, ◌-◌, ◌<◌, ◌≤◌, List, [], ◌∷◌, ◌++◌, map, length, get_or, set, take, drop, refl, sym, ap, ◌∙◌, subst, arith, ⊎_elim, length-append, eqb, ltb, get_or-set_other}
+use Rattle.std.proofs.Common.{◌≡◌, ◌≢◌, ℕ, zero, suc, ◌+◌, ◌-◌, ◌<◌, ◌≤◌, List, [], ◌∷◌, ◌++◌, map, length, get_or, set, take, drop, refl, sym, ap, ◌∙◌, subst, arith, ⊎_elim, length-append, eqb, get_or-set_other}
 use Rattle.std.specs.Prelude.{IsTrue, not}
 use Rattle.std.proofs.lemmas.Bool.Decides.{nat_tests}
 use Rattle.std.proofs.lemmas.Bool.{cases_lt}
 use Rattle.std.proofs.lemmas.List.{get_or_append_left, set-set}
-use Rattle.std.proofs.Math.ListN.{replicate}
 use Rattle.std.proofs.Math.Seq.{take-append_seam}
 use Rattle.pf_order.specs.Priority.{Priority}
 use Rattle.pf_heap.specs.declared.node.Node.{Node}
@@ -160,15 +159,7 @@ differ_from_true m n t e = grind (arith, nat_tests)
 pub true_from_differ : (m n : ℕ) → m ≢ n → IsTrue (not (eqb m n))
 true_from_differ m n h = grind (arith, nat_tests)
 
-pub below_from_true : (m n : ℕ) → n ≤ m → IsTrue (ltb m n) → ⊥
-below_from_true m n h t = grind (arith, nat_tests)
-
 -- ---- no heaps, and one more
-
-pub all_nowhere : (n t : ℕ) → get_or (replicate n nowhere) t nowhere ≡ nowhere
-all_nowhere zero t = refl
-all_nowhere (suc n) zero = refl
-all_nowhere (suc n) (suc t) = all_nowhere n t
 
 pub weigh_all-none : (w : ℕ → Priority → ℕ) (fs : List Forest) → weigh_all w (all_roots (fs ++ none ∷ [])) ≡ weigh_all w (all_roots fs)
 weigh_all-none w [] = refl

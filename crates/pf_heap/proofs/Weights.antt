@@ -4,7 +4,7 @@ use Rattle.pf_order.specs.Priority.{Priority}
 use Rattle.pf_heap.specs.declared.node.Node.{Node}
 use Rattle.pf_heap.specs.Forest.{Forest, none, tree, forest_weight, same, one_each, size}
 use Rattle.pf_heap.specs.Memory.{Stands, Part, weigh_all, StandAll, Parts}
-use Rattle.pf_heap.proofs.Forests.{forest_weight-add, forest_weight-zero, forest_weight-ext}
+use Rattle.pf_heap.proofs.Forests.{forest_weight-add, forest_weight-zero}
 
 -- 1 below n, else 0
 unfoldable pub upto : ℕ → ℕ → ℕ
@@ -29,10 +29,6 @@ weigh_all-zero w (p ∷ ps) e = omega (arith, forest_weight-zero w p.1 e, weigh_
 pub weigh_all-add : (u v w : ℕ → Priority → ℕ) (ps : List Part) → ((at : ℕ) (key : Priority) → w at key ≡ u at key + v at key) → weigh_all w ps ≡ weigh_all u ps + weigh_all v ps
 weigh_all-add u v w [] e = refl
 weigh_all-add u v w (p ∷ ps) e = omega (arith, forest_weight-add u v w p.1 e, weigh_all-add u v w ps e)
-
-pub weigh_all-ext : (v w : ℕ → Priority → ℕ) (ps : List Part) → ((at : ℕ) (key : Priority) → v at key ≡ w at key) → weigh_all v ps ≡ weigh_all w ps
-weigh_all-ext v w [] e = refl
-weigh_all-ext v w (p ∷ ps) e = omega (arith, forest_weight-ext v w p.1 e, weigh_all-ext v w ps e)
 
 -- pigeons in holes: where no number is had twice, no more than n numbers are below n
 pub pigeonhole : (g : ℕ → Priority → ℕ) (ps : List Part) (n : ℕ) → ((i : ℕ) → weigh_all (λ at key. same i (g at key)) ps ≤ 1) →

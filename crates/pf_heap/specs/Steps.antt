@@ -7,15 +7,6 @@ use Rattle.pf_heap.specs.declared.adding.Sum.{Sum}
 use Rattle.pf_heap.specs.Forest.{Forest, nowhere, head, forest_weight, size, some, Rises, Sinks, IsTreeOrNone}
 use Rattle.pf_heap.specs.Memory.{Part, root, weigh_all, Parts}
 
--- the link is a list's, under the parent `up`
-pub record HasList (nodes : List Node) (link : ℕ) : Type 0 where
-  pub up : ℕ
-  pub list : Forest
-  pub others : List Part
-  pub link_is : link ≡ head list
-  pub small : length nodes < 2 ^ 32
-  pub parts : Parts nodes ((up, list) ∷ others)
-
 -- the link is a list of roots
 pub record HasRoots (nodes : List Node) (link : ℕ) : Type 0 where
   pub list : Forest

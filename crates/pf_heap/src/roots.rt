@@ -38,7 +38,7 @@ pub(crate) fn push(nodes: &mut [Node], tree: u32, list: u32) -> u32
     tree
 }
 
-/// Turns a list of falling ranks round in front of a list of roots, and makes its trees roots.
+/// Reverses a list of falling ranks onto the front of a list of roots, and clears the parent links of its trees.
 pub(crate) fn turn(nodes: &mut [Node], link: u32, behind: u32) -> u32
     requires can { CanTurn nodes.old link behind }
     ensures { (can : CanTurn nodes.old link behind) → IsTurned nodes.new can.list can.last can.others result }

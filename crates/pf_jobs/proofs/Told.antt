@@ -1,9 +1,9 @@
 -- The jobs of a task, by what is told of it.
-use Rattle.std.proofs.Common.{◌≡◌, ◌∙◌, ℕ, zero, suc, ◌+◌, ◌-◌, ◌*◌, ◌/◌, ◌<◌, ◌≤◌, Bool, true, false, cond, take, filter, filter_map, get_or, subst, Option, Some, Result, Ok, Err, List, [], ◌∷◌, ◌++◌, length, All, refl, sym, ap, ap₂, arith}
+use Rattle.std.proofs.Common.{◌≡◌, ◌∙◌, ℕ, zero, suc, ◌+◌, ◌-◌, ◌*◌, ◌/◌, ◌<◌, ◌≤◌, Bool, true, false, cond, take, filter, filter_map, get_or, subst, Result, Ok, Err, List, [], ◌∷◌, ◌++◌, length, All, refl, sym, ap, ap₂, arith}
 use Rattle.std.specs.Prelude.{OnOk}
 use Rattle.std.specs.List.{flat_map, range_with_len, slice_get}
 use Rattle.std.specs.Option.{option_map}
-use Rattle.std.proofs.Math.Nat.{div-mul-le_self, mul-le-mul_right}
+use Rattle.std.proofs.Math.Nat.{mul-le-mul_right}
 use Rattle.std.proofs.lemmas.Grind.{flat_map-append}
 use Rattle.std.proofs.lemmas.List.{append-nil, take_all}
 use Rattle.std.proofs.lemmas.List.Concat.{flat_map-cons}
@@ -51,31 +51,9 @@ flat_map_agree f g a (suc k) same =
     ∙ ap₂ (λ xs ys. xs ++ ys) (same a (omega arith)) (flat_map_agree f g (a + 1) k (λ i above. same i (omega (arith, above))))
     ∙ sym (flat_map-cons g a (range_with_len (a + 1) k))
 
--- Use: a slot of these is below a bound.
-pub all_got : (w : ℕ) (xs : List ℕ) (i t : ℕ) → All (λ q. q < w) xs → Some t ≡ slice_get xs i → t < w
-all_got w [] i t all is = cc
-all_got w (x ∷ xs) zero t all is =
-    let same : t ≡ x = cc in
-    omega (arith, same, all 0 t (omega arith))
-all_got w (x ∷ xs) (suc i) t all is = all_got w xs i t (λ k d below. all (suc k) d (omega (arith, below))) is
-
 -- Use: a job has at least a subtask.
 pub some_subs : (k cost : ℕ) → 1 ≤ k → cost ≤ k * cost
 some_subs k cost some = omega (arith, mul-le-mul_right cost some)
-
--- Use: behind all jobs none is left.
-pub none_left : (x : NamedRan) → named_behind_job x (job_count x.ran) ≡ []
-none_left x = ap (with_name x.titles x.ran.task.task) (none_behind x.ran)
-  where
-    none_behind : (ran : Ran) → records_behind_job ran (job_count ran) ≡ []
-    none_behind ran =
-        ap (λ n. flat_map (λ i. job_records ran.end (job_by ran i)) (range_with_len (job_count ran + 1) n))
-        (let z : job_count ran - job_count ran ≡ 0 = omega arith in z)
-
--- Use: the subtasks of the next job are within the slots.
-pub within_slots : (ran : Ran) (k : ℕ) → k ≤ job_count ran → k * ran.task.weight.cost ≤ ran.slot_count
-within_slots ran k within =
-    omega (arith, mul-le-mul_right ran.task.weight.cost within, div-mul-le_self ran.slot_count ran.task.weight.cost)
 
 -- one job further
 module _ (ran : Ran) (at : ℕ) (within : at < job_count ran) where
@@ -105,10 +83,6 @@ module _ (ran : Ran) (at : ℕ) (within : at < job_count ran) where
       is = (refl, h);
     }
     told_added (Err e) job old new is told h = tt
-
-    pub none_added : (job : Job) (page : Page) → job ≡ job_by ran (at + 1) → is_told ran.end job ≡ false →
-        AddsAtMostOne (left at) (left (at + 1)) page page
-    none_added job page is told = record { added = []; of_was = ap (with_name titles ran.task.task) (by_test job false is told); is = refl }
 
 -- a task's own events are enough
 pub own_records : (r : List Slot) (xs : List Numbered) (j : Joined) → records_of_task r (events_of_task j.task xs) j ≡ records_of_task r xs j

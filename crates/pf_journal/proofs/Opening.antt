@@ -100,13 +100,6 @@ is_journal file old known =
       | inr other ↦ absurd (known (state ∙ ap (λ (b : Bool). if b then Journal else Other) other))
     ]
 
--- a journal of its heading alone
-pub begun_rest : (file : List ℕ) → file ≡ journal_of (heading ∷ []) → IsAtRest file 9
-begun_rest file is = record { records = []; texts = refl; is = is; size = refl }
-
-pub begun_records : (file : List ℕ) → file ≡ journal_of (heading ∷ []) → records_of file ≡ []
-begun_records file is = records_are file [] (ap texts_of is)
-
 -- the gate of a heading is written into a file of one byte at most
 module _ (file : List ℕ) (short : length file ≤ 1) where
   pub first_crash : (c : List ℕ) → Torn 0 1 file c → records_of c ≡ []
@@ -136,17 +129,6 @@ module _ (rest : List ℕ) (few : length rest ≤ 9) where
       written 1 behind (32 ∷ rest) c (omega arith) torn holds
       ∙ ap (λ (l : List ℕ). (32 ∷ behind) ++ l) (drop_all 9 rest few)
 
--- a new file of more than a byte
-pub new_begun : (file : List ℕ) → is_new file ≡ true → 1 < length file → IsBegun file
-new_begun file new some = elim (parts_of file new) [
-  | inl short ↦ absurd (omega (arith, some, short))
-  | inr blank ↦ (
-    drop 1 file,
-    omega (arith, blank.0, length-drop 1 file),
-    drop_more file 0 0 (omega (arith, some)) ∙ ap (λ (b : ℕ). b ∷ drop 1 file) blank.1,
-  )
-]
-
 -- the end of a journal is mended
 module _ (file : List ℕ) (size : ℕ) (is_size : size ≡ length (lines_of (texts_of file))) (journal : state_of file ≡ Journal) where
   abbrev texts : List (List ℕ)
@@ -163,9 +145,6 @@ module _ (file : List ℕ) (size : ℕ) (is_size : size ≡ length (lines_of (te
       let rest = texts_of (drop 9 file) in
       let is_headed : texts_of file ≡ heading ∷ rest = journal_heading file journal in
       records_are c rest (ap texts_of is ∙ lines_then texts end all none ∙ is_headed) ∙ sym (records_are file rest is_headed)
-
-  pub mended_records : (new : List ℕ) → new ≡ journal_of texts → records_of new ≡ records_of file
-  mended_records new is = same new (35 ∷ []) is refl
 
   pub mended_rest : (new : List ℕ) → new ≡ journal_of texts → IsAtRest new size
   mended_rest new is =

@@ -85,14 +85,8 @@ module _ (file : List ℕ) (gate : ℕ) (rest : IsAtRest file gate) where
   pub rest_lines : take gate file ≡ lines_of (heading ∷ rest.records)
   rest_lines = ap (λ (l : List ℕ). take gate l) rest.is ∙ take_at (lines_of (heading ∷ rest.records)) (35 ∷ []) gate (sym rest.size)
 
-  pub rest_shut : IsShutAt gate file
-  rest_shut = rest.is ∙ ap (λ (l : List ℕ). l ++ 35 ∷ []) (sym rest_lines)
-
   pub rest_records : records_of file ≡ rest.records
   rest_records = records_are file rest.records (ap texts_of rest.is ∙ journal_texts (heading ∷ rest.records) (both_true refl rest.texts))
-
-  pub rest_long : length file ≡ gate + 1
-  rest_long = omega (arith, ap length rest.is, rest.size, length-append (lines_of (heading ∷ rest.records)) (35 ∷ []))
 
 module _ (file : List ℕ) (gate : ℕ) (rest : IsAtRest file gate) (added : List ℕ) where
   -- a batch that has lines, and its bytes behind the first gate

@@ -1,12 +1,12 @@
 ghost use Rattle.std.specs.Prelude.{◌≡◌};
-ghost use Rattle.pf_kept.specs.Kept.{is_broken_pipe};
+ghost use Rattle.pf_kept.specs.Broken.{is_broken_pipe};
 
 use crate::pipe::Pipe;
 use pf_stream::sink::{CountedWriter, Sink};
 use std::io;
 use std::io::{ErrorKind, Write};
 
-/// A counted writer that keeps whether a write failed since nobody reads any more.
+/// A counted writer that keeps whether a write or a flush failed since nobody reads any more.
 #[derive(Drop)]
 pub struct KeptWriter<W> {
     writer: CountedWriter<W>,
@@ -31,8 +31,8 @@ impl<W: Write> KeptWriter<W> {
     }
 }
 
-/// Whether a write failed since nobody reads any more.
-fn is_broken_pipe(outcome: &io::Result<usize>) -> bool
+/// Whether a write or a flush failed since nobody reads any more.
+fn is_broken_pipe<T>(outcome: &io::Result<T>) -> bool
     ensures { result ≡ is_broken_pipe outcome.now }
 {
     match outcome {
@@ -45,8 +45,9 @@ impl<W: Write> Write for KeptWriter<W> {
     ghost use Rattle.std.specs.Prelude.{◌≡◌, ◌||◌};
     ghost use Rattle.std.specs.Io.{WritesAtMost};
     ghost use Rattle.std.specs.Io.KnownBytes.{Keeps, WriteAppends};
-    ghost use Rattle.pf_stream.specs.Counted.{writer_under};
-    ghost use Rattle.pf_kept.specs.Kept.{counted_writer, is_broken_pipe, was_closed};
+    ghost use Rattle.pf_stream.specs.Counted.{write_failures, writer_under};
+    ghost use Rattle.pf_kept.specs.Broken.{is_broken_pipe};
+    ghost use Rattle.pf_kept.specs.Kept.{counted_writer, was_closed};
 
     ghost contents = { λ w. W.contents (writer_under w.writer) };
 
@@ -62,9 +63,12 @@ impl<W: Write> Write for KeptWriter<W> {
 
     fn flush(&mut self) -> io::Result<()>
         ensures bytes { Keeps (W.contents (writer_under (counted_writer self.old))) (W.contents (writer_under (counted_writer self.new))) }
-        ensures closed { was_closed self.new ≡ was_closed self.old }
+        ensures count { write_failures (counted_writer self.new) ≡ write_failures (counted_writer self.old) }
+        ensures closed { was_closed self.new ≡ (was_closed self.old || is_broken_pipe result) }
     {
-        self.writer.flush()
+        let outcome = self.writer.flush();
+        self.closed = self.closed || is_broken_pipe(&outcome);
+        outcome
     }
 }
 
@@ -74,7 +78,8 @@ impl<W: Write> Sink for KeptWriter<W> {
     ghost use Rattle.std.specs.Io.KnownBytes.{WriteAppends};
     ghost use Rattle.pf_stream.specs.Counted.{write_failures, writer_under};
     ghost use Rattle.pf_stream.specs.Failing.{is_failed_write};
-    ghost use Rattle.pf_kept.specs.Kept.{counted_writer, is_broken_pipe, was_closed};
+    ghost use Rattle.pf_kept.specs.Broken.{is_broken_pipe};
+    ghost use Rattle.pf_kept.specs.Kept.{counted_writer, was_closed};
 
     ghost failed = { λ w. write_failures w.writer };
 
@@ -103,5 +108,9 @@ impl<W: Write> Pipe for KeptWriter<W> {
 
     fn is_closed(&self) -> bool {
         self.closed
+    }
+
+    fn flush_kept(&mut self) -> io::Result<()> {
+        self.flush()
     }
 }

@@ -1,11 +1,9 @@
 -- A list in groups: where the k-th item stands, and which groups hold its first items.
-use Rattle.std.proofs.Common.{◌≡◌, Some, None, ℕ, zero, suc, ◌+◌, ◌-◌, ◌*◌, ◌^◌, ◌<◌, ◌≤◌, List, [], ◌∷◌, ◌++◌, length, take, ap, ap₂, sym, ◌∙◌, refl, arith, append_assoc, length-append}
+use Rattle.std.proofs.Common.{◌≡◌, Some, None, ℕ, zero, suc, ◌+◌, ◌-◌, ◌*◌, ◌<◌, ◌≤◌, List, [], ◌∷◌, ◌++◌, length, take, ap, ap₂, sym, ◌∙◌, refl, arith, append_assoc, length-append}
 use Rattle.std.specs.List.{All, slice_get, flat_map}
 use Rattle.std.proofs.Math.Seq.{take-append-add}
-use Rattle.std.proofs.lemmas.List.{append-nil}
-use Rattle.std.proofs.lemmas.Grind.{flat_map-append}
-use Rattle.std.proofs.lemmas.List.Elements.{All-head, All-tail, All-nil, All-cons, All-append}
-use Rattle.pf_list.specs.Grouping.{grouped, AreGroups}
+use Rattle.std.proofs.lemmas.List.Elements.{All-head, All-tail}
+use Rattle.pf_list.specs.Grouping.{grouped}
 
 module _ {X : Type 0} where
   pub slice_get-take : (n : ℕ) (xs : List X) (k : ℕ) → k < n → slice_get (take n xs) k ≡ slice_get xs k
@@ -34,21 +32,6 @@ module _ {X : Type 0} where
   none_within [] k none = omega arith
   none_within (x ∷ xs) zero none = absurd (let some : None ≡ Some x = none in cc)
   none_within (x ∷ xs) (suc k) none = omega (arith, none_within xs k none)
-
-  pub All-take : (P : X → Type 0) (n : ℕ) (xs : List X) → All P xs → All P (take n xs)
-  All-take P zero xs h = All-nil P
-  All-take P (suc n) [] h = All-nil P
-  All-take P (suc n) (x ∷ xs) h = All-cons P x (take n xs) (All-head P x xs h) (All-take P n xs (All-tail P x xs h))
-
-  pub length-take_most : (n : ℕ) (xs : List X) → length (take n xs) ≤ length xs
-  length-take_most zero xs = omega arith
-  length-take_most (suc n) [] = omega arith
-  length-take_most (suc n) (x ∷ xs) = omega (arith, length-take_most n xs)
-
-  pub length-take_within : (n : ℕ) (xs : List X) → length (take n xs) ≤ n
-  length-take_within zero xs = omega arith
-  length-take_within (suc n) [] = omega arith
-  length-take_within (suc n) (x ∷ xs) = omega (arith, length-take_within n xs)
 
 -- Groups of 128 each.
 module _ {X : Type 0} where
@@ -116,26 +99,3 @@ module _ {X : Type 0} where
   first_in_last full last count whole past =
       sym (take-append-add (flat_map (λ group. group) full) last (count - length full * 128))
       ∙ ap (λ n. take n (grouped full last)) (omega (arith, length-full full whole))
-
-  -- a group more among the full ones
-  pub grouped-closed : (full : List (List X)) (last : List X) → grouped (full ++ last ∷ []) [] ≡ grouped full last
-  grouped-closed full last =
-      append-nil (flat_map (λ group. group) (full ++ last ∷ []))
-      ∙ flat_map-append (λ group. group) full (last ∷ [])
-      ∙ ap (λ end. flat_map (λ group. group) full ++ end) (append-nil last)
-
-  pub groups_closed : (full : List (List X)) (last : List X) → AreGroups full last → length last ≡ 128 → length full < 2 ^ 54
-      → AreGroups (full ++ last ∷ []) []
-  groups_closed full last groups long few = record {
-    whole = All-append (λ group. length group ≡ 128) full (last ∷ []) groups.whole
-        (All-cons (λ group. length group ≡ 128) last [] long (All-nil (λ group. length group ≡ 128)));
-    part = omega arith;
-    few = omega (arith, length-append full (last ∷ []));
-  }
-
-  pub groups_trimmed : (full : List (List X)) (last part : List X) (q : ℕ) → AreGroups full last → length part ≤ 128 → AreGroups (take q full) part
-  groups_trimmed full last part q groups short = record {
-    whole = All-take (λ group. length group ≡ 128) q full groups.whole;
-    part = short;
-    few = omega (arith, groups.few, length-take_most q full);
-  }

@@ -4,7 +4,7 @@ use Rattle.std.specs.List.{list_any, slice_get, position_or_len}
 use Rattle.std.specs.Option.{option_map_or, option_and_then}
 use Rattle.std.proofs.lemmas.Bool.{eqb-true, cond-true, lt-ltb}
 use Rattle.std.proofs.lemmas.List.Folds.{find_at}
-use Rattle.std.proofs.lemmas.List.{append-nil, append_assoc, take_all, take-append-drop, length-take}
+use Rattle.std.proofs.lemmas.List.{append-nil, append_assoc, take-append-drop, length-take}
 use Rattle.std.proofs.lemmas.List.Elements.{All-filter, All-take, All-append, All-nil, All-cons, Contains-get_or}
 use Rattle.std.proofs.lemmas.List.Sorted.{list_any-IsPermutation}
 use Rattle.pf_order.specs.declared.pick.Pick.{Pick}
@@ -168,10 +168,6 @@ module _ (seen : Seen) (events : List Numbered) (numbers : List ℕ) (are : AreR
 
   pub rows_long : length seen.rows ≡ n
   rows_long = ap length are.of_run.are_rows ∙ rows_length s n scenario
-
-  -- Use: all of the events are a front of them.
-  pub all_front : IsFront seen events
-  all_front = record { count = length (past s n); front = are.past ∙ sym (take_all (length (past s n)) (past s n) (omega arith)) }
 
   module _ (before : List Numbered) (front : IsFront seen before) where
     -- Use: those in force are within their limits, and few.

@@ -16,11 +16,12 @@ use Rattle.pf_picture.specs.Processors.{cell_text, processor_name, processor_tex
 use Rattle.pf_picture.specs.Rows.{height_of}
 use Rattle.pf_picture.specs.Scale.{Measures}
 use Rattle.pf_picture.specs.Shapes.{stretch_shape}
+use Rattle.pf_picture.specs.Shown.{TaskDrawings}
 use Rattle.pf_picture.specs.Task.{name_text, task_text_of}
 use Rattle.pf_picture.proofs.Steps.{first_and_others}
 
 -- Use: a slot of a row, by the counts and the row of the slot.
-pub slot_is : (seen : Seen) (s : Measures) (drawings : List Drawing) (counts : List ℕ) (p t count d : ℕ) (row : List (Option Pick)) → t < length seen.rows → counts ≡ counts_of seen
+pub slot_is : (seen : Seen) (s : Measures) (drawings : TaskDrawings) (counts : List ℕ) (p t count d : ℕ) (row : List (Option Pick)) → t < length seen.rows → counts ≡ counts_of seen
     → count ≡ get_or counts t d → Some row ≡ slice_get seen.rows t → cell_text s drawings count row p t ≡ slot_text seen s drawings p t
 slot_is seen s drawings counts p t count d row within of_counts of_count of_row =
     ap₂ (λ count row. cell_text s drawings count row p t)
@@ -33,7 +34,7 @@ pub task_and_others : (drawings : List Drawing) (place : ℕ) (d : Drawing) → 
 task_and_others drawings place d within =
     drop-cons drawings place d within ∙ ap (λ k. get_or drawings place d ∷ drop k drawings) (let z : suc place ≡ place + 1 = omega arith in z)
 
-module _ (seen : Seen) (s : Measures) (drawings : List Drawing) where
+module _ (seen : Seen) (s : Measures) (drawings : TaskDrawings) where
   -- Use: the row of a processor has a line.
   pub processor_some : (p : ℕ) (text : List ℕ) → text ≡ processor_text seen s drawings p → 1 ≤ length text
   unfolding processor_text processor_name
@@ -43,26 +44,26 @@ module _ (seen : Seen) (s : Measures) (drawings : List Drawing) where
   pub processor_next : (p place top : ℕ) → p < s.processors →
       rows_text seen s drawings p place top ≡ processor_text seen s drawings p ++ rows_text seen s drawings (p + 1) place top
   processor_next p place top some =
-      ap (λ xs. xs ++ (tasks_from s place top (drop place drawings) ++ codes "</g>\n")) (first_and_others (processor_text seen s drawings) p s.processors some)
-      ∙ append_assoc (processor_text seen s drawings p) (processors_from seen s drawings (p + 1)) (tasks_from s place top (drop place drawings) ++ codes "</g>\n")
+      ap (λ xs. xs ++ (tasks_from s place top (drop place drawings.shown) ++ codes "</g>\n")) (first_and_others (processor_text seen s drawings) p s.processors some)
+      ∙ append_assoc (processor_text seen s drawings p) (processors_from seen s drawings (p + 1)) (tasks_from s place top (drop place drawings.shown) ++ codes "</g>\n")
 
   -- Use: no processor is left.
-  pub processors_over : (p place top : ℕ) → s.processors ≤ p → rows_text seen s drawings p place top ≡ tasks_from s place top (drop place drawings) ++ codes "</g>\n"
+  pub processors_over : (p place top : ℕ) → s.processors ≤ p → rows_text seen s drawings p place top ≡ tasks_from s place top (drop place drawings.shown) ++ codes "</g>\n"
   processors_over p place top over =
-      ap (λ n. flat_map (processor_text seen s drawings) (range_with_len p n) ++ (tasks_from s place top (drop place drawings) ++ codes "</g>\n")) (let z : s.processors - p ≡ 0 = omega arith in z)
+      ap (λ n. flat_map (processor_text seen s drawings) (range_with_len p n) ++ (tasks_from s place top (drop place drawings.shown) ++ codes "</g>\n")) (let z : s.processors - p ≡ 0 = omega arith in z)
 
   -- Use: the part of one task, and what is left behind it.
-  pub task_next : (p place top : ℕ) (drawing : Drawing) → s.processors ≤ p → drop place drawings ≡ drawing ∷ drop (place + 1) drawings →
+  pub task_next : (p place top : ℕ) (drawing : Drawing) → s.processors ≤ p → drop place drawings.shown ≡ drawing ∷ drop (place + 1) drawings.shown →
       rows_text seen s drawings p place top ≡ task_text_of s top place drawing ++ rows_text seen s drawings p (place + 1) (top + height_of s drawing)
   task_next p place top drawing over at =
       processors_over p place top over ∙ ap (λ ds. tasks_from s place top ds ++ codes "</g>\n") at
-      ∙ append_assoc (task_text_of s top place drawing) (tasks_from s (place + 1) (top + height_of s drawing) (drop (place + 1) drawings)) (codes "</g>\n")
+      ∙ append_assoc (task_text_of s top place drawing) (tasks_from s (place + 1) (top + height_of s drawing) (drop (place + 1) drawings.shown)) (codes "</g>\n")
       ∙ ap (λ xs. task_text_of s top place drawing ++ xs) (sym (processors_over p (place + 1) (top + height_of s drawing) over))
 
   -- Use: nothing but the block's end is left.
-  pub rows_over : (p place top : ℕ) → s.processors ≤ p → length drawings ≤ place → rows_text seen s drawings p place top ≡ codes "</g>\n"
+  pub rows_over : (p place top : ℕ) → s.processors ≤ p → length drawings.shown ≤ place → rows_text seen s drawings p place top ≡ codes "</g>\n"
   rows_over p place top over all =
-      processors_over p place top over ∙ ap (λ ds. tasks_from s place top ds ++ codes "</g>\n") (drop_of_length-le drawings all)
+      processors_over p place top over ∙ ap (λ ds. tasks_from s place top ds ++ codes "</g>\n") (drop_of_length-le drawings.shown all)
 
 -- Use: the part of a task has a line.
 pub task_some : (s : Measures) (top place : ℕ) (drawing : Drawing) (text : List ℕ) → text ≡ task_text_of s top place drawing → 1 ≤ length text

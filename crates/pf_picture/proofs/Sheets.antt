@@ -5,12 +5,12 @@ use Rattle.std.proofs.lemmas.Grind.{div_ceil_times}
 use Rattle.std.specs.Int.{div_ceil}
 use Rattle.std.specs.List.{range_with_len}
 use Rattle.pf_desk.specs.Desk.{Seen}
-use Rattle.pf_picture.specs.Drawing.{Drawing}
 use Rattle.pf_picture.specs.Grid.{block_front, shift_text}
 use Rattle.pf_picture.specs.Left.{blocks_behind}
 use Rattle.pf_picture.specs.Picture.{blocks_from, rows_text}
 use Rattle.pf_picture.specs.Rows.{block_height}
 use Rattle.pf_picture.specs.Scale.{Measures, block_of, blocks_of, first_top}
+use Rattle.pf_picture.specs.Shown.{TaskDrawings}
 
 before_last : (n wrap k count : ℕ) → suc k < count → count * wrap < n + wrap → wrap * suc k ≤ n
 before_last n wrap k count below within =
@@ -28,19 +28,19 @@ block_starts s wrap (suc k) some rising below =
     omega (arith, rising, start)
 
 -- Use: one block, and those below it.
-pub blocks_next : (seen : Seen) (s : Measures) (wrap : ℕ) (drawings : List Drawing) (k offset : ℕ) → k < blocks_of s wrap →
+pub blocks_next : (seen : Seen) (s : Measures) (wrap : ℕ) (drawings : TaskDrawings) (k offset : ℕ) → k < blocks_of s wrap →
     blocks_behind seen s wrap drawings k offset
-    ≡ block_front (block_of s wrap k) offset (block_height (block_of s wrap k) drawings)
+    ≡ block_front (block_of s wrap k) offset (block_height (block_of s wrap k) drawings.shown)
     ++ (rows_text seen (block_of s wrap k) drawings 0 0 (first_top s)
-    ++ blocks_behind seen s wrap drawings (k + 1) (offset + block_height (block_of s wrap k) drawings))
+    ++ blocks_behind seen s wrap drawings (k + 1) (offset + block_height (block_of s wrap k) drawings.shown))
 blocks_next seen s wrap drawings k offset some =
     let block = block_of s wrap k in
     ap (λ n. blocks_from seen s wrap drawings offset (range_with_len k n)) (let z : blocks_of s wrap - k ≡ suc (blocks_of s wrap - (k + 1)) = omega arith in z)
-    ∙ append_assoc (block_front block offset (block_height block drawings)) (rows_text seen block drawings 0 0 (first_top s))
-    (blocks_behind seen s wrap drawings (k + 1) (offset + block_height block drawings))
+    ∙ append_assoc (block_front block offset (block_height block drawings.shown)) (rows_text seen block drawings 0 0 (first_top s))
+    (blocks_behind seen s wrap drawings (k + 1) (offset + block_height block drawings.shown))
 
 -- Use: none is left.
-pub blocks_over : (seen : Seen) (s : Measures) (wrap : ℕ) (drawings : List Drawing) (k offset : ℕ) → blocks_of s wrap ≤ k → blocks_behind seen s wrap drawings k offset ≡ []
+pub blocks_over : (seen : Seen) (s : Measures) (wrap : ℕ) (drawings : TaskDrawings) (k offset : ℕ) → blocks_of s wrap ≤ k → blocks_behind seen s wrap drawings k offset ≡ []
 blocks_over seen s wrap drawings k offset over =
     ap (λ n. blocks_from seen s wrap drawings offset (range_with_len k n)) (let z : blocks_of s wrap - k ≡ 0 = omega arith in z)
 

@@ -17,6 +17,9 @@ use Rattle.pf_chart.specs.Course.{tracks_of}
 use Rattle.pf_chart.specs.Listing.{is_listed, listing_of, listings_of}
 use Rattle.pf_picture.specs.Drawing.{Drawing, drawing_of, drawings_of}
 use Rattle.pf_picture.specs.Scale.{IsMeasures}
+use Rattle.pf_picture.specs.Shown.{TaskDrawings, parted}
+use Rattle.pf_tasks.specs.Listed.{is_listed as is_in}
+use Rattle.pf_tasks.specs.declared.task_range.TaskRange.{TaskRange}
 
 few_among : (tests : ℕ → Bool) (numbers : List ℕ) (count : ℕ) → count ≡ count_by tests numbers → length numbers ≡ 4095 → count ≤ 4095
 few_among tests numbers count is many = omega (arith, is, many, count_by-le-length tests numbers)
@@ -32,6 +35,12 @@ few_drawings seen names drawings are =
     ap length are ∙ length-map (listings_of seen) (drawing_of names seen.state.plan.events seen.state.now seen.denials)
     ∙ length-map (filter tests numbers) (listing_of seen.state.plan.events seen.denials tracks) in
     few_among tests numbers (length drawings) (all ∙ length-filter tests numbers) (length-range_with_len 1 LARGEST_TASK)
+
+-- Use: no more are shown than are listed.
+pub few_shown : (tasks : List TaskRange) (drawings : List Drawing) (parts : TaskDrawings) → parts ≡ parted tasks drawings → length drawings ≤ 4095 → length parts.shown ≤ 4095
+few_shown tasks drawings parts are few =
+    let test : Drawing → Bool = λ d. is_in tasks d.listing.task in
+    omega (arith, ap (λ p. length p.shown) are, length-filter test drawings, count_by-le-length test drawings, few)
 
 -- Use: a picture of these slots has measures.
 pub measures_are : (seen : Seen) (slot : Option SlotLength) (drawings : List Drawing) (from to gutter width step strips processors : ℕ) (look : Look)

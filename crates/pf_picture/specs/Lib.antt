@@ -6,6 +6,7 @@ pub mod Lane
 pub mod Brackets
 pub mod Lines
 pub mod Drawing
+pub mod Shown
 pub mod Denials
 pub mod Rows
 pub mod Stairs

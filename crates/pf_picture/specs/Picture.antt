@@ -4,6 +4,7 @@ use Rattle.std.specs.Fmt.{decimal}
 use Rattle.std.specs.List.{flat_map, fold, range_with_len}
 use Rattle.pf_names.specs.declared.slot_length.SlotLength.{SlotLength}
 use Rattle.pf_names.specs.declared.titles.Titles.{Titles}
+use Rattle.pf_tasks.specs.declared.task_range.TaskRange.{TaskRange}
 use Rattle.pf_run.specs.Computed.{run_of}
 use Rattle.pf_tally.specs.Misses.{misses_of}
 use Rattle.pf_desk.specs.Desk.{Seen}
@@ -17,6 +18,7 @@ use Rattle.pf_picture.specs.Legend.{legend_text}
 use Rattle.pf_picture.specs.Processors.{processor_text}
 use Rattle.pf_picture.specs.Rows.{block_height, height_of}
 use Rattle.pf_picture.specs.Scale.{Measures, block_of, blocks_of, first_top, page_height, step_with, time_in, width_with}
+use Rattle.pf_picture.specs.Shown.{TaskDrawings, all_shown, parted}
 use Rattle.pf_picture.specs.Strips.{strips_of}
 use Rattle.pf_picture.specs.Task.{task_text_of}
 use Rattle.pf_picture.specs.declared.summary.Summary.{Summary}
@@ -48,23 +50,23 @@ measures_with seen slot drawings from to look gutter = record {
 abbrev pub measures_of : Seen → Option SlotLength → List Drawing → ℕ → ℕ → Look → Measures
 measures_of seen slot drawings from to look = measures_with seen slot drawings from to look (gutter_of look.style drawings)
 
--- what its head tells
-abbrev pub summary_of : Seen → ℕ → ℕ → ℕ → Summary
-summary_of seen listed from to = record {
+-- what its head tells, where so many of so many listed tasks are shown
+abbrev pub summary_of : Seen → ℕ → ℕ → ℕ → ℕ → Summary
+summary_of seen shown listed from to = record {
   from = from;
   to = to;
   stepped = seen.state.now;
   processors = seen.state.plan.settings.processors;
   base = seen.state.plan.settings.base;
   cap = seen.state.plan.settings.cap;
-  shown = listed;
+  shown = shown;
   listed = listed;
   missed = length (misses_of seen.state.plan (run_of seen.state.plan seen.state.now));
   denied = length seen.denials;
 }
 
 -- the rows of the processors from p on
-abbrev pub processors_from : Seen → Measures → List Drawing → ℕ → List ℕ
+abbrev pub processors_from : Seen → Measures → TaskDrawings → ℕ → List ℕ
 processors_from seen s drawings p = flat_map (processor_text seen s drawings) (range_with_len p (s.processors - p))
 
 -- the parts of these tasks, of which the first has this place and this top
@@ -73,20 +75,20 @@ tasks_from s place top [] = []
 tasks_from s place top (d ∷ ds) = task_text_of s top place d ++ tasks_from s (place + 1) (top + height_of s d) ds
 
 -- what is left of a block, from a processor and from a task on
-abbrev pub rows_text : Seen → Measures → List Drawing → ℕ → ℕ → ℕ → List ℕ
-rows_text seen s drawings p place top = processors_from seen s drawings p ++ (tasks_from s place top (drop place drawings) ++ codes "</g>\n")
+abbrev pub rows_text : Seen → Measures → TaskDrawings → ℕ → ℕ → ℕ → List ℕ
+rows_text seen s drawings p place top = processors_from seen s drawings p ++ (tasks_from s place top (drop place drawings.shown) ++ codes "</g>\n")
 
 -- a block, which lies so far below the picture's top
-abbrev pub block_text : Seen → Measures → List Drawing → ℕ → List ℕ
+abbrev pub block_text : Seen → Measures → TaskDrawings → ℕ → List ℕ
 block_text seen s drawings offset =
-    block_front s offset (block_height s drawings) ++ rows_text seen s drawings 0 0 (first_top s)
+    block_front s offset (block_height s drawings.shown) ++ rows_text seen s drawings 0 0 (first_top s)
 
 -- these blocks, of so many slots at most, one below the other
-abbrev pub blocks_from : Seen → Measures → ℕ → List Drawing → ℕ → List ℕ → List ℕ
+abbrev pub blocks_from : Seen → Measures → ℕ → TaskDrawings → ℕ → List ℕ → List ℕ
 blocks_from seen s wrap drawings offset [] = []
 blocks_from seen s wrap drawings offset (k ∷ ks) =
     block_text seen (block_of s wrap k) drawings offset
-    ++ blocks_from seen s wrap drawings (offset + block_height (block_of s wrap k) drawings) ks
+    ++ blocks_from seen s wrap drawings (offset + block_height (block_of s wrap k) drawings.shown) ks
 
 -- where they end
 abbrev pub end_after : Measures → ℕ → List Drawing → ℕ → List ℕ → ℕ
@@ -98,17 +100,28 @@ all_blocks s wrap = range_with_len 0 (blocks_of s wrap)
 abbrev pub end_of_blocks : Measures → ℕ → List Drawing → ℕ
 end_of_blocks s wrap drawings = end_after s wrap drawings 24 (all_blocks s wrap)
 
-abbrev pub text_ended : Seen → ℕ → List Drawing → Measures → Summary → ℕ → List ℕ
+abbrev pub text_ended : Seen → ℕ → TaskDrawings → Measures → Summary → ℕ → List ℕ
 text_ended seen wrap drawings s sum end =
     front_text s (page_height s end) sum ++ (blocks_from seen s wrap drawings 24 (all_blocks s wrap) ++ legend_text s end)
 
-abbrev pub text_with : Seen → ℕ → List Drawing → Measures → Summary → List ℕ
-text_with seen wrap drawings s sum = text_ended seen wrap drawings s sum (end_of_blocks s wrap drawings)
+abbrev pub text_with : Seen → ℕ → TaskDrawings → Measures → Summary → List ℕ
+text_with seen wrap drawings s sum = text_ended seen wrap drawings s sum (end_of_blocks s wrap drawings.shown)
 
-abbrev pub text_of : Seen → Option SlotLength → ℕ → ℕ → Look → List Drawing → List ℕ
-text_of seen slot from to look drawings =
-    text_with seen look.wrap drawings (measures_of seen slot drawings from to look) (summary_of seen (length drawings) from to)
+-- where so many tasks are listed
+abbrev pub text_of : Seen → Option SlotLength → ℕ → ℕ → Look → ℕ → TaskDrawings → List ℕ
+text_of seen slot from to look listed drawings =
+    text_with seen look.wrap drawings (measures_of seen slot drawings.shown from to look) (summary_of seen (length drawings.shown) listed from to)
+
+abbrev pub whole_text : Seen → Option SlotLength → ℕ → ℕ → Look → List Drawing → List ℕ
+whole_text seen slot from to look drawings = text_of seen slot from to look (length drawings) (all_shown drawings)
+
+abbrev pub part_text : Seen → Option SlotLength → List TaskRange → ℕ → ℕ → Look → List Drawing → List ℕ
+part_text seen slot tasks from to look drawings = text_of seen slot from to look (length drawings) (parted tasks drawings)
 
 -- the picture of the slots from `from` on and below `to`, in this look, with the names of tasks and the length of a slot
 unfoldable pub picture_text_of : Seen → Titles → ℕ → ℕ → Look → List ℕ
-picture_text_of seen titles from to look = text_of seen titles.slot from to look (drawings_of seen titles.names)
+picture_text_of seen titles from to look = whole_text seen titles.slot from to look (drawings_of seen titles.names)
+
+-- that picture with the tasks of these ranges alone: their places are those among themselves
+unfoldable pub task_picture_text_of : Seen → Titles → List TaskRange → ℕ → ℕ → Look → List ℕ
+task_picture_text_of seen titles tasks from to look = part_text seen titles.slot tasks from to look (drawings_of seen titles.names)

@@ -6,6 +6,7 @@ use crate::grid::block_front;
 use crate::in_rows::block_height;
 use crate::rows_left::{RowsLeft, next_row};
 use crate::scale::Scale;
+use crate::task_drawings::TaskDrawings;
 use pf_desk::snapshot::Snapshot;
 use pf_text::pieces::Pieces;
 use std::alloc::{AllocError, Global};
@@ -19,7 +20,7 @@ pub struct Blocks<'a> {
     scale: Scale,
     /// How many slots stand side by side.
     wrap: u64,
-    drawings: Vec<Drawing>,
+    drawings: TaskDrawings,
     /// Of each slot below now, how many processors are in use in it.
     counts: Vec<u64>,
     /// The first block that is not done.
@@ -37,11 +38,11 @@ impl<'a> Model for Blocks<'a> {
 
     ghost Value = { List ℕ };
 
-    ghost view = { λ b. blocks_left b.snapshot.now b.scale b.wrap b.drawings.items b.block b.offset b.begun };
+    ghost view = { λ b. blocks_left b.snapshot.now b.scale b.wrap b.drawings b.block b.offset b.begun };
 
     ghost invariant = { λ b.
         (b.counts.items ≡ counts_of b.snapshot.now) × (b.scale.to ≤ length b.snapshot.now.rows)
-        × AreBlocks b.scale b.wrap b.drawings.items b.block b.offset b.begun };
+        × AreBlocks b.scale b.wrap b.drawings b.block b.offset b.begun };
 }
 
 impl<'a> Blocks<'a> {
@@ -54,15 +55,15 @@ impl<'a> Blocks<'a> {
         snapshot: &'a Snapshot,
         scale: Scale,
         wrap: u64,
-        drawings: Vec<Drawing>,
+        drawings: TaskDrawings,
         counts: Vec<u64>,
     ) -> Self
         requires counts { counts.items ≡ counts_of snapshot.now }
         requires within { scale.to ≤ length snapshot.now.rows }
         requires some { 1 ≤ wrap }
         requires most { wrap ≤ 4096 }
-        requires few { length drawings.items ≤ 4095 }
-        ensures { result ≡ blocks_from snapshot.now scale wrap drawings.items 24 (all_blocks scale wrap) }
+        requires few { length drawings.shown ≤ 4095 }
+        ensures { result ≡ blocks_from snapshot.now scale wrap drawings 24 (all_blocks scale wrap) }
     {
         Blocks {
             snapshot,
@@ -100,7 +101,7 @@ impl<'a> Pieces for Blocks<'a> {
                     }
                     None => {
                         let text = Vec::from_slice(alloc, b"</g>\n")?;
-                        self.offset += block_height(scale, &self.drawings);
+                        self.offset += block_height(scale, self.drawings.shown());
                         self.block += 1;
                         self.begun = None;
                         Ok(Some(text))
@@ -112,7 +113,7 @@ impl<'a> Pieces for Blocks<'a> {
                     return Ok(None);
                 }
                 let scale = self.scale.block(self.wrap, self.block);
-                let height = block_height(scale, &self.drawings);
+                let height = block_height(scale, self.drawings.shown());
                 let text = block_front(alloc, scale, self.offset, height)?;
                 self.begun = Some(RowsLeft {
                     processor: 0,

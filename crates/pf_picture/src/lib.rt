@@ -30,4 +30,5 @@ mod stairs;
 mod strips;
 pub mod summary;
 mod task;
+pub mod task_drawings;
 pub mod turn;

@@ -1,6 +1,6 @@
 ghost use Rattle.std.specs.Prelude.{◌≡◌, ◌≤◌, ◌-◌, ◌^◌, length, IfOk};
 ghost use Rattle.std.specs.Fmt.{decimal};
-ghost use Rattle.pf_picture.specs.Picture.{measures_of, picture_text_of, summary_of};
+ghost use Rattle.pf_picture.specs.Picture.{measures_of, picture_text_of, summary_of, task_picture_text_of, text_of};
 ghost use Rattle.pf_picture.specs.Scale.{time_in};
 
 use crate::blocks::{Blocks, end_of_blocks};
@@ -12,11 +12,13 @@ use crate::legend::legend;
 use crate::scale::{Scale, step_with, time_in, width_with};
 use crate::strips::strips;
 use crate::summary::Summary;
+use crate::task_drawings::TaskDrawings;
 use pf_chart::chart::counts;
 use pf_desk::snapshot::Snapshot;
 use pf_look::look::Look;
 use pf_names::slot_length::SlotLength;
 use pf_names::titles::Titles;
+use pf_tasks::task_list::TaskList;
 use pf_text::pieces::{Chain, Pieces, Whole, gathered};
 use std::alloc::{AllocError, Global};
 
@@ -69,9 +71,15 @@ fn scale_of(
     ))
 }
 
-/// What the head of the picture tells, where so many tasks are listed.
-fn summary_of(snapshot: &Snapshot, listed: u64, from: u64, to: u64) -> Result<Summary, AllocError>
-    ensures { IfOk result (λ summary. summary ≡ summary_of snapshot.now listed from to) }
+/// What the head of the picture tells, where so many of so many listed tasks are shown.
+fn summary_of(
+    snapshot: &Snapshot,
+    shown: u64,
+    listed: u64,
+    from: u64,
+    to: u64,
+) -> Result<Summary, AllocError>
+    ensures { IfOk result (λ summary. summary ≡ summary_of snapshot.now shown listed from to) }
 {
     let settings = snapshot.settings();
     let missed = snapshot.misses()?.len() as u64;
@@ -82,11 +90,40 @@ fn summary_of(snapshot: &Snapshot, listed: u64, from: u64, to: u64) -> Result<Su
         processors: u64::from(settings.processors()),
         base: settings.base().get(),
         cap: settings.cap(),
-        shown: listed,
+        shown,
         listed,
         missed,
         denied: snapshot.denials().len() as u64,
     })
+}
+
+/// The picture of these tasks in pieces, where so many are listed.
+fn pieces_of<'a>(
+    alloc: Global,
+    snapshot: &'a Snapshot,
+    slot: Option<SlotLength>,
+    listed: u64,
+    drawings: TaskDrawings,
+    from: u64,
+    to: u64,
+    look: &Look,
+) -> Result<PicturePieces<'a>, AllocError>
+    requires rising { from ≤ to }
+    requires within { to ≤ snapshot.now.state.now }
+    requires short { to - from ≤ 4096 }
+    requires few { length drawings.shown ≤ 4095 }
+    ensures { IfOk result (λ pieces. pieces ≡ text_of snapshot.now slot from to look.now listed drawings) }
+{
+    let counts = counts(alloc, snapshot)?;
+    let shown = drawings.shown();
+    let scale = scale_of(alloc, snapshot, slot, shown, from, to, look)?;
+    let summary = summary_of(snapshot, shown.len() as u64, listed, from, to)?;
+    let wrap = look.wrap.get();
+    let end = end_of_blocks(scale, wrap, shown);
+    let front = front(alloc, scale, scale.page_height(end), &summary)?;
+    let legend = legend(alloc, scale, end)?;
+    let blocks = Blocks::new(snapshot, scale, wrap, drawings, counts);
+    Ok(Chain::new(Whole::new(front), Chain::new(blocks, Whole::new(legend))))
 }
 
 /// The picture of the slots from `from` on, below `to`, in this look, with these names of tasks and this length of a slot,
@@ -110,15 +147,53 @@ pub fn picture_pieces<'a>(
     ensures { IfOk result (λ pieces. pieces ≡ picture_text_of snapshot.now titles.now from to look.now) }
 {
     let drawings = drawings(alloc, snapshot, &titles.names)?;
-    let counts = counts(alloc, snapshot)?;
-    let scale = scale_of(alloc, snapshot, titles.slot, &drawings, from, to, look)?;
-    let summary = summary_of(snapshot, drawings.len() as u64, from, to)?;
-    let wrap = look.wrap.get();
-    let end = end_of_blocks(scale, wrap, &drawings);
-    let front = front(alloc, scale, scale.page_height(end), &summary)?;
-    let legend = legend(alloc, scale, end)?;
-    let blocks = Blocks::new(snapshot, scale, wrap, drawings, counts);
-    Ok(Chain::new(Whole::new(front), Chain::new(blocks, Whole::new(legend))))
+    let listed = drawings.len() as u64;
+    let drawings = TaskDrawings::all(alloc, drawings);
+    pieces_of(
+        alloc,
+        snapshot,
+        titles.slot,
+        listed,
+        drawings,
+        from,
+        to,
+        look,
+    )
+}
+
+/// That picture with the tasks of a list alone, in pieces. A quantum of another task is grey, and the head tells how many of the
+/// listed tasks are shown.
+///
+/// # Errors
+///
+/// Where memory is refused.
+pub fn task_picture_pieces<'a>(
+    alloc: Global,
+    snapshot: &'a Snapshot,
+    titles: &Titles,
+    tasks: &TaskList,
+    from: u64,
+    to: u64,
+    look: &Look,
+) -> Result<PicturePieces<'a>, AllocError>
+    requires rising { from ≤ to }
+    requires within { to ≤ snapshot.now.state.now }
+    requires short { to - from ≤ 4096 }
+    ensures { IfOk result (λ pieces. pieces ≡ task_picture_text_of snapshot.now titles.now tasks.now from to look.now) }
+{
+    let drawings = drawings(alloc, snapshot, &titles.names)?;
+    let listed = drawings.len() as u64;
+    let drawings = TaskDrawings::of(alloc, drawings, tasks)?;
+    pieces_of(
+        alloc,
+        snapshot,
+        titles.slot,
+        listed,
+        drawings,
+        from,
+        to,
+        look,
+    )
 }
 
 /// The picture of the slots from `from` on, below `to`, in this look, with these names of tasks and this length of a slot,

@@ -1,7 +1,7 @@
 ghost use Rattle.std.specs.Prelude.{◌≡◌, ◌==◌, ◌++◌, ◌+◌, ◌<◌, ◌≤◌, ◌^◌, length, slice_index_or, position, IfOk, OnOk};
 ghost use Rattle.pf_place.specs.Lent.{lent_row};
 ghost use Rattle.pf_chart.specs.Listing.{counts_of};
-ghost use Rattle.pf_picture.specs.Processors.{cell_text, pick_text, processor_name, processor_text, run_text, turn_text, window_in};
+ghost use Rattle.pf_picture.specs.Processors.{cell_text, other_text, pick_text, processor_name, processor_text, run_text, turn_text, window_in};
 ghost use Rattle.pf_picture.specs.Scale.{x_of};
 
 use crate::boxes::{push_box, push_number_if_room};
@@ -9,6 +9,7 @@ use crate::drawing::Drawing;
 use crate::element::push_element;
 use crate::scale::{Scale, processor_top};
 use crate::shapes::push_field;
+use crate::task_drawings::TaskDrawings;
 use crate::turn::Turn;
 use pf_chart::quantum::Quantum;
 use pf_chart::window::Window;
@@ -29,7 +30,7 @@ fn push_name(alloc: Global, text: &mut Vec<u8>, top: u64, p: u32) -> Result<(), 
     push_element(text, &element)
 }
 
-/// The place of a task among the listed ones.
+/// The place of a task among these.
 fn place_of(drawings: &[Drawing], task: u32) -> Option<usize>
     ensures { result ≡ position (λ drawing. drawing.listing.task == task) drawings.now }
 {
@@ -80,14 +81,14 @@ fn push_turn(
     )
 }
 
-/// Appends what a listed task of this place runs, by its pick.
+/// Appends what a listed task of this place among those shown, if it is shown, runs, by its pick.
 fn push_run(
     alloc: Global,
     text: &mut Vec<u8>,
     scale: Scale,
     quantum: Quantum,
     pick: Pick,
-    place: u64,
+    place: Option<u64>,
     drawing: &Drawing,
 ) -> Result<(), AllocError>
     requires from { scale.from ≤ quantum.slot }
@@ -98,7 +99,7 @@ fn push_run(
     match window_in(quantum.slot, drawing) {
         Some(window) => {
             let turn = Turn {
-                place: Some(place),
+                place,
                 sub: u64::from(pick.sub),
                 window,
                 quantum,
@@ -110,26 +111,55 @@ fn push_run(
     }
 }
 
-/// Appends a subtask in a processor's row, by its pick.
-fn push_pick(
+/// Appends a subtask of a task that is not shown in a processor's row, by its pick.
+fn push_other(
     alloc: Global,
     text: &mut Vec<u8>,
     scale: Scale,
-    drawings: &[Drawing],
+    others: &[Drawing],
     quantum: Quantum,
     pick: Pick,
 ) -> Result<(), AllocError>
     requires from { scale.from ≤ quantum.slot }
     requires to { quantum.slot ≤ scale.to }
     requires processor { quantum.processor < 64 }
-    ensures { OnOk result (text.new.items ≡ text.old.items ++ pick_text scale drawings.now quantum pick) }
+    ensures { OnOk result (text.new.items ≡ text.old.items ++ other_text scale others.now quantum pick) }
 {
-    match place_of(drawings, pick.task) {
-        Some(place) => {
-            let drawing = &drawings[place];
-            push_run(alloc, text, scale, quantum, pick, place as u64, drawing)
-        }
+    match place_of(others, pick.task) {
+        Some(at) => push_run(alloc, text, scale, quantum, pick, None, &others[at]),
         None => Ok(()),
+    }
+}
+
+/// Appends a subtask in a processor's row, by its pick.
+fn push_pick(
+    alloc: Global,
+    text: &mut Vec<u8>,
+    scale: Scale,
+    shown: &[Drawing],
+    others: &[Drawing],
+    quantum: Quantum,
+    pick: Pick,
+) -> Result<(), AllocError>
+    requires from { scale.from ≤ quantum.slot }
+    requires to { quantum.slot ≤ scale.to }
+    requires processor { quantum.processor < 64 }
+    ensures { OnOk result (text.new.items ≡ text.old.items ++ pick_text scale shown.now others.now quantum pick) }
+{
+    match place_of(shown, pick.task) {
+        Some(place) => {
+            let drawing = &shown[place];
+            push_run(
+                alloc,
+                text,
+                scale,
+                quantum,
+                pick,
+                Some(place as u64),
+                drawing,
+            )
+        }
+        None => push_other(alloc, text, scale, others, quantum, pick),
     }
 }
 
@@ -138,7 +168,7 @@ fn push_cell(
     alloc: Global,
     text: &mut Vec<u8>,
     scale: Scale,
-    drawings: &[Drawing],
+    drawings: &TaskDrawings,
     count: u64,
     row: RowView<'_>,
     p: u32,
@@ -158,7 +188,8 @@ fn push_cell(
             alloc,
             text,
             scale,
-            drawings,
+            drawings.shown(),
+            drawings.others(),
             Quantum {
                 slot: t,
                 processor: p,
@@ -187,7 +218,7 @@ pub(crate) fn processor_text(
     alloc: Global,
     snapshot: &Snapshot,
     scale: Scale,
-    drawings: &[Drawing],
+    drawings: &TaskDrawings,
     counts: &[u64],
     p: u32,
 ) -> Result<Vec<u8>, AllocError>

@@ -2,11 +2,11 @@ ghost use Rattle.std.specs.Prelude.{◌≡◌, ◌≤◌, length, IfOk};
 ghost use Rattle.pf_chart.specs.Listing.{counts_of};
 ghost use Rattle.pf_picture.specs.Left.{IsLeft, IsNextRow};
 
-use crate::drawing::Drawing;
 use crate::in_rows::height_of;
 use crate::processors::processor_text;
 use crate::scale::Scale;
 use crate::task::task_text;
+use crate::task_drawings::TaskDrawings;
 use pf_desk::snapshot::Snapshot;
 use std::alloc::{AllocError, Global};
 
@@ -39,13 +39,13 @@ pub(crate) fn next_row(
     alloc: Global,
     snapshot: &Snapshot,
     scale: Scale,
-    drawings: &[Drawing],
+    drawings: &TaskDrawings,
     counts: &[u64],
     rows: RowsLeft,
 ) -> Result<Option<Row>, AllocError>
     requires counts { counts.now ≡ counts_of snapshot.now }
     requires within { scale.to ≤ length snapshot.now.rows }
-    requires few { length drawings.now ≤ 4095 }
+    requires few { length drawings.now.shown ≤ 4095 }
     requires left { IsLeft rows }
     ensures { IfOk result (λ row. IsNextRow snapshot.now scale drawings.now rows row) }
 {
@@ -63,10 +63,11 @@ pub(crate) fn next_row(
         };
         return Ok(Some(Row { text, left }));
     }
-    if place >= drawings.len() as u64 {
+    let shown = drawings.shown();
+    if place >= shown.len() as u64 {
         return Ok(None);
     }
-    let drawing = &drawings[place as usize];
+    let drawing = &shown[place as usize];
     let text = task_text(alloc, scale, top, place, drawing)?;
     let left = RowsLeft {
         processor,

@@ -1,31 +1,34 @@
 -- What the program does for words, whether they ask for a task or for nothing.
-use Rattle.std.proofs.Common.{◌≡◌, ◌+◌, ◌⊎◌, ℕ, append-nil, refl, sym, subst, inl, inr, arith, Bool, true, false, List, [], Option, Some, None, Ok, Err}
-use Rattle.std.specs.Prelude.{◌&&◌, not, is_some, IfSome, IsSome, String, string_bytes}
-use Rattle.std.specs.declared.alloc.Global.{Global}
+use Rattle.std.proofs.Common.{◌≡◌, ◌∙◌, ◌+◌, ◌⊎◌, ℕ, append-nil, refl, sym, subst, inl, inr, arith, Bool, true, false, List, [], Option, Some, None, Ok, Err}
+use Rattle.std.specs.Prelude.{not, IfSome}
 use Rattle.std.proofs.KnownBytes.{Keeps-refl, Consumes-nil}
 use Rattle.pf_fault.specs.declared.fault.Fault.TheVariants as stop
 use Rattle.pf_fault.specs.declared.status.Status.{Status}
+use Rattle.pf_fault.specs.declared.status.Status.TheVariants.{StreamFailed}
+use Rattle.pf_held.specs.Streams as Held
 use Rattle.pf_words.specs.declared.request.WordsFault.{WordsFault}
 use Rattle.pf_words.specs.declared.request.WordsFault.TheVariants as fault
-use Rattle.pf_words.specs.declared.script_pair.ScriptPair.{ScriptPair}
 use Rattle.pf_words.specs.declared.task.Task.{Task}
-use Rattle.pf_words.specs.Asked.{AsksHelp, AsksVersion, AreMistaken, IsAsked, IsRefused, IsShownTo, file_asked, name_of, names_of, pair_asked, reads_input, reads_input_for, task_asked, telling_asked}
+use Rattle.pf_words.specs.Asked.{AsksHelp, AsksVersion, AreMistaken, IsAsked, IsRefused, IsShownTo, desk_asked, desk_named, file_asked, pair_asked, reads_input, reads_input_for, task_asked, telling_asked}
+use Rattle.pf_words.specs.Desks.{DeskNames}
 use Rattle.pf_words.specs.Diffs.{PairNames}
-use Rattle.pf_words.specs.declared.request.Request.TheVariants.{Do, Compare}
-use Rattle.pf_words.specs.declared.telling.Telling.{Telling}
+use Rattle.pf_words.specs.declared.desk_words.DeskWords.{DeskWords}
+use Rattle.pf_words.specs.declared.request.Request.TheVariants.{Sit}
 use Rattle.pf_words.specs.declared.mistake.Mistake.{Mistake}
-use Rattle.pf_words.proofs.Unasked.{mistaken_asks_no_pair, mistaken_asks_none, untaken_asks_no_pair, untaken_asks_none}
+use Rattle.pf_words.proofs.Unasked.{mistaken_asks_no_desk, mistaken_asks_no_pair, mistaken_asks_none, untaken_asks_no_desk, untaken_asks_no_pair, untaken_asks_none}
 use Rattle.pf_stream.specs.Reading.{longest_script, TakesAtMost}
 use Rattle.pf_program.specs.Source.{IsOf, IsSource}
+use Rattle.pf_program.specs.Desks.{HasNotBegun}
 use Rattle.pf_program.specs.FaultLines.{fault_line}
-use Rattle.pf_program.specs.Noted.{IsTold, gone_diff, gone_of, notes_in, status_ended}
-use Rattle.pf_program.specs.Status.{AnswersAsked, AnswersWords, Compares, ComparesScripts, Does, IsDone, IsToldOf, IsWritten, ReadsNothing, Streams, status_of_words, told_of}
+use Rattle.pf_program.specs.Noted.{IsTold, gone_diff, gone_of, status_ended}
+use Rattle.pf_program.specs.Status.{AnswersAsked, AnswersWords, Compares, Does, IsToldOf, IsWritten, ReadsNothing, Streams, Tells, status_of_words, told_of}
 use Rattle.pf_program.specs.declared.noted.Noted.{Noted}
 
 -- words that ask for nothing have nothing read
 nothing_read : (words : List (List ℕ)) (closed : Bool) (status : ℕ) (old new : Streams) (told : List ℕ → Type 0) → task_asked words ≡ None
-    → pair_asked words ≡ None → ReadsNothing words closed status old new told → AnswersWords words closed status old new told
-nothing_read words closed status old new told none no_pair reads = rw (none, no_pair) reads
+    → (held : DeskNames → Type 0) → pair_asked words ≡ None → desk_asked words ≡ None → ReadsNothing words closed status old new told
+    → AnswersWords words closed status old new told held
+nothing_read words closed status old new told none held no_pair no_desk reads = rw (none, no_pair, no_desk) reads
 
 -- words that ask for a text ask for nothing else
 pub shown_asks_none : (words : List (List ℕ)) (text : List ℕ) → IsShownTo words text → task_asked words ≡ None
@@ -35,6 +38,10 @@ shown_asks_none words text (inr version) = untaken_asks_none words _ version.0
 shown_asks_no_pair : (words : List (List ℕ)) (text : List ℕ) → IsShownTo words text → pair_asked words ≡ None
 shown_asks_no_pair words text (inl help) = untaken_asks_no_pair words _ help.0
 shown_asks_no_pair words text (inr version) = untaken_asks_no_pair words _ version.0
+
+shown_asks_no_desk : (words : List (List ℕ)) (text : List ℕ) → IsShownTo words text → desk_asked words ≡ None
+shown_asks_no_desk words text (inl help) = untaken_asks_no_desk words _ help.0
+shown_asks_no_desk words text (inr version) = untaken_asks_no_desk words _ version.0
 
 -- they ask for help or the version
 asked_shown : (words : List (List ℕ)) (text : List ℕ) → IsShownTo words text → AsksHelp words ⊎ AsksVersion words
@@ -48,12 +55,13 @@ written_ends true status old new a b text (inr front) = inl front.0
 written_ends false status old new a b text (inr front) = inr front.0
 
 -- a text that was asked for, and was written or could not be
-pub text_answers : (words : List (List ℕ)) (text : List ℕ) (closed : Bool) (status : ℕ) (old new : Streams) (told : List ℕ → Type 0) → IsShownTo words text
-    → new.input ≡ old.input → new.failed_reads ≡ old.failed_reads
-    → IsWritten closed status old.output new.output old.failed_writes new.failed_writes text → AnswersWords words closed status old new told
-text_answers words text closed status old new told asks input reads written =
+pub text_answers : (words : List (List ℕ)) (text : List ℕ) (closed : Bool) (status : ℕ) (old new : Streams) (told : List ℕ → Type 0)
+    (held : DeskNames → Type 0) → IsShownTo words text → new.input ≡ old.input → new.failed_reads ≡ old.failed_reads
+    → IsWritten closed status old.output new.output old.failed_writes new.failed_writes text → AnswersWords words closed status old new told held
+text_answers words text closed status old new told held asks input reads written =
     let ended = written_ends closed status _ _ _ _ text written in
-    nothing_read words closed status old new told (shown_asks_none words text asks) (shown_asks_no_pair words text asks) (record {
+    nothing_read words closed status old new told (shown_asks_none words text asks) held (shown_asks_no_pair words text asks)
+    (shown_asks_no_desk words text asks) (record {
       ended = inl (asked_shown words text asks, ended);
       input = input;
       reads = reads;
@@ -69,12 +77,6 @@ status_of_memory closed otherwise = refl
 
 memory_told : (closed : Bool) (told : List ℕ → Type 0) → told (fault_line stop.NoMemory) → IsTold closed (Err stop.NoMemory) [] told
 memory_told closed told is = subst told (sym (append-nil (fault_line stop.NoMemory))) is
-
--- words that ask for nothing, and are not refused for want of memory, read nothing
-pub refused_asks_none : (words : List (List ℕ)) (why : WordsFault) → IsAsked words (Err why) → (why ≡ fault.NoMemory) ⊎ (task_asked words ≡ None)
-refused_asks_none words (fault.Refused text) refused = inr (untaken_asks_none words _ refused.0.2)
-refused_asks_none words (fault.Mistaken line) are = inr (mistaken_asks_none words are.0 are.1)
-refused_asks_none words fault.NoMemory any = inl refl
 
 -- a reader that was not read has given no byte
 none_taken : (input : Option (List ℕ)) → TakesAtMost input input (longest_script + 1)
@@ -128,10 +130,25 @@ no_memory_for_two names asked closed old told is = record {
   told_is = memory_told closed told is;
 }
 
+-- and to a session, which does not begin
+pub no_memory_at_desk : (closed : Bool) (status : ℕ) (old new : Held.Streams) → status ≡ 4
+    → Tells old.prompted new.prompted old.failed_prompts new.failed_prompts (fault_line stop.NoMemory) → new.input ≡ old.input → new.failed_reads ≡ old.failed_reads
+    → new.output ≡ old.output → new.failed_writes ≡ old.failed_writes → HasNotBegun closed status old new
+no_memory_at_desk closed status old new is told input reads output writes = record {
+  fault = stop.NoMemory;
+  notes = Err stop.NoMemory;
+  status_is = is ∙ status_of_memory closed StreamFailed;
+  told = memory_told closed (Tells old.prompted new.prompted old.failed_prompts new.failed_prompts) told;
+  input = (input, reads);
+  output = (output, writes);
+}
+
 -- and to all words
-memory_answers : (words : List (List ℕ)) (old : Streams) (told : List ℕ → Type 0) (want : Option Task) (pair : Option PairNames) (file : Option (List ℕ))
-    (asked closed : Bool) → told (fault_line stop.NoMemory) → AnswersAsked words want pair file asked closed 4 old old told
-memory_answers words old told None None file asked closed is = record {
+memory_answers : (words : List (List ℕ)) (old : Streams) (told : List ℕ → Type 0) (held : DeskNames → Type 0) (want : Option Task) (pair : Option PairNames)
+    (desk : Option DeskNames) (file : Option (List ℕ)) (asked closed : Bool) → told (fault_line stop.NoMemory) → ((d : DeskNames) → held d)
+    → AnswersAsked words want pair desk file asked closed 4 old old told held
+memory_answers words old told held None None (Some desk) file asked closed is holds = holds desk
+memory_answers words old told held None None None file asked closed is holds = record {
   ended = inr (inr refl);
   input = refl;
   reads = refl;
@@ -140,8 +157,8 @@ memory_answers words old told None None file asked closed is = record {
   tells = λ two. absurd (omega (arith, two));
   memory = λ four. is;
 }
-memory_answers words old told None (Some names) file asked closed is = no_memory_for_two names asked closed old told is
-memory_answers words old told (Some task) pair file asked closed is = no_memory task file asked closed old told is
+memory_answers words old told held None (Some names) desk file asked closed is holds = no_memory_for_two names asked closed old told is
+memory_answers words old told held (Some task) pair desk file asked closed is holds = no_memory task file asked closed old told is
 
 -- the words are not the program's
 mistaken : (words : List (List ℕ)) (closed : Bool) (old : Streams) (told : List ℕ → Type 0) (text : List ℕ)
@@ -157,56 +174,37 @@ mistaken words closed old told text are of is = record {
 }
 
 -- the same by its cases
-untouched : (words : List (List ℕ)) (why : WordsFault) (closed : Bool) (old : Streams) (told : List ℕ → Type 0) → IsAsked words (Err why)
-    → told (told_of why) → AnswersWords words closed (status_of_words why) old old told
-untouched words (fault.Refused text) closed old told refused is =
-    nothing_read words closed 2 old old told (untaken_asks_none words _ refused.0.2) (untaken_asks_no_pair words _ refused.0.2)
+untouched : (words : List (List ℕ)) (why : WordsFault) (closed : Bool) (old : Streams) (told : List ℕ → Type 0) (held : DeskNames → Type 0)
+    → IsAsked words (Err why) → told (told_of why) → (status_of_words why ≡ 4 → told (fault_line stop.NoMemory) → (d : DeskNames) → held d)
+    → AnswersWords words closed (status_of_words why) old old told held
+untouched words (fault.Refused text) closed old told held refused is holds =
+    nothing_read words closed 2 old old told (untaken_asks_none words _ refused.0.2) held (untaken_asks_no_pair words _ refused.0.2)
+    (untaken_asks_no_desk words _ refused.0.2)
     (mistaken words closed old told text.items (inl refused.0) (inl refused) is)
-untouched words (fault.Mistaken text) closed old told are is =
-    nothing_read words closed 2 old old told (mistaken_asks_none words are.0 are.1) (mistaken_asks_no_pair words are.0 are.1)
+untouched words (fault.Mistaken text) closed old told held are is holds =
+    nothing_read words closed 2 old old told (mistaken_asks_none words are.0 are.1) held (mistaken_asks_no_pair words are.0 are.1)
+    (mistaken_asks_no_desk words are.0 are.1)
     (mistaken words closed old told text.items (inr (are.0, are.1)) (inr (are.0, are.1, are.2)) is)
-untouched words fault.NoMemory closed old told any is =
-    memory_answers words old told (task_asked words) (pair_asked words) (file_asked words) (telling_asked words).notes closed is
+untouched words fault.NoMemory closed old told held any is holds =
+    memory_answers words old told held (task_asked words) (pair_asked words) (desk_asked words) (file_asked words) (telling_asked words).notes closed is
+    (holds refl is)
 
 -- words that ask for nothing, and want of memory, leave the streams as they were
-pub refusal_answers : (words : List (List ℕ)) (why : WordsFault) (closed : Bool) (status : ℕ) (old : Streams) (told : List ℕ → Type 0) → IsAsked words (Err why)
-    → status ≡ status_of_words why → told (told_of why) → AnswersWords words closed status old old told
-refusal_answers words why closed status old told asked is tells =
-    subst (λ (n : ℕ). AnswersWords words closed n old old told) (sym is) (untouched words why closed old told asked tells)
+pub refusal_answers : (words : List (List ℕ)) (why : WordsFault) (closed : Bool) (status : ℕ) (old : Streams) (told : List ℕ → Type 0)
+    (held : DeskNames → Type 0) → IsAsked words (Err why) → status ≡ status_of_words why → told (told_of why)
+    → (status ≡ 4 → told (fault_line stop.NoMemory) → (d : DeskNames) → held d) → AnswersWords words closed status old old told held
+refusal_answers words why closed status old told held asked is tells holds =
+    subst (λ (n : ℕ). AnswersWords words closed n old old told held) (sym is)
+    (untouched words why closed old told held asked tells (λ four. holds (is ∙ four)))
 
--- Use: words that ask for a task have it done.
-pub task_answers : (words : List (List ℕ)) (task : Task) (file : Option (String Global)) (telling : Telling) (closed : Bool) (noted : Noted) (status : ℕ)
-    (old new : Streams) (told : List ℕ → Type 0) → IsAsked words (Ok (Do task file telling)) → status ≡ status_ended closed (gone_of task) noted.outcome
-    → IsDone task (name_of file) telling.notes noted old new → IsTold closed noted.outcome (notes_in noted.notes) told → AnswersWords words closed status old new told
-task_answers words task file telling closed noted status old new told asked is done told_is =
-    rw (asked.0, ← asked.1, ← asked.2) (record { noted = noted; status_is = is; done = done; told_is = told_is })
+-- Use: words that ask for a session have it held.
+pub desk_answers : (words : List (List ℕ)) (desk : DeskWords) (closed : Bool) (status : ℕ) (old new : Streams) (told : List ℕ → Type 0)
+    (held : DeskNames → Type 0) → IsAsked words (Ok (Sit desk)) → held (desk_named desk) → AnswersWords words closed status old new told held
+desk_answers words desk closed status old new told held asked h = rw (asked.0, asked.1, asked.2) h
 
--- Use: words that name two scripts have them compared.
-pub pair_answers : (words : List (List ℕ)) (pair : ScriptPair) (telling : Telling) (closed : Bool) (noted : Noted) (status : ℕ)
-    (old new : Streams) (told : List ℕ → Type 0) → IsAsked words (Ok (Compare pair telling)) → status ≡ status_ended closed (gone_diff pair.options) noted.outcome
-    → ComparesScripts (names_of pair) telling.notes noted old new → IsTold closed noted.outcome (notes_in noted.notes) told
-    → AnswersWords words closed status old new told
-pair_answers words pair telling closed noted status old new told asked is done told_is =
-    rw (asked.0, asked.1, ← asked.2) (record { noted = noted; status_is = is; done = done; told_is = told_is })
-
--- Use: where standard input is not read, the script of a task is that of a file, ..
-pub task_of_file : (words : List (List ℕ)) (task : Task) (file : Option (String Global)) → reads_input words ≡ false → task_asked words ≡ Some task
-    → name_of file ≡ file_asked words → IsSome file
-task_of_file words task None unread asked named =
-    let none : file_asked words ≡ None = sym named in
-    let e : reads_input_for (Some task) None (pair_asked words) ≡ false = subst (λ (f : Option (List ℕ)). reads_input_for (Some task) f (pair_asked words) ≡ false) none
-    (subst (λ (t : Option Task). reads_input_for t (file_asked words) (pair_asked words) ≡ false) asked unread) in
+-- Use: the lines of a session are standard input.
+pub desk_reads : (words : List (List ℕ)) (desk : DeskNames) → reads_input words ≡ false → task_asked words ≡ None → pair_asked words ≡ None
+    → desk_asked words ≡ Some desk → ⊥
+desk_reads words desk unread none no_pair asked =
+    let e : reads_input_for None (file_asked words) None (Some desk) ≡ false = rw (none, no_pair, asked) at unread in
     cc
-task_of_file words task (Some name) unread asked named = refl
-
--- .. and so are both of two
-pub pair_of_files : (words : List (List ℕ)) (pair : ScriptPair) → reads_input words ≡ false → task_asked words ≡ None
-    → pair_asked words ≡ Some (names_of pair) → IsSome pair.first × IsSome pair.second
-pair_of_files words pair unread none asked = by pair.first pair.second
-    (subst (λ (p : Option PairNames). reads_input_for None (file_asked words) p ≡ false) asked
-    (subst (λ (t : Option Task). reads_input_for t (file_asked words) (pair_asked words) ≡ false) none unread))
-  where
-    by : (first second : Option (String Global)) → not (is_some (name_of first) && is_some (name_of second)) ≡ false → IsSome first × IsSome second
-    by (Some f) (Some s) e = (refl, refl)
-    by None second e = cc
-    by (Some f) None e = cc

@@ -10,6 +10,7 @@ pub use Rattle.pf_cli.specs.Ended
 pub use Rattle.pf_cli.specs.Meaning
 pub use Rattle.pf_change.specs.Change
 pub mod Compared
+pub mod Desks
 pub mod FaultLines
 pub mod Noted
 pub mod Source

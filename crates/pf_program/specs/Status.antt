@@ -12,8 +12,9 @@ use Rattle.pf_words.specs.declared.request.WordsFault.{WordsFault}
 use Rattle.pf_words.specs.declared.request.WordsFault.TheVariants as words
 use Rattle.pf_words.specs.declared.task.Task.{Task}
 use Rattle.clap.specs.Words.{subcommand_of}
-use Rattle.pf_words.specs.Asked.{task_asked, pair_asked, file_asked, telling_asked, AsksHelp, AsksVersion, IsMistakeText, IsRefused, IsShownTo, AreMistaken}
+use Rattle.pf_words.specs.Asked.{task_asked, pair_asked, desk_asked, file_asked, telling_asked, AsksHelp, AsksVersion, IsMistakeText, IsRefused, IsShownTo, AreMistaken}
 use Rattle.pf_words.specs.CommandLine.{program}
+use Rattle.pf_words.specs.Desks.{DeskNames}
 use Rattle.pf_words.specs.Diffs.{PairNames}
 use Rattle.pf_words.specs.Texts.{IsRefusal}
 use Rattle.pf_words.specs.declared.mistake.Mistake.{Mistake}
@@ -139,16 +140,19 @@ pub record Does (task : Task) (file : Option (List ℕ)) (asked closed : Bool) (
   pub told_is : IsTold closed noted.outcome (notes_in noted.notes) told
 
 -- words that ask for a task have it done with the script of the file that they name, and else with the reader's; those that name
--- two scripts have them compared; where they ask for nothing, nothing is read
-abbrev pub AnswersAsked : List (List ℕ) → Option Task → Option PairNames → Option (List ℕ) → Bool → Bool → ℕ → Streams → Streams → (List ℕ → Type 0) → Type 0
-AnswersAsked words (Some task) pair file asked closed status old new told = Does task file asked closed status old new told
-AnswersAsked words None (Some names) file asked closed status old new told = Compares names asked closed status old new told
-AnswersAsked words None None file asked closed status old new told = ReadsNothing words closed status old new told
+-- two scripts have them compared; of those that ask for a session at a desk `held` tells; where they ask for nothing, nothing is read
+abbrev pub AnswersAsked : List (List ℕ) → Option Task → Option PairNames → Option DeskNames → Option (List ℕ) → Bool → Bool → ℕ → Streams → Streams
+    → (List ℕ → Type 0) → (DeskNames → Type 0) → Type 0
+AnswersAsked words (Some task) pair desk file asked closed status old new told held = Does task file asked closed status old new told
+AnswersAsked words None (Some names) desk file asked closed status old new told held = Compares names asked closed status old new told
+AnswersAsked words None None (Some desk) file asked closed status old new told held = held desk
+AnswersAsked words None None None file asked closed status old new told held = ReadsNothing words closed status old new told
 
--- whether nobody reads the output any more, the status, the streams, and what holds of what is told
-abbrev pub AnswersWords : List (List ℕ) → Bool → ℕ → Streams → Streams → (List ℕ → Type 0) → Type 0
-AnswersWords words closed status old new told =
-    AnswersAsked words (task_asked words) (pair_asked words) (file_asked words) (telling_asked words).notes closed status old new told
+-- whether nobody reads the output any more, the status, the streams, and what holds of what is told, and of a session
+abbrev pub AnswersWords : List (List ℕ) → Bool → ℕ → Streams → Streams → (List ℕ → Type 0) → (DeskNames → Type 0) → Type 0
+AnswersWords words closed status old new told held =
+    AnswersAsked words (task_asked words) (pair_asked words) (desk_asked words) (file_asked words) (telling_asked words).notes closed status old new
+    told held
 
 -- a terminal was told how a script ends, where it is to be told; memory may be refused for what the words ask
 pub record IsPrompted (asked : Bool) (told : List ℕ → Type 0) : Type 0 where

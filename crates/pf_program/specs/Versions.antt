@@ -66,8 +66,7 @@ pub record ThirdRunMade (p : Plain) (file script : List ℕ) (made : Result Answ
   pub stopped : IfErr made (IsThirdStopped p)
 
 abbrev pub AnswersThirdRun : Plain → List ℕ → List ℕ → Result Ending Fault → Option (List ℕ) → Option (List ℕ) → Type 0
-AnswersThirdRun p file script answer old new =
-    (made : Result Answer Fault) × ThirdRunMade p file script made × ((inner : Result Ending Fault) × AnswersMade made inner old new × (answer ≡ numbered p.origins inner))
+AnswersThirdRun p file script answer old new = (made : Result Answer Fault) × ThirdRunMade p file script made × AnswersMade made answer old new
 
 -- the task was done with the script of version 2, whose records come from those of version 3
 abbrev pub AnswersRecords : Plain → Task → List ℕ → Result Ending Fault → Option (List ℕ) → Option (List ℕ) → Type 0

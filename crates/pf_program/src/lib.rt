@@ -1,9 +1,10 @@
 //! The program's words carried out. The one contract of this crate: words that ask for a run, and no others, have
 //! `main_words` run the script, in the format that they ask for; words that ask for a check have it check the script, those
-//! that ask what its last records changed have it tell that, those that name two scripts have it tell what differs between them, and those that ask for a drill have it drilled.
+//! that ask what its last records changed have it tell that, those that name two scripts have it tell what differs between them, those that ask for a drill have it drilled, and those that ask for a desk have a session held.
 #![tactic(auto)]
 
 mod answering;
+mod desk;
 mod ending;
 mod fault_line;
 mod gone;

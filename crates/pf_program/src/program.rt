@@ -1,14 +1,17 @@
-ghost use Rattle.std.specs.Prelude.{false, true, ◌≡◌, ◌≢◌, ◌^◌, ◌-◌, ◌<◌, ◌≤◌, ◌+◌, [], length, map, IfOk, IfSome, IsSome};
+ghost use Rattle.std.specs.Prelude.{false, true, not, None, ◌&&◌, ◌≡◌, ◌≢◌, ◌^◌, ◌-◌, ◌<◌, ◌≤◌, ◌+◌, [], length, map, IfOk, IfSome, IsSome};
 ghost use Rattle.std.specs.IoError.{error_kind};
 ghost use Rattle.std.specs.Io.KnownBytes.{Keeps};
 ghost use Rattle.pf_fault.specs.Faults.{CountsWrites};
 ghost use Rattle.pf_stream.specs.Reading.{longest_script};
-ghost use Rattle.pf_words.specs.Asked.{IsSound, name_of, reads_input, task_asked, telling_asked};
+ghost use Rattle.pf_held.specs.Streams.{streams_of};
+ghost use Rattle.pf_program.specs.Desks.{HoldsDesk};
+ghost use Rattle.pf_words.specs.Asked.{IsSound, desk_asked, name_of, reads_input, task_asked, telling_asked};
 ghost use Rattle.pf_program.specs.Noted.{AreNotesOf, notes_in, noting_behind, noting_of};
 ghost use Rattle.pf_program.specs.Tasks.{IsOfScript, IsQuietIfDone};
 ghost use Rattle.pf_program.specs.Status.{AnswersWords, IsDone, IsPrompted, IsWritten, Tells, seen_streams, status_of_words, told_of};
 ghost use Rattle.pf_program.specs.Versions.{AnswersBytes};
 
+use crate::desk::hold_desk;
 use crate::ending::{end, end_unwritten, tell, tell_fault, tell_text};
 use crate::gone::{gone_diff, gone_of};
 use crate::noted::Noted;
@@ -43,7 +46,7 @@ const NO_TEXT: &str = "error: invalid UTF-8 was detected in one or more argument
 
 /// Does what the program's words say, its own name not among them: runs a script and writes its answer to the writer, or
 /// checks it and writes what it finds there, or writes what its last records changed, or what differs between two, or whether it fits, or drills it
-/// at gates that are always open and writes what came of that, or converts a list of tasks, or writes help or the version. The
+/// at gates that are always open and writes what came of that, or converts a list of tasks, or holds a session at a desk, or writes help or the version. The
 /// script is that of the file that the words name, and else the reader's, and so is the list; a drill's is always the reader's.
 /// Of two the first is read first, and the second where the first has no fault. Without words the script is run in the format
 /// `Tables`. The text of a fault goes to `faults`, whose own faults are passed over, and so do notes, where the words ask for them
@@ -53,7 +56,7 @@ const NO_TEXT: &str = "error: invalid UTF-8 was detected in one or more argument
 /// too long, where the list has a fault, or where something differs and the words ask for a status of that, 2 where the words are
 /// refused or mistaken, or ask for slots that can't be shown, 3 where the reader or the writer failed or the file can't be opened
 /// or read, 4 where memory was refused, or a drill has no place for a reader, 6 where the script was done, all was written, and
-/// the run fails on what the words list, or no plan fits. Words that ask for a run, a check, a diff or a conversion and name no
+/// the run fails on what the words list, or no plan fits. Words that ask for a session, those that ask for a run, a check, a diff or a conversion and name no
 /// file, or `-` as one of two, or for a drill, and no others, have the reader read; with any other the reader is as before. Where
 /// the words ask for a drill, and only there, threads are started, and the call waits for them. The counts of failures of all
 /// three streams must be below `u64::MAX` before the call.
@@ -63,17 +66,20 @@ pub fn main_words<
     R: Source,
     W: Pipe,
     F: Sink,
->(rt: &H, words: &[S], reader: &mut R, writer: &mut W, faults: &mut F) -> u8
+>(rt: &H, words: &[S], is_terminal: bool, reader: &mut R, writer: &mut W, faults: &mut F) -> u8
     requires reads { R.failed reader.old < 2 ^ 64 - 1 }
     requires writes { W.failed writer.old < 2 ^ 64 - 1 }
     requires tells { F.failed faults.old < 2 ^ 64 - 1 }
     ensures streams { AnswersWords (map S.text words.now) (W.closed writer.new) result
         (seen_streams (R.remaining reader.old) (R.failed reader.old) (W.contents writer.old) (W.failed writer.old))
         (seen_streams (R.remaining reader.new) (R.failed reader.new) (W.contents writer.new) (W.failed writer.new))
-        (Tells (F.contents faults.old) (F.contents faults.new) (F.failed faults.old) (F.failed faults.new)) }
+        (Tells (F.contents faults.old) (F.contents faults.new) (F.failed faults.old) (F.failed faults.new))
+        (λ desk. HoldsDesk desk (is_terminal && not desk.quiet) (W.closed writer.new) result
+        (streams_of (R.remaining reader.old) (R.failed reader.old) (W.contents writer.old) (W.failed writer.old) (F.contents faults.old) (F.failed faults.old) false)
+        (streams_of (R.remaining reader.new) (R.failed reader.new) (W.contents writer.new) (W.failed writer.new) (F.contents faults.new) (F.failed faults.new) false)) }
     ensures unread { reads_input (map S.text words.now) ≡ false → reader.new ≡ reader.old }
-    ensures quiet { IfSome (task_asked (map S.text words.now)) IsOfScript → (telling_asked (map S.text words.now)).notes ≡ false → result ≡ 0 →
-        Keeps (F.contents faults.old) (F.contents faults.new) }
+    ensures quiet { IfSome (task_asked (map S.text words.now)) IsOfScript → (telling_asked (map S.text words.now)).notes ≡ false → desk_asked (map S.text words.now) ≡ None →
+        result ≡ 0 → Keeps (F.contents faults.old) (F.contents faults.new) }
 {
     match read_words(rt.alloc(), words) {
         Ok(Request::Do(task, file, telling)) => {
@@ -86,6 +92,7 @@ pub fn main_words<
             let noted = compare_scripts(rt, &pair, telling.notes, reader, writer);
             end(noted, writer.is_closed(), gone, faults)
         }
+        Ok(Request::Sit(desk)) => hold_desk(rt, &desk, is_terminal, reader, writer, faults),
         Ok(Request::Show(text)) => show(text.as_str(), writer, faults),
         Err(fault) => refuse(&fault, faults),
     }

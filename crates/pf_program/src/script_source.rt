@@ -43,7 +43,7 @@ pub(crate) fn told_name(file: &Option<String>) -> &[u8]
 }
 
 /// The script that lies in a file.
-fn read_file<H: AllocGlobal + Files>(rt: &H, path: &str) -> Result<Vec<u8>, ReadingFault>
+pub(crate) fn read_file<H: AllocGlobal + Files>(rt: &H, path: &str) -> Result<Vec<u8>, ReadingFault>
     ensures { IfOk result (λ script. vec_len script ≤ longest_script) }
 {
     match File::open(rt, path) {

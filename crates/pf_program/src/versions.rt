@@ -1,10 +1,11 @@
 ghost use Rattle.std.specs.Prelude.{◌≡◌, ◌-◌, ◌^◌, ◌<◌, ◌≤◌, [], length, IfOk, IfErr};
 ghost use Rattle.pf_fault.specs.Faults.{CountsWrites, IsUnwritten};
 ghost use Rattle.pf_stream.specs.Reading.{longest_script};
+ghost use Rattle.pf_check_run.specs.Answers.{Belongs};
 ghost use Rattle.pf_plain.specs.Plain.{IsPlain, Plain};
 ghost use Rattle.pf_words.specs.Asked.{IsSound};
 ghost use Rattle.pf_program.specs.Tasks.{IsOfScript, IsQuietIfDone};
-ghost use Rattle.pf_program.specs.Versions.{AnswersBytes, AnswersRecords, AnswersShort, AnswersThird, AnswersThirdRun, IsChecked, count_below, number_from, numbered, numbered_fault, since_in, task_in};
+ghost use Rattle.pf_program.specs.Versions.{AnswersBytes, AnswersRecords, AnswersShort, AnswersThird, IsChecked, count_below, number_from, numbered, numbered_fault, since_in, task_in};
 
 use crate::answering::write_answer;
 use crate::tasks::do_task;
@@ -99,35 +100,16 @@ fn do_third<H: AllocGlobal + Threads + Wait + Sync, W: Sink>(
     requires short { length script.now ≤ longest_script }
     requires script { IsOfScript task }
     requires writes { W.failed writer.old < 2 ^ 64 - 1 }
-    ensures answers { (p : Plain) → IsPlain plain.now p →
+    ensures answers { (p : Plain) → Belongs script.now plain.now p →
         AnswersThird p task file.now script.now result (W.contents writer.old) (W.contents writer.new) }
     ensures quiet { IfOk result IsQuietIfDone }
     ensures writes { CountsWrites result (W.failed writer.old) (W.failed writer.new) }
 {
     match task {
         Task::Check => write_answer(check_script(rt.alloc(), script), writer),
-        Task::CheckRun => run_third(rt.alloc(), file, script, plain, writer),
+        Task::CheckRun => write_answer(third_check_run(rt.alloc(), file, script, plain), writer),
         _ => do_plain(rt, task, file, plain, writer),
     }
-}
-
-/// Checks a script of version 3, to which this one belongs, and carries it out.
-fn run_third<W: Sink>(
-    alloc: Global,
-    file: &[u8],
-    script: &[u8],
-    plain: &PlainScript,
-    writer: &mut W,
-) -> Result<Ending, Fault>
-    requires short { length script.now ≤ longest_script }
-    requires writes { W.failed writer.old < 2 ^ 64 - 1 }
-    ensures answers { (p : Plain) → IsPlain plain.now p → AnswersThirdRun p file.now script.now result (W.contents writer.old) (W.contents writer.new) }
-    ensures quiet { IfOk result IsQuietIfDone }
-    ensures writes { CountsWrites result (W.failed writer.old) (W.failed writer.new) }
-{
-    let made = third_check_run(alloc, file, script, plain);
-    let answer = write_answer(made, writer);
-    numbered(&plain.origins, answer)
 }
 
 /// Does a task with this script of version 2, and tells records by their numbers in that of version 3.

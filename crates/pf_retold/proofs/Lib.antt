@@ -3,5 +3,5 @@ mod Numbering
 pub mod Saying
 mod Writing
 mod Reading
-mod Whole
+pub mod Whole
 mod Told

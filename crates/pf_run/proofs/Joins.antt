@@ -9,11 +9,11 @@ use Rattle.std.proofs.lemmas.List.Kept.{AllPairs-filter, AllPairs-cons}
 use Rattle.pf_order.specs.Priority.{Priority}
 use Rattle.pf_scenario.specs.Event.{slot_of, is_of_slot, run_cmp, in_run_order}
 use Rattle.pf_scenario.specs.Scenario.{Plan, is_held, events_of, past}
-use Rattle.pf_scenario.specs.Edit.{IsScenario, join_alike, leave_alike}
+use Rattle.pf_scenario.specs.Edit.{IsScenario, join_alike}
 use Rattle.pf_scenario.specs.declared.event.Event.{Event}
 use Rattle.pf_scenario.specs.declared.event.Event.TheVariants.{Join}
 use Rattle.pf_scenario.specs.declared.event.Numbered.{Numbered}
-use Rattle.pf_scenario.proofs.Scenarios.{join_alike_back, leave_alike_back}
+use Rattle.pf_scenario.proofs.Scenarios.{join_alike_back}
 use Rattle.pf_scenario.proofs.Sorting.{sorted_keeps}
 use Rattle.pf_run.specs.declared.denied.Denied.{Denied}
 use Rattle.pf_run.specs.Record.{Slot, is_denied, in_force}
@@ -80,10 +80,6 @@ module _ (alike : Event → Event → Bool) (symmetric : (x y : Event) → alike
 pub joins_once_past : (s : Plan) (t : ℕ) → IsScenario s → AllPairs (λ x y. join_alike x.event y.event ≡ false) (past s t)
 joins_once_past s t scenario =
     once_among join_alike join_alike_back s.events (past s t) scenario.joins_once (apart_past s t scenario) (contains_past s t)
-
-pub leaves_once_past : (s : Plan) (t : ℕ) → IsScenario s → AllPairs (λ x y. leave_alike x.event y.event ≡ false) (past s t)
-leaves_once_past s t scenario =
-    once_among leave_alike leave_alike_back s.events (past s t) scenario.leaves_once (apart_past s t scenario) (contains_past s t)
 
 -- the joins differ in task, so the tasks inside do, so the eligible subtasks do
 task_of_joined : Option Joined → ℕ

@@ -1,15 +1,15 @@
 -- One missed window more, counted to its task.
-use Rattle.std.proofs.Common.{◌≡◌, ◌≢◌, ℕ, zero, suc, ◌+◌, ◌-◌, ◌≤◌, ◌<◌, ◌==◌, ◌||◌, Bool, true, false, cond, List, [], ◌∷◌, ◌++◌, length, take, get_or, set, replicate, count_by, fold, refl, sym, ap, ap₂, ◌∙◌, ⊎_elim, arith}
+use Rattle.std.proofs.Common.{◌≡◌, ◌≢◌, ℕ, zero, suc, ◌+◌, ◌-◌, ◌≤◌, ◌<◌, ◌==◌, ◌||◌, Bool, true, false, cond, List, [], ◌∷◌, ◌++◌, length, get_or, set, replicate, count_by, fold, refl, sym, ap, ap₂, ◌∙◌, ⊎_elim, arith}
 use Rattle.std.specs.List.{list_any}
 use Rattle.std.proofs.Math.Bool.{or-false}
 use Rattle.std.proofs.lemmas.Bool.{cases_Bool, cases_eq, cond-true, cond-false, eq-eqb, ne_eqb}
-use Rattle.std.proofs.lemmas.List.{length-append, length-replicate, length-take, get_or-set_same, get_or-set_other}
-use Rattle.std.proofs.lemmas.List.Sums.{sum_by_push, fold_push, count_by-le-length}
+use Rattle.std.proofs.lemmas.List.{length-append, length-replicate, get_or-set_same, get_or-set_other}
+use Rattle.std.proofs.lemmas.List.Sums.{sum_by_push, fold_push}
 use Rattle.std.proofs.lemmas.List.Folds.{list_any-append}
 use Rattle.pf_table.specs.Grown.{Grown, value_of, with_value, grown_to}
 use Rattle.pf_run.proofs.Counting.{count_by-cons, none_counted}
 use Rattle.pf_tally.specs.declared.miss.Miss.{Miss}
-use Rattle.pf_run_notes.specs.Late.{is_of_task, count_of_task, with_first, firsts_of, AreLate}
+use Rattle.pf_run_notes.specs.Late.{is_of_task, count_of_task, with_first, firsts_of}
 
 count_more : (task : ℕ) (misses : List Miss) (miss : Miss) → count_of_task task (misses ++ miss ∷ []) ≡ count_of_task task misses + cond (miss.task == task) 1 0
 count_more task misses miss = sum_by_push (λ m. cond (is_of_task task m) 1 0) misses miss
@@ -110,11 +110,6 @@ late_counts misses miss old new count counts is set task = ⊎_elim
     let now : value_of new task ≡ value_of old task = set task ∙ cond-false (miss.task == task) (count + 1) (value_of old task) (ne_eqb miss.task task other) in
     omega (arith, now, counts task, none, count_more task misses miss))
     (cases_eq miss.task task)
-
--- Use: there are no more than windows.
-pub late_few : (misses firsts : List Miss) (counts : Grown ℕ) (task k : ℕ) → AreLate (take k misses) firsts counts → value_of counts task ≤ length misses
-late_few misses firsts counts task k are =
-    omega (arith, are.each task, count_by-le-length (is_of_task task) (take k misses), length-take k misses)
 
 -- Use: a value is set.
 pub value_set : (table : Grown ℕ) (task x t : ℕ) → task < length table.0 → value_of (with_value table task x) t ≡ cond (task == t) x (value_of table t)

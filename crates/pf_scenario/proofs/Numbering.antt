@@ -178,9 +178,6 @@ listed-struck cards id at s c none =
     ∙ left_amid s.front s.card.id (event_on s.card) s.back id s.number (around cards id at s)
     ∙ ap (events_without id) (sym (listed_spot cards id at s))
 
-pub rising-struck : (cards : List Card) (id at : ℕ) (s : Spot cards id at) (c : Card) → c.id ≡ id → AllPairs (λ x y. x.id < y.id) (set cards at c)
-rising-struck cards id at s c e = subst (AllPairs (λ x y. x.id < y.id)) (sym (s.written c)) (AllPairs-from_pairs (λ x y. x.id < y.id) (s.front ++ c ∷ s.back) (rising_amid cards id at s c e))
-
 -- one event fewer
 pub fewer-struck : (cards : List Card) (id at : ℕ) (s : Spot cards id at) (c : Card) → event_on c ≡ None → is_some (event_on s.card) ≡ true → length (listed cards) ≡ length (listed (set cards at c)) + 1
 fewer-struck cards id at s c none some =

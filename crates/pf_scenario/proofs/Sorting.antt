@@ -161,15 +161,6 @@ pub list_any-sorted_by : {X : Type 0} (p : X → Bool) (R : X → X → Ordering
 list_any-sorted_by p R [] = refl
 list_any-sorted_by p R (x ∷ xs) = list_any-put p R x (sorted_by R xs) ∙ ap (λ b. p x || b) (list_any-sorted_by p R xs)
 
--- a relation that holds either way round holds of every two in any order
-pub Pairs-put : {X : Type 0} (S : X → X → Type 0) (R : X → X → Ordering) (x : X) (ys : List X) → All (S x) ys → All (λ y. S y x) ys → Pairs S ys → Pairs S (put_in_order R x ys)
-Pairs-put S R x [] to from h = (to, h)
-Pairs-put S R x (y ∷ ys) to from h =
-    elim (cases_Bool (is_lt (R x y))) [
-      | inl low ↦ let P : List _ → Type 0 = Pairs S in subst P (sym (put_low R x y ys low)) (to, h)
-      | inr high ↦ let P : List _ → Type 0 = Pairs S in subst P (sym (put_high R x y ys high)) (All-put (S y) R x ys (All-head (λ y. S y x) y ys from) h.0, Pairs-put S R x ys (All-tail (S x) y ys to) (All-tail (λ y. S y x) y ys from) h.1)
-    ]
-
 pub Pairs-filter : {X : Type 0} (S : X → X → Type 0) (p : X → Bool) (xs : List X) → Pairs S xs → Pairs S (filter p xs)
 Pairs-filter S p [] h = tt
 Pairs-filter S p (x ∷ xs) h =
@@ -244,10 +235,3 @@ put_agree R S x (y ∷ ys) h =
     let here = All-head (λ y. R x y ≡ S x y) y ys h in
     let rest = put_agree R S x ys (All-tail (λ y. R x y ≡ S x y) y ys h) in
     ap (λ r. cond (is_lt r) (x ∷ y ∷ ys) (y ∷ put_in_order R x ys)) here ∙ ap (λ zs. cond (is_lt (S x y)) (x ∷ y ∷ ys) (y ∷ zs)) rest
-
--- where an element goes between those that it is not below and those that it is below
-pub put_between : {X : Type 0} (R : X → X → Ordering) (x : X) (front back : List X) → All (λ y. is_lt (R x y) ≡ false) front → All (λ y. is_lt (R x y) ≡ true) back → put_in_order R x (front ++ back) ≡ front ++ x ∷ back
-put_between R x [] back low high = put_first R x back high
-put_between R x (y ∷ front) back low high =
-    put_high R x y (front ++ back) (All-head (λ y. is_lt (R x y) ≡ false) y front low)
-    ∙ ap (λ zs. y ∷ zs) (put_between R x front back (All-tail (λ y. is_lt (R x y) ≡ false) y front low) high)

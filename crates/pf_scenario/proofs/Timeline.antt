@@ -1,7 +1,6 @@
 -- The events of a scenario in time order, and what a change makes of them.
-use Rattle.std.proofs.Common.{◌≡◌, ◌≢◌, ℕ, zero, suc, ◌≤◌, Bool, true, false, not, List, [], ◌∷◌, ◌++◌, refl, sym, ap, ap₂, ◌∙◌, arith, inl, inr}
-use Rattle.std.specs.Prelude.{◌==◌}
-use Rattle.std.specs.List.{All, list_any, filter}
+use Rattle.std.proofs.Common.{◌≡◌, ◌≢◌, ℕ, zero, suc, ◌≤◌, true, false, List, [], ◌∷◌, ◌++◌, refl, sym, ap, ap₂, ◌∙◌, arith, inl, inr}
+use Rattle.std.specs.List.{All, filter}
 use Rattle.std.specs.declared.cmp.Ordering.TheVariants.{Equal}
 use Rattle.std.specs.Ordering.{ordering_then, nat_cmp, is_lt}
 use Rattle.std.proofs.lemmas.Cmp.{tied_itself}
@@ -9,11 +8,11 @@ use Rattle.std.specs.Cmp.{nat_cmp_total}
 use Rattle.std.proofs.lemmas.Bool.{cases_Bool, cond-false, eqb-true}
 use Rattle.std.proofs.lemmas.Bool.Decides.{nat_tests}
 use Rattle.std.proofs.lemmas.List.Elements.{All-head, All-tail, All-weaker, filter_passes}
-use Rattle.pf_scenario.proofs.Sorting.{All-sorted_by, list_any-sorted_by, sorted_middle, filter-sorted_by, put_agree, IsInOrder, IsInOrder-sorted_by}
+use Rattle.pf_scenario.proofs.Sorting.{All-sorted_by, sorted_middle, filter-sorted_by, put_agree, IsInOrder, IsInOrder-sorted_by}
 use Rattle.pf_scenario.proofs.Indexing.{time_cmp_total, time_differs, apart_back}
 use Rattle.pf_scenario.specs.Sorted.{put_in_order}
 use Rattle.pf_scenario.specs.Event.{slot_of, is_of_slot, run_cmp, in_run_order}
-use Rattle.pf_scenario.specs.Scenario.{Plan, events_without, events_of, past}
+use Rattle.pf_scenario.specs.Scenario.{Plan, events_of, past}
 use Rattle.pf_scenario.specs.TimeOrder.{time_cmp, put_in_time, in_time_order, is_before}
 use Rattle.pf_scenario.specs.Index.{AreDistinctEvents}
 use Rattle.pf_scenario.specs.declared.event.Numbered.{Numbered}
@@ -22,14 +21,6 @@ use Rattle.pf_scenario.specs.declared.event.Numbered.{Numbered}
 pub in_time_middle : (front : List Numbered) (x : Numbered) (back : List Numbered) → All (λ y. AreDistinctEvents y x) front → in_time_order (front ++ x ∷ back) ≡ put_in_time x (in_time_order (front ++ back))
 in_time_middle front x back apart =
     sorted_middle time_cmp_total front x back (All-weaker (λ y. AreDistinctEvents y x) (λ y. (time_cmp y x ≢ Equal) × (time_cmp x y ≢ Equal)) (λ y a. (time_differs y x a.numbers, time_differs x y (apart_back y x a).numbers)) front apart)
-
--- taken out by number before or after the events are put in time order
-pub in_time_without : (id : ℕ) (events : List Numbered) → events_without id (in_time_order events) ≡ in_time_order (events_without id events)
-in_time_without id events = filter-sorted_by (λ x. not (x.id == id)) time_cmp_total events
-
--- a test finds an event of another number in either order
-pub beside_in_time : (p : Numbered → Bool) (id : ℕ) (events : List Numbered) → list_any p (events_without id (in_time_order events)) ≡ list_any p (events_without id events)
-beside_in_time p id events = ap (list_any p) (in_time_without id events) ∙ list_any-sorted_by p time_cmp (events_without id events)
 
 -- in one slot the order in time is that of a run
 time_in_slot : (x y : Numbered) → slot_of x.event ≡ slot_of y.event → time_cmp x y ≡ run_cmp x y

@@ -6,12 +6,12 @@ ghost use Rattle.pf_scenario.specs.Cards.{AreRising, AreBelow, AreBehind, IsCut,
 use crate::card::Card;
 use crate::event::{Event, Numbered};
 use crate::events::Events;
-use crate::guide::{Guide, guessed_place};
+use crate::guide::Guide;
 use std::alloc::{AllocError, Global};
 use std::marker::Model;
 
-/// Events by number. It takes the memory of the events held, and of no more that are struck, and four bytes for each 16 numbers
-/// that were given. A search looks at five cards where its guess is good, as it is while numbers rise, and at the logarithm of
+/// Events by number. It takes the memory of the events held, and of no more that are struck, and eight bytes for each 32 numbers
+/// that were given. A search looks at two cards where its guess is good, as it is while numbers rise, and at the logarithm of
 /// their number where it is not. A change costs as much in the mean.
 #[derive(Debug, Drop)]
 pub struct ByNumber {
@@ -35,14 +35,13 @@ impl Model for ByNumber {
     ghost invariant = { λ b. IsTable b.cards.items b.held };
 }
 
-/// Where the card of this number is, if there is one. The search begins at the guess.
+/// Where the card of this number is, if there is one. The guess is tried first.
 fn place_of(cards: &[Card], guess: usize, id: u64) -> Option<usize>
     requires { AreRising cards.now }
     ensures { IsPlaceOf cards.now id result }
 {
-    let at = guessed_place(cards, guess, id);
-    if is_cut(cards, at, id) {
-        return place_at(cards, at, id);
+    if is_cut(cards, guess, id) {
+        return place_at(cards, guess, id);
     }
     cards.binary_search_by_key(&id, |card| card.id()).ok()
 }

@@ -1,15 +1,25 @@
 use crate::card::Card;
 use std::alloc::{AllocError, Global};
 
-/// How many numbers share a guess.
-const SHARING: usize = 16;
+/// How many numbers share a mask: as many as it has bits.
+const SHARING: usize = 32;
 
-/// Guesses of where the cards of a table of events by number stand, so that a search looks at few of them. They take four bytes
-/// for each 16 numbers. Nothing is promised of a guess: a search tries it before it believes it.
+/// Which of 32 numbers have a card.
+#[derive(Clone, Copy, Debug)]
+struct Marks {
+    /// The place of the first of these cards, or where it would be.
+    first: u32,
+
+    /// A bit for each number, the lowest for the least.
+    marked: u32,
+}
+
+/// Guesses of where the cards of a table of events by number stand, so that a search looks at few of them. They take eight bytes
+/// for each 32 numbers. Nothing is promised of a guess: a search tries it before it believes it.
 #[derive(Debug, Drop)]
 pub struct Guide {
-    /// For each 16 numbers, from 0 on, the place of the first card that is not below them.
-    places: Vec<u32>,
+    /// For each 32 numbers, from 0 on.
+    marks: Vec<Marks>,
 }
 
 /// A place in four bytes. One that has no room there is a bad guess.
@@ -17,26 +27,47 @@ fn in_short(place: usize) -> u32 {
     u32::try_from(place).unwrap_or(u32::MAX)
 }
 
-/// The first of the places from `from` on whose card is not below the number, if the guess is good.
-pub fn guessed_place(cards: &[Card], from: usize, id: u64) -> usize {
-    let from = from.min(cards.len());
-    let end = cards.len().min(from.saturating_add(SHARING));
-    let below = cards[from..end].partition_point(|card| card.id() < id);
-    from.saturating_add(below)
+/// The bit of a number.
+fn bit_of(id: u64) -> u32 {
+    1 << (id % SHARING as u64)
+}
+
+/// The bits of the lower numbers.
+fn bits_below(id: u64) -> u32 {
+    !(u32::MAX << (id % SHARING as u64))
+}
+
+/// The marks of the cards of numbers in a block, which begin at this place.
+fn marks_of(cards: &[Card], at: usize, block: u64) -> Marks {
+    let from = at.min(cards.len());
+    let mut marked = 0;
+    for card in &cards[from..] {
+        if card.id() / SHARING as u64 != block {
+            break;
+        }
+        marked |= bit_of(card.id());
+    }
+    Marks {
+        first: in_short(at),
+        marked,
+    }
 }
 
 impl Guide {
     /// No guesses.
     pub fn new(alloc: Global) -> Self {
         Guide {
-            places: Vec::new(alloc),
+            marks: Vec::new(alloc),
         }
     }
 
-    /// From where on a card of this number may stand: behind all cards, where no number as high was noted.
+    /// Where a card of this number may stand: behind all cards, where no number as high was noted.
     pub fn guess(&self, id: u64) -> usize {
-        match self.places.get(id as usize / SHARING) {
-            Some(place) => *place as usize,
+        match self.marks.get(id as usize / SHARING) {
+            Some(marks) => {
+                let below = marks.marked & bits_below(id);
+                marks.first as usize + below.count_ones() as usize
+            }
             None => usize::MAX,
         }
     }
@@ -47,9 +78,16 @@ impl Guide {
     ///
     /// Where memory is refused.
     pub fn note(&mut self, id: u64, at: usize) -> Result<(), AllocError> {
-        let wanted = id as usize / SHARING + 1;
-        if self.places.len() < wanted {
-            self.places.resize(wanted, in_short(at))?;
+        let block = id as usize / SHARING;
+        if self.marks.len() <= block {
+            let unmarked = Marks {
+                first: in_short(at),
+                marked: 0,
+            };
+            self.marks.resize(block + 1, unmarked)?;
+        }
+        if let Some(marks) = self.marks.get_mut(block) {
+            marks.marked = (marks.marked & bits_below(id)) | bit_of(id);
         }
         Ok(())
     }
@@ -57,9 +95,9 @@ impl Guide {
     /// Notes all anew, of cards whose places have changed. It takes no memory.
     pub fn renew(&mut self, cards: &[Card]) {
         let mut at = 0;
-        for (k, place) in self.places.iter_mut().enumerate() {
-            at = guessed_place(cards, at, (k as u64).saturating_mul(SHARING as u64));
-            *place = in_short(at);
+        for (k, marks) in self.marks.iter_mut().enumerate() {
+            *marks = marks_of(cards, at, k as u64);
+            at = at.saturating_add(marks.marked.count_ones() as usize);
         }
     }
 
@@ -69,7 +107,7 @@ impl Guide {
     ///
     /// Where memory is refused.
     pub fn copy(&self) -> Result<Self, AllocError> {
-        let places = Vec::from_slice(*self.places.allocator(), &self.places)?;
-        Ok(Guide { places })
+        let marks = Vec::from_slice(*self.marks.allocator(), &self.marks)?;
+        Ok(Guide { marks })
     }
 }

@@ -1,4 +1,5 @@
 ghost use Rattle.std.specs.Prelude.{◌≡◌, ◌<◌, ◌^◌, IfSome};
+ghost use Rattle.std.specs.Str.{bytes_eq};
 ghost use Rattle.pf_script.specs.Fields.{number_of};
 
 use csv::ByteRecord;
@@ -24,6 +25,19 @@ pub fn parse_number(field: &[u8]) -> Option<u64>
         value = value * 10 + u64::from(*byte - b'0');
     }
     Some(value)
+}
+
+/// Whether a field is this word, byte for byte. Most that are not differ in their length or their first byte.
+pub(crate) fn is_same(field: &[u8], word: &[u8]) -> bool
+    ensures { result ≡ bytes_eq field.now word.now }
+{
+    if field.len() != word.len() {
+        return false;
+    }
+    if field.get(0) != word.get(0) {
+        return false;
+    }
+    field == word
 }
 
 /// The fields of a record from one of them on.
@@ -108,7 +122,7 @@ impl<'a> Fields<'a> {
     pub fn is_word(&self, place: usize, word: &[u8]) -> bool
         ensures { result ≡ is_word self.now place word.now }
     {
-        self.field(place) == word
+        is_same(self.field(place), word)
     }
 
     /// Whether there are so many fields, the first of them this word.

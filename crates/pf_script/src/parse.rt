@@ -4,7 +4,7 @@ ghost use Rattle.pf_script.specs.Grammar.{horizon_of};
 ghost use Rattle.pf_script.specs.Parsing.{fault_at, of_length, number_at, number_within, join_at, leave_at, delay_at, limit_at, event_at, strike_at, alter_at, change_at, edit_at, steps_at, line_at, heading_at, settings_at, names_line, opening_at, record_at};
 
 use crate::fault::{Reason, RecordFault};
-use crate::fields::Fields;
+use crate::fields::{Fields, is_same};
 use crate::line::Line;
 use crate::record::{Record, ScriptSettings};
 use crate::stage::Stage;
@@ -61,18 +61,19 @@ fn parse_opening(version: Version, fields: &Fields) -> Result<Record, RecordFaul
 }
 
 /// Whether the first field names a record that may follow the settings.
-#[tactic(auto, unfolding(crate::specs::Parsing::names_line))]
+#[tactic(auto, unfolding(crate::specs::Parsing::names_line, crate::specs::Fields::is_word))]
 fn names_line(version: Version, fields: &Fields) -> bool
     ensures { result ≡ names_line version fields.now }
 {
-    fields.is_word(0, b"join")
-        || fields.is_word(0, b"leave")
-        || fields.is_word(0, b"delay")
-        || (version.has_limits() && fields.is_word(0, b"limit"))
-        || fields.is_word(0, b"alter")
-        || fields.is_word(0, b"strike")
-        || fields.is_word(0, b"strict")
-        || fields.is_word(0, b"step")
+    let word = fields.field(0);
+    is_same(word, b"join")
+        || is_same(word, b"leave")
+        || is_same(word, b"delay")
+        || (version.has_limits() && is_same(word, b"limit"))
+        || is_same(word, b"alter")
+        || is_same(word, b"strike")
+        || is_same(word, b"strict")
+        || is_same(word, b"step")
 }
 
 /// The record `settings,M,BASE,CAP,EVERY`, each number within its limits.
@@ -106,17 +107,18 @@ fn make_settings(version: Version, processors: u64, base: u64, cap: u64) -> Sett
 }
 
 /// A record after the settings.
-#[tactic(auto, unfolding(crate::specs::Parsing::line_at))]
+#[tactic(auto, unfolding(crate::specs::Parsing::line_at, crate::specs::Fields::is_word))]
 fn parse_line(version: Version, fields: &Fields) -> Result<Line, RecordFault>
     ensures { result ≡ line_at version fields.now }
 {
-    if fields.is_word(0, b"step") {
+    let word = fields.field(0);
+    if is_same(word, b"step") {
         return parse_steps(version, fields);
     }
-    if fields.is_word(0, b"strict") {
+    if is_same(word, b"strict") {
         return parse_edit(version, true, Reason::NoChange(version), fields, 1);
     }
-    if fields.is_word(0, b"settings") {
+    if is_same(word, b"settings") {
         return Err(fault_at(0, Reason::LateSettings));
     }
     parse_edit(version, false, Reason::NoRecord(version), fields, 0)
@@ -151,7 +153,7 @@ fn parse_edit(
 }
 
 /// A change whose word stands at a place; `none` is why it would be none.
-#[tactic(auto, unfolding(crate::specs::Parsing::change_at))]
+#[tactic(auto, unfolding(crate::specs::Parsing::change_at, crate::specs::Fields::is_word))]
 fn parse_change(
     version: Version,
     none: Reason,
@@ -161,10 +163,11 @@ fn parse_change(
     requires { place ≤ 1 }
     ensures { result ≡ change_at version none fields.now place }
 {
-    if fields.is_word(place, b"strike") {
+    let word = fields.field(place);
+    if is_same(word, b"strike") {
         return parse_strike(fields, place);
     }
-    if fields.is_word(place, b"alter") {
+    if is_same(word, b"alter") {
         return parse_alter(version, fields, place);
     }
     Ok(Change::Insert(parse_event(version, none, fields, place)?))
@@ -192,7 +195,7 @@ fn parse_alter(version: Version, fields: &Fields, place: usize) -> Result<Change
 }
 
 /// An event whose word stands at a place; `none` is why it would be none.
-#[tactic(auto, unfolding(crate::specs::Parsing::event_at))]
+#[tactic(auto, unfolding(crate::specs::Parsing::event_at, crate::specs::Fields::is_word))]
 fn parse_event(
     version: Version,
     none: Reason,
@@ -202,16 +205,17 @@ fn parse_event(
     requires { place ≤ 3 }
     ensures { result ≡ event_at version none fields.now place }
 {
-    if fields.is_word(place, b"join") {
+    let word = fields.field(place);
+    if is_same(word, b"join") {
         return parse_join(fields, place);
     }
-    if fields.is_word(place, b"leave") {
+    if is_same(word, b"leave") {
         return parse_leave(fields, place);
     }
-    if fields.is_word(place, b"delay") {
+    if is_same(word, b"delay") {
         return parse_delay(fields, place);
     }
-    if version.has_limits() && fields.is_word(place, b"limit") {
+    if version.has_limits() && is_same(word, b"limit") {
         return parse_limit(fields, place);
     }
     Err(fault_at(place, none))

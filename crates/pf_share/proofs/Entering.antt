@@ -1,38 +1,20 @@
 -- A history with one entry more.
 use Rattle.std.proofs.Common.{◌≡◌, ℕ, ◌+◌, true, false, List, [], ◌∷◌, ◌++◌, length, length-append, refl, sym, ap, ◌∙◌, subst, subst₂}
 use mathlib.Core.List.{IsPrefix}
-use Rattle.logbook.specs.Pages.{Book}
 use Rattle.pf_scenario.specs.System.{System}
 use Rattle.pf_desk.specs.declared.command.Command.{Command}
 use Rattle.pf_desk.specs.declared.reply.Reply.{Reply}
 use Rattle.pf_desk.specs.declared.entry.Entry.{Entry}
 use Rattle.pf_desk.specs.Machine.{reply_to}
 use Rattle.pf_desk.specs.History.{IsLegal, last_state}
-use Rattle.pf_desk.specs.Desk.{Shown, Ready, IsDesk, IsAsBefore, AnswersCaller, entry_of}
+use Rattle.pf_desk.specs.Desk.{Shown, Ready, IsDesk, AnswersCaller, entry_of}
 use Rattle.pf_desk.proofs.Histories.{settings_after}
-use Rattle.pf_board.specs.Passes.{Boarding, Keeping, Turning, Passing}
+use Rattle.pf_board.specs.Passes.{Keeping, Turning, Passing}
 use Rattle.pf_share.specs.declared.done.Done.{Done}
 use Rattle.pf_share.specs.Entered.{Enters}
 use Rattle.pf_share.specs.Histories.{IsHistory, numbered, entries_of, quanta_of, quanta_of_reply}
-use Rattle.pf_share.specs.Locked.{IsShownDesk}
 use Rattle.pf_share.specs.Stories.{Origin, Stamped}
 use Rattle.pf_share.proofs.Numbering.{entries_numbered, numbered_append}
-
--- what is so of a desk is so of one with another room for entries
-pub kept_as_before : (board : Boarding System) (book : Book) (d d' : Shown) (keeper : Keeping Entry System) (press : Book) (stamp shown : Stamped) →
-    IsShownDesk board book d keeper press stamp shown → IsAsBefore d d' → IsDesk d' → IsShownDesk board book d' keeper press stamp shown
-kept_as_before board book d d' keeper press stamp shown is before desk = record {
-  is_desk = desk;
-  settings = ap (λ x. x.state.plan.settings) before.rest ∙ is.settings;
-  processors = is.processors;
-  keeper_board = is.keeper_board;
-  has_turn = is.has_turn;
-  no_loads = is.no_loads;
-  seen = is.seen ∙ ap (λ x. numbered x.history) (sym before.rest);
-  press_book = is.press_book;
-  stamp_is = subst (λ (x : Shown). stamp ≡ record { origin = stamp.origin; history = x.history }) (sym before.rest) (ap (λ s. record { origin = stamp.origin; history = s.history }) is.stamp_is) ∙ ap (λ o. record { origin = o; history = d'.history }) (ap (λ s. s.origin) is.stamp_is);
-  is_shown = is.is_shown;
-}
 
 -- the desk's settings stay
 pub settings_stay : (settings : System) (caller : ℕ) (command : Command) (d : Shown) (reply : Reply) (d' : Shown) →

@@ -29,7 +29,7 @@ pub const MOST_PASSES: u64 = 128;
 /// The most viewers of a desk.
 pub const MOST_READERS: u64 = 16;
 
-/// A desk with an empty history that has no name yet: `start` gives it one.
+/// A desk with an empty history that is not yet bound to its type-level name: `start` binds it.
 #[derive(Drop)]
 pub struct Blank<H: Wait + Drop> {
     board: DeskBoard,

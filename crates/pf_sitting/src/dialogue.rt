@@ -1,4 +1,4 @@
-ghost use Rattle.std.specs.Prelude.{◌≡◌, ◌≤◌, ℕ, List, length, take, OnOk, IfOk, OnErr};
+ghost use Rattle.std.specs.Prelude.{◌≡◌, ◌<◌, ◌≤◌, ℕ, List, length, take, OnOk, IfOk, OnErr};
 
 /// Nothing more can be heard.
 #[derive(Clone, Copy, Debug, PartialEq, Eq)]
@@ -28,7 +28,8 @@ pub trait Dialogue {
     /// Asks for more: gives how many bytes were put at the front of the buffer, which must have room for one, and waits for one if
     /// need be; 0 at the end.
     fn hear(&mut self, buf: &mut [u8]) -> Result<usize, Deaf>
-        requires { is_open self.old }
+        requires open { is_open self.old }
+        requires room { 0 < length buf.old }
         ensures bound { IfOk result (λ n. n ≤ length buf.new) }
         ensures open { OnOk result (is_open self.new) }
         ensures ok { IfOk result (λ n. hears self.old (take n buf.new) self.new) }

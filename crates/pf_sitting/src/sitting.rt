@@ -50,6 +50,7 @@ fn hold_rounds<H: Wait, A: Answers, D: Dialogue>(
 ) -> Result<Going, SitFault>
     requires open { D.is_open dialogue.old }
     requires line { line.old.items ≡ [] }
+    requires room { 0 < length piece.old }
     ensures { HasSat (talk_of A.answers D.hears D.is_deaf D.tells D.is_mute) answers.old dialogue.old result answers.new dialogue.new }
 {
     'rounds: for _ in rt.forever() {
@@ -71,6 +72,7 @@ fn hold_round<A: Answers, D: Dialogue>(
     text: &mut Vec<u8>,
 ) -> Result<Option<Going>, SitFault>
     requires open { D.is_open dialogue.old }
+    requires room { 0 < length piece.old }
     ensures open { OnOk result (D.is_open dialogue.new) }
     ensures round { NextRound (talk_of A.answers D.hears D.is_deaf D.tells D.is_mute) answers.old dialogue.old line.old.items result answers.new dialogue.new line.new.items }
 {

@@ -14,7 +14,7 @@ use Rattle.pf_scenario.specs.declared.event.Event.{Event}
 use Rattle.pf_scenario.specs.declared.event.Event.TheVariants.{Join, Leave, Delay, Limit}
 use Rattle.pf_scenario.specs.declared.event.Numbered.{Numbered}
 use Rattle.pf_run.specs.Record.{Slot}
-use Rattle.pf_run.specs.Inside.{Joined, hold_back_of, shift_of}
+use Rattle.pf_run.specs.Inside.{Joined, hold_back_of}
 use Rattle.pf_tally.specs.Clock.{Stop, next_at, is_stopped, clock_of}
 use Rattle.pf_tally.specs.Log.{RiseFrom}
 use Rattle.pf_tally.specs.Held.{delay_from, next_in, held_by, held_from, stop_of, part_of, stopped_below, AreSuccessive}
@@ -79,16 +79,6 @@ behind_last (suc k) shift (h ∷ hs) d within = behind_step k shift h hs ∙ beh
     behind_step : (k shift : ℕ) (h : Held) (hs : List Held) → shift_behind shift (h ∷ hs) (suc k + 1) ≡ shift_behind (h.shift + h.by) hs (k + 1)
     behind_step k shift h hs = ap (shift_behind shift (h ∷ hs)) (let z : suc k + 1 ≡ suc (k + 1) = omega arith in z)
 
--- Use: the shift of subtask i, by the delays
-pub shift_is : (r : List Slot) (j : Joined) (xs : List Numbered) (i k : ℕ) → RiseFrom 0 xs → k ≤ length (held_from (next_at r j) j j.slot xs) →
-    ((m : ℕ) (d : Held) → m < k → nat_le (get_or (held_from (next_at r j) j j.slot xs) m d).sub i ≡ true) →
-    ((m : ℕ) (d : Held) → k ≤ m → m < length (held_from (next_at r j) j j.slot xs) → nat_le (get_or (held_from (next_at r j) j j.slot xs) m d).sub i ≡ false) →
-    shift_behind j.slot (held_from (next_at r j) j j.slot xs) k ≡ shift_of r xs j i
-unfolding shift_of
-shift_is r j xs i k rise within passes fails =
-    behind_is i k (next_at r j 0) j.slot (held_from (next_at r j) j j.slot xs) (held_chain (next_at r j) (next_rises r j) j 0 j.slot xs rise) within passes fails
-    ∙ ap (λ n. j.slot + n) (sym (all_counted r j j.slot i xs))
-
 -- stops that come one after another
 abbrev pub StopsRise : ℕ → List Stop → Type 0
 StopsRise from [] = Unit {0}
@@ -102,10 +92,6 @@ chain_stops w sub shift (h ∷ hs) share chain =
     let e : release_of w h.sub + (shift + h.by) ≡ release_of w h.sub + h.shift + h.by = omega arith in
     let P : ℕ → Type 0 = λ n. StopsRise n (map (stop_of w) hs) in
     (omega arith, omega arith, subst P e (chain_stops w h.sub (shift + h.by) hs share chain.2))
-
-pub stops_from : (a b : ℕ) (ss : List Stop) → a ≤ b → StopsRise b ss → StopsRise a ss
-stops_from a b [] lower rise = tt
-stops_from a b (t ∷ ss) lower rise = let first : b ≤ t.start = rise.0 in (omega arith, rise.1, rise.2)
 
 -- before its first stop no clock stands
 before_stops : (from t : ℕ) (ss : List Stop) → StopsRise from ss → t < from → is_stopped ss t ≡ false

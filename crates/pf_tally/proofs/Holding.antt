@@ -1,7 +1,7 @@
 -- How a task's delays are collected, event by event.
 use Rattle.std.proofs.Common.{◌≡◌, ℕ, zero, suc, ◌+◌, ◌*◌, ◌^◌, ◌<◌, ◌≤◌, Bool, true, false, ◌==◌, nat_lt, cond, List, [], ◌∷◌, ◌++◌, length, take, get_or, count_by, sum_by, refl, sym, ap, ap₂, ◌∙◌, subst, append_assoc, arith}
 use Rattle.std.proofs.lemmas.Bool.{cond-true, cond-false}
-use Rattle.std.proofs.lemmas.List.{append-nil, take_more, take_all, length-take-le}
+use Rattle.std.proofs.lemmas.List.{append-nil, take_more, length-take-le}
 use Rattle.std.proofs.lemmas.List.Elements.{All-take}
 use Rattle.std.proofs.lemmas.List.Sums.{sum_by-cons, sum_by_push, sum_by-le}
 use Rattle.pf_scenario.specs.declared.event.Event.{Event}
@@ -70,9 +70,6 @@ pub record AreHeld (next : ℕ → ℕ) (j : Joined) (xs : List Numbered) (held 
   pub delays : held ≡ held_from next j j.slot xs
   pub shift_is : shift ≡ j.slot + sum_by (λ x. delay_from j x.event) xs
 
-pub none_held : (next : ℕ → ℕ) (j : Joined) (xs : List Numbered) (held : List Held) → held ≡ [] → AreHeld next j (take 0 xs) held j.slot
-none_held next j xs held none = record { delays = none; shift_is = omega arith }
-
 -- after an event that delays the task, and after another
 pub held_one : (next : ℕ → ℕ) (j : Joined) (xs : List Numbered) (held after : List Held) (shift shift' k : ℕ) (d : Numbered) (h : Held) → k < length xs →
     h ∷ [] ≡ held_by next j shift (get_or xs k d).event → after ≡ held ++ h ∷ [] → shift' ≡ shift + h.by → AreHeld next j (take k xs) held shift → AreHeld next j (take (k + 1) xs) after shift'
@@ -93,9 +90,6 @@ held_none next j xs held shift k d within is before =
       delays = sym (append-nil held) ∙ ap₂ (λ hs ks. hs ++ ks) before.delays (is ∙ ap (λ n. held_by next j n x.event) before.shift_is) ∙ sym (held_push next j j.slot (take k xs) x);
       shift_is = omega (arith, sum_by_push (λ x. delay_from j x.event) (take k xs) x, before.shift_is, none_delays next j shift x.event is);
     })
-
-pub all_held : (next : ℕ → ℕ) (j : Joined) (xs : List Numbered) (held : List Held) (shift k : ℕ) → length xs ≤ k → AreHeld next j (take k xs) held shift → held ≡ held_from next j j.slot xs
-all_held next j xs held shift k over are = are.delays ∙ ap (held_from next j j.slot) (take_all k xs over)
 
 -- the shift stays small
 pub held_room : (next : ℕ → ℕ) (j : Joined) (xs : List Numbered) (held : List Held) (shift k : ℕ) (d : Numbered) (h : Held) → AreDelays j xs → AreHeld next j (take k xs) held shift → k < length xs →

@@ -1,6 +1,6 @@
 -- What the journal of a run and a walk over its rows say of a task.
 use Rattle.std.specs.Prelude.{pos, ◌-ℤ◌}
-use Rattle.std.proofs.Common.{◌≡◌, ℕ, ◌+◌, ◌-◌, ◌*◌, ◌<◌, ◌≤◌, ◌≢◌, ◌&&◌, nat_le, Bool, Option, List, [], ◌∷◌, ◌++◌, length, take, map, get_or, filter, filter_map, All, AllPairs, Contains, IsPermutation, sym, ap, ap₂, ◌∙◌, subst, subst₂, arith}
+use Rattle.std.proofs.Common.{◌≡◌, ℕ, ◌+◌, ◌-◌, ◌*◌, ◌<◌, ◌≤◌, ◌≢◌, ◌&&◌, nat_le, Bool, Option, List, [], ◌∷◌, ◌++◌, length, take, map, get_or, filter, filter_map, All, AllPairs, Contains, IsPermutation, sym, ap, ap₂, ◌∙◌, subst, arith}
 use Rattle.std.proofs.lemmas.List.{map_more, take_all, take_more, flat_map_more}
 use Rattle.std.proofs.lemmas.List.Elements.{All-contains, Contains-get_or}
 use Rattle.std.proofs.lemmas.List.Sorted.{IsPermutation-sym, Contains-permutation}
@@ -25,7 +25,6 @@ use Rattle.pf_table.specs.Lists.{noted_of}
 use Rattle.pf_tally.specs.Lags.{task_cmp, by_task, lag_of, lags_of}
 use Rattle.pf_tally.specs.Held.{CanTally, IsSmall, next_in, held_from, stopped_below}
 use Rattle.pf_tally.specs.Journal.{IsJournal}
-use Rattle.pf_tally.specs.Log.{IsLog}
 use Rattle.pf_tally.specs.Late.{late_misses, CanMiss}
 use Rattle.pf_tally.specs.Misses.{leaves_after, misses_of_task, miss_cmp, in_miss_order, misses_of}
 use Rattle.pf_tally.specs.Quanta.{slots_in}
@@ -59,9 +58,6 @@ unfolding lags_of
 lags_known s n journal lags tasks k known of_tasks of_lags over =
     of_lags ∙ ap (map (lag_of (run_of s n) journal.events.items)) (take_all k tasks over ∙ of_tasks)
     ∙ ap₂ (λ (xs : List Numbered) base. map (lag_of (run_of s n) xs) (by_task (inside base xs))) (known.events ∙ ap (events_in_force s (run_of s n)) (sym known.slots)) (ap (λ settings. settings.base) known.settings)
-
-pub journal_log : (s : Plan) (n : ℕ) (journal : Journal) (xs : List Numbered) → IsJournal s n journal → xs ≡ journal.events.items → IsLog journal.settings n xs
-journal_log s n journal xs known is = let P : System → List Numbered → Type 0 = λ system xs. IsLog system n xs in subst₂ P (sym known.settings) (sym is) known.log
 
 pub walk_known : (s : Plan) (rows : List (List (Option Pick))) (denials : List Denied) (run : WalkedRun) (xs : List Numbered) → AreOfRun s (length rows) rows denials → IsJournal s (length rows) run.journal →
     xs ≡ run.journal.events.items → All (IsAt rows (length rows) xs run.walk) (filter_map (join_of run.journal.settings.base) xs) → IsWalkOf s rows denials run

@@ -1,6 +1,5 @@
 -- The ledger of a run, and what it says of a task.
 use Rattle.std.proofs.Common.{◌≡◌, ℕ, ◌&&◌, nat_le, Option, List, ◌++◌, length, filter_map, All, Contains, refl, sym, ap, ◌∙◌, subst, subst₂, arith}
-use Rattle.pf_weight.specs.Share.{IsShare}
 use Rattle.pf_order.specs.declared.pick.Pick.{Pick}
 use Rattle.pf_scenario.specs.Scenario.{Plan, past}
 use Rattle.pf_scenario.specs.Edit.{IsScenario}
@@ -88,9 +87,6 @@ module _ (s : Plan) (n : ℕ) (ledger : Ledger) (known : IsLedger s n ledger) (j
       let P : ℕ → Type 0 = CanTally j (slots_of (run_of s n) j.task) ledger.events.items in
       let Q : System → Type 0 = λ system. Contains (filter_map (join_of system.base) ledger.events.items) j in
       subst P (sym known.now) (can_tally s.settings n ledger.events.items j (run_of s n) (slots_of (run_of s n) j.task) known.log (subst Q known.settings at) known.slots refl)
-
-  task_share : IsShare j.weight
-  task_share = let can = task_known in can.share
 
   pub task_ran : (ran : List ℕ) → ran ≡ noted_of ledger.quanta j.task → ran ≡ slots_of (run_of s n) j.task
   task_ran ran of_ran = of_ran ∙ known.quanta j.task

@@ -5,7 +5,7 @@ use Rattle.std.specs.List.{slice_get}
 use Rattle.std.specs.Option.{option_map_or}
 use Rattle.std.proofs.lemmas.Bool.{cases_eq, ne_eqb, eq-eqb, or_from}
 use Rattle.std.proofs.lemmas.Option.{get_or_from_slice_get}
-use Rattle.std.proofs.lemmas.List.{append-nil, take_all, take_more, length-take-le}
+use Rattle.std.proofs.lemmas.List.{append-nil, take_more, length-take-le}
 use Rattle.std.proofs.lemmas.List.Folds.{list_any_more}
 use Rattle.pf_order.specs.declared.pick.Pick.{Pick}
 use Rattle.pf_place.specs.Occupancy.{sitter, sitters, is_seated, NoTaskTwice}
@@ -31,9 +31,6 @@ not_before (Some q ∷ row) (suc p) pick once within is =
     or_from _ _
     (ne_eqb q.task pick.task (pairs_head (λ p q. p.task ≢ q.task) q (sitters row) pick once (sits_among row p pick (omega arith) is)))
     (not_before row p pick (pairs_tail (λ p q. p.task ≢ q.task) q (sitters row) once) (omega arith) is)
-
-pub none_noted : (table : List (List ℕ)) (row : List (Option Pick)) (t : ℕ) → AreNoted table table (take 0 row) t
-none_noted table row t = record { each = λ task. sym (append-nil (noted_of table task)) }
 
 pub seated_more : (row : List (Option Pick)) (p : ℕ) (o : Option Pick) (task : ℕ) → p < length row → get_or row p None ≡ o →
     is_seated (take (p + 1) row) task ≡ (is_seated (take p row) task || option_map_or (λ q. q.task == task) o false)
@@ -72,9 +69,6 @@ pick_noted old new row t p pick after once within is before noted = record {
       (cases_eq pick.task task);
 }
 
-pub all_noted : (old new : List (List ℕ)) (row : List (Option Pick)) (t p : ℕ) → length row ≤ p → AreNoted old new (take p row) t → AreNoted old new row t
-all_noted old new row t p over before = let P : List (Option Pick) → Type 0 = λ places. AreNoted old new places t in subst P (take_all p row over) before
-
 -- before any row, and after one more
 pub no_table : (rows : List (List (Option Pick))) (table : List (List ℕ)) → ((task : ℕ) → noted_of table task ≡ []) → IsTableOf (take 0 rows) table
 no_table rows table empty = record { each = empty }
@@ -89,9 +83,6 @@ table_more rows old new row t within is table more =
           ∙ ap (λ slots. slots ++ cond (is_seated row task) (t ∷ []) []) (table.each task)
           ∙ sym (places_push (λ row. is_seated row task) 0 t (take t rows) row (omega (arith, length-take-le t rows (let h : t ≤ length rows = omega arith in h))));
     })
-
-pub all_table : (rows : List (List (Option Pick))) (table : List (List ℕ)) (t : ℕ) → length rows ≤ t → IsTableOf (take t rows) table → IsTableOf rows table
-all_table rows table t over is = let P : List (List (Option Pick)) → Type 0 = λ rows. IsTableOf rows table in subst P (take_all t rows over) is
 
 -- what a look-up gives
 pub got_at : {X : Type 0} (xs : List X) (t : ℕ) (x : X) → Some x ≡ slice_get xs t → get_or xs t x ≡ x

@@ -1,6 +1,5 @@
 -- Of a task only its own events count: for its shifts, its clock, its leave and its misses.
-use Rattle.std.proofs.Common.{◌≡◌, ℕ, ◌+◌, ◌-◌, ◌*◌, ◌<◌, ◌≤◌, Bool, true, false, ◌&&◌, ◌==◌, nat_le, not, cond, Option, None, Some, List, [], ◌∷◌, ◌++◌, length, take, get_or, filter, find, count_by, sum_by, All, ⊎_elim, refl, sym, ap, ap₂, ◌∙◌, subst, arith}
-use Rattle.std.specs.Prelude.{pos, ◌-ℤ◌}
+use Rattle.std.proofs.Common.{◌≡◌, ℕ, ◌+◌, ◌-◌, ◌<◌, ◌≤◌, Bool, true, false, ◌&&◌, ◌==◌, nat_le, not, cond, Option, None, Some, List, [], ◌∷◌, ◌++◌, length, take, get_or, filter, find, count_by, sum_by, All, ⊎_elim, refl, sym, ap, ap₂, ◌∙◌, subst, arith}
 use Rattle.std.specs.List.{range_with_len}
 use Rattle.std.specs.Option.{option_map_or}
 use Rattle.std.proofs.lemmas.Bool.{cases_Bool, cond-false}
@@ -17,11 +16,9 @@ use Rattle.pf_scenario.specs.declared.limits.TheConstants.{LONGEST_DELAY}
 use Rattle.pf_run.specs.Record.{Slot, done}
 use Rattle.pf_run.specs.Inside.{Joined, has_left, hold_back_of, shift_of}
 use Rattle.pf_tally.specs.Clock.{Stop, next_at, stop_by, stops_behind, is_stopped, clock_of}
-use Rattle.pf_tally.specs.Lags.{lag_of}
 use Rattle.pf_tally.specs.Misses.{leaves_after}
 use Rattle.pf_tally.specs.Log.{RiseFrom}
 use Rattle.pf_tally.specs.Held.{delay_from, CanTally}
-use Rattle.pf_tally.specs.declared.lag.Lag.{Lag}
 use Rattle.pf_table.specs.Lists.{noted_of}
 use Rattle.pf_tally.specs.Own.{is_own, events_of_task, AreDiaries}
 
@@ -100,17 +97,6 @@ stops_own r j before (x ∷ xs) =
 pub clock_own : (r : List Slot) (xs : List Numbered) (j : Joined) (n : ℕ) → clock_of r (events_of_task j.task xs) j n ≡ clock_of r xs j n
 unfolding clock_of
 clock_own r xs j n = ap (λ ss. count_by (λ t. not (is_stopped ss t)) (range_with_len j.slot (n - j.slot))) (stops_own r j [] xs)
-
--- Use: its lag.
-pub lag_own : (r : List Slot) (xs : List Numbered) (j : Joined) → lag_of r (events_of_task j.task xs) j ≡ lag_of r xs j
-lag_own r xs j =
-    ap (λ clock. let lag : Lag = record {
-      task = j.task;
-      cost = j.weight.cost;
-      period = j.weight.period;
-      received = done r j.task (length r);
-      scaled = pos (j.weight.cost * clock) -ℤ pos (j.weight.period * done r j.task (length r));
-    } in lag) (clock_own r xs j (length r))
 
 -- its leave
 leave_is_own : (task : ℕ) (x : Event) → is_leave_of task x ≡ true → is_own task x ≡ true

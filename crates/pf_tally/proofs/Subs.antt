@@ -79,9 +79,6 @@ one_pick r task i p is = ⊎_elim
     (λ differ. let no : (p.task == task) ≡ false = ne_eqb p.task task differ in ap (λ b. b && p.sub == i) no ∙ sym (ap (λ b. b && next_sub r task == i) no))
     (cases_eq p.task task)
 
-either_and : (a b c d : Bool) → a ≡ (b && d) → c ≡ (b && d) → a ≡ c
-either_and a b c d e f = e ∙ sym f
-
 or_and : (a b d : Bool) → ((a && d) || (b && d)) ≡ ((a || b) && d)
 or_and true b true = refl
 or_and true true false = refl

@@ -1,5 +1,5 @@
 -- What a walk over a run's slots knows of a task, row by row and event by event.
-use Rattle.std.proofs.Common.{◌≡◌, ℕ, zero, suc, ◌+◌, ◌*◌, ◌^◌, ◌<◌, ◌≤◌, Bool, true, false, ◌||◌, ◌==◌, nat_le, cond, Option, None, Some, List, [], ◌∷◌, ◌++◌, length, take, drop, get_or, sum_by, All, ◌≢◌, ⊎_elim, refl, sym, ap, ap₂, ◌∙◌, subst, append_assoc, drop-cons, length-append, arith}
+use Rattle.std.proofs.Common.{◌≡◌, ℕ, suc, ◌+◌, ◌*◌, ◌^◌, ◌<◌, ◌≤◌, Bool, true, false, ◌||◌, ◌==◌, nat_le, cond, Option, None, Some, List, [], ◌∷◌, ◌++◌, length, take, drop, get_or, sum_by, All, ◌≢◌, ⊎_elim, refl, sym, ap, ap₂, ◌∙◌, subst, append_assoc, drop-cons, length-append, arith}
 use Rattle.std.specs.Prelude.{replicate, ◌-◌}
 use Rattle.std.proofs.Math.Bool.{or-false}
 use Rattle.std.proofs.lemmas.Bool.{cond-true, cond-false, eqb-true, cases_eq, le-leb, lt-leb}
@@ -35,15 +35,6 @@ use Rattle.pf_tally.proofs.Delays.{next_in_rises}
 use Rattle.pf_tally.proofs.Holding.{held_push}
 use Rattle.pf_tally.proofs.Noting.{not_before, seated_more}
 use Rattle.pf_tally.proofs.Places.{places_push, places_below, length_places}
-
--- The picks of a row, one after another.
-pub none_ran : (walk : Walk) (row : List (Option Pick)) (t : ℕ) → HaveRun walk walk (is_seated (take 0 row)) t
-none_ran walk row t = record {
-  progress = λ task. refl;
-  late = λ task. sym (append-nil (noted_of walk.late task));
-  delays = refl;
-  none = refl;
-}
 
 value_once : {A : Type 0} (b e c : Bool) (f : A → A) (x y z : A) → c ≡ (b || e) → (e ≡ true → b ≡ false) → y ≡ cond b (f x) x → z ≡ cond e (f y) y → z ≡ cond c (f x) x
 value_once true true c f x y z either once first second = let e : true ≡ false = once refl in cc
@@ -91,9 +82,6 @@ module _ (old mid new : Walk) (row : List (Option Pick)) (t p : ℕ) (within : p
       delays = more.delays ∙ before.delays;
       none = more.none ∙ before.none;
     }
-
-pub all_ran : (old new : Walk) (row : List (Option Pick)) (t p : ℕ) → length row ≤ p → HaveRun old new (is_seated (take p row)) t → HaveRun old new (is_seated row) t
-all_ran old new row t p over ran = let P : List (Option Pick) → Type 0 = λ places. HaveRun old new (is_seated places) t in subst P (take_all p row over) ran
 
 -- How many quanta there were.
 module _ (rows : List (List (Option Pick))) (t task : ℕ) where
@@ -291,15 +279,6 @@ pub record IsEntered (tasks : List Joined) (table : Grown (Option Progress)) : T
   pub each : (task : ℕ) → IsWithin 0 WIDE_HORIZON (value_of table task)
   pub own : All (λ j. value_of table j.task ≡ Some (new_progress j)) tasks
 
-pub none_entered : (tasks : List Joined) (table : Grown (Option Progress)) → table ≡ ([], None) → IsEntered (take 0 tasks) table
-none_entered tasks table is =
-    let P : Grown (Option Progress) → Type 0 = IsEntered [] in
-    subst P (sym is) (record { none = refl; each = λ task. none_within task; own = All-nil (λ j. value_of {X = Option Progress} ([], None) j.task ≡ Some (new_progress j)) })
-  where
-    none_within : (task : ℕ) → IsWithin 0 WIDE_HORIZON (value_of {X = Option Progress} ([], None) task)
-    none_within zero = tt
-    none_within (suc task) = tt
-
 pub task_entered : (tasks : List Joined) (k : ℕ) (j : Joined) (old room new : Grown (Option Progress)) → AreApart tasks → k < length tasks → get_or tasks k j ≡ j →
     room.1 ≡ old.1 → ((task : ℕ) → value_of room task ≡ value_of old task) → j.task < size_of room → new ≡ with_value room j.task (Some (new_progress j)) →
     IsEntered (take k tasks) old → IsEntered (take (k + 1) tasks) new
@@ -326,20 +305,6 @@ task_entered tasks k j old room new apart within is fill same small set before =
     earlier i d inside e =
         let long = length-take-le k tasks (let h : k ≤ length tasks = omega arith in h) in
         apart.apart i k d (omega arith) within (ap (λ (a : Joined). a.task) (sym (get_or-take k tasks i d (omega arith))) ∙ e ∙ ap (λ (a : Joined). a.task) (sym is ∙ get_or_default tasks k j d within))
-
-pub all_new : (tasks : List Joined) (k : ℕ) (walk : Walk) → length tasks ≤ k → IsEntered (take k tasks) walk.progress →
-    ((task : ℕ) → noted_of walk.delays task ≡ []) → ((task : ℕ) → noted_of walk.late task ≡ []) → IsNew tasks walk
-all_new tasks k walk over is delays late =
-    let P : List Joined → Type 0 = λ js. IsEntered js walk.progress in
-    let all = subst P (take_all k tasks over) is in
-    record {
-      at = λ rows i d inside. let j = get_or tasks i d in record {
-        progress = all.own i d inside ∙ ap (λ n. Some (come j.weight 0 n)) (let z : j.slot ≡ j.slot + 0 = omega arith in z);
-        delays = delays j.task;
-        late = late j.task;
-      };
-      within = record { none = all.none; each = all.each };
-    }
 
 -- Event by event, over all rows.
 pub record IsBehind (tasks : List Joined) (rows : List (List (Option Pick))) (xs : List Numbered) (k t : ℕ) (walk : Walk) : Type 0 where

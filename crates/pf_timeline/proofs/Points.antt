@@ -174,10 +174,6 @@ module _ (q s : Plan) (n from : ℕ) (rows : List (List (Option Pick))) (denials
   within : k * c.every ≤ n
   within = let early : k * c.every ≤ from = last.not_after in omega arith
 
-  -- Use: it is there.
-  pub front_some : from / c.every < length c.points
-  front_some = last.some
-
   now_is : p.engine.now ≡ k * c.every
   now_is = point_now q n (k * c.every) rows denials e p within keeps.run point
 

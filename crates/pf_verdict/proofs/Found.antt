@@ -41,10 +41,6 @@ none_later s scenario carries n r run =
     settings_suffice s n r scenario run (leb-true s.settings.cap (s.settings.base * s.settings.processors) parts.0)
     (λ k d lt. leaves_room s.settings (get_or s.events k d).event (AllPass-from_list_all test s.events parts.1 k d lt))
 
-above_rises : (s : Plan) (r : List Slot) (t : ℕ) → above_of s r t ≤ above_of s r (suc t)
-unfolding above_of
-above_rises s r t = omega arith
-
 above_each : (s : Plan) (r : List Slot) (n t : ℕ) → t < n → above_of s r n ≡ 0 → is_above s r t ≡ false
 unfolding above_of
 above_each s r zero t lt none = absurd (omega (arith, lt))

@@ -9,13 +9,6 @@ use Rattle.pf_run.specs.Inside.{Joined}
 use Rattle.pf_verdict.specs.Grow.{CanCost, GreatestCostIsTold, IsGreatestCost, end_of, grow_of, is_of_stay, left_in, least_left, quanta_in, units_each}
 use Rattle.pf_verdict.proofs.Least.{one_more, stays}
 
--- a product that is less has a part that is less
-less_part : (a b p : ℕ) → a * p < b * p → a < b
-less_part a b p lt = ⊎_elim
-    (λ (less : a < b). less)
-    (λ (ge : b ≤ a). absurd (omega (arith, lt, mul-le-mul_right p ge)))
-    (cases_lt a b)
-
 le_part : (a b p : ℕ) → 1 ≤ p → a * p ≤ b * p → a ≤ b
 le_part a b p some le = ⊎_elim
     (λ (more : b < a). absurd (let z : suc b * p ≤ a * p = mul-le-mul_right p more in omega (arith, z, le, some)))

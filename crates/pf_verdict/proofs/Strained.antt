@@ -150,8 +150,3 @@ step u n k xs d strain new lt cover few so_far is =
         (if b then strain.above + ((get_or xs k d).to - (get_or xs k d).from) else strain.above) ≤ (get_or xs k d).to
     more true from some = omega (arith, few, from, some)
     more false from some = omega (arith, few, from, some)
-
-pub ended : (u n k : ℕ) (xs : List Stretch) (strain : Strain) → length xs ≤ k → Cover u n (drop k xs) →
-    ((s : Plan) (r : List Slot) → All (IsEven s r) xs → strain ≡ strain_of s r u) →
-    (s : Plan) (r : List Slot) → All (IsEven s r) xs → strain ≡ strain_of s r n
-ended u n k xs strain all cover so_far s r even = so_far s r even ∙ ap (strain_of s r) (last u n k xs all cover)

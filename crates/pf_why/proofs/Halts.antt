@@ -1,8 +1,8 @@
 -- The stop of a task's clock that a slot is in, event by event.
-use Rattle.std.proofs.Common.{◌≡◌, ◌∙◌, ℕ, ◌+◌, ◌*◌, ◌^◌, ◌<◌, ◌≤◌, ◌==◌, Bool, true, false, cond, drop, take, find, filter_map, get_or, map, sum_by, Option, None, Some, List, [], ◌∷◌, ◌++◌, length, All, Contains, refl, sym, ap, ap₂, arith}
+use Rattle.std.proofs.Common.{◌≡◌, ◌∙◌, ℕ, ◌+◌, ◌*◌, ◌^◌, ◌<◌, ◌≤◌, ◌==◌, Bool, true, false, cond, take, find, filter_map, map, sum_by, Option, None, Some, List, [], ◌∷◌, ◌++◌, length, All, Contains, refl, sym, ap, ap₂, arith}
 use Rattle.std.specs.List.{cons_option}
 use Rattle.std.specs.Option.{option_or}
-use Rattle.std.proofs.lemmas.List.{append-nil, drop_more, drop_all, length-take-le, take_more}
+use Rattle.std.proofs.lemmas.List.{append-nil, length-take-le}
 use Rattle.std.proofs.lemmas.List.Elements.{All-push, All-take}
 use Rattle.std.proofs.lemmas.List.Sums.{sum_by-le, sum_by_push}
 use Rattle.pf_scenario.specs.Event.{slot_of}
@@ -15,36 +15,7 @@ use Rattle.pf_tally.specs.Clock.{next_at, stop_by}
 use Rattle.pf_tally.specs.Held.{AreDelays, delay_from, held_by, stop_of}
 use Rattle.pf_tally.specs.Log.{RiseFrom}
 use Rattle.pf_tally.proofs.Delays.{stops_are}
-use Rattle.pf_why.specs.declared.halt.Halt.{Halt}
 use Rattle.pf_why.specs.Upcoming.{brought_in, halt_among, halt_behind, halt_from, halt_held}
-
--- Use: one event was looked at.
-module _ (next : ℕ → ℕ) (j : Joined) (t shift : ℕ) (xs : List Numbered) (k : ℕ) (d : Numbered) (within : k < length xs) where
-  halt_at_next : halt_from next j t shift (drop k xs)
-      ≡ option_or (halt_held next j t shift (get_or xs k d)) (halt_from next j t (shift + delay_from j (get_or xs k d).event) (drop (k + 1) xs))
-  halt_at_next = ap (halt_from next j t shift) (drop_more xs k d within)
-
-  pub halt_later : halt_held next j t shift (get_or xs k d) ≡ None
-      → halt_from next j t (shift + delay_from j (get_or xs k d).event) (drop (k + 1) xs) ≡ halt_from next j t shift (drop k xs)
-  halt_later none =
-      sym (halt_at_next ∙ ap (λ o. option_or o (halt_from next j t (shift + delay_from j (get_or xs k d).event) (drop (k + 1) xs))) none)
-
-  pub halt_found : (h : Halt) → halt_held next j t shift (get_or xs k d) ≡ Some h → Some h ≡ halt_from next j t shift (drop k xs)
-  halt_found h is =
-      sym (halt_at_next ∙ ap (λ o. option_or o (halt_from next j t (shift + delay_from j (get_or xs k d).event) (drop (k + 1) xs))) is)
-
-  pub shift_later : shift ≡ j.slot + sum_by (λ x. delay_from j x.event) (take k xs)
-      → shift + delay_from j (get_or xs k d).event ≡ j.slot + sum_by (λ x. delay_from j x.event) (take (k + 1) xs)
-  shift_later is =
-      let more : take (k + 1) xs ≡ take k xs ++ get_or xs k d ∷ [] = take_one in
-      omega (arith, is, sum_by_push (λ x. delay_from j x.event) (take k xs) (get_or xs k d), ap (sum_by (λ x. delay_from j x.event)) more)
-    where
-      take_one : take (k + 1) xs ≡ take k xs ++ get_or xs k d ∷ []
-      take_one = take_more xs k d within
-
--- Use: all were looked at.
-pub halt_none : (next : ℕ → ℕ) (j : Joined) (t shift k : ℕ) (xs : List Numbered) → length xs ≤ k → halt_from next j t shift (drop k xs) ≡ None
-halt_none next j t shift k xs over = ap (halt_from next j t shift) (drop_all k xs over)
 
 -- Use: the shift stays small.
 pub shift_room : (j : Joined) (xs : List Numbered) (shift k : ℕ) → AreDelays j xs → k ≤ length xs
@@ -75,28 +46,6 @@ halts_are r j t before (x ∷ xs) u shift rise earlier is =
     (halts_are r j t (before ++ x ∷ []) xs (slot_of x.event) (shift + delay_from j x.event) rise.1
     (All-push (λ y. slot_of y.event ≤ slot_of x.event) before x all (omega arith))
     (omega (arith, is, sum_by_push (λ x. delay_from j x.event) before x)))
-
--- Use: events up to the one that brings a task.
-module _ (base task : ℕ) (xs : List Numbered) (k : ℕ) (d : Numbered) (within : k < length xs) where
-  brought_next : brought_in base (drop k xs) task
-      ≡ find (λ j. j.task == task) (cons_option (join_of base (get_or xs k d)) (filter_map (join_of base) (drop (k + 1) xs)))
-  brought_next = ap (λ ys. brought_in base ys task) (drop_more xs k d within)
-
-  pub brought_not : join_of base (get_or xs k d) ≡ None → brought_in base (drop (k + 1) xs) task ≡ brought_in base (drop k xs) task
-  brought_not none = sym (brought_next ∙ ap (λ o. find (λ j. j.task == task) (cons_option o (filter_map (join_of base) (drop (k + 1) xs)))) none)
-
-  module _ (j : Joined) (brings : join_of base (get_or xs k d) ≡ Some j) where
-    brought_one : brought_in base (drop k xs) task ≡ cond (j.task == task) (Some j) (brought_in base (drop (k + 1) xs) task)
-    brought_one = brought_next ∙ ap (λ o. find (λ j. j.task == task) (cons_option o (filter_map (join_of base) (drop (k + 1) xs)))) brings
-
-    pub brought_other : j.task == task ≡ false → brought_in base (drop (k + 1) xs) task ≡ brought_in base (drop k xs) task
-    brought_other other = sym (brought_one ∙ ap (λ b. cond b (Some j) (brought_in base (drop (k + 1) xs) task)) other)
-
-    pub brought_it : j.task == task ≡ true → Some j ≡ brought_in base (drop k xs) task
-    brought_it same = sym (brought_one ∙ ap (λ b. cond b (Some j) (brought_in base (drop (k + 1) xs) task)) same)
-
-pub brought_none : (base task k : ℕ) (xs : List Numbered) → length xs ≤ k → None ≡ brought_in base (drop k xs) task
-brought_none base task k xs over = sym (ap (λ ys. brought_in base ys task) (drop_all k xs over))
 
 -- Use: a task that is brought is brought by one of the events.
 pub record IsBrought (base : ℕ) (xs : List Numbered) (j : Joined) : Type 0 where

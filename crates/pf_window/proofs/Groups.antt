@@ -2,7 +2,7 @@
 -- each period; its group deadlines are where the lack comes to a whole quantum.
 use Rattle.std.proofs.Common.{◌≡◌, ℕ, zero, suc, ◌+◌, ◌-◌, ◌*◌, ◌/◌, ◌^◌, ◌<◌, ◌≤◌, true, false, eqb, inl, inr, refl, sym, ap, ◌∙◌, subst, arith, ⊎_elim}
 use Rattle.std.proofs.Math.Nat.{lt_of_mul-lt-mul_right, mul-le-mul_right, le_antisymm}
-use Rattle.std.proofs.lemmas.Bool.{cases_Bool, cases_eq, cond-true, cond-false, leb-true, eq-eqb, ne_eqb}
+use Rattle.std.proofs.lemmas.Bool.{cases_eq, cond-true, cond-false, leb-true, eq-eqb, ne_eqb}
 use Rattle.std.proofs.lemmas.Nat.{mul-le}
 use Rattle.std.specs.Int.{div_ceil}
 use Rattle.pf_weight.specs.Share.{Share, IsShare, is_heavy}
@@ -165,15 +165,6 @@ heavy_group w i share first heavy =
 -- the computed number is the group deadline ..
 pub group_of-is : (w : Share) (i : ℕ) → IsShare w → 1 ≤ i → IsGroupOf w i (group_of w i)
 group_of-is w i share first = record { light = group_of_light w i; heavy = heavy_group w i share first }
-
--- .. and there is only one
-pub group_of-only : {w : Share} {i s t : ℕ} → IsGroupOf w i s → IsGroupOf w i t → s ≡ t
-group_of-only {w} a b =
-    ⊎_elim
-    (λ heavy. let x = a.heavy heavy in let y = b.heavy heavy in
-    le_antisymm (x.least _ y.group y.after) (y.least _ x.group x.after))
-    (λ light. a.light light ∙ sym (b.light light))
-    (cases_Bool (is_heavy w))
 
 -- how large the numbers come, which keeps them within a word
 

@@ -1,6 +1,6 @@
 -- The windows of a task, by what is told of it.
-use Rattle.std.proofs.Common.{◌≡◌, ◌∙◌, ℕ, zero, suc, ◌+◌, ◌-◌, ◌*◌, ◌/◌, ◌<◌, ◌≤◌, Bool, true, false, cond, take, filter, filter_map, get_or, subst, Option, None, Some, Result, Ok, Err, List, [], ◌∷◌, ◌++◌, length, refl, sym, ap, ap₂, arith}
-use Rattle.std.specs.Prelude.{◌&&◌, ◌||◌, is_some, min, max, nat_le, nat_lt, if◌then◌else◌, OnOk, sum_by}
+use Rattle.std.proofs.Common.{◌≡◌, ◌∙◌, ℕ, zero, suc, ◌+◌, ◌-◌, ◌*◌, ◌/◌, ◌<◌, ◌≤◌, Bool, true, false, cond, take, filter, filter_map, get_or, subst, Option, None, Result, Ok, Err, List, [], ◌∷◌, ◌++◌, length, refl, sym, ap, ap₂, arith}
+use Rattle.std.specs.Prelude.{◌&&◌, ◌||◌, is_some, min, max, nat_le, nat_lt, OnOk, sum_by}
 use Rattle.std.specs.List.{flat_map, range_with_len, slice_get}
 use Rattle.std.specs.Option.{option_map, option_map_or}
 use Rattle.std.proofs.Math.Nat.{le-div_iff_mul-le, le-max_left, le-max_right, min-le_right, mod-eq-sub-div-mul, mod-lt, mul-le-mul_right}
@@ -49,13 +49,6 @@ use Rattle.pf_windows.specs.Told.{NamedTold, Told, named_behind_sub, told_by, to
 use Rattle.pf_windows.specs.Windows.{leave_slot, lies_within, window_record, window_records, records_of_task, windows_records}
 use Rattle.pf_windows.specs.declared.slots.Slots.{Slots}
 
--- what is nothing behind some numbers is not looked at there
-nothing_behind : {X : Type 0} (f : ℕ → List X) (a n : ℕ) → ((i : ℕ) → a ≤ i → f i ≡ []) → flat_map f (range_with_len a n) ≡ []
-nothing_behind f a zero none = refl
-nothing_behind f a (suc n) none =
-    flat_map-cons f a (range_with_len (a + 1) n)
-    ∙ ap₂ (λ xs ys. xs ++ ys) (none a (omega arith)) (nothing_behind f (a + 1) n (λ i above. none i (omega (arith, above))))
-
 enough : {X : Type 0} (f : ℕ → List X) (a m n : ℕ) → m ≤ n → ((i : ℕ) → a + m ≤ i → i < a + n → f i ≡ []) →
     flat_map f (range_with_len a m) ≡ flat_map f (range_with_len a n)
 enough f a zero zero le none = refl
@@ -74,19 +67,6 @@ agree f g a (suc k) same =
     flat_map-cons f a (range_with_len (a + 1) k)
     ∙ ap₂ (λ xs ys. xs ++ ys) (same a (omega arith)) (agree f g (a + 1) k (λ i above. same i (omega (arith, above))))
     ∙ sym (flat_map-cons g a (range_with_len (a + 1) k))
-
--- Use: no more subtasks are looked at than there are slots.
-pub within_slots : (told : Told) → sub_count told ≤ told.slots.now
-within_slots told = min-le_right (max (told.end * told.task.weight.cost / told.task.weight.period + 1) (length told.ran)) told.slots.now
-
--- Use: behind all of them none is left.
-pub none_left : (x : NamedTold) → named_behind_sub x (sub_count x.told) ≡ []
-none_left x = ap (with_name x.titles x.told.task.task) (none_behind x.told)
-  where
-    none_behind : (told : Told) → records_behind_sub told (sub_count told) ≡ []
-    none_behind told =
-        ap (λ n. flat_map (λ i. window_records told.slots told.task told.end told.leave (told_window told i)) (range_with_len (sub_count told + 1) n))
-        (let z : sub_count told - sub_count told ≡ 0 = omega arith in z)
 
 -- one subtask further
 module _ (told : Told) (at : ℕ) (within : at < sub_count told) where

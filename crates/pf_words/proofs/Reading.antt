@@ -8,11 +8,11 @@ use Rattle.clap.specs.Words.{IsAmong, Row, Text, fault_of, first_of, is_simple, 
 use Rattle.clap.specs.declared.error.kind.ErrorKind.{ErrorKind}
 use Rattle.clap.specs.declared.error.kind.ErrorKind.TheVariants.{DisplayHelp, DisplayVersion, OutOfMemory}
 use Rattle.pf_words.specs.declared.request.Request.{Request}
-use Rattle.pf_words.specs.declared.request.Request.TheVariants.{Do, Compare, Show}
+use Rattle.pf_words.specs.declared.request.Request.TheVariants.{Do, Compare, Sit, Show}
 use Rattle.pf_words.specs.declared.request.WordsFault.{WordsFault}
 use Rattle.pf_words.specs.declared.request.WordsFault.TheVariants.{Refused, Mistaken, NoMemory}
 use Rattle.pf_words.specs.CommandLine.{any_behind, is_named, kinds_of, program, text_behind}
-use Rattle.pf_words.specs.Asked.{IsAsked, IsMistakeText, IsRequest, IsShown, IsTextOf, ShowsError, file_asked, file_found, mistake_found, pair_asked, pair_found, task_asked, task_found, telling_asked, telling_of}
+use Rattle.pf_words.specs.Asked.{IsAsked, IsMistakeText, IsRequest, IsShown, IsTextOf, ShowsError, desk_asked, desk_found, file_asked, file_found, mistake_found, pair_asked, pair_found, task_asked, task_found, telling_asked, telling_of}
 
 -- one function after another over what may be there
 pub option_map-option_map : {X Y Z : Type 0} (f : Y → Z) (g : X → Y) (o : Option X) → option_map f (option_map g o) ≡ option_map (λ x. f (g x)) o
@@ -58,6 +58,12 @@ taken_pair : (words : List Text) (found : Option (Text × List Row)) → kinds_o
 unfolding pair_asked
 taken_pair words found taken is = rw (taken, is) refl
 
+-- the session, by the same
+taken_desk : (words : List Text) (found : Option (Text × List Row)) → kinds_of words ≡ [] → found ≡ subcommand_of program words
+    → desk_asked words ≡ desk_found found
+unfolding desk_asked
+taken_desk words found taken is = rw (taken, is) refl
+
 -- the file that is named, by the same
 taken_file : (words : List Text) (found : Option (Text × List Row)) → kinds_of words ≡ [] → found ≡ subcommand_of program words
     → file_found found ≡ file_asked words
@@ -77,6 +83,8 @@ taken_words words found (Ok (Do task file telling)) taken is asks =
     (taken_task words found taken is ∙ asks.0, asks.1 ∙ taken_file words found taken is, asks.2 ∙ taken_telling words found taken is)
 taken_words words found (Ok (Compare pair telling)) taken is asks =
     (taken_task words found taken is ∙ asks.0, taken_pair words found taken is ∙ asks.1, asks.2 ∙ taken_telling words found taken is)
+taken_words words found (Ok (Sit desk)) taken is asks =
+    (taken_task words found taken is ∙ asks.0, taken_pair words found taken is ∙ asks.1, taken_desk words found taken is ∙ asks.2)
 taken_words words found (Ok (Show text)) taken is asks = absurd asks
 taken_words words found (Err (Refused text)) taken is asks = absurd asks
 taken_words words found (Err (Mistaken text)) taken is asks =
@@ -114,6 +122,7 @@ pub untaken_words : (words : List Text) (kind : ErrorKind) (answer : Result Requ
     → (kind ≡ OutOfMemory) ⊎ IsAmong kind (kinds_of words) → ShowsError words kind answer → IsAsked words answer
 untaken_words words kind (Ok (Do task file telling)) among shows = absurd shows
 untaken_words words kind (Ok (Compare pair telling)) among shows = absurd shows
+untaken_words words kind (Ok (Sit desk)) among shows = absurd shows
 untaken_words words kind (Ok (Show text)) among shows = elim among [
   | inl memory ↦ absurd (not_shown kind memory (kind_shown kind (string_bytes text) shows))
   | inr here ↦ elim shows [

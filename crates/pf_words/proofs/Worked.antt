@@ -3,14 +3,14 @@ use Rattle.std.proofs.Common.{refl, inl, inr}
 use Rattle.clap.proofs.OnLiterals.{clap_on_literals}
 use Rattle.clap.specs.declared.error.kind.ErrorKind.TheVariants as kind
 use Rattle.pf_words.specs.CommandLine.{kinds_of}
-use Rattle.pf_words.specs.Asked.{IsShown, task_asked, pair_asked, file_asked, telling_asked}
+use Rattle.pf_words.specs.Asked.{IsShown, task_asked, pair_asked, desk_asked, file_asked, telling_asked}
 use Rattle.pf_names.specs.Text.{is_text}
 use Rattle.pf_script.specs.Fields.{number_of}
 use Rattle.pf_names.specs.Slots.{unit_named}
 use Rattle.pf_task_list.specs.Times.{few_digits, time_in}
 use Rattle.pf_convert_words.specs.Reading.{conversion_of, first_not_above, format_named, has_quantum, quanta_from, words_from}
 use Rattle.pf_task_words.specs.Reading.{with_items}
-use Rattle.pf_words.specs.Examples.{Runs, Ranged, Pictured, Styled, Listed, FailingRuns, Files, Drilled, Differences, Compared, Conversions, Reasons, Fitting, Told, Showable, WorkedWords}
+use Rattle.pf_words.specs.Examples.{Runs, Ranged, Pictured, Styled, Listed, FailingRuns, Files, Drilled, Differences, Compared, Conversions, Reasons, Fitting, Desks, Told, Showable, WorkedWords}
 
 runs : Runs
 unfolding clap_on_literals kinds_of task_asked
@@ -132,7 +132,7 @@ differences = record {
 }
 
 compared : Compared
-unfolding clap_on_literals kinds_of task_asked pair_asked file_asked number_of
+unfolding clap_on_literals kinds_of task_asked pair_asked desk_asked file_asked number_of
 compared = record {
   both = refl;
   told = refl;
@@ -201,6 +201,21 @@ fitting = record {
   help = inl refl;
 }
 
+desks : Desks
+unfolding clap_on_literals kinds_of task_asked pair_asked desk_asked file_asked
+desks = record {
+  alone = refl;
+  json = refl;
+  quiet = refl;
+  no_task = refl;
+  no_desk = refl;
+  input_read = refl;
+  twice = (kind.UnknownArgument, unknown_is_not_shown, inl refl);
+  in_format = (kind.UnknownArgument, unknown_is_not_shown, inl refl);
+  noted = (kind.UnknownArgument, unknown_is_not_shown, inl refl);
+  help = inl refl;
+}
+
 told : Told
 unfolding clap_on_literals kinds_of telling_asked
 told = record {
@@ -233,6 +248,7 @@ worked_words = record {
   conversions = conversions;
   reasons = reasons;
   fitting = fitting;
+  desks = desks;
   told = told;
   showable = showable;
   check = refl;

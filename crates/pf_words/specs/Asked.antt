@@ -9,14 +9,15 @@ use Rattle.clap.specs.declared.error.kind.ErrorKind.{ErrorKind}
 use Rattle.clap.specs.declared.error.kind.ErrorKind.TheVariants.{DisplayHelp, DisplayVersion, OutOfMemory}
 use Rattle.pf_options.specs.declared.fail_on.FailOn.{FailOn}
 use Rattle.pf_options.specs.declared.format.Format.{Format}
-use Rattle.pf_options.specs.declared.format.Format.TheVariants.{C, Full, Html, Jobs, Lags, Misses, Quanta, Stats, Tables, Trace, Windows}
+use Rattle.pf_options.specs.declared.format.Format.TheVariants.{C, Chart, Full, Html, Jobs, Lags, Misses, Quanta, Stats, Svg, Tables, Trace, Windows}
 use Rattle.pf_words.specs.declared.request.Request.{Request}
-use Rattle.pf_words.specs.declared.request.Request.TheVariants.{Do, Compare, Show}
+use Rattle.pf_words.specs.declared.request.Request.TheVariants.{Do, Compare, Sit, Show}
 use Rattle.pf_words.specs.declared.request.WordsFault.{WordsFault}
 use Rattle.pf_words.specs.declared.request.WordsFault.TheVariants.{Refused, Mistaken, NoMemory}
 use Rattle.pf_words.specs.declared.mistake.Mistake.{Mistake}
 use Rattle.pf_words.specs.declared.mistake.Mistake.TheVariants as why
 use Rattle.pf_words.specs.declared.mistake.Mistake.TheVariants.{UnknownFormat, BadNumber, NoRange, Unranged, BadCell, NoCell, BadWrap, NoWrap, BadStyle, NoStyle, BadTasks, NoTasks, BadFailOn}
+use Rattle.pf_words.specs.declared.desk_words.DeskWords.{DeskWords}
 use Rattle.pf_words.specs.declared.script_pair.ScriptPair.{ScriptPair}
 use Rattle.pf_words.specs.declared.telling.Telling.{Telling}
 use Rattle.pf_words.specs.declared.choices.TheConstants.{CONVERT_FORMATS, RUN_FORMATS, TEXT_FORMATS}
@@ -32,11 +33,12 @@ use Rattle.pf_fit_text.specs.declared.fit_format.FitFormat.TheVariants.{Text as 
 use Rattle.pf_look.specs.Looks.{style_named}
 use Rattle.pf_look.specs.Sizes.{cell_of, wrap_of}
 use Rattle.pf_look.specs.declared.style.Style.{Style}
+use Rattle.pf_words.specs.Desks.{DeskNames, desk_given}
 use Rattle.pf_words.specs.Diffs.{PairNames, are_two, diff_of, options_of, pair_given, pair_named, second_behind, since_of}
 use Rattle.pf_options.specs.FailLists.{fail_on_named, on_nothing}
 use Rattle.pf_options.specs.Formats.{format_named, format_with_cell, format_with_style, format_with_wrap, format_within}
 use Rattle.pf_words.specs.Texts.{EndsWithLesson, IsRefusal, mistake_line, version_line}
-use Rattle.pf_words.specs.CommandLine.{any_flag, file_behind, has_flag, is_check, is_convert, is_diff, is_drill, is_fit, is_why, kinds_of, program, text_behind, text_behind_run}
+use Rattle.pf_words.specs.CommandLine.{any_flag, file_behind, has_flag, is_check, is_convert, is_desk, is_diff, is_drill, is_fit, is_why, kinds_of, program, text_behind, text_behind_run}
 use Rattle.pf_script.specs.Fields.{number_of}
 use Rattle.pf_why_words.specs.Reading.{question_of}
 use Rattle.pf_why_words.specs.declared.mistake.WhyMistake.{WhyMistake}
@@ -187,6 +189,8 @@ takes_tasks (Quanta range) = true
 takes_tasks Stats = true
 takes_tasks Lags = true
 takes_tasks Misses = true
+takes_tasks (Chart range) = true
+takes_tasks (Svg range look) = true
 takes_tasks format = false
 
 -- the list of tasks that a text is, of a format that can show these alone
@@ -290,11 +294,11 @@ is_file name = is_some (file_of name)
 abbrev pub names_file : Option (Text × List Row) → Bool
 names_file found = is_file (file_behind found) || is_file (second_behind found)
 
--- what is to be told: notes of a file, and where `--notes` is there; a prompt where a script has no word; nothing where `--quiet` is
+-- what is to be told: notes of a file, and where `--notes` is there; how a script ends where it has no word; nothing where `--quiet` is
 abbrev pub telling_of : Option (Text × List Row) → Telling
 telling_of found = record {
   notes = not (any_flag (codes "quiet") found) && (any_flag (codes "notes") found || names_file found);
-  prompt = not (any_flag (codes "quiet") found) && not (is_some (file_behind found)) && not (is_convert found) && not (is_fit found);
+  prompt = not (any_flag (codes "quiet") found) && not (is_some (file_behind found)) && not (is_convert found) && not (is_fit found) && not (is_desk found);
 }
 
 -- the names that the text of `--format` is none of, where that is the mistake
@@ -313,15 +317,18 @@ IsMistakeText found mistake text =
 abbrev pub pair_of : Option (Text × List Row) → Result PairNames Mistake
 pair_of found = pair_given (since_of found) (pair_named (options_of found) (file_found found) (file_of (second_behind found)))
 
--- what is asked for, a task with one script or the two that are to be compared; or else the mistake
+-- what is asked for, a task with one script, the two that are to be compared or a session at a desk; or else the mistake
 abbrev pub task_found : Option (Text × List Row) → Option Task
-task_found found = if are_two found then None else result_ok (task_of found)
+task_found found = if are_two found then None else if is_desk found then None else result_ok (task_of found)
 
 abbrev pub pair_found : Option (Text × List Row) → Option PairNames
 pair_found found = if are_two found then result_ok (pair_of found) else None
 
 abbrev pub mistake_found : Option (Text × List Row) → Option Mistake
-mistake_found found = if are_two found then result_err (pair_of found) else result_err (task_of found)
+mistake_found found = if are_two found then result_err (pair_of found) else if is_desk found then None else result_err (task_of found)
+
+abbrev pub desk_found : Option (Text × List Row) → Option DeskNames
+desk_found found = if are_two found then None else if is_desk found then Some (desk_given (file_found found) found) else None
 
 -- what the words ask for: nothing where the grammar does not take them, and where they are mistaken
 unfoldable pub task_asked : List Text → Option Task
@@ -329,6 +336,9 @@ task_asked words = if is_empty (kinds_of words) then task_found (subcommand_of p
 
 unfoldable pub pair_asked : List Text → Option PairNames
 pair_asked words = if is_empty (kinds_of words) then pair_found (subcommand_of program words) else None
+
+unfoldable pub desk_asked : List Text → Option DeskNames
+desk_asked words = if is_empty (kinds_of words) then desk_found (subcommand_of program words) else None
 
 -- the file that the words name, which is read in place of standard input
 unfoldable pub file_asked : List Text → Option Text
@@ -345,14 +355,17 @@ name_of = option_map string_bytes
 abbrev pub names_of : ScriptPair → PairNames
 names_of pair = record { first = name_of pair.first; second = name_of pair.second; options = pair.options }
 
--- whether the script of a task is standard input, or one of two scripts is
-abbrev pub reads_input_for : Option Task → Option Text → Option PairNames → Bool
-reads_input_for (Some task) file pair = not (is_some file)
-reads_input_for None file (Some pair) = not (is_some pair.first && is_some pair.second)
-reads_input_for None file None = false
+abbrev pub desk_named : DeskWords → DeskNames
+desk_named desk = record { script = name_of desk.script; json = desk.json; quiet = desk.quiet }
+
+-- whether the script of a task is standard input, or one of two scripts is; the lines of a session are
+abbrev pub reads_input_for : Option Task → Option Text → Option PairNames → Option DeskNames → Bool
+reads_input_for (Some task) file pair desk = not (is_some file)
+reads_input_for None file (Some pair) desk = not (is_some pair.first && is_some pair.second)
+reads_input_for None file None desk = is_some desk
 
 abbrev pub reads_input : List Text → Bool
-reads_input words = reads_input_for (task_asked words) (file_asked words) (pair_asked words)
+reads_input words = reads_input_for (task_asked words) (file_asked words) (pair_asked words) (desk_asked words)
 
 -- the grammar may answer with help
 abbrev pub AsksHelp : List Text → Type 0
@@ -386,6 +399,7 @@ AreMistaken words mistake = (kinds_of words ≡ []) × (mistake_found (subcomman
 abbrev pub IsAsked : List Text → Result Request WordsFault → Type 0
 IsAsked words (Ok (Do task file telling)) = (task_asked words ≡ Some task) × (name_of file ≡ file_asked words) × (telling ≡ telling_asked words)
 IsAsked words (Ok (Compare pair telling)) = (task_asked words ≡ None) × (pair_asked words ≡ Some (names_of pair)) × (telling ≡ telling_asked words)
+IsAsked words (Ok (Sit desk)) = (task_asked words ≡ None) × (pair_asked words ≡ None) × (desk_asked words ≡ Some (desk_named desk))
 IsAsked words (Ok (Show text)) = IsShownTo words (string_bytes text)
 IsAsked words (Err (Refused text)) = IsRefused words × IsRefusal words text.items
 IsAsked words (Err (Mistaken text)) = (mistake : Mistake) × AreMistaken words mistake × IsMistakeText (subcommand_of program words) mistake text.items
@@ -395,6 +409,7 @@ IsAsked words (Err NoMemory) = Unit {0}
 abbrev pub IsRequest : Option (Text × List Row) → Result Request WordsFault → Type 0
 IsRequest found (Ok (Do task file telling)) = (task_found found ≡ Some task) × (name_of file ≡ file_found found) × (telling ≡ telling_of found)
 IsRequest found (Ok (Compare pair telling)) = (task_found found ≡ None) × (pair_found found ≡ Some (names_of pair)) × (telling ≡ telling_of found)
+IsRequest found (Ok (Sit desk)) = (task_found found ≡ None) × (pair_found found ≡ None) × (desk_found found ≡ Some (desk_named desk))
 IsRequest found (Ok (Show text)) = ⊥
 IsRequest found (Err (Refused text)) = ⊥
 IsRequest found (Err (Mistaken text)) = (mistake : Mistake) × (mistake_found found ≡ Some mistake) × IsMistakeText found mistake text.items
@@ -411,6 +426,7 @@ IsPair found asked (Err NoMemory) = Unit {0}
 abbrev pub ShowsError : List Text → ErrorKind → Result Request WordsFault → Type 0
 ShowsError words kind (Ok (Do task file telling)) = ⊥
 ShowsError words kind (Ok (Compare pair telling)) = ⊥
+ShowsError words kind (Ok (Sit desk)) = ⊥
 ShowsError words kind (Ok (Show text)) = IsTextOf (kind ≡ DisplayHelp) (kind ≡ DisplayVersion) (string_bytes text)
 ShowsError words kind (Err (Refused text)) = (kind ≢ OutOfMemory) × ¬ IsShown kind × IsRefusal words text.items
 ShowsError words kind (Err (Mistaken text)) = ⊥
@@ -424,4 +440,5 @@ IsSound task = ⊤
 abbrev pub IsSoundRequest : Request → Type 0
 IsSoundRequest (Do task file telling) = IsSound task
 IsSoundRequest (Compare pair telling) = ⊤
+IsSoundRequest (Sit desk) = ⊤
 IsSoundRequest (Show text) = ⊤

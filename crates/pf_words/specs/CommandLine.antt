@@ -130,6 +130,10 @@ why_command =
 abbrev pub fit_command : App
 fit_command = with_rule (with_rule (new_app (codes "fit")) format_option) file_argument
 
+-- `desk`, which may have these flags and SCRIPT
+abbrev pub desk_command : App
+desk_command = with_rule (with_rule (with_rule (new_app (codes "desk")) (flag_named (codes "json"))) quiet_flag) file_argument
+
 -- the program's own name is not among the words, and it tells its version
 abbrev pub as_program : App → App
 as_program = on_top (λ s. record s { no_binary_name = true; has_version = true })
@@ -139,9 +143,9 @@ abbrev pub program_of_scripts : App
 program_of_scripts =
     with_subcommand (with_subcommand (with_subcommand (with_subcommand (with_subcommand (as_program (new_app (codes "pfair"))) run_command.top) check_command.top) diff_command.top) drill_command.top) why_command.top
 
--- and `convert` and `fit`
+-- and `convert`, `fit` and `desk`
 abbrev pub program : App
-program = with_subcommand (with_subcommand program_of_scripts convert_command.top) fit_command.top
+program = with_subcommand (with_subcommand (with_subcommand program_of_scripts convert_command.top) fit_command.top) desk_command.top
 
 -- the kinds of error by which the grammar does not take the words; it takes them where there is none
 unfoldable pub kinds_of : List Text → Kinds
@@ -201,3 +205,7 @@ is_why found = is_named (codes "why") found
 -- whether the subcommand is `fit`
 abbrev pub is_fit : Option (Text × List Row) → Bool
 is_fit found = is_named (codes "fit") found
+
+-- whether the subcommand is `desk`
+abbrev pub is_desk : Option (Text × List Row) → Bool
+is_desk found = is_named (codes "desk") found

@@ -18,6 +18,8 @@ use Rattle.pf_why_words.specs.declared.task_asked.TaskAsked.TheVariants.{Number,
 use Rattle.pf_words.specs.declared.mistake.Mistake.TheVariants.{UnknownFormat, BadNumber, NoRange, Unranged, BadCell, NoCell, BadWrap, NoWrap, BadStyle, NoStyle, BadTasks, NoTasks, BadFailOn, BadSince, SinceOfTwo, InputTwice}
 use Rattle.pf_options.specs.declared.slot_range.SlotRange.{SlotRange}
 use Rattle.pf_fault.specs.declared.range_fault.RangeFault.TheVariants.{NotWithin, TooLong}
+use Rattle.clap.specs.Words.{Text}
+use Rattle.pf_words.specs.Desks.{DeskNames}
 use Rattle.pf_words.specs.Diffs.{PairNames}
 use Rattle.pf_options.specs.FailLists.{on_nothing}
 use Rattle.pf_options.specs.Formats.{range_fault}
@@ -29,7 +31,7 @@ use Rattle.pf_words.specs.declared.telling.Telling.{Telling}
 use Rattle.pf_words.specs.declared.task.Task.TheVariants.{Run, RunTasks, Check, CheckRun, Diff, Drill, Convert, Fit, Why}
 use Rattle.pf_fit_text.specs.declared.fit_format.FitFormat.TheVariants.{Text as FitText, Json as FitJson}
 use Rattle.pf_options.specs.declared.diff_options.DiffOptions.{DiffOptions}
-use Rattle.pf_words.specs.Asked.{task_asked, pair_asked, file_asked, telling_asked, reads_input, AsksHelp, AsksVersion, IsRefused, AreMistaken}
+use Rattle.pf_words.specs.Asked.{task_asked, pair_asked, desk_asked, file_asked, telling_asked, reads_input, AsksHelp, AsksVersion, IsRefused, AreMistaken}
 
 -- words that ask for a run
 pub record Runs : Type 0 where
@@ -252,6 +254,24 @@ pub record Fitting : Type 0 where
   pub in_range : IsRefused (codes "fit" ∷ codes "--from" ∷ codes "5" ∷ [])
   pub help : AsksHelp (codes "fit" ∷ codes "--help" ∷ [])
 
+-- words that ask for a session at a desk
+abbrev pub desk : Option Text → Bool → Bool → DeskNames
+desk script json quiet = record { script = script; json = json; quiet = quiet }
+
+pub record Desks : Type 0 where
+  pub alone : desk_asked (codes "desk" ∷ []) ≡ Some (desk None false false)
+  pub json : desk_asked (codes "desk" ∷ codes "--json" ∷ codes "plan.csv" ∷ []) ≡ Some (desk (Some (codes "plan.csv")) true false)
+  pub quiet : desk_asked (codes "desk" ∷ codes "-q" ∷ codes "-" ∷ []) ≡ Some (desk None false true)
+  -- a session is no task, and reads standard input beside its script
+  pub no_task : task_asked (codes "desk" ∷ codes "plan.csv" ∷ []) ≡ None
+  pub no_desk : desk_asked (codes "fit" ∷ codes "plan.csv" ∷ []) ≡ None
+  pub input_read : reads_input (codes "desk" ∷ codes "plan.csv" ∷ []) ≡ true
+  -- a second script, and options that `run` alone has
+  pub twice : IsRefused (codes "desk" ∷ codes "a.csv" ∷ codes "b.csv" ∷ [])
+  pub in_format : IsRefused (codes "desk" ∷ codes "-f" ∷ codes "json" ∷ [])
+  pub noted : IsRefused (codes "desk" ∷ codes "--notes" ∷ [])
+  pub help : AsksHelp (codes "desk" ∷ codes "--help" ∷ [])
+
 -- what words ask to be told
 abbrev pub tells : Bool → Bool → Telling
 tells notes prompt = record { notes = notes; prompt = prompt }
@@ -293,6 +313,7 @@ pub record WorkedWords : Type 0 where
   pub conversions : Conversions
   pub reasons : Reasons
   pub fitting : Fitting
+  pub desks : Desks
   pub told : Told
   pub showable : Showable
   pub check : task_asked (codes "check" ∷ []) ≡ Some Check

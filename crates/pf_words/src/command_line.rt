@@ -4,6 +4,7 @@ ghost use Rattle.clap.specs.declared.builder.command.Command.TheViews.{out-Comma
 ghost use Rattle.pf_words.specs.CommandLine.{program, as_program, cell_option, check_command, drill_command, fail_on_option, file_argument, format_option, from_option, program_of_scripts, run_command, style_option, task_option, to_option, with_look, with_notes, quiet_flag, wrap_option};
 
 use crate::convert_command::convert_command;
+use crate::desk_command::desk_command;
 use crate::diff_command::diff_command;
 use crate::fit_command::fit_command;
 use crate::flags::{with_flag, with_notes, with_quiet};
@@ -22,8 +23,11 @@ pub(crate) fn program<'a>(alloc: Global) -> Result<Command<'a>, AllocError>
     ensures { IfOk result (λ c. app_of c ≡ program) }
 {
     let convert = convert_command(alloc)?;
+    let fit = fit_command(alloc)?;
+    let desk = desk_command(alloc)?;
     let program = program_of_scripts(alloc)?.subcommand(convert)?;
-    program.subcommand(fit_command(alloc)?)
+    let program = program.subcommand(fit)?;
+    program.subcommand(desk)
 }
 
 /// The program with the subcommands alone that take a script.
@@ -208,7 +212,7 @@ fn with_task<'a>(alloc: Global, command: Command<'a>) -> Result<Command<'a>, All
     let task = Arg::new(alloc, "task")
         .long("task")
         .value_name("LIST")
-        .help("windows, jobs, quanta, stats, lags, misses: these tasks alone, as 3,7-9")
+        .help("windows, jobs, quanta, stats, lags, misses, chart, svg: these tasks alone, as 3,7-9")
         .action(ArgAction::Set);
     command.arg(task)
 }

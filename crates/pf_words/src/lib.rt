@@ -1,5 +1,5 @@
 //! What the program's words ask for: to run the script in a format, to check it, to tell what its last records changed, to
-//! tell what differs between two, to drill it, or to show help. The words are read by clap's grammar of one command line. The
+//! tell what differs between two, to drill it, to sit at a desk, or to show help. The words are read by clap's grammar of one command line. The
 //! one contract of this crate: what `read_words` answers is what the words ask for, for all words; want of memory may come in
 //! its place.
 #![tactic(auto)]
@@ -8,6 +8,8 @@ pub mod choices;
 mod command_line;
 mod conversion_words;
 mod convert_command;
+mod desk_command;
+pub mod desk_words;
 mod diff_command;
 mod diff_words;
 mod fit_command;

@@ -82,7 +82,7 @@ impl Mistake {
                 "--task takes task numbers of 1 to 4095, ranges of them and names, joined by commas\n"
             }
             Mistake::NoTasks => {
-                "--task is for the formats windows, jobs, quanta, stats, lags and misses\n"
+                "--task is for the formats windows, jobs, quanta, stats, lags, misses, chart and svg\n"
             }
             Mistake::BadFailOn => "--fail-on takes refused, denied and missed, joined by commas\n",
             Mistake::BadSince => "--since takes a number of 1 to 15 digits, from 1 on\n",

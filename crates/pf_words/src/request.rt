@@ -1,6 +1,7 @@
 ghost use Rattle.std.specs.Prelude.{◌≡◌};
 ghost use Rattle.pf_words.specs.declared.request.WordsFault.TheVariants.{NoMemory};
 
+use crate::desk_words::DeskWords;
 use crate::script_pair::ScriptPair;
 use crate::task::Task;
 use crate::telling::Telling;
@@ -14,6 +15,8 @@ pub enum Request {
     Do(Task, Option<String>, Telling),
     /// To tell what differs between two scripts, and so much of each.
     Compare(ScriptPair, Telling),
+    /// To sit at a desk, whose lines are those of standard input.
+    Sit(DeskWords),
     /// To show this text: help, or the version.
     Show(String),
 }

@@ -67,6 +67,8 @@ fn takes_tasks(format: Format) -> bool
             | Format::Stats
             | Format::Lags
             | Format::Misses
+            | Format::Chart(_)
+            | Format::Svg(..)
     )
 }
 

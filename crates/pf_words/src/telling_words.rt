@@ -21,7 +21,8 @@ pub(crate) fn read_telling(matches: &ArgMatches<'_>) -> Telling
         notes: any_flag(matches, "notes") || names_file(matches),
         prompt: any_text(matches, "file").is_none()
             && !is_asked(matches, "convert")
-            && !is_asked(matches, "fit"),
+            && !is_asked(matches, "fit")
+            && !is_asked(matches, "desk"),
     }
 }
 

@@ -8,7 +8,7 @@ use std::convert::AsStr;
 use std::fmt::Display;
 
 /// What the version is told by, behind the program's name.
-pub const VERSION: &str = "0.2.0";
+pub const VERSION: &str = "0.4.0";
 
 /// What help teaches behind the words.
 pub const LESSON: &str = "A script is a list of comma-separated records, one a line:
@@ -69,8 +69,10 @@ list has a heading, name,work,every and where they are needed first,early, and a
 and the time between two jobs at least.
 `why` tells one slot of the script's run: its events, who may run in it, in which order and by which rule, who runs where
 and why there, and who waits behind whom.
+`desk` answers each line of standard input before it reads the next: a record by its replies, the name of a format by its
+text, and `why SLOT TASK`, `fit`, `undo`, `save FILE`, `help` and `quit`. Where a line has no comma, blanks part its fields.
 
-Status: 0 done, 1 a bad record or a script that is too long, or a difference that --exit-code tells of, 2 words that are
+Status: 0 done, 1 a bad record or line, or a script that is too long, or a difference that --exit-code tells of, 2 words that are
 not understood or a range of slots that were not stepped, 3 a fault of reading or writing, 4 out of memory, or no place
 for the reader of a drill, 6 done, and what --fail-on names was met: a command was refused, an event is denied at the
 end, or a window is missed; or a plan of convert does not fit the processors given, or no quantum fits; or a script does not

@@ -6,6 +6,7 @@ ghost use Rattle.pf_words.specs.Asked.{IsAsked, IsRequest, IsSound, IsSoundReque
 use crate::choices::mistake_text;
 use crate::command_line::program;
 use crate::conversion_words::read_convert;
+use crate::desk_words::read_desk;
 use crate::diff_words::{are_two, read_diff, read_pair};
 use crate::mistake::Mistake;
 use crate::request::{Request, WordsFault};
@@ -34,7 +35,8 @@ use std::convert::AsStr;
 /// `diff` asks what the records from `--since` on changed, and with a second file what differs between both scripts, of which one
 /// may be standard input; with their sums first by `--summary`, and a status that tells of a difference by `--exit-code`. `drill`
 /// asks for a drill of standard input. `convert` asks for a list of tasks to be converted, in the quanta of `--quantum`, and
-/// `why` asks of a slot. `fit` asks whether the script fits, as text or in the format `--format`. Answers
+/// `why` asks of a slot. `fit` asks whether the script fits, as text or in the format `--format`. `desk` asks for a session,
+/// behind a script or none, with answers in JSON by `--json`. Answers
 /// `Refused` where the words are not the program's, `Mistaken` where the text of
 /// `--format` names no format, where that of `--from` or `--to` is no number, where the format has no range, where the text of
 /// `--cell` is no number of 6 to 40, `--wrap` no number of 1 to 4096 or `--style` no style, where the format has none of these,
@@ -59,6 +61,9 @@ fn read_matches(alloc: Global, matches: &ArgMatches<'_>) -> Result<Request, Word
     let telling = read_telling(matches);
     if are_two(matches) {
         return Ok(Request::Compare(read_pair(alloc, matches)?, telling));
+    }
+    if is_asked(matches, "desk") {
+        return Ok(Request::Sit(read_desk(alloc, matches)?));
     }
     match read_task(alloc, matches)? {
         Ok(task) => Ok(Request::Do(task, read_file(alloc, matches)?, telling)),

@@ -17,12 +17,20 @@ fn main(rt: HostRuntime) -> ExitCode {
         Err(fault) => return ExitCode::from(tell_unread(&fault, &mut faults)),
     };
     let input = rt.stdin();
-    if input.is_terminal() {
+    let is_terminal = input.is_terminal();
+    if is_terminal {
         prompt_words(&rt, &words, &mut faults);
     }
     let mut reader = CountedReader::new(input);
     let mut writer = KeptWriter::new(rt.stdout());
-    let status = main_words(&rt, &words, &mut reader, &mut writer, &mut faults);
+    let status = main_words(
+        &rt,
+        &words,
+        is_terminal,
+        &mut reader,
+        &mut writer,
+        &mut faults,
+    );
     ExitCode::from(status)
 }
 

@@ -15,7 +15,7 @@ NEVER = (1 << 64) - 1
 
 TEXTS = (
     "schedule", "lags", "misses", "denials", "events", "script", "json", "processors", "stats", "chart", "windows", "jobs",
-    "load", "quanta", "trace", "c",
+    "load", "quanta", "trace", "c", "full", "html", "tables",
 )
 
 STYLES = ("strips", "stairs")
@@ -240,11 +240,14 @@ class Desk:
         return {it.id: event_of(it.event) for it in self._all("events", struct("numbered"))}
 
     def text(self, kind: str) -> str:
-        """A text of the desk as docs/FORMATS.md has it.
+        """A text of the desk: what the program pfair writes in a format (docs/FORMATS.md), without reply lines.
 
         The tables "schedule", "lags", "misses", "denials", "events", "processors", "stats", "windows", "jobs", "load" and
-        "quanta" are CSV; "script" is for the program pfair; "json" is the whole report; "chart" is the schedule in
-        characters; "trace" has the run as trace events, for Perfetto and chrome://tracing; "c" the schedule as a C array.
+        "quanta" are CSV, and "tables" has the first four, each behind a line with its name; "script" is for the program
+        pfair; "json" is the report; "full" has settings, events, figures and refused commands too, each of these by its
+        number among those that the desk has answered, from 1 on; "html" is a page to look around in, of at most 65,536
+        slots, else OutOfRange is raised; "chart" is the schedule in characters; "trace" has the run as trace events, for
+        Perfetto and chrome://tracing; "c" the schedule as a C array.
         """
         text: bytes = self._all("text", ctypes.c_char, text_number(kind))
         return text.decode("ascii")

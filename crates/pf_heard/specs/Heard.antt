@@ -1,0 +1,59 @@
+-- What a line is behind the lines before it.
+use Rattle.std.specs.Prelude.{ℕ, ◌-◌, ◌&&◌, Bool, nat_lt, if◌then◌else◌, Option, None, Some, Result, Ok, Err, List, length}
+use Rattle.std.specs.Str.Lines.{strip_carriage_return}
+use Rattle.pf_script.specs.Fields.{field}
+use Rattle.pf_version3.specs.Heading.{is_third_heading}
+use Rattle.pf_version3.specs.Parsing.{said_at}
+use Rattle.pf_version3.specs.declared.fault.RecordFault.{RecordFault}
+use Rattle.pf_version3.specs.declared.said.Said.{Said}
+use Rattle.pf_version3.specs.declared.state.Progress.{Progress}
+use Rattle.pf_heard.specs.Asked.{asked_at}
+use Rattle.pf_heard.specs.Faults.{line_reason_text, too_long_text}
+use Rattle.pf_heard.specs.Lines.{fields_in, line_of}
+use Rattle.pf_heard.specs.Words.{word_at}
+use Rattle.pf_heard.specs.declared.asked.Asked.{Asked}
+use Rattle.pf_heard.specs.declared.asked.Asked.TheVariants as asks
+use Rattle.pf_heard.specs.declared.fault.LineFault.{LineFault}
+use Rattle.pf_heard.specs.declared.fault.LineReason.TheVariants.{OfRecord}
+use Rattle.pf_heard.specs.declared.hear.TheConstants.{LONGEST_LINE}
+use Rattle.pf_heard.specs.declared.heard.Heard.{Heard}
+use Rattle.pf_heard.specs.declared.heard.Heard.TheVariants.{Nothing, Heading, Record, Shown, Undo, Save, Help, Quit, Bad}
+use Rattle.pf_heard.specs.declared.word.Word.{Word}
+
+-- a line with these fields that is bad
+abbrev pub bad : List (List ℕ) → LineFault → Heard
+bad fields fault = Bad fault.field (line_reason_text (field fields (fault.field - 1)) fault.reason)
+
+-- what a record says goes behind the script as a line of its fields
+abbrev pub heard_record : List (List ℕ) → Result Said RecordFault → Heard
+heard_record fields (Ok said) = Record said (line_of fields)
+heard_record fields (Err fault) = bad fields (record { field = fault.field; reason = OfRecord fault.reason })
+
+abbrev pub heard_asked : List (List ℕ) → Asked → Heard
+heard_asked fields (asks.Shown wanted) = Shown wanted
+heard_asked fields asks.Undo = Undo
+heard_asked fields asks.Save = Save (field fields 1)
+heard_asked fields asks.Help = Help
+heard_asked fields asks.Quit = Quit
+
+abbrev pub heard_word : List (List ℕ) → Result Asked LineFault → Heard
+heard_word fields (Ok asked) = heard_asked fields asked
+heard_word fields (Err fault) = bad fields fault
+
+-- a word, or else a record
+abbrev pub heard_if : Progress → List (List ℕ) → Option Word → Heard
+heard_if p fields None = heard_record fields (said_at p fields)
+heard_if p fields (Some word) = heard_word fields (asked_at p word fields)
+
+-- the heading may come first
+abbrev pub heard_fields : Bool → Progress → Option (List (List ℕ)) → Heard
+heard_fields is_first p None = Nothing
+heard_fields is_first p (Some fields) =
+    if is_first && is_third_heading fields then Heading else heard_if p fields (word_at fields)
+
+-- without the carriage return that may stand at its end
+abbrev pub heard_within : Bool → Progress → List ℕ → Heard
+heard_within is_first p line = if nat_lt LONGEST_LINE (length line) then Bad 0 too_long_text else heard_fields is_first p (fields_in line)
+
+abbrev pub heard : Bool → Progress → List ℕ → Heard
+heard is_first p line = heard_within is_first p (strip_carriage_return line)

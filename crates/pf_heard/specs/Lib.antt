@@ -1,0 +1,5 @@
+pub mod Asked
+pub mod Faults
+pub mod Heard
+pub mod Lines
+pub mod Words

@@ -1,0 +1,16 @@
+use pf_shown::wanted::Wanted;
+
+/// What a word asks for.
+#[derive(Debug, Drop)]
+pub enum Asked {
+    /// That this is shown.
+    Shown(Wanted),
+    /// That the last change is taken back.
+    Undo,
+    /// That the script is written to the file that the second field names.
+    Save,
+    /// That the words are told.
+    Help,
+    /// That the session ends.
+    Quit,
+}

@@ -1,0 +1,147 @@
+ghost use Rattle.std.specs.Prelude.{◌≡◌, Some, IfOk};
+ghost use Rattle.std.specs.Str.Lines.{strip_carriage_return};
+ghost use Rattle.pf_heard.specs.Heard.{bad, heard, heard_asked, heard_fields, heard_record, heard_within, heard_word};
+
+use crate::ask::ask;
+use crate::asked::Asked;
+use crate::bytes::Bytes;
+use crate::fault::{LineFault, LineReason};
+use crate::heard::Heard;
+use crate::reason::reason_text;
+use crate::row_text::{line_of, row_text};
+use crate::word::Word;
+use csv::ByteRecord;
+use pf_rows::rows::{NextRow, Rows};
+use pf_script::fields::Fields;
+use pf_version3::fault::RecordFault;
+use pf_version3::heading::is_third_heading;
+use pf_version3::said::Said;
+use pf_version3::state::Progress;
+use std::alloc::{AllocError, Global};
+
+/// The most bytes that a line may have, without its end.
+pub const LONGEST_LINE: usize = 65_536;
+
+/// What a line is behind what came before it, without its line feed; a carriage return at its end is no part of it. `is_first`: no
+/// record was good so far, so the heading may come.
+///
+/// # Errors
+///
+/// Where memory is refused.
+pub fn hear(
+    alloc: Global,
+    is_first: bool,
+    progress: &Progress,
+    line: &[u8],
+) -> Result<Heard, AllocError>
+    ensures { IfOk result (λ h. h ≡ heard is_first progress.now line.now) }
+{
+    hear_within(alloc, is_first, progress, without_return(line))
+}
+
+/// The line without the carriage return that may stand at its end.
+fn without_return(line: &[u8]) -> &[u8]
+    ensures { result.now ≡ strip_carriage_return line.now }
+{
+    match line {
+        [front @ .., b'\r'] => front,
+        _ => line,
+    }
+}
+
+/// What a line is without its end.
+fn hear_within(
+    alloc: Global,
+    is_first: bool,
+    progress: &Progress,
+    line: &[u8],
+) -> Result<Heard, AllocError>
+    ensures { IfOk result (λ h. h ≡ heard_within is_first progress.now line.now) }
+{
+    if line.len() > LONGEST_LINE {
+        return Ok(Heard::Bad {
+            field: 0,
+            text: Bytes::copy(alloc, b"it has more than 65536 bytes")?,
+        });
+    }
+    let text = row_text(alloc, line)?;
+    let mut rows = Rows::new(alloc, &text);
+    let mut row = ByteRecord::new(alloc);
+    match rows.next(&mut row)? {
+        NextRow::Found(_) => hear_fields(alloc, is_first, progress, &Fields::new(&row)),
+        NextRow::End(_) => Ok(Heard::Nothing),
+    }
+}
+
+/// What a line with fields is.
+fn hear_fields(
+    alloc: Global,
+    is_first: bool,
+    progress: &Progress,
+    fields: &Fields,
+) -> Result<Heard, AllocError>
+    ensures { IfOk result (λ h. h ≡ heard_fields is_first progress.now (Some fields.now)) }
+{
+    if is_first && is_third_heading(fields) {
+        return Ok(Heard::Heading);
+    }
+    match Word::at(fields) {
+        Some(word) => hear_word(alloc, fields, ask(progress, word, fields)),
+        None => hear_record(alloc, fields, progress.read(fields)),
+    }
+}
+
+/// A word with these fields.
+fn hear_word(
+    alloc: Global,
+    fields: &Fields,
+    asked: Result<Asked, LineFault>,
+) -> Result<Heard, AllocError>
+    ensures { IfOk result (λ h. h ≡ heard_word fields.now asked) }
+{
+    match asked {
+        Ok(asked) => hear_asked(alloc, fields, asked),
+        Err(fault) => hear_bad(alloc, fields, fault),
+    }
+}
+
+/// What a word with these fields asks for.
+fn hear_asked(alloc: Global, fields: &Fields, asked: Asked) -> Result<Heard, AllocError>
+    ensures { IfOk result (λ h. h ≡ heard_asked fields.now asked) }
+{
+    match asked {
+        Asked::Shown(wanted) => Ok(Heard::Shown(wanted)),
+        Asked::Undo => Ok(Heard::Undo),
+        Asked::Save => Ok(Heard::Save(Bytes::copy(alloc, fields.field(1))?)),
+        Asked::Help => Ok(Heard::Help),
+        Asked::Quit => Ok(Heard::Quit),
+    }
+}
+
+/// A record with these fields.
+fn hear_record(
+    alloc: Global,
+    fields: &Fields,
+    read: Result<Said, RecordFault>,
+) -> Result<Heard, AllocError>
+    ensures { IfOk result (λ h. h ≡ heard_record fields.now read) }
+{
+    match read {
+        Ok(said) => Ok(Heard::Record(said, Bytes::of(line_of(alloc, fields)?))),
+        Err(RecordFault { field, reason }) => {
+            let reason = LineReason::OfRecord(reason);
+            hear_bad(alloc, fields, LineFault { field, reason })
+        }
+    }
+}
+
+/// A bad line with these fields.
+fn hear_bad(alloc: Global, fields: &Fields, fault: LineFault) -> Result<Heard, AllocError>
+    ensures { IfOk result (λ h. h ≡ bad fields.now fault) }
+{
+    let at = fields.field(fault.field.saturating_sub(1));
+    Ok(Heard::Bad {
+        field: fault.field as u64,
+        text: reason_text(alloc, at, fault.reason)?,
+    })
+}

@@ -1,0 +1,31 @@
+use crate::bytes::Bytes;
+use pf_shown::wanted::Wanted;
+use pf_version3::said::Said;
+
+/// What a line is.
+#[derive(Debug, Drop)]
+pub enum Heard {
+    /// It has no record and no answer.
+    Nothing,
+    /// The heading `pfair,3`.
+    Heading,
+    /// A record, and the line that goes behind the script: its fields joined by commas, and a line feed.
+    Record(Said, Bytes),
+    /// A word that asks for this to be shown.
+    Shown(Wanted),
+    /// The last change is to be taken back.
+    Undo,
+    /// The script is to be written to the file of this name.
+    Save(Bytes),
+    /// The words are to be told.
+    Help,
+    /// The session is to end.
+    Quit,
+    /// A bad line.
+    Bad {
+        /// The field at fault, counted from 1; 0 where there is none.
+        field: u64,
+        /// Why it is bad.
+        text: Bytes,
+    },
+}

@@ -1,0 +1,105 @@
+ghost use Rattle.std.specs.Prelude.{◌≡◌, ◌++◌, codes, IfOk, OnOk};
+ghost use Rattle.std.specs.List.{flat_map};
+ghost use Rattle.std.specs.String.{string_bytes};
+ghost use Rattle.pf_check.specs.Reports.{quoted};
+ghost use Rattle.pf_heard.specs.Faults.{is_no_record, line_reason_text, record_reason_text};
+ghost use Rattle.pf_heard.specs.Words.{behind_word, help_text, words_listed};
+
+use crate::bytes::Bytes;
+use crate::fault::LineReason;
+use pf_check::report::push_quoted;
+use pf_check3::report::push_reason as push_record_reason;
+use pf_version3::fault::Reason;
+use std::alloc::{AllocError, Global};
+
+/// All words, those of records first.
+const WORDS: &str =
+    "settings, slot, name, join, leave, delay, limit, label, alter, strike, strict, step, schedule, lags, misses, denials, events, script, processors, stats, chart, svg, windows, jobs, load, quanta, report, full, trace, html, c, why, fit, undo, save, help, quit";
+
+/// Why a line is bad, of its field that is at fault.
+///
+/// # Errors
+///
+/// Where memory is refused.
+pub(crate) fn reason_text(alloc: Global, at: &[u8], reason: LineReason) -> Result<Bytes, AllocError>
+    ensures { IfOk result (λ text. text ≡ line_reason_text at.now reason) }
+{
+    let mut text = String::new(alloc);
+    push_reason(&mut text, at, reason)?;
+    Ok(Bytes::of(text.into_bytes()))
+}
+
+#[tactic(auto, unfolding(crate::specs::Faults::line_reason_text))]
+fn push_reason(text: &mut String, at: &[u8], reason: LineReason) -> Result<(), AllocError>
+    ensures { OnOk result (string_bytes text.new ≡ string_bytes text.old ++ line_reason_text at.now reason) }
+{
+    match reason {
+        LineReason::OfRecord(reason) => push_of_record(text, at, reason),
+        LineReason::OneField => text.push_str("1 field is expected"),
+        LineReason::RangeFields => text.push_str("1 to 3 fields are expected"),
+        LineReason::WhyFields => text.push_str("2 or 3 fields are expected"),
+    }
+}
+
+/// Whether a word names no record.
+fn is_no_record(reason: Reason) -> bool
+    ensures { result ≡ is_no_record reason }
+{
+    matches!(reason, Reason::NoRecord)
+}
+
+/// As a record would be bad.
+fn push_of_record(text: &mut String, at: &[u8], reason: Reason) -> Result<(), AllocError>
+    ensures { OnOk result (string_bytes text.new ≡ string_bytes text.old ++ record_reason_text at.now reason) }
+{
+    if is_no_record(reason) {
+        push_no_record(text, at)
+    } else {
+        push_record_reason(text, at, reason)
+    }
+}
+
+/// That a field is no word.
+fn push_no_record(text: &mut String, at: &[u8]) -> Result<(), AllocError>
+    ensures { OnOk result (string_bytes text.new ≡ string_bytes text.old ++ (quoted at.now ++ (codes " is no record: " ++ words_listed))) }
+{
+    push_quoted(text, at)?;
+    text.push_str(" is no record: ")?;
+    text.push_str(WORDS)
+}
+
+/// The words, a line each.
+///
+/// # Errors
+///
+/// Where memory is refused.
+pub fn help(alloc: Global) -> Result<Vec<u8>, AllocError>
+    ensures { IfOk result (λ text. text.items ≡ help_text) }
+{
+    let mut text = Vec::new(alloc);
+    push_lines(&mut text, WORDS.as_bytes())?;
+    text.push(b'\n')?;
+    Ok(text)
+}
+
+/// Words that commas part, each but the last with the end of its line.
+fn push_lines(text: &mut Vec<u8>, words: &[u8]) -> Result<(), AllocError>
+    ensures { OnOk result (text.new.items ≡ text.old.items ++ flat_map behind_word words.now) }
+{
+    for byte in words {
+        push_behind(text, *byte)?;
+    }
+    Ok(())
+}
+
+/// A byte of a word, or the end of its line.
+fn push_behind(text: &mut Vec<u8>, byte: u8) -> Result<(), AllocError>
+    ensures { OnOk result (text.new.items ≡ text.old.items ++ behind_word byte) }
+{
+    match byte {
+        b',' => text.push(b'\n')?,
+        b' ' => {}
+        _ => text.push(byte)?,
+    }
+    Ok(())
+}

@@ -1,0 +1,66 @@
+-- What the program does where words ask for a session at a desk.
+use Rattle.std.specs.Prelude.{ℕ, ◌≡◌, ◌⊎◌, Bool, if◌then◌else◌, List, [], Option, None, Some, Result, Ok, Err, Vec}
+use Rattle.std.specs.declared.alloc.Global.{Global}
+use Rattle.pf_answers.specs.declared.manner.Manner.{Manner}
+use Rattle.pf_fault.specs.Answers.{IsQuiet}
+use Rattle.pf_fault.specs.declared.ending.Ending.{Ending}
+use Rattle.pf_fault.specs.declared.fault.Fault.{Fault}
+use Rattle.pf_fault.specs.declared.fault.Fault.TheVariants as why
+use Rattle.pf_fault.specs.declared.status.Status.TheVariants.{BadScript, Done, StreamFailed}
+use Rattle.pf_held.specs.Streams.{Hears, IsDeaf, IsMute, Streams, Tells}
+use Rattle.pf_session.specs.Session.{SessionState, at_start}
+use Rattle.pf_sitter.specs.Opening.{opened}
+use Rattle.pf_sitter.specs.Sitters.{answers}
+use Rattle.pf_sitting.specs.Sits.{HasSat, talk_of}
+use Rattle.pf_sitting.specs.declared.answers.Going.{Going}
+use Rattle.pf_sitting.specs.declared.fault.SitFault.{SitFault}
+use Rattle.pf_sitting.specs.declared.fault.SitFault.TheVariants as stop
+use Rattle.pf_words.specs.Desks.{DeskNames}
+use Rattle.pf_program.specs.Noted.{IsTold, notes_in, status_ended}
+use Rattle.pf_program.specs.Status.{Tells as IsToldSo}
+
+abbrev pub manner_of : DeskNames → Manner
+manner_of desk = record { json = desk.json; quiet = desk.quiet }
+
+-- a session begins behind the records of a script, of which no contract says more where it lies in a file; or behind none
+abbrev pub Begins : Manner → Option (List ℕ) → SessionState → Type 0
+Begins manner None s = s ≡ at_start manner
+Begins manner (Some file) s = (script : List ℕ) × (opened manner script ≡ Ok s)
+
+-- what a sitting came to, where a line was bad or none was
+abbrev pub CameTo : Result Going SitFault → Bool → Result Ending Fault → Type 0
+CameTo (Ok going) has_bad (Ok ending) = IsQuiet (if has_bad then BadScript else Done) ending
+CameTo (Ok going) has_bad (Err fault) = ⊥
+CameTo (Err stop.Deaf) has_bad outcome = outcome ≡ Err why.Read
+CameTo (Err stop.Mute) has_bad outcome = outcome ≡ Err why.Write
+CameTo (Err stop.NoMemory) has_bad outcome = outcome ≡ Err why.NoMemory
+
+-- lines came in behind the beginning, and were answered, each before more was read, and the status tells what that came to; what there
+-- is to tell of it was told behind the prompts, where none of these failed
+pub record HasSatDown (begun : SessionState) (prompts closed : Bool) (status : ℕ) (old new : Streams) : Type 0 where
+  pub going : Result Going SitFault
+  pub behind : SessionState
+  pub between : Streams
+  pub sat : HasSat (talk_of answers Hears IsDeaf Tells IsMute) begun (record old { prompts = prompts }) going behind between
+  pub outcome : Result Ending Fault
+  pub came : CameTo going behind.has_bad outcome
+  pub status_is : status ≡ status_ended closed StreamFailed outcome
+  pub told : between.failed_prompts ≡ old.failed_prompts
+      → IsTold closed outcome [] (IsToldSo between.prompted new.prompted between.failed_prompts new.failed_prompts)
+  pub input : (new.input ≡ between.input) × (new.failed_reads ≡ between.failed_reads)
+  pub output : (new.output ≡ between.output) × (new.failed_writes ≡ between.failed_writes)
+
+-- no session began: its script could not be had, or has a bad record, which is told; nothing was read or written
+pub record HasNotBegun (closed : Bool) (status : ℕ) (old new : Streams) : Type 0 where
+  pub fault : Fault
+  pub notes : Result (Vec ℕ Global) Fault
+  pub status_is : status ≡ status_ended closed StreamFailed (Err fault)
+  pub told : IsTold closed (Err fault) (notes_in notes) (IsToldSo old.prompted new.prompted old.failed_prompts new.failed_prompts)
+  pub input : (new.input ≡ old.input) × (new.failed_reads ≡ old.failed_reads)
+  pub output : (new.output ≡ old.output) × (new.failed_writes ≡ old.failed_writes)
+
+-- the session that these words ask for was held, or did not begin
+abbrev pub HoldsDesk : DeskNames → Bool → Bool → ℕ → Streams → Streams → Type 0
+HoldsDesk desk prompts closed status old new =
+    ((begun : SessionState) × Begins (manner_of desk) desk.script begun × HasSatDown begun prompts closed status old new)
+    ⊎ HasNotBegun closed status old new

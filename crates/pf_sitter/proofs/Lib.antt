@@ -1,0 +1,3 @@
+mod Answered
+mod Rows
+mod Stops

@@ -1,0 +1,9 @@
+-- How a sitter answers.
+use Rattle.std.specs.Prelude.{ℕ, List}
+use Rattle.pf_session.specs.Session.{SessionState}
+use Rattle.pf_sitting.specs.declared.answers.Going.{Going}
+use Rattle.pf_turn.specs.Lines.{AnswersLine}
+
+-- a line is answered as its session answers it; no contract says which files could be written
+abbrev pub answers : SessionState → List ℕ → List ℕ → Going → SessionState → Type 0
+answers s line text going t = AnswersLine {S = Unit {0}} (λ v file bytes is_saved w. Unit {0}) s tt line going text t tt

@@ -1,0 +1,9 @@
+//! Who sits at a desk: a session that answers lines, and writes what it saves to files. The one contract of this crate: each line is
+//! answered as the definitions say, behind those before it, and a session that begins with a script stands where the script's records
+//! leave it.
+#![tactic(auto)]
+
+pub mod files;
+mod in_rows;
+pub mod opening;
+pub mod sitter;

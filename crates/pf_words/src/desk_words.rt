@@ -1,0 +1,31 @@
+ghost use Rattle.std.specs.Prelude.{◌≡◌, IfOk};
+ghost use Rattle.clap.specs.Words.{subcommand_rows_of};
+ghost use Rattle.pf_words.specs.Asked.{desk_named, file_found};
+ghost use Rattle.pf_words.specs.Desks.{desk_given};
+
+use crate::words::{has_flag, read_file};
+use clap::ArgMatches;
+use std::alloc::{AllocError, Global};
+
+/// What words ask a desk for.
+#[derive(Debug, Drop)]
+pub struct DeskWords {
+    /// The file of the script whose records come first; none where there is no such script.
+    pub script: Option<String>,
+    /// Whether each answer is a JSON object.
+    pub json: bool,
+    /// Whether nothing is told beside the answers: no sentences, no sums that changed, no prompt.
+    pub quiet: bool,
+}
+
+/// The session that words ask for.
+pub(crate) fn read_desk(alloc: Global, matches: &ArgMatches<'_>) -> Result<DeskWords, AllocError>
+    ensures { IfOk result (λ desk. desk_named desk ≡ desk_given (file_found (subcommand_rows_of matches.now)) (subcommand_rows_of matches.now)) }
+{
+    let script = read_file(alloc, matches)?;
+    Ok(DeskWords {
+        script,
+        json: has_flag(matches, "desk", "json"),
+        quiet: has_flag(matches, "desk", "quiet"),
+    })
+}
