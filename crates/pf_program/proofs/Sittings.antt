@@ -6,18 +6,19 @@ use Rattle.pf_fault.specs.declared.fault.Fault.{Fault}
 use Rattle.pf_fault.specs.declared.status.Status.TheVariants.{StreamFailed}
 use Rattle.pf_held.specs.Streams.{Streams}
 use Rattle.pf_words.specs.Desks.{DeskNames}
-use Rattle.pf_program.specs.Desks.{HoldsDesk}
+use Rattle.pf_program.specs.Desks.{DoesNotBegin, HoldsDesk, manner_of}
 use Rattle.pf_program.specs.Noted.{IsTold, notes_in, status_ended}
 use Rattle.pf_program.specs.Status.{Tells}
 
 -- Use: why was told, where it is known who reads the output.
 pub desk_not_held : (desk : DeskNames) (prompts closed ended : Bool) (status : ℕ) (old new : Streams) (fault : Fault) (notes : Result (Vec ℕ Global) Fault)
-    → ended ≡ closed → status ≡ status_ended ended StreamFailed (Err fault)
+    → DoesNotBegin (manner_of desk) desk.script fault notes → ended ≡ closed → status ≡ status_ended ended StreamFailed (Err fault)
     → IsTold ended (Err fault) (notes_in notes) (Tells old.prompted new.prompted old.failed_prompts new.failed_prompts) → new.input ≡ old.input
     → new.failed_reads ≡ old.failed_reads → new.output ≡ old.output → new.failed_writes ≡ old.failed_writes → HoldsDesk desk prompts closed status old new
-desk_not_held desk prompts closed ended status old new fault notes same is told input reads output writes = inr (record {
+desk_not_held desk prompts closed ended status old new fault notes why_not same is told input reads output writes = inr (record {
   fault = fault;
   notes = notes;
+  why_not = why_not;
   status_is = subst (λ (b : Bool). status ≡ status_ended b StreamFailed (Err fault)) same is;
   told = subst (λ (b : Bool). IsTold b (Err fault) (notes_in notes) (Tells old.prompted new.prompted old.failed_prompts new.failed_prompts)) same told;
   input = (input, reads);

@@ -18,7 +18,8 @@ use Rattle.pf_words.specs.declared.mistake.Mistake.{Mistake}
 use Rattle.pf_words.proofs.Unasked.{mistaken_asks_no_desk, mistaken_asks_no_pair, mistaken_asks_none, untaken_asks_no_desk, untaken_asks_no_pair, untaken_asks_none}
 use Rattle.pf_stream.specs.Reading.{longest_script, TakesAtMost}
 use Rattle.pf_program.specs.Source.{IsOf, IsSource}
-use Rattle.pf_program.specs.Desks.{HasNotBegun}
+use Rattle.pf_answers.specs.declared.manner.Manner.{Manner}
+use Rattle.pf_program.specs.Desks.{DoesNotBegin, HasNotBegun}
 use Rattle.pf_program.specs.FaultLines.{fault_line}
 use Rattle.pf_program.specs.Noted.{IsTold, gone_diff, gone_of, status_ended}
 use Rattle.pf_program.specs.Status.{AnswersAsked, AnswersWords, Compares, Does, IsToldOf, IsWritten, ReadsNothing, Streams, Tells, status_of_words, told_of}
@@ -130,13 +131,18 @@ no_memory_for_two names asked closed old told is = record {
   told_is = memory_told closed told is;
 }
 
+no_memory_to_begin : (manner : Manner) (file : Option (List ℕ)) → DoesNotBegin manner file stop.NoMemory (Err stop.NoMemory)
+no_memory_to_begin manner None = (refl, refl)
+no_memory_to_begin manner (Some name) = inl (tt, tt)
+
 -- and to a session, which does not begin
-pub no_memory_at_desk : (closed : Bool) (status : ℕ) (old new : Held.Streams) → status ≡ 4
+pub no_memory_at_desk : (manner : Manner) (file : Option (List ℕ)) (closed : Bool) (status : ℕ) (old new : Held.Streams) → status ≡ 4
     → Tells old.prompted new.prompted old.failed_prompts new.failed_prompts (fault_line stop.NoMemory) → new.input ≡ old.input → new.failed_reads ≡ old.failed_reads
-    → new.output ≡ old.output → new.failed_writes ≡ old.failed_writes → HasNotBegun closed status old new
-no_memory_at_desk closed status old new is told input reads output writes = record {
+    → new.output ≡ old.output → new.failed_writes ≡ old.failed_writes → HasNotBegun manner file closed status old new
+no_memory_at_desk manner file closed status old new is told input reads output writes = record {
   fault = stop.NoMemory;
   notes = Err stop.NoMemory;
+  why_not = no_memory_to_begin manner file;
   status_is = is ∙ status_of_memory closed StreamFailed;
   told = memory_told closed (Tells old.prompted new.prompted old.failed_prompts new.failed_prompts) told;
   input = (input, reads);

@@ -1,5 +1,5 @@
 -- What the program does where words ask for a session at a desk.
-use Rattle.std.specs.Prelude.{ℕ, ◌≡◌, ◌⊎◌, Bool, if◌then◌else◌, List, [], Option, None, Some, Result, Ok, Err, Vec}
+use Rattle.std.specs.Prelude.{ℕ, ◌≡◌, ◌⊎◌, not, Bool, if◌then◌else◌, List, [], IfOk, Option, None, Some, Result, Ok, Err, Vec}
 use Rattle.std.specs.declared.alloc.Global.{Global}
 use Rattle.pf_answers.specs.declared.manner.Manner.{Manner}
 use Rattle.pf_fault.specs.Answers.{IsQuiet}
@@ -8,15 +8,17 @@ use Rattle.pf_fault.specs.declared.fault.Fault.{Fault}
 use Rattle.pf_fault.specs.declared.fault.Fault.TheVariants as why
 use Rattle.pf_fault.specs.declared.status.Status.TheVariants.{BadScript, Done, StreamFailed}
 use Rattle.pf_held.specs.Streams.{Hears, IsDeaf, IsMute, Streams, Tells}
+use Rattle.pf_script_notes.specs.Faults.{IsFaultNote}
 use Rattle.pf_session.specs.Session.{SessionState, at_start}
-use Rattle.pf_sitter.specs.Opening.{opened}
+use Rattle.pf_sitter.specs.Opening.{IsOpened, opened}
 use Rattle.pf_sitter.specs.Sitters.{answers}
 use Rattle.pf_sitting.specs.Sits.{HasSat, talk_of}
 use Rattle.pf_sitting.specs.declared.answers.Going.{Going}
 use Rattle.pf_sitting.specs.declared.fault.SitFault.{SitFault}
 use Rattle.pf_sitting.specs.declared.fault.SitFault.TheVariants as stop
 use Rattle.pf_words.specs.Desks.{DeskNames}
-use Rattle.pf_program.specs.Noted.{IsTold, notes_in, status_ended}
+use Rattle.pf_program.specs.Noted.{IsTold, IsUnreadNote, OneOf, notes_in, status_ended}
+use Rattle.pf_program.specs.Source.{IsHad}
 use Rattle.pf_program.specs.Status.{Tells as IsToldSo}
 
 abbrev pub manner_of : DeskNames → Manner
@@ -50,10 +52,26 @@ pub record HasSatDown (begun : SessionState) (prompts closed : Bool) (status : �
   pub input : (new.input ≡ between.input) × (new.failed_reads ≡ between.failed_reads)
   pub output : (new.output ≡ between.output) × (new.failed_writes ≡ between.failed_writes)
 
--- no session began: its script could not be had, or has a bad record, which is told; nothing was read or written
-pub record HasNotBegun (closed : Bool) (status : ℕ) (old new : Streams) : Type 0 where
+-- the script of this file could not be had, which is told where that is asked for
+abbrev pub IsUnread : Bool → List ℕ → Fault → Result (Vec ℕ Global) Fault → Type 0
+IsUnread asked name fault notes = IsHad (Err fault) × IfOk notes (λ note. IsUnreadNote asked name fault note.items)
+
+-- no session begins behind these bytes of this file, which is told where that is asked for: a record is bad, or memory was refused
+abbrev pub IsUnopened : Bool → Manner → List ℕ → List ℕ → Fault → Result (Vec ℕ Global) Fault → Type 0
+IsUnopened asked manner name script fault notes = IsOpened (opened manner script) (Err fault)
+    × OneOf asked (IfOk notes (λ note. IsFaultNote name script None fault note.items)) (notes_in notes ≡ [])
+
+-- why a session does not begin, and what is told of that: behind no script, only where memory was refused
+abbrev pub DoesNotBegin : Manner → Option (List ℕ) → Fault → Result (Vec ℕ Global) Fault → Type 0
+DoesNotBegin manner None fault notes = (fault ≡ why.NoMemory) × (notes_in notes ≡ [])
+DoesNotBegin manner (Some file) fault notes =
+    IsUnread (not manner.quiet) file fault notes ⊎ ((script : List ℕ) × IsUnopened (not manner.quiet) manner file script fault notes)
+
+-- no session began, and why is told; nothing was read or written
+pub record HasNotBegun (manner : Manner) (file : Option (List ℕ)) (closed : Bool) (status : ℕ) (old new : Streams) : Type 0 where
   pub fault : Fault
   pub notes : Result (Vec ℕ Global) Fault
+  pub why_not : DoesNotBegin manner file fault notes
   pub status_is : status ≡ status_ended closed StreamFailed (Err fault)
   pub told : IsTold closed (Err fault) (notes_in notes) (IsToldSo old.prompted new.prompted old.failed_prompts new.failed_prompts)
   pub input : (new.input ≡ old.input) × (new.failed_reads ≡ old.failed_reads)
@@ -63,4 +81,4 @@ pub record HasNotBegun (closed : Bool) (status : ℕ) (old new : Streams) : Type
 abbrev pub HoldsDesk : DeskNames → Bool → Bool → ℕ → Streams → Streams → Type 0
 HoldsDesk desk prompts closed status old new =
     ((begun : SessionState) × Begins (manner_of desk) desk.script begun × HasSatDown begun prompts closed status old new)
-    ⊎ HasNotBegun closed status old new
+    ⊎ HasNotBegun (manner_of desk) desk.script closed status old new

@@ -1,11 +1,12 @@
 //! A session at a desk.
-ghost use Rattle.std.specs.Prelude.{◌≡◌, ◌-◌, ◌^◌, ◌<◌, ◌&&◌, not, Bool, false, Ok, IfOk};
+ghost use Rattle.std.specs.Prelude.{◌≡◌, ◌-◌, ◌^◌, ◌<◌, ◌&&◌, not, Bool, [], false, Ok, IfErr, IfOk};
 ghost use Rattle.pf_fault.specs.declared.status.Status.TheVariants.{StreamFailed};
 ghost use Rattle.pf_held.specs.Streams.{streams_of};
 ghost use Rattle.pf_sitter.specs.Opening.{opened};
-ghost use Rattle.pf_words.specs.Asked.{desk_named};
-ghost use Rattle.pf_program.specs.Desks.{Begins, CameTo, HasSatDown, HoldsDesk, manner_of};
-ghost use Rattle.pf_program.specs.Noted.{status_ended};
+ghost use Rattle.pf_words.specs.Asked.{desk_named, name_of};
+ghost use Rattle.pf_program.specs.Desks.{Begins, CameTo, DoesNotBegin, HasSatDown, HoldsDesk, IsUnopened, manner_of};
+ghost use Rattle.pf_program.specs.Noted.{notes_in, status_ended};
+ghost use Rattle.pf_program.specs.Source.{told_name};
 
 use crate::ending::end;
 use crate::noted::Noted;
@@ -111,7 +112,8 @@ fn sit_down<H: AllocGlobal + Files + Wait, R: Source, W: Pipe, F: Sink>(
 ///
 /// Where the script can't be read or has a bad record, and where memory is refused.
 fn begin<H: AllocGlobal + Files>(rt: &H, words: &DeskWords) -> Result<Session, Unbegun>
-    ensures { IfOk result (λ s. Begins (manner_of (desk_named words.now)) (desk_named words.now).script s) }
+    ensures begun { IfOk result (λ s. Begins (manner_of (desk_named words.now)) (desk_named words.now).script s) }
+    ensures unbegun { IfErr result (λ u. DoesNotBegin (manner_of (desk_named words.now)) (desk_named words.now).script u.fault u.notes) }
 {
     let alloc = rt.alloc();
     let manner = Manner {
@@ -141,7 +143,8 @@ fn begin_with(
     manner: Manner,
     script: &[u8],
 ) -> Result<Session, Unbegun>
-    ensures { IfOk result (λ s. opened manner script.now ≡ Ok s) }
+    ensures opened { IfOk result (λ s. opened manner script.now ≡ Ok s) }
+    ensures unopened { IfErr result (λ u. IsUnopened (not words.now.quiet) manner (told_name (name_of words.now.script)) script.now u.fault u.notes) }
 {
     match open_script(alloc, manner, script) {
         Ok(session) => Ok(session),
@@ -154,7 +157,10 @@ fn begin_with(
 }
 
 /// A fault behind which nothing is told.
-fn untold(alloc: Global, fault: Fault) -> Unbegun {
+fn untold(alloc: Global, fault: Fault) -> Unbegun
+    ensures fault { result.fault ≡ fault }
+    ensures notes { notes_in result.notes ≡ [] }
+{
     let notes = Ok(Vec::new(alloc));
     Unbegun { fault, notes }
 }

@@ -6,4 +6,4 @@ use Rattle.pf_program.proofs.desk.hold_desk.Goals as goal
 pub returns-in-Err : goal.returns-in-Err
 returns-in-Err g c =
     desk_not_held (desk_named c.args.words.now) _ _ c.is_closed-closed.result c.end.result _ _ c.in-Err.field-0.fault c.in-Err.field-0.notes
-    c.is_closed-closed.ensures c.end.ensures.status c.end.ensures.told refl refl refl refl
+    c.in-Err.ensures.unbegun c.is_closed-closed.ensures c.end.ensures.status c.end.ensures.told refl refl refl refl
