@@ -74,8 +74,11 @@ def is_by_hand(texts, function, clause):
 def without_answers(texts, function, clause):
     """The texts without the answers by hand to this clause, so that search alone is asked."""
     path = answers_file(function)
-    left = (lines for name, lines in blocks_of(texts[path]) if not name or clause_of(name) != clause)
-    return {**texts, path: "\n".join(line for lines in left for line in lines)}
+    left = [(name, lines) for name, lines in blocks_of(texts[path]) if not name or clause_of(name) != clause]
+    if not any(name for name, _ in left):
+        # Nothing but imports, which may name what is no longer there: nothing of the crate would be read.
+        return {it: text for it, text in texts.items() if it != path}
+    return {**texts, path: "\n".join(line for _, lines in left for line in lines)}
 
 
 def resting_on(texts, function, name):

@@ -71,6 +71,12 @@ def module_of(crate, path):
     return "::".join([crate, *parts])
 
 
+def home_of(crate, path, text, owner):
+    """The module by which the prover names a type that a file implements: its own, where the file takes it from there."""
+    taken = re.search(rf"^use crate::([\w:]+)::(?:\{{[^}}]*\b)?{owner}\b[^;]*;", text, re.M)
+    return f"{crate}::{taken[1]}" if taken else module_of(crate, path)
+
+
 def functions_of(crate, path, text):
     """Of each line of a source file, the function in which it stands, by the name that the prover gives it, or None."""
     found, owner, inside, blanks = [], None, None, ""
@@ -79,7 +85,8 @@ def functions_of(crate, path, text):
         begins = FUNCTION.match(line)
         if begins:
             blanks = begins[1]
-            inside = "::".join([module_of(crate, path), *([owner] if blanks and owner else []), begins[2]])
+            home = [home_of(crate, path, text, owner), owner] if blanks and owner else [module_of(crate, path)]
+            inside = "::".join([*home, begins[2]])
         found.append(inside)
         if line == blanks + "}":
             inside = None
