@@ -79,7 +79,7 @@ def full(processors, tasks, slots):
 
 def past_edits(count, back, slots):
     """A full load of 8 processors, and then so many strict edits, each of the slot so many before now."""
-    records = full(8, 32, slots)
+    records = ["pfair,2", *full(8, 32, slots)]
     for number in range(count // 2):
         records += [f"strict,limit,{slots - back},8", f"strict,strike,{33 + number}"]
     return records
@@ -147,12 +147,12 @@ def of_records(records, units=lambda size: size):
 
 
 WORKLOADS = (
-    Workload("steady", "32 tasks fill 8 processors", "quantum", 100_000, 20_000,
+    Workload("steady", "32 tasks fill 8 processors: slots", "quantum", 100_000, 20_000,
              **of_records(lambda slots: full(8, 32, slots), lambda slots: 8 * slots)),
-    Workload("wide", "4,095 tasks fill 64 processors", "quantum", 2_000, 500,
+    Workload("wide", "4,095 tasks fill 64: slots", "quantum", 2_000, 500,
              **of_records(lambda slots: full(64, 4_095, slots), lambda slots: 64 * slots)),
-    Workload("churn", "joins, leaves and 2 delays a slot", "slot", 20_000, 4_000, **of_records(churn)),
-    Workload("parse", "short records, nothing runs", "record", 100_000, 25_000, **of_records(parsed)),
-    Workload("edits", "plain edits of 1,000 slots, in a row", "edit", 2_000, 2_000, **of_records(edits)),
+    Workload("churn", "changes in every slot: slots", "slot", 20_000, 4_000, **of_records(churn)),
+    Workload("parse", "short records", "record", 100_000, 25_000, **of_records(parsed)),
+    Workload("edits", "edits of the past in a row", "edit", 2_000, 2_000, **of_records(edits)),
 )
 MILLION = full(8, 32, 1_000_000)
