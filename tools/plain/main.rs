@@ -2,6 +2,7 @@
 //! `pfair run` writes. It is written from docs/RULES.md with std alone, for use and not for records: ready subtasks in a heap,
 //! the others by slot, the run kept; it has no checkpoints, so an edit of the past runs the plan anew, once for edits in a row.
 //! Its tasks and the words of its replies are those of the plain scheduler of the Rust crate's tests. A script is not checked.
+//! words.rs has what is planned and why it is refused, plan.rs the events held, run.rs the run slot by slot, desk.rs both.
 
 // The files of those tests name what stands in `words` as the library's.
 extern crate self as pfair;
