@@ -79,9 +79,13 @@ impl Task {
         }
     }
 
+    /// The first slot in which the next subtask may run, where the one before it did.
+    pub fn ready_from(&self) -> u64 {
+        self.release(self.next()).saturating_sub(self.early).max(self.joined)
+    }
+
     pub fn is_ready(&self, slot: u64) -> bool {
-        let from = self.release(self.next()).saturating_sub(self.early).max(self.joined);
-        self.is_inside() && from <= slot
+        self.is_inside() && self.ready_from() <= slot
     }
 
     pub fn key(&self, number: u64) -> Key {

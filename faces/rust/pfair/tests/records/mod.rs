@@ -21,7 +21,8 @@ pub fn record(change: &Change, strict: bool) -> String {
     format!("{}{change}\n", if strict { "strict," } else { "" })
 }
 
-fn denial(reason: DenialReason) -> &'static str {
+/// The number and the name of a reason.
+pub fn denial(reason: DenialReason) -> &'static str {
     match reason {
         DenialReason::OverCapacity => "20 OverCapacity",
         DenialReason::NotInside => "21 NotInside",
