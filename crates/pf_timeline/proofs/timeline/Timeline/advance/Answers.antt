@@ -13,32 +13,32 @@ use Rattle.pf_timeline.proofs.timeline.Timeline.advance.Goals.{After-drop-events
 
 pub slot-requires : goal.slot-requires
 slot-requires c =
-    let keeps = keeps_standing _ _ _ _ _ _ _ _ c.self.invariant.run c.self.view_is c.requires.stands in
+    let keeps = keeps_standing _ _ _ _ _ _ _ _ _ c.self.invariant.run c.self.view_is c.requires.stands in
     let events = c.deref.ensures.value ∙ c.in_ok-events.ensures.value ∙ ap (events_of c.args.scenario.now) c.now.ensures in
     takes_next _ _ _ _ _ keeps _ events c.requires.below
 
 pub seat_last-requires-clause-turn : goal.seat_last-requires-clause-turn
 seat_last-requires-clause-turn c =
-    let keeps = keeps_standing _ _ _ _ _ _ _ _ c.self.invariant.run c.self.view_is c.requires.stands in
+    let keeps = keeps_standing _ _ _ _ _ _ _ _ _ c.self.invariant.run c.self.view_is c.requires.stands in
     let events = c.deref.ensures.value ∙ c.in_ok-events.ensures.value ∙ ap (events_of c.args.scenario.now) c.now.ensures in
     rw (c.in_ok-push_idle.ensures.ok, idle_width, c.processors.ensures.value, c.settings.ensures.value, c.count.ensures, c.picks.ensures)
     (taken_turn _ _ _ _ _ keeps _ _ (takes_slot _ _ _ _ _ keeps _ events _ _ c.in-Ok.ensures.slot))
 
 pub seat_last-requires-clause-numbered : goal.seat_last-requires-clause-numbered
 seat_last-requires-clause-numbered c =
-    let keeps = keeps_standing _ _ _ _ _ _ _ _ c.self.invariant.run c.self.view_is c.requires.stands in
+    let keeps = keeps_standing _ _ _ _ _ _ _ _ _ c.self.invariant.run c.self.view_is c.requires.stands in
     let events = c.deref.ensures.value ∙ c.in_ok-events.ensures.value ∙ ap (events_of c.args.scenario.now) c.now.ensures in
     rw c.picks.ensures (taken_numbered _ _ _ _ _ keeps _ _ (takes_slot _ _ _ _ _ keeps _ events _ _ c.in-Ok.ensures.slot))
 
 pub seat_last-requires-clause-before : goal.seat_last-requires-clause-before
 seat_last-requires-clause-before c =
-    let keeps = keeps_standing _ _ _ _ _ _ _ _ c.self.invariant.run c.self.view_is c.requires.stands in
+    let keeps = keeps_standing _ _ _ _ _ _ _ _ _ c.self.invariant.run c.self.view_is c.requires.stands in
     rw (c.in_ok-push_idle.ensures.ok, but_last_behind, idle_width, c.processors.ensures.value, c.settings.ensures.value)
     (last_stands _ _ _ _ _ keeps)
 
 pub extend_reserved-requires : goal.extend_reserved-requires
 extend_reserved-requires c =
-    let keeps = keeps_standing _ _ _ _ _ _ _ _ c.self.invariant.run c.self.view_is c.requires.stands in
+    let keeps = keeps_standing _ _ _ _ _ _ _ _ _ c.self.invariant.run c.self.view_is c.requires.stands in
     let events = c.deref.ensures.value ∙ c.in_ok-events.ensures.value ∙ ap (events_of c.args.scenario.now) c.now.ensures in
     let few = few_denials _ _ _ _ _ keeps _ events _ (takes_slot _ _ _ _ _ keeps _ events _ _ c.in-Ok.ensures.slot).next in
     omega (arith, few, ap length c.denials.ensures, c.in_ok-reserve.ensures.room, c.deref.ensures.len, c.len.ensures)
@@ -46,7 +46,7 @@ extend_reserved-requires c =
 keeps_next : (c : After-drop-events-2) →
     KeepsRun c.args.scenario.now (c.args.self.now.now + 1) c.seat_last.new.self c.share.new.self.items c.slot.new.self
 keeps_next c =
-    let keeps = keeps_standing _ _ _ _ _ _ _ _ c.self.invariant.run c.self.view_is c.requires.stands in
+    let keeps = keeps_standing _ _ _ _ _ _ _ _ _ c.self.invariant.run c.self.view_is c.requires.stands in
     let events = c.deref.ensures.value ∙ c.in_ok-events.ensures.value ∙ ap (events_of c.args.scenario.now) c.now.ensures in
     keeps_more _ _ _ _ _ keeps _ _ (takes_slot _ _ _ _ _ keeps _ events _ _ c.in-Ok.ensures.slot) _ _ c.requires.below
     (rw (
@@ -83,7 +83,7 @@ pub invariant_of-self-2 : goal.invariant_of-self-2
 invariant_of-self-2 c =
     let long = c.len-2.ensures ∙ ap length c.in_ok-reserve.ensures.items in
     let reach = point_kept _ _ _ _ _ (points_standing _ _ _ _ _ _ _ _ _ c.self.invariant c.self.view_is c.requires.stands)
-    (point_now_fits _ _ _ _ _ _ (keeps_now _ _ _ _ _ (keeps_standing _ _ _ _ _ _ _ _ c.self.invariant.run c.self.view_is c.requires.stands)) long)
+    (point_now_fits _ _ _ _ _ _ (keeps_now _ _ _ _ _ (keeps_standing _ _ _ _ _ _ _ _ _ c.self.invariant.run c.self.view_is c.requires.stands)) long)
     c.in_ok-keep.ensures.due c.in_ok-keep.ensures.early in
     let now = kept_now _ _ _ _ _ (keeps_next c) ∙ ap (λ t. t.now + 1) (sym c.self.view_is) in
     rw c.of.ensures (record {
@@ -92,11 +92,11 @@ invariant_of-self-2 c =
     })
 
 pub returns-clause-ok : goal.returns-clause-ok
-returns-clause-ok c = stands_kept _ c.of.result.value _ _ _ _ _ (keeps_next c) (ap (past_below (c.args.self.now.now + 1)) c.of.ensures)
+returns-clause-ok c = stands_kept _ c.of.result.value _ _ _ _ _ _ (keeps_next c) (ap (past_below (c.args.self.now.now + 1)) c.of.ensures)
 
 pub returns-clause-comparisons : goal.returns-clause-comparisons
 returns-clause-comparisons c =
-    let keeps = keeps_standing _ _ _ _ _ _ _ _ c.self.invariant.run c.self.view_is c.requires.stands in
+    let keeps = keeps_standing _ _ _ _ _ _ _ _ _ c.self.invariant.run c.self.view_is c.requires.stands in
     let events = c.deref.ensures.value ∙ c.in_ok-events.ensures.value ∙ ap (events_of c.args.scenario.now) c.now.ensures in
     slot_compared _ _ _ _ _ keeps _ events _ _ (takes_slot _ _ _ _ _ keeps _ events _ _ c.in-Ok.ensures.slot) _ _
     c.in-Ok.ensures.comparisons
