@@ -3,7 +3,7 @@ pub mod Changes
 pub mod Pasts
 pub mod Slots
 pub mod Entering
-pub mod Stepping
+pub mod Applying
 pub mod Readying
 pub mod Metered
 pub mod Horizons

@@ -11,7 +11,10 @@ use Rattle.pf_desk.specs.declared.reply.Reply.TheVariants.{Edited, Stepped, Refu
 use Rattle.pf_desk.specs.declared.entry.Entry.{Entry}
 use Rattle.pf_desk.specs.Machine.{State, state_after}
 use Rattle.pf_desk.specs.History.{state_behind}
-use Rattle.pf_desk.specs.Desk.{Shown, AnswersAll, most_replayed}
+use Rattle.pf_desk.specs.declared.scenario_run.ScenarioRun.{ScenarioRun}
+use Rattle.pf_desk.specs.Desk.{Shown, AnswersAll, most_replayed, most_slots}
+use Rattle.pf_desk.specs.Kept.{shown_by}
+use Rattle.pf_desk.specs.Applied.{most_counted}
 
 -- no command goes back
 now_grows : (st : State) (command : Command) (reply : Reply) → st.now ≤ (state_after st command reply).now
@@ -27,6 +30,12 @@ pub counts_replayed : (now apart t : ℕ) (c d : Counts) → t < now → CountsA
 counts_replayed now apart t c d below few within =
     let most : most_replayed now apart (Some t) ≡ min now (now - t + apart) = cond-true (nat_lt t now) _ _ (lt-ltb t now below) in
     record { never_falls = few.never_falls; at_most = omega (arith, most) }
+
+-- Use: a desk's command may count as many as on its scenario with its run.
+pub counts_alike : (r : ScenarioRun) (es : List Entry) (spare : ℕ) (command : Command) (c d : Counts) → CountsAtMost (most_counted r command) c d →
+    CountsAtMost (most_slots (shown_by r.scenario r.timeline es spare) command) c d
+counts_alike r es spare Step c d few = few
+counts_alike r es spare (Edit change strict) c d few = few
 
 later_behind : (st : State) (es : List Entry) → st.now ≤ (state_behind st es).now
 later_behind st [] = omega arith

@@ -1,6 +1,5 @@
 -- What a desk shows, and what always holds of it.
-use Rattle.std.specs.Prelude.{⊤, ◌≡◌, ◌⊎◌, ◌≤◌, ◌+◌, ◌-◌, ℕ, nat_lt, min, if◌then◌else◌, Option, None, Some, IsSome, IfSome, Result, IfOk, OnErr, List, [], ◌∷◌, ◌++◌, length, map, All}
-use Rattle.std.specs.declared.alloc.AllocError.{AllocError}
+use Rattle.std.specs.Prelude.{⊤, ◌≡◌, ◌⊎◌, ◌≤◌, ◌+◌, ◌-◌, ℕ, nat_lt, min, if◌then◌else◌, Option, None, Some, IsSome, IfSome, List, [], ◌∷◌, ◌++◌, length, map, All}
 use Rattle.pf_order.specs.declared.pick.Pick.{Pick}
 use Rattle.pf_scenario.specs.System.{System}
 use Rattle.pf_scenario.specs.Scenario.{slot_touched}
@@ -61,14 +60,6 @@ pub record AnswersAll (caller : ℕ) (commands : List Command) (before after : S
 abbrev pub LeavesRest : Reply → Shown → Shown → Type 0
 LeavesRest (Refused fault) before after = after ≡ record before { history = after.history; spare = after.spare }
 LeavesRest reply before after = ⊤
-
--- the desk answered a caller's command, and with a refusal it left all but the history; or memory was refused, and the
--- desk is as before
-pub record Handles (caller : ℕ) (command : Command) (before : Shown) (result : Result Reply AllocError) (after : Shown) : Type 0 where
-  pub ok : IfOk result (λ reply. AnswersCaller caller command before reply after)
-  pub err : OnErr result (IsAsBefore before after)
-  pub desk : IsDesk after
-  pub refused : IfOk result (λ reply. LeavesRest reply before after)
 
 -- a command that counts no slot: a step at the horizon, an edit with a fault, an edit that touches no slot below now
 abbrev pub IsUncounted : State → Command → Type 0

@@ -20,7 +20,7 @@ pub mod Desk
 pub mod Recorded
 pub mod Kept
 pub mod Horizon
-pub mod Apart
+pub mod Applied
 pub mod Plain
 pub mod Gathered
 pub mod Views

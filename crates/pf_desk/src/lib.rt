@@ -2,9 +2,9 @@
 //! shows is the run from slot zero of the scenario as it now stands.
 #![tactic(auto)]
 
+mod apply_all;
 mod batch;
 mod brief;
-mod candidate;
 pub mod command;
 pub mod desk;
 pub mod entry;
@@ -13,10 +13,10 @@ pub mod fault;
 pub mod history;
 pub mod laws;
 mod never_misses;
-mod outcome;
 pub mod prepared;
 pub mod reply;
 pub mod reply_view;
+mod scenario_run;
 mod settled;
 mod settlements;
 mod small_edit;

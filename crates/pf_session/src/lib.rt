@@ -10,3 +10,5 @@ mod pair;
 pub mod session;
 mod step;
 pub mod stop;
+mod take_record;
+mod undo;

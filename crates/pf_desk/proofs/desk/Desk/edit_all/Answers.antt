@@ -1,8 +1,6 @@
-use Rattle.std.proofs.Common.{false, [], ◌∷◌, ◌++◌, take, sym, ap, ◌∙◌, ◌≤◌, ℕ, refl, arith, le_refl}
+use Rattle.std.proofs.Common.{false, [], ◌∷◌, ◌++◌, take, sym, ap, ◌∙◌, refl, le_refl}
 use Rattle.std.proofs.lemmas.List.{take_more}
 use Rattle.std.proofs.lemmas.Result.{IfOk-from_err, MatchResult-from_err}
-use Rattle.pf_order.specs.Counts.{Counts}
-use Rattle.pf_order.specs.Counted.{CountsAtMost}
 use Rattle.pf_desk.specs.declared.command.Command.TheVariants.{Edit}
 use Rattle.pf_desk.proofs.Gathering.{plain_at, from_turn, plain_whole, counts_later}
 use Rattle.pf_desk.proofs.Entering.{is_desk}

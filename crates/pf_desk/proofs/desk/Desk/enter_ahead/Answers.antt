@@ -17,17 +17,17 @@ returns-in_err-enter_all-clause-ok c = IfOk-from_err _ _ c.from_residual.ensures
 
 pub returns-in_err-enter_all-clause-err : goal.returns-in_err-enter_all-clause-err
 returns-in_err-enter_all-clause-err c =
-    MatchResult-from_err _ _ _ c.from_residual.ensures.0 (λ _. rw (← c.self.view_is) (as_before c.self.inside.scenario c.self.inside.timeline _ _ c.in_err-enter_all.ensures.err))
+    MatchResult-from_err _ _ _ c.from_residual.ensures.0 (λ _. rw (← c.self.view_is) (as_before c.self.inside.run.scenario c.self.inside.run.timeline _ _ c.in_err-enter_all.ensures.err))
 
 pub returns-in_err-enter_all-clause-desk : goal.returns-in_err-enter_all-clause-desk
 returns-in_err-enter_all-clause-desk c = is_desk _ _ _ _ (invariant_of-self c).keeps
 
 pub invariant_of-self-2 : goal.invariant_of-self-2
 invariant_of-self-2 c =
-    let d = shown_by c.self.inside.scenario c.self.inside.timeline c.self.inside.history.entries c.self.inside.history.spare in
+    let d = shown_by c.self.inside.run.scenario c.self.inside.run.timeline c.self.inside.history.entries c.self.inside.history.spare in
     let batch : IsBatch d c.args.batch.now = rw (← c.self.view_is) at c.requires.batch in
     rw c.swap.ensures.x_after
-    (batch_parts c.self.inside.scenario c.self.inside.timeline c.self.inside.timeline c.self.inside.history _ _ c.args.batch.now
+    (batch_parts c.self.inside.run.scenario c.self.inside.run.timeline c.self.inside.run.timeline c.self.inside.history _ _ c.args.batch.now
     (record {
       is = c.self.invariant.keeps;
       batch = batch;

@@ -9,7 +9,7 @@ use Rattle.pf_desk.proofs.desk.Desk.enter_past.Goals as goal
 
 pub rewritten-requires-clause-agrees : goal.rewritten-requires-clause-agrees
 rewritten-requires-clause-agrees c =
-    let d = shown_by c.self.inside.scenario c.self.inside.timeline c.self.inside.history.entries c.self.inside.history.spare in
+    let d = shown_by c.self.inside.run.scenario c.self.inside.run.timeline c.self.inside.history.entries c.self.inside.history.spare in
     let batch : IsBatch d c.args.batch.now = rw (← c.self.view_is) at c.requires.batch in
     batch_agrees _ _ _ _ c.args.batch.now c.self.invariant.keeps batch
 
@@ -41,7 +41,7 @@ returns-in_err-enter_all-clause-ok c = IfOk-from_err _ _ c.from_residual-in_err-
 
 pub returns-in_err-enter_all-clause-err : goal.returns-in_err-enter_all-clause-err
 returns-in_err-enter_all-clause-err c =
-    MatchResult-from_err _ _ _ c.from_residual-in_err-enter_all.ensures.0 (λ _. rw (← c.self.view_is) (as_before c.self.inside.scenario c.self.inside.timeline _ _ c.in_err-enter_all.ensures.err))
+    MatchResult-from_err _ _ _ c.from_residual-in_err-enter_all.ensures.0 (λ _. rw (← c.self.view_is) (as_before c.self.inside.run.scenario c.self.inside.run.timeline _ _ c.in_err-enter_all.ensures.err))
 
 pub returns-in_err-enter_all-clause-desk : goal.returns-in_err-enter_all-clause-desk
 returns-in_err-enter_all-clause-desk c = is_desk _ _ _ _ (invariant_of-self c).keeps
@@ -56,10 +56,10 @@ returns-in_err-enter_all-clause-compared c = c.rewritten.ensures.compared
 
 pub invariant_of-self-2 : goal.invariant_of-self-2
 invariant_of-self-2 c =
-    let d = shown_by c.self.inside.scenario c.self.inside.timeline c.self.inside.history.entries c.self.inside.history.spare in
+    let d = shown_by c.self.inside.run.scenario c.self.inside.run.timeline c.self.inside.history.entries c.self.inside.history.spare in
     let batch : IsBatch d c.args.batch.now = rw (← c.self.view_is) at c.requires.batch in
     rw c.swap.ensures.x_after
-    (batch_parts c.self.inside.scenario c.self.inside.timeline c.in_ok-timeline.timeline c.self.inside.history _ _ c.args.batch.now
+    (batch_parts c.self.inside.run.scenario c.self.inside.run.timeline c.in_ok-timeline.timeline c.self.inside.history _ _ c.args.batch.now
     (record {
       is = c.self.invariant.keeps;
       batch = batch;

@@ -1,6 +1,6 @@
 use Rattle.std.proofs.Common.{rules, arith}
 use Rattle.pf_desk.proofs.Gathering.{plain_more}
-use Rattle.pf_desk.proofs.desk.plain_edits.Goals as goal
+use Rattle.pf_desk.proofs.apply_all.plain_edits.Goals as goal
 
 pub loop-command-preserved : goal.loop-command-preserved
 loop-command-preserved c = record {

@@ -1,6 +1,6 @@
 use Rattle.std.proofs.Common.{◌≡◌, take, All}
 use Rattle.pf_desk.specs.Plain.{IsPlain}
-use Rattle.pf_desk.proofs.desk.plain_edits.Given as goal
+use Rattle.pf_desk.proofs.apply_all.plain_edits.Given as goal
 
 abbrev pub invariant-loop-command : goal.invariant-loop-command
 invariant-loop-command l = record {
