@@ -1,5 +1,5 @@
 -- Checkpoints that fit a run: the next one kept, one slot more, another scenario with the same past, and the first ones.
-use Rattle.std.proofs.Common.{◌≡◌, ℕ, zero, suc, refl, ◌+◌, ◌*◌, ◌/◌, ◌-◌, ◌<◌, ◌≤◌, ◌⊎◌, inl, inr, Option, List, [], ◌∷◌, ◌++◌, length, take, drop, get_or, sym, ap, ◌∙◌, subst, arith, length-append}
+use Rattle.std.proofs.Common.{◌≡◌, ℕ, zero, suc, refl, length-drop, get_or-drop, ◌+◌, ◌*◌, ◌/◌, ◌-◌, ◌<◌, ◌≤◌, ◌⊎◌, inl, inr, Option, List, [], ◌∷◌, ◌++◌, length, take, drop, get_or, sym, ap, ap₂, ◌∙◌, subst, arith, length-append}
 use Rattle.std.proofs.Math.Nat.{div-lt_iff_lt-mul, div-mul-le_self}
 use Rattle.std.proofs.lemmas.Bool.{cases_lt, le-ltb, lt-ltb}
 use Rattle.std.proofs.lemmas.Nat.{mul-le}
@@ -11,6 +11,7 @@ use Rattle.pf_run.specs.declared.denied.Denied.{Denied}
 use Rattle.pf_scenario.specs.Edit.{IsScenario}
 use Rattle.pf_engine.specs.Fits.{Kept}
 use Rattle.pf_timeline.specs.declared.checkpoint.Checkpoint.{Checkpoint}
+use Rattle.pf_timeline.specs.Checkpoints.{near_distance, near_slots}
 use Rattle.pf_timeline.specs.Timeline.{KeptRun, StandsFor, AgreesBelow, past_below}
 use Rattle.pf_timeline.specs.Keeping.{Points, slot_at, next_due, last_at, points_up_to, Trims, kept_run, KeepsRun, KeepsTimeline, IsCheckpoint, FitRun, IsLastAt, IsLastOf}
 use Rattle.pf_timeline.proofs.Fronts.{front_keeps, point_now}
@@ -102,17 +103,31 @@ points_longer s n c reach = record {
   reach = let beyond : n < next_due c = reach.beyond in omega arith;
 }
 
+-- Use: the next one is due soon.
+pub due_soon : (s : Plan) (n : ℕ) (c : Points) → FitRun s n c → next_due c ≤ n + c.every
+due_soon s n c fit = by_case (cases_lt 0 (length c.points)) where
+  by_case : (0 < length c.points) ⊎ (length c.points ≤ 0) → next_due c ≤ n + c.every
+  by_case (inl some) =
+      let split : length c.points ≡ length c.points - 1 + 1 = omega (arith, some) in
+      let last : c.start + (length c.points - 1) * c.every ≤ n = fit.not_behind (length c.points - 1) (omega (arith, some)) in
+      let whole : length c.points * c.every ≡ (length c.points - 1) * c.every + c.every = ap (λ x. x * c.every) split ∙ omega arith in
+      omega (arith, last, whole)
+  by_case (inr none) =
+      let empty : length c.points ≡ 0 = omega (arith, none) in
+      let nothing : length c.points * c.every ≡ 0 = ap (λ x. x * c.every) empty ∙ omega arith in
+      omega (arith, nothing, fit.begun)
+
 -- Use: so do those that are left without the first ones.
-pub points_trimmed : (s : Plan) (n : ℕ) (c c' : Points) → FitRun s n c → next_due c ≤ n + c.every → Trims c c' → FitRun s n c'
-points_trimmed s n c c' fit near (inl same) = subst (FitRun s n) (sym same) fit
-points_trimmed s n c c' fit near (inr t) = subst (FitRun s n) (sym t.new_is) (record {
+pub points_trimmed : (s : Plan) (n : ℕ) (c c' : Points) → FitRun s n c → Trims c c' → FitRun s n c'
+points_trimmed s n c c' fit (inl same) = subst (FitRun s n) (sym same) fit
+points_trimmed s n c c' fit (inr t) = subst (FitRun s n) (sym t.new_is) (record {
   apart = fit.apart;
   each = λ i d below.
       subst (λ (p : Checkpoint). IsCheckpoint s (c.start + t.dropped * c.every + i * c.every) p) (sym (get_or-drop t.dropped c.points i d))
       (subst (λ (x : ℕ). IsCheckpoint s x (get_or c.points (t.dropped + i) d)) (omega (arith, sum i))
       (fit.each (t.dropped + i) d (omega (arith, below, long, t.few))));
   not_behind = λ i below. omega (arith, sum i, fit.not_behind (t.dropped + i) (omega (arith, below, long, t.few)));
-  begun = omega (arith, t.back, near);
+  begun = omega (arith, t.back, due_soon s n c fit);
   reach = omega (arith, fit.reach, whole, long, ap (λ x. x * c.every) long);
 }) where
   long : length (drop t.dropped c.points) ≡ length c.points - t.dropped
@@ -156,7 +171,7 @@ pub points_up_to_fit : (s q : Plan) (n t : ℕ) (c : Points) → IsScenario s �
 points_up_to_fit s q n t c of_s of_q below same fit = by_case (cases_lt t c.start) where
   by_case : (t < c.start) ⊎ (c.start ≤ t) → FitRun q t (points_up_to t c)
   by_case (inl before) = rw (lt-ltb t c.start before) (no_points q t c.every fit.apart)
-  by_case (inr begun) = rw (le-ltb c.start t begun) (points_front s q n t c of_s of_q below begun same fit)
+  by_case (inr begun) = rw (le-ltb t c.start begun) (points_front s q n t c of_s of_q below begun same fit)
 
 -- Use: the checkpoint of an engine that fits the run, with the number of its denials.
 pub point_now_fits : (s : Plan) (n k : ℕ) (rows : List (List (Option Pick))) (denials : List Denied) (e : Kept) → KeepsRun s n rows denials e →
@@ -204,7 +219,7 @@ module _ (q s : Plan) (n from : ℕ) (rows : List (List (Option Pick))) (denials
   pub front_distance : from < p.engine.now + c.every
   front_distance = omega (arith, now_is, is.last.near, is.within)
 
-  pub front_close : near.start ≤ from → from < p.engine.now + near.every
+  pub front_close : near.start ≤ from → from < p.engine.now + near_distance
   front_close back = omega (arith, now_is, is.last.near, is.close back)
 
   -- Use: there are so many rows.
@@ -237,14 +252,52 @@ pub last_below : (c : Points) (t : ℕ) → 1 ≤ c.every → t < next_due c →
 last_below c t apart below begun = (div-lt_iff_lt-mul apart).1 (omega (arith, below, begun))
 
 -- Use: it is a near one, or one of the others.
-pub near_last : (c d : Points) (from k : ℕ) (p : Checkpoint) → IsLastAt d from k p → d.every ≤ c.every → IsLastOf c d from p
-near_last c d from k p last closer = record { among = d; one = inr refl; number = k; last = last; within = closer; close = λ _. omega arith }
+pub near_last : (c d : Points) (from k : ℕ) (p : Checkpoint) → IsLastAt d from k p → d.every ≡ near_distance → near_distance ≤ c.every → IsLastOf c d from p
+near_last c d from k p last every closer =
+    record { among = d; one = inr refl; number = k; last = last; within = omega (arith, every, closer); close = λ _. omega (arith, every) }
 
-pub far_last : (c d : Points) (from k : ℕ) (p : Checkpoint) → IsLastAt c from k p → (d.start ≤ from → c.every ≤ d.every) → IsLastOf c d from p
+pub far_last : (c d : Points) (from k : ℕ) (p : Checkpoint) → IsLastAt c from k p → (d.start ≤ from → c.every ≤ near_distance) → IsLastOf c d from p
 far_last c d from k p last closer = record { among = c; one = inl refl; number = k; last = last; within = omega arith; close = closer }
+
+none_of : {X : Type 0} (k : ℕ) → take {A = X} k [] ≡ []
+none_of zero = refl
+none_of (suc k) = refl
 
 -- Use: the first ones of two lists, one behind the other.
 pub first_of_both : {X : Type 0} (k : ℕ) (xs ys : List X) → take k xs ++ take (k - length xs) ys ≡ take k (xs ++ ys)
-first_of_both zero xs ys = ap (λ n. take n ys) (let none : 0 - length xs ≡ 0 = omega arith in none)
-first_of_both (suc k) [] ys = refl
-first_of_both (suc k) (x ∷ xs) ys = ap (λ zs. x ∷ zs) (first_of_both k xs ys)
+first_of_both k [] ys =
+    let all : k - 0 ≡ k = omega arith in
+    ap₂ (λ us n. us ++ take n ys) (none_of k) all
+first_of_both zero (x ∷ xs) ys =
+    let none : 0 - length (x ∷ xs) ≡ 0 = omega arith in
+    ap (λ n. take n ys) none
+first_of_both (suc k) (x ∷ xs) ys =
+    let less : suc k - length (x ∷ xs) ≡ k - length xs = omega arith in
+    ap (λ n. x ∷ (take k xs ++ take n ys)) less ∙ ap (λ zs. x ∷ zs) (first_of_both k xs ys)
+
+-- Use: where they begin, with one that is due, and up to a slot.
+pub start_kept : (n : ℕ) (c c' : Points) (p : Checkpoint) → (next_due c ≤ n → c' ≡ record c { points = c.points ++ p ∷ [] }) →
+    (n < next_due c → c' ≡ c) → c'.start ≡ c.start
+start_kept n c c' p due early = by_case (cases_lt n (next_due c)) where
+  by_case : (n < next_due c) ⊎ (next_due c ≤ n) → c'.start ≡ c.start
+  by_case (inl before) = ap (λ (d : Points). d.start) (early before)
+  by_case (inr at) = ap (λ (d : Points). d.start) (due at)
+
+pub start_up_to : (t : ℕ) (c : Points) → (points_up_to t c).start ≤ c.start
+start_up_to t c = by_case (cases_lt t c.start) where
+  by_case : (t < c.start) ⊎ (c.start ≤ t) → (points_up_to t c).start ≤ c.start
+  by_case (inl before) = rw (lt-ltb t c.start before) (omega (arith, before))
+  by_case (inr begun) = rw (le-ltb t c.start begun) (omega arith)
+
+-- Use: without the first ones they begin at the same slot, or reach back 256 slots from n.
+pub start_trimmed : (s : Plan) (n : ℕ) (c c' : Points) → FitRun s n c → Trims c c' → (c'.start ≡ c.start) ⊎ (c'.start + near_slots ≤ n)
+start_trimmed s n c c' fit (inl same) = inl (ap (λ (d : Points). d.start) same)
+start_trimmed s n c c' fit (inr t) =
+    inr (omega (arith, t.back, due_soon s n c fit, ap (λ (d : Points). d.start) t.new_is))
+
+pub start_moved : (s : Plan) (n now near : ℕ) (c c' c'' : Points) → FitRun s n c' → Trims c' c'' → c'.start ≡ c.start → c.start ≡ near → n ≡ now →
+    (c''.start ≡ near) ⊎ (c''.start + near_slots ≤ now)
+start_moved s n now near c c' c'' fit trims kept is at = by_case (start_trimmed s n c' c'' fit trims) where
+  by_case : (c''.start ≡ c'.start) ⊎ (c''.start + near_slots ≤ n) → (c''.start ≡ near) ⊎ (c''.start + near_slots ≤ now)
+  by_case (inl same) = inl (same ∙ kept ∙ is)
+  by_case (inr back) = inr (omega (arith, back, at))

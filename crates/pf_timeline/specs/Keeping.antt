@@ -8,7 +8,7 @@ use Rattle.pf_run.specs.Computed.{run_of}
 use Rattle.pf_run.specs.RunRows.{AreOfRun, denials_in}
 use Rattle.pf_engine.specs.Fits.{Kept, Fits}
 use Rattle.pf_timeline.specs.declared.checkpoint.Checkpoint.{Checkpoint}
-use Rattle.pf_timeline.specs.Checkpoints.{near_slots}
+use Rattle.pf_timeline.specs.Checkpoints.{near_distance, near_slots}
 use Rattle.pf_timeline.specs.Timeline.{KeptRun, past_below}
 
 -- checkpoints: the slot of the first one, and how far they lie apart in slots
@@ -90,4 +90,4 @@ pub record IsLastOf (c d : Points) (from : ℕ) (p : Checkpoint) : Type 0 where
   pub number : ℕ
   pub last : IsLastAt among from number p
   pub within : among.every ≤ c.every
-  pub close : d.start ≤ from → among.every ≤ d.every
+  pub close : d.start ≤ from → among.every ≤ near_distance

@@ -86,9 +86,13 @@ impl Checkpoints {
         requires reach { t < next_due self.now }
         ensures { IfOk result (λ c. c ≡ record self.now { points = take (last_at self.now t + 1) self.now.points }) }
     {
+        let k = (t / self.every) as usize;
+        if k >= self.points.len() {
+            unreachable!();
+        }
         Ok(Checkpoints {
             every: self.every,
-            points: self.points.first((t / self.every) as usize + 1)?,
+            points: self.points.first(k + 1)?,
         })
     }
 

@@ -52,7 +52,8 @@ impl NearCheckpoints {
 
     /// The slot of the first one.
     pub fn start(&self) -> u64
-        ensures { result ≡ self.now.start }
+        ensures slot { result ≡ self.now.start }
+        ensures every { self.now.every ≡ near_distance }
     {
         self.start
     }
@@ -68,6 +69,7 @@ impl NearCheckpoints {
           points = self.old.points ++ record { engine = engine.now; denials = denials } ∷ [];
         }) }
         ensures early { engine.now.now < next_due self.old → self.new ≡ self.old }
+        ensures every { self.new.every ≡ near_distance }
         ensures err { OnErr result (self.new ≡ self.old) }
     {
         let k = ((engine.now() - self.start) / NEAR_DISTANCE) as usize;
@@ -148,7 +150,6 @@ impl NearCheckpoints {
 }
 
 /// The last checkpoint not after slot `from`: a near one where these reach back so far, and lie closer.
-#[tactic(auto, using(crate::proofs::Points::near_last, crate::proofs::Points::far_last))]
 pub(crate) fn last_of<'c>(
     checkpoints: &'c Checkpoints,
     near: &'c NearCheckpoints,
