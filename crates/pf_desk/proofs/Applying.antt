@@ -1,5 +1,5 @@
 -- What a command makes of a scenario with its run.
-use Rattle.std.proofs.Common.{◌≡◌, ◌≢◌, ℕ, ◌+◌, ◌≤◌, ◌==◌, Bool, true, false, if◌then◌else◌, IfSome, Option, Some, None, List, [], refl, sym, ap, ap₂, ◌∙◌}
+use Rattle.std.proofs.Common.{◌≡◌, ◌≢◌, ℕ, ◌+◌, ◌≤◌, ◌==◌, Bool, true, false, if◌then◌else◌, IfSome, Option, Some, None, List, [], refl, sym, ap, ap₂, ◌∙◌, ◌⊎◌, inl, inr, arith}
 use Rattle.std.specs.List.{slice_get, slice_index_or}
 use Rattle.std.proofs.lemmas.Bool.{cond-true, cond-false, eq-eqb, ne_eqb}
 use Rattle.pf_order.specs.declared.pick.Pick.{Pick}
@@ -9,7 +9,8 @@ use Rattle.pf_scenario.proofs.Scenarios.{changes_keep_scenarios}
 use Rattle.pf_scenario.specs.declared.change.Change.{Change}
 use Rattle.pf_run.specs.RunRows.{denials_in}
 use Rattle.pf_run.specs.declared.denied.Denied.{Denied}
-use Rattle.pf_timeline.specs.Timeline.{KeptRun, StandsFor}
+use Rattle.pf_timeline.specs.Checkpoints.{near_slots}
+use Rattle.pf_timeline.specs.Timeline.{KeptRun, ReachesBack, StandsFor}
 use Rattle.pf_timeline.proofs.Past.{timelines_rest_on_past, stands_now}
 use Rattle.pf_desk.specs.declared.command.Command.{Command}
 use Rattle.pf_desk.specs.declared.command.Command.TheVariants.{Edit, Step}
@@ -38,20 +39,35 @@ pub record Steps (r r' : ScenarioRun) (slot : ℕ) (row : List (Option Pick)) : 
   pub stands : StandsFor r.scenario (r.timeline.now + 1) r'.timeline
   pub slot_is : slot ≡ r.timeline.now
   pub row_is : row ≡ slice_index_or r'.timeline.rows slot []
+  pub near : (r'.timeline.near ≡ r.timeline.near) ⊎ (r'.timeline.near + near_slots ≤ r.timeline.now)
   pub every : r'.timeline.every ≡ r.timeline.every
 
 -- the machine's reply below the horizon
 reply_below : (st : State) → st.now ≢ st.plan.settings.horizon → reply_to st Step ≡ Stepped st.now (row_at st.plan st.now)
 reply_below st below = cond-false (st.now == st.plan.settings.horizon) _ _ (ne_eqb _ _ below)
 
+reaches_longer : (near near' now now' : ℕ) → ReachesBack near now → (near' ≡ near) ⊎ (near' + near_slots ≤ now) → now' ≡ now + 1 → ReachesBack near' now'
+reaches_longer near near' now now' (inl none) (inl same) next = inl (same ∙ none)
+reaches_longer near near' now now' (inr back) (inl same) next = inr (omega (arith, back, same, next))
+reaches_longer near near' now now' any (inr back) next = inr (omega (arith, back, next))
+
+-- Use: near checkpoints reach back as far where as many slots were rewritten.
+pub reaches_rewritten : (near near' now now' : ℕ) → ReachesBack near now → (near' ≤ near) ⊎ (near' + near_slots ≤ now) → now' ≡ now → ReachesBack near' now'
+reaches_rewritten near near' now now' (inl none) (inl less) same = inl (omega (arith, none, less))
+reaches_rewritten near near' now now' (inr back) (inl less) same = inr (omega (arith, back, less, same))
+reaches_rewritten near near' now now' any (inr back) same = inr (omega (arith, back, same))
+
 -- Use: a slot that is taken.
-pub stepped_applied : (r r' : ScenarioRun) (slot : ℕ) (row : List (Option Pick)) → Steps r r' slot row → IsApplied Step r (Stepped slot row) r'
-stepped_applied r r' slot row steps = record {
+pub stepped_applied : (r r' : ScenarioRun) (slot : ℕ) (row : List (Option Pick)) → ReachesBack r.timeline.near r.timeline.now → Steps r r' slot row → IsApplied Step r (Stepped slot row) r'
+stepped_applied r r' slot row back steps = record {
   answer = ap₂ (λ t places. Stepped t places) steps.slot_is
       (steps.row_is ∙ ap₂ (λ rows t. slice_index_or rows t []) steps.stands.of_run.are_rows steps.slot_is)
       ∙ sym (reply_below (state_in r) steps.below);
   state = λ i. record { plan = steps.scenario i; now = steps.stands.slots i };
-  stands = rw steps.scenario (stands_now r.scenario (r.timeline.now + 1) r'.timeline steps.stands);
+  stands = record {
+    run = rw steps.scenario (stands_now r.scenario (r.timeline.now + 1) r'.timeline steps.stands);
+    near = reaches_longer r.timeline.near r'.timeline.near r.timeline.now r'.timeline.now back steps.near steps.stands.slots;
+  };
   every = steps.every;
 }
 
@@ -61,6 +77,7 @@ pub record Changes (r : ScenarioRun) (change : Change) (id : ℕ) (r' : Scenario
   pub id_is : id ≡ number_of_change r.scenario change
   pub scenario : r'.scenario ≡ plan_after r.scenario change
   pub stands : StandsFor r'.scenario r.timeline.now r'.timeline
+  pub near : ReachesBack r'.timeline.near r'.timeline.now
   pub every : r'.timeline.every ≡ r.timeline.every
 
 -- the reply to an edit without a fault, by the first denial where it is strict
@@ -91,7 +108,7 @@ module _ (r : ScenarioRun) (change : Change) (id : ℕ) (r' : ScenarioRun) (chan
     answer = ap (λ n. Edited n) changes.id_is
         ∙ sym (edited_reply (state_in r) change strict r'.timeline.denials changes.faultless denials_then none);
     state = λ i. record { plan = changes.scenario i; now = changes.stands.slots i };
-    stands = stands_now r'.scenario r.timeline.now r'.timeline changes.stands;
+    stands = record { run = stands_now r'.scenario r.timeline.now r'.timeline changes.stands; near = changes.near };
     every = changes.every;
   }
 
@@ -109,12 +126,13 @@ pub ahead_changes : (r : ScenarioRun) (change : Change) (id : ℕ) (r' : Scenari
 ahead_changes r change id r' stands faultless ahead number scenario timeline =
     let there : StandsFor (plan_after r.scenario change) r.timeline.now r.timeline =
     timelines_rest_on_past r.scenario (plan_after r.scenario change) r.timeline.now r.timeline
-    (changes_keep_scenarios r.scenario change stands.of_run.scenario faultless)
-    (past_rest r.scenario change r.timeline.now stands.of_run.scenario faultless ahead) stands in
+    (changes_keep_scenarios r.scenario change stands.run.of_run.scenario faultless)
+    (past_rest r.scenario change r.timeline.now stands.run.of_run.scenario faultless ahead) stands.run in
     record {
       faultless = faultless;
       id_is = number;
       scenario = scenario;
       stands = rw (scenario, timeline) there;
+      near = rw timeline stands.near;
       every = ap (λ (t : KeptRun). t.every) timeline;
     }

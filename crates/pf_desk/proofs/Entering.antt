@@ -1,5 +1,5 @@
 -- What a desk keeps, from its opening on and through one entry more.
-use Rattle.std.proofs.Common.{◌≡◌, ℕ, List, [], ◌∷◌, ◌++◌, refl, sym, ap, ◌∙◌, subst, le_refl}
+use Rattle.std.proofs.Common.{◌≡◌, ℕ, List, [], ◌∷◌, ◌++◌, inl, refl, sym, ap, ◌∙◌, subst, le_refl}
 use Rattle.std.proofs.lemmas.List.{nil_from_length}
 use Rattle.pf_scenario.specs.System.{System}
 use Rattle.pf_scenario.specs.Scenario.{Plan, opening_plan}
@@ -17,13 +17,15 @@ use Rattle.pf_desk.specs.History.{IsLegal, IsLegalFrom, state_behind, last_state
 use Rattle.pf_desk.specs.Desk.{IsDesk, IsAsBefore, AnswersCaller, LeavesRest}
 use Rattle.pf_desk.specs.Recorded.{Recorded, entered_in, HasNoLessRoom}
 use Rattle.pf_desk.specs.Kept.{shown_by, IsKeptDesk, ArePartsOfDesk}
-use Rattle.pf_desk.specs.Applied.{IsApplied, state_in}
+use Rattle.pf_desk.specs.Applied.{Stands, IsApplied, state_in}
 use Rattle.pf_desk.proofs.Histories.{legal_append, behind_append, settings_after}
 
 -- at the opening
-pub opening_kept : (settings : System) (kept : KeptRun) → StandsFor (opening_plan settings) 0 kept → IsKeptDesk (opening_plan settings) kept []
-opening_kept settings kept stands = record {
+pub opening_kept : (settings : System) (kept : KeptRun) → StandsFor (opening_plan settings) 0 kept → kept.near ≡ 0 →
+    IsKeptDesk (opening_plan settings) kept []
+opening_kept settings kept stands near = record {
   stands = stands_now (opening_plan settings) 0 kept stands;
+  near = inl near;
   legal = tt;
   last = ap (λ n. record { plan = opening_plan settings; now = n }) (sym stands.slots);
 }
@@ -42,6 +44,10 @@ opening_shown settings kept every spare same stands =
       every = same i;
       spare = spare;
     }
+
+-- Use: what a desk keeps stands.
+pub run_stands : (r : ScenarioRun) (es : List Entry) → IsKeptDesk r.scenario r.timeline es → Stands r
+run_stands r es is = record { run = is.stands; near = is.near }
 
 -- what is kept makes a desk
 pub is_desk : (plan : Plan) (kept : KeptRun) (es : List Entry) (spare : ℕ) → IsKeptDesk plan kept es → IsDesk (shown_by plan kept es spare)
@@ -71,7 +77,8 @@ kept_entered r r' es e is applied =
     let settings : r'.scenario.settings ≡ r.scenario.settings = settings_applied r r' e.command e.reply applied in
     let opened = opening_state r.scenario.settings in
     record {
-      stands = applied.stands;
+      stands = applied.stands.run;
+      near = applied.stands.near;
       legal = subst (λ system. IsLegal system (es ++ e ∷ [])) (sym settings)
           (legal_append opened es (e ∷ []) is.legal (applied.answer ∙ ap (λ st. reply_to st e.command) (sym is.last), tt));
       last = ap (λ system. last_state system (es ++ e ∷ [])) settings

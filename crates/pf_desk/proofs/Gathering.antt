@@ -10,7 +10,7 @@ use Rattle.pf_scenario.specs.Edit.{IsScenario, edit_fault}
 use Rattle.pf_scenario.specs.declared.fault.EditFault.{EditFault}
 use Rattle.pf_scenario.proofs.Scenarios.{changes_keep_scenarios}
 use Rattle.pf_scenario.specs.declared.change.Change.{Change}
-use Rattle.pf_timeline.specs.Timeline.{KeptRun, StandsFor, AgreesBelow, past_below}
+use Rattle.pf_timeline.specs.Timeline.{KeptRun, ReachesBack, StandsFor, AgreesBelow, past_below}
 use Rattle.pf_timeline.proofs.Past.{timelines_rest_on_past, stands_now, past_narrowed, agrees_below}
 use Rattle.pf_desk.specs.declared.batch.Batch.{Batch}
 use Rattle.pf_desk.specs.declared.command.Command.{Command}
@@ -107,6 +107,7 @@ pub record Makes (plan : Plan) (kept kept' : KeptRun) (es : List Entry) (spare :
   pub is : IsKeptDesk plan kept es
   pub batch : IsBatch (shown_by plan kept es spare) b
   pub stands : StandsFor b.scenario kept.now kept'
+  pub near : ReachesBack kept'.near kept'.now
   pub every : kept'.every ≡ kept.every
 
 module _ (plan : Plan) (kept kept' : KeptRun) (es : List Entry) (spare : ℕ) (b : Batch) (makes : Makes plan kept kept' es spare b) where
@@ -126,6 +127,7 @@ module _ (plan : Plan) (kept kept' : KeptRun) (es : List Entry) (spare : ℕ) (b
       (subst (λ st. IsLegalFrom st b.entries.items) (sym makes.is.last) makes.batch.answers) in
       record {
         stands = stands_now b.scenario kept.now kept' makes.stands;
+        near = makes.near;
         legal = subst (λ system. IsLegal system all) batch_settings legal;
         last = ap (λ system. last_state system all) (sym batch_settings)
             ∙ behind_append opened es b.entries.items

@@ -1,6 +1,6 @@
 -- A scenario with its run so far, and what a command makes of it.
 use Rattle.std.specs.Prelude.{◌≡◌, ℕ, []}
-use Rattle.pf_timeline.specs.Timeline.{StandsFor}
+use Rattle.pf_timeline.specs.Timeline.{ReachesBack, StandsFor}
 use Rattle.pf_desk.specs.declared.command.Command.{Command}
 use Rattle.pf_desk.specs.declared.reply.Reply.{Reply}
 use Rattle.pf_desk.specs.declared.scenario_run.ScenarioRun.{ScenarioRun}
@@ -8,9 +8,10 @@ use Rattle.pf_desk.specs.Machine.{State, reply_to, state_after}
 use Rattle.pf_desk.specs.Desk.{most_slots}
 use Rattle.pf_desk.specs.Kept.{state_of, shown_by}
 
--- the kept run stands for the scenario
-abbrev pub Stands : ScenarioRun → Type 0
-Stands r = StandsFor r.scenario r.timeline.now r.timeline
+-- the kept run stands for the scenario, with near checkpoints of its last slots
+pub record Stands (r : ScenarioRun) : Type 0 where
+  pub run : StandsFor r.scenario r.timeline.now r.timeline
+  pub near : ReachesBack r.timeline.near r.timeline.now
 
 -- where the machine is
 abbrev pub state_in : ScenarioRun → State

@@ -1,7 +1,8 @@
 -- What a desk shows, and what always holds of it.
-use Rattle.std.specs.Prelude.{⊤, ◌≡◌, ◌⊎◌, ◌≤◌, ◌+◌, ◌-◌, ℕ, nat_lt, min, if◌then◌else◌, Option, None, Some, IsSome, IfSome, List, [], ◌∷◌, ◌++◌, length, map, All}
+use Rattle.std.specs.Prelude.{⊤, ◌≡◌, ◌⊎◌, ◌≤◌, ◌+◌, ◌-◌, ℕ, nat_le, nat_lt, min, if◌then◌else◌, Option, None, Some, IsSome, IfSome, List, [], ◌∷◌, ◌++◌, length, map, All}
 use Rattle.pf_order.specs.declared.pick.Pick.{Pick}
 use Rattle.pf_scenario.specs.System.{System}
+use Rattle.pf_timeline.specs.Checkpoints.{near_distance, near_slots}
 use Rattle.pf_scenario.specs.Scenario.{slot_touched}
 use Rattle.pf_scenario.specs.Edit.{edit_fault}
 use Rattle.pf_run.specs.declared.denied.Denied.{Denied}
@@ -67,11 +68,15 @@ IsUncounted st Step = st.now ≡ st.plan.settings.horizon
 IsUncounted st (Edit change strict) =
     IsSome (edit_fault st.plan change) ⊎ IfSome (slot_touched st.plan change) (λ t. st.now ≤ t)
 
+-- how far checkpoints lie apart this many slots before now: near ones at most 32 slots, within 256
+abbrev pub distance_back : ℕ → ℕ → ℕ
+distance_back back apart = if nat_le back near_slots then min apart near_distance else apart
+
 -- how many slots an edit may replay of the now that were stepped, where this is the least slot that it touches and
 -- checkpoints lie so far apart: from the last checkpoint not after it on; none where it is not below now
 abbrev pub most_replayed : ℕ → ℕ → Option ℕ → ℕ
 most_replayed now apart None = 0
-most_replayed now apart (Some t) = if nat_lt t now then min now (now - t + apart) else 0
+most_replayed now apart (Some t) = if nat_lt t now then min now (now - t + distance_back (now - t) apart) else 0
 
 -- how many slots a command may count: a step one, an edit those that it may replay
 abbrev pub most_slots : Shown → Command → ℕ

@@ -1,7 +1,7 @@
 -- What a desk keeps: its scenario, the kept run, and its history; and what a command made ready keeps.
 use Rattle.std.specs.Prelude.{◌≡◌, ℕ, List, [], ◌∷◌, ◌++◌}
 use Rattle.pf_scenario.specs.Scenario.{Plan}
-use Rattle.pf_timeline.specs.Timeline.{KeptRun, StandsFor}
+use Rattle.pf_timeline.specs.Timeline.{KeptRun, ReachesBack, StandsFor}
 use Rattle.pf_desk.specs.declared.entry.Entry.{Entry}
 use Rattle.pf_desk.specs.Machine.{State}
 use Rattle.pf_desk.specs.History.{IsLegal, last_state}
@@ -23,9 +23,10 @@ shown_by plan kept history spare = record {
   spare = spare;
 }
 
--- the parts of a desk: the kept run stands for the scenario, and the history is legal and ends there
+-- the parts of a desk: the kept run stands for the scenario, with near checkpoints of its last slots, and the history is legal and ends there
 pub record IsKeptDesk (plan : Plan) (kept : KeptRun) (history : List Entry) : Type 0 where
   pub stands : StandsFor plan kept.now kept
+  pub near : ReachesBack kept.near kept.now
   pub legal : IsLegal plan.settings history
   pub last : last_state plan.settings history ≡ state_of plan kept
 

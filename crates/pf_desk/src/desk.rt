@@ -78,7 +78,7 @@ impl Desk {
 
     /// Answers the caller's command as the machine does, and enters it. A step counts one slot, with want of memory and
     /// at the horizon none. An edit whose least touched slot s is below now counts at most now - s slots and the distance
-    /// of two checkpoints, and at most now, refused or not, with want of memory too; any other edit counts none. A step of a
+    /// of two checkpoints, of which 32 slots at most lie between two of the last 256 slots, and at most now, refused or not, with want of memory too; any other edit counts none. A step of a
     /// slot with c processors in use, n tasks inside before, and g events makes at most (4c + 2 + 4g) times as many
     /// comparisons as n + g has binary digits.
     ///

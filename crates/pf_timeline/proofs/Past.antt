@@ -92,10 +92,10 @@ timelines_rest_on_past s q n t of_q same stands = record {
 }
 
 -- Use: what is kept is of each scenario that the timeline stands for.
-pub keeps_standing : (s q : Plan) (n every : ℕ) (rows : List (List (Option Pick))) (denials : List Denied) (e : Kept) (t : KeptRun) →
-    KeepsRun q e.now rows denials e → kept_run q every rows denials e ≡ t → StandsFor s n t → KeepsRun s n rows denials e
-keeps_standing s q n every rows denials e t keeps shows stands =
-    let here : StandsFor s n (kept_run q every rows denials e) = subst (StandsFor s n) (sym shows) stands in
+pub keeps_standing : (s q : Plan) (n every near : ℕ) (rows : List (List (Option Pick))) (denials : List Denied) (e : Kept) (t : KeptRun) →
+    KeepsRun q e.now rows denials e → kept_run q every near rows denials e ≡ t → StandsFor s n t → KeepsRun s n rows denials e
+keeps_standing s q n every near rows denials e t keeps shows stands =
+    let here : StandsFor s n (kept_run q every near rows denials e) = subst (StandsFor s n) (sym shows) stands in
     let same : past_below n q ≡ past_below n s = ap (λ now. past_below now q) (sym here.slots) ∙ here.past in
     keeps_alike q s n (ap (λ past. past.settings) same) (ap (λ past. past.events) same) rows denials e stands.of_run.scenario
     (subst (λ now. KeepsRun q now rows denials e) here.slots keeps)
@@ -105,9 +105,9 @@ pub stands_now : (s : Plan) (n : ℕ) (t : KeptRun) → StandsFor s n t → Stan
 stands_now s n t stands = subst (λ k. StandsFor s k t) (sym stands.slots) stands
 
 -- Use: what is kept, where the scenario it is of has the same past, stands for this one.
-pub stands_kept : (s q : Plan) (n every : ℕ) (rows : List (List (Option Pick))) (denials : List Denied) (e : Kept) → KeepsRun s n rows denials e →
-    past_below n q ≡ past_below n s → StandsFor s n (kept_run q every rows denials e)
-stands_kept s q n every rows denials e keeps same =
+pub stands_kept : (s q : Plan) (n every near : ℕ) (rows : List (List (Option Pick))) (denials : List Denied) (e : Kept) → KeepsRun s n rows denials e →
+    past_below n q ≡ past_below n s → StandsFor s n (kept_run q every near rows denials e)
+stands_kept s q n every near rows denials e keeps same =
     let now = kept_now s n rows denials e keeps in
     record { slots = now; past = ap (λ now. past_below now q) now ∙ same; of_run = keeps.of_run }
 

@@ -1,5 +1,6 @@
-ghost use Rattle.std.specs.Prelude.{◌≡◌, ◌<◌, ◌≤◌, ◌+◌, ◌*◌, ◌/◌, [], ◌∷◌, ◌++◌, length, take, IfOk, OnOk, OnErr};
+ghost use Rattle.std.specs.Prelude.{◌≡◌, ◌<◌, ◌≤◌, ◌+◌, ◌∷◌, [], ◌++◌, length, take, IfOk, OnOk, OnErr};
 ghost use Rattle.std.specs.List.{slice_index_or};
+ghost use Rattle.pf_timeline.specs.Keeping.{IsLastAt, last_at, next_due};
 
 use crate::checkpoint::Checkpoint;
 use pf_engine::engine::Engine;
@@ -20,13 +21,13 @@ impl Model for Checkpoints {
 
     ghost Value = { Points };
 
-    ghost view = { λ c. record { every = c.every; points = c.points } };
+    ghost view = { λ c. record { start = 0; every = c.every; points = c.points } };
 }
 
 impl Checkpoints {
     /// None yet.
     pub fn new(alloc: Global, every: u64) -> Self
-        ensures { result ≡ record { every = every; points = [] } }
+        ensures { result ≡ record { start = 0; every = every; points = [] } }
     {
         Checkpoints {
             every,
@@ -48,10 +49,10 @@ impl Checkpoints {
     /// Where memory is refused: the checkpoints are as before.
     pub fn keep(&mut self, engine: &Engine, denials: usize) -> Result<(), AllocError>
         requires { 1 ≤ self.old.every }
-        ensures due { length self.old.points ≤ engine.now.now / self.old.every → OnOk result (self.new ≡ record self.old {
+        ensures due { next_due self.old ≤ engine.now.now → OnOk result (self.new ≡ record self.old {
           points = self.old.points ++ record { engine = engine.now; denials = denials } ∷ [];
         }) }
-        ensures early { engine.now.now / self.old.every < length self.old.points → self.new ≡ self.old }
+        ensures early { engine.now.now < next_due self.old → self.new ≡ self.old }
         ensures err { OnErr result (self.new ≡ self.old) }
     {
         if engine.now() / self.every < self.points.len() as u64 {
@@ -62,29 +63,36 @@ impl Checkpoints {
         Ok(())
     }
 
-    /// The checkpoint of number k.
-    pub fn get(&self, k: usize) -> &Checkpoint
-        requires { k < length self.now.points }
-        ensures { result.now ≡ slice_index_or self.now.points k result.now }
+    /// The last one not after slot `from`, which is below that of the next one.
+    pub fn last(&self, from: u64) -> &Checkpoint
+        requires apart { 1 ≤ self.now.every }
+        requires reach { from < next_due self.now }
+        ensures { IsLastAt self.now from (last_at self.now from) result.now }
     {
-        match self.points.get(k) {
+        match self.points.get((from / self.every) as usize) {
             Some(point) => point,
             None => unreachable!(),
         }
     }
 
-    /// The first of these, shared.
+    /// Those up to slot `t`, which is below that of the next one, shared.
     ///
     /// # Errors
     ///
     /// Where memory is refused.
-    pub fn first(&self, count: usize) -> Result<Self, AllocError>
-        requires { count ≤ length self.now.points }
-        ensures { IfOk result (λ c. c ≡ record self.now { points = take count self.now.points }) }
+    #[tactic(auto, using(crate::proofs::Points::last_below))]
+    pub fn up_to(&self, t: u64) -> Result<Self, AllocError>
+        requires apart { 1 ≤ self.now.every }
+        requires reach { t < next_due self.now }
+        ensures { IfOk result (λ c. c ≡ record self.now { points = take (last_at self.now t + 1) self.now.points }) }
     {
+        let k = (t / self.every) as usize;
+        if k >= self.points.len() {
+            unreachable!();
+        }
         Ok(Checkpoints {
             every: self.every,
-            points: self.points.first(count)?,
+            points: self.points.first(k + 1)?,
         })
     }
 
@@ -96,6 +104,9 @@ impl Checkpoints {
     pub fn copy(&self) -> Result<Self, AllocError>
         ensures { IfOk result (λ c. c ≡ self.now) }
     {
-        self.first(self.points.len())
+        Ok(Checkpoints {
+            every: self.every,
+            points: self.points.copy()?,
+        })
     }
 }

@@ -5,4 +5,5 @@ mod checkpoint;
 mod checkpoints;
 pub mod fault;
 pub mod laws;
+mod near_checkpoints;
 pub mod timeline;

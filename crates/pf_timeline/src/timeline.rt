@@ -3,7 +3,7 @@ ghost use Rattle.pf_order.specs.Counts.{one_more};
 ghost use Rattle.pf_order.specs.Counted.{CountsAtMost};
 ghost use Rattle.pf_scenario.specs.Scenario.{Plan};
 ghost use Rattle.pf_scenario.specs.Edit.{IsScenario};
-ghost use Rattle.pf_timeline.specs.Checkpoints.{largest_distance};
+ghost use Rattle.pf_timeline.specs.Checkpoints.{largest_distance, near_distance, near_slots};
 ghost use Rattle.pf_timeline.specs.Comparisons.{most_comparisons_at};
 ghost use Rattle.pf_timeline.specs.Timeline.{StandsFor, AgreesBelow};
 ghost use Rattle.pf_timeline.specs.declared.fault.StepFault.TheVariants.{AtHorizon};
@@ -11,6 +11,7 @@ ghost use Rattle.pf_timeline.specs.declared.fault.NewFault.TheVariants.{BadSetti
 
 use crate::checkpoints::Checkpoints;
 use crate::fault::{NewFault, StepFault};
+use crate::near_checkpoints::{NearCheckpoints, last_of};
 use pf_engine::engine::Engine;
 use pf_list::shared_vec::SharedVec;
 use pf_order::meter::Meter;
@@ -32,6 +33,7 @@ pub struct Timeline {
     engine: Engine,
 
     checkpoints: Checkpoints,
+    near: NearCheckpoints,
 
     /// The scenario whose run this is, which clauses alone see.
     scenario: Snapshot<Scenario>,
@@ -45,6 +47,7 @@ impl Drop for Timeline {
             denials: _,
             engine: _,
             checkpoints: _,
+            near: _,
             scenario: _,
         } = self;
     }
@@ -56,9 +59,9 @@ impl Model for Timeline {
 
     ghost Value = { KeptRun };
 
-    ghost view = { λ t. kept_run t.scenario.value t.checkpoints.every t.rows t.denials.items t.engine };
+    ghost view = { λ t. kept_run t.scenario.value t.checkpoints.every t.near.start t.rows t.denials.items t.engine };
 
-    ghost invariant = { λ t. KeepsTimeline t.scenario.value t.engine.now t.rows t.denials.items t.engine t.checkpoints };
+    ghost invariant = { λ t. KeepsTimeline t.scenario.value t.engine.now t.rows t.denials.items t.engine t.checkpoints t.near };
 }
 
 impl Timeline {
@@ -71,6 +74,7 @@ impl Timeline {
         ensures bad_settings { (result ≡ Err BadSettings) ↔ ((every ≡ 0) ⊎ (largest_distance < every)) }
         ensures stands { IfOk result (λ t. (s : Plan) → s.settings ≡ settings → IsScenario s → StandsFor s 0 t) }
         ensures every { IfOk result (λ t. t.every ≡ every) }
+        ensures near { IfOk result (λ t. t.near ≡ 0) }
     {
         if every == 0 || every > LARGEST_DISTANCE {
             return Err(NewFault::BadSettings);
@@ -84,6 +88,7 @@ impl Timeline {
         requires { 1 ≤ every }
         ensures stands { IfOk result (λ t. (s : Plan) → s.settings ≡ settings → IsScenario s → StandsFor s 0 t) }
         ensures every { IfOk result (λ t. t.every ≡ every) }
+        ensures near { IfOk result (λ t. t.near ≡ 0) }
     {
         let engine = Engine::new(alloc, settings)?;
         let opening = Scenario::new(alloc, settings);
@@ -92,6 +97,7 @@ impl Timeline {
             denials: SharedVec::new(alloc),
             engine,
             checkpoints: Checkpoints::new(alloc, every),
+            near: NearCheckpoints::new(alloc, 0),
             scenario: Snapshot::of(&opening),
         })
     }
@@ -107,6 +113,7 @@ impl Timeline {
         requires { StandsFor scenario.now self.old.now self.old }
         ensures ok { OnOk result (StandsFor scenario.now (self.old.now + 1) self.new) }
         ensures every { self.new.every ≡ self.old.every }
+        ensures near { OnOk result ((self.new.near ≡ self.old.near) ⊎ (self.new.near + near_slots ≤ self.old.now)) }
         ensures horizon { (result ≡ Err AtHorizon) ↔ (self.old.now ≡ scenario.now.settings.horizon) }
         ensures err { OnErr result (self.new ≡ self.old) }
         ensures counted { OnOk result (meter.new.slots ≡ one_more meter.old.slots) }
@@ -132,6 +139,7 @@ impl Timeline {
         requires below { self.old.now < scenario.now.settings.horizon }
         ensures ok { OnOk result (StandsFor scenario.now (self.old.now + 1) self.new) }
         ensures every { self.new.every ≡ self.old.every }
+        ensures near { OnOk result ((self.new.near ≡ self.old.near) ⊎ (self.new.near + near_slots ≤ self.old.now)) }
         ensures err { OnErr result (self.new ≡ self.old) }
         ensures counted { OnOk result (meter.new.slots ≡ one_more meter.old.slots) }
         ensures uncounted { OnErr result (meter.new ≡ meter.old) }
@@ -142,6 +150,7 @@ impl Timeline {
         let events = scenario.slot_events(self.engine.now())?;
         self.denials.reserve(events.len())?;
         self.checkpoints.keep(&self.engine, self.denials.len())?;
+        self.near.keep(&self.engine, self.denials.len())?;
         self.rows.push_idle(scenario.settings().processors())?;
         let taken = match self.engine.slot(meter, &events) {
             Ok(taken) => taken,
@@ -153,6 +162,7 @@ impl Timeline {
         self.rows.seat_last(taken.count(), taken.picks());
         self.denials.extend_reserved(taken.denials());
         self.denials.share();
+        self.near.trim();
         self.scenario = Snapshot::of(scenario);
         Ok(())
     }
@@ -166,6 +176,7 @@ impl Timeline {
         requires { StandsFor scenario.now self.now.now self.now }
         ensures ok { IfOk result (λ t. StandsFor scenario.now (self.now.now + 1) t) }
         ensures every { IfOk result (λ t. t.every ≡ self.now.every) }
+        ensures near { IfOk result (λ t. (t.near ≡ self.now.near) ⊎ (t.near + near_slots ≤ self.now.now)) }
         ensures horizon { (result ≡ Err AtHorizon) ↔ (self.now.now ≡ scenario.now.settings.horizon) }
         ensures counted { OnOk result (meter.new.slots ≡ one_more meter.old.slots) }
         ensures uncounted { OnErr result (meter.new ≡ meter.old) }
@@ -183,8 +194,8 @@ impl Timeline {
 
     /// A candidate of as many slots for a scenario with the same settings that differs from that of this timeline on the
     /// slots from `from` on only, where `from` is below now. It is made apart from this one, from the last checkpoint not
-    /// after `from` on. Counts at most now - `from` slots and the distance of two checkpoints, and at most now, with an
-    /// error too.
+    /// after `from` on. Counts at most now - `from` slots and the distance of two checkpoints, of two near ones where these
+    /// reach back to `from`, and at most now, with an error too.
     ///
     /// # Errors
     ///
@@ -199,7 +210,9 @@ impl Timeline {
         requires agrees { AgreesBelow scenario.now from self.now }
         ensures stands { IfOk result (λ t. StandsFor scenario.now self.now.now t) }
         ensures every { IfOk result (λ t. t.every ≡ self.now.every) }
+        ensures near { IfOk result (λ t. (t.near ≤ self.now.near) ⊎ (t.near + near_slots ≤ self.now.now)) }
         ensures at_most { CountsAtMost (self.now.now - from + self.now.every) meter.old meter.new }
+        ensures close { self.now.near ≤ from → CountsAtMost (self.now.now - from + near_distance) meter.old meter.new }
         ensures within { CountsAtMost self.now.now meter.old meter.new }
         ensures compared { meter.old.compared ≤ meter.new.compared }
     {
@@ -217,20 +230,23 @@ impl Timeline {
         requires agrees { AgreesBelow scenario.now from self.now }
         ensures stands { IfOk result (λ t. StandsFor scenario.now t.now t) }
         ensures not_behind { IfOk result (λ t. t.now ≤ from) }
-        ensures near { IfOk result (λ t. from < t.now + self.now.every) }
+        ensures distance { IfOk result (λ t. from < t.now + self.now.every) }
+        ensures close { self.now.near ≤ from → IfOk result (λ t. from < t.now + near_distance) }
         ensures every { IfOk result (λ t. t.every ≡ self.now.every) }
+        ensures near { IfOk result (λ t. t.near ≤ self.now.near) }
         ensures slots { meter.new.slots ≡ meter.old.slots }
         ensures compared { meter.old.compared ≤ meter.new.compared }
     {
         // Asked, so that it is known to be a scenario.
         let _ = scenario.settings();
-        let last = (from / self.checkpoints.every()) as usize;
-        let start = self.checkpoints.get(last);
+        let start = last_of(&self.checkpoints, &self.near, from);
+        let slot = start.engine.now();
         Ok(Timeline {
-            rows: first_rows(&self.rows, start.engine.now())?,
+            rows: first_rows(&self.rows, slot)?,
             denials: self.denials.first(start.denials)?,
             engine: start.engine.engine(meter)?,
-            checkpoints: self.checkpoints.first(last + 1)?,
+            checkpoints: self.checkpoints.up_to(slot)?,
+            near: self.near.up_to(slot)?,
             scenario: Snapshot::of(scenario),
         })
     }
@@ -250,6 +266,7 @@ impl Timeline {
             denials: self.denials.copy()?,
             engine: self.engine.copy()?,
             checkpoints: self.checkpoints.copy()?,
+            near: self.near.copy()?,
             scenario: Snapshot::of(scenario),
         })
     }

@@ -1,7 +1,7 @@
 use Rattle.std.proofs.Common.{le_refl, refl}
 use Rattle.std.proofs.lemmas.Result.{IfOk-from_err, MatchResult-from_err}
 use Rattle.pf_desk.specs.Desk.{entry_of}
-use Rattle.pf_desk.proofs.Entering.{Commits, as_before, is_desk, parts_roomier, applied_commits, commit_answers, commit_rest, commit_parts, entries_then}
+use Rattle.pf_desk.proofs.Entering.{Commits, as_before, is_desk, parts_roomier, applied_commits, commit_answers, commit_rest, commit_parts, entries_then, run_stands}
 use Rattle.pf_desk.proofs.Metered.{counts_alike}
 use Rattle.pf_desk.proofs.Slots.{can_follow}
 use Rattle.pf_desk.proofs.Uncounted.{at_most_more, counts_none}
@@ -44,7 +44,7 @@ pub returns-in_err-reserve-clause-comparisons : goal.returns-in_err-reserve-clau
 returns-in_err-reserve-clause-comparisons c = λ _. at_most_more _ _
 
 pub apply-requires : goal.apply-requires
-apply-requires c = c.self.invariant.keeps.stands
+apply-requires c = run_stands c.self.inside.run _ c.self.invariant.keeps
 
 pub invariant_of-self-in_err-reply : goal.invariant_of-self-in_err-reply
 invariant_of-self-in_err-reply c =

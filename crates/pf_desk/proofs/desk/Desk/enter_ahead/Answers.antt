@@ -32,6 +32,7 @@ invariant_of-self-2 c =
       is = c.self.invariant.keeps;
       batch = batch;
       stands = batch_ahead _ _ _ _ _ c.self.invariant.keeps batch (rw (← c.self.view_is) at c.requires.ahead);
+      near = c.self.invariant.keeps.near;
       every = refl;
     })
     c.self.invariant.processors (rw c.deref.ensures.value at c.in_ok-enter_all.ensures.ok))

@@ -4,6 +4,7 @@ use Rattle.pf_desk.specs.Kept.{shown_by}
 use Rattle.pf_desk.specs.Gathered.{IsBatch}
 use Rattle.pf_desk.proofs.Entering.{is_desk, parts_roomier, as_before}
 use Rattle.pf_desk.proofs.Metered.{counts_replayed}
+use Rattle.pf_desk.proofs.Applying.{reaches_rewritten}
 use Rattle.pf_desk.proofs.Gathering.{batch_parts, batch_agrees, batch_took_none}
 use Rattle.pf_desk.proofs.desk.Desk.enter_past.Goals as goal
 
@@ -25,7 +26,7 @@ returns-in_err-timeline-clause-desk c = rw (← c.self.view_is) (is_desk _ _ _ _
 pub returns-in_err-timeline-clause-at_most : goal.returns-in_err-timeline-clause-at_most
 returns-in_err-timeline-clause-at_most c =
     rw (← c.self.view_is)
-    (counts_replayed _ _ _ _ _ (rw (← c.self.view_is) at c.requires.below) c.rewritten.ensures.at_most c.rewritten.ensures.within)
+    (counts_replayed _ _ _ _ _ _ (rw (← c.self.view_is) at c.requires.below) c.rewritten.ensures.at_most c.rewritten.ensures.close c.self.invariant.keeps.near c.rewritten.ensures.within)
 
 pub returns-in_err-timeline-clause-compared : goal.returns-in_err-timeline-clause-compared
 returns-in_err-timeline-clause-compared c = c.rewritten.ensures.compared
@@ -49,7 +50,7 @@ returns-in_err-enter_all-clause-desk c = is_desk _ _ _ _ (invariant_of-self c).k
 pub returns-in_err-enter_all-clause-at_most : goal.returns-in_err-enter_all-clause-at_most
 returns-in_err-enter_all-clause-at_most c =
     rw (← c.self.view_is)
-    (counts_replayed _ _ _ _ _ (rw (← c.self.view_is) at c.requires.below) c.rewritten.ensures.at_most c.rewritten.ensures.within)
+    (counts_replayed _ _ _ _ _ _ (rw (← c.self.view_is) at c.requires.below) c.rewritten.ensures.at_most c.rewritten.ensures.close c.self.invariant.keeps.near c.rewritten.ensures.within)
 
 pub returns-in_err-enter_all-clause-compared : goal.returns-in_err-enter_all-clause-compared
 returns-in_err-enter_all-clause-compared c = c.rewritten.ensures.compared
@@ -64,6 +65,7 @@ invariant_of-self-2 c =
       is = c.self.invariant.keeps;
       batch = batch;
       stands = c.in_ok-timeline.ensures.stands;
+      near = reaches_rewritten _ _ _ _ c.self.invariant.keeps.near c.in_ok-timeline.ensures.near c.in_ok-timeline.ensures.stands.slots;
       every = c.in_ok-timeline.ensures.every;
     })
     c.self.invariant.processors (rw c.deref.ensures.value at c.in_ok-enter_all.ensures.ok))
@@ -77,7 +79,7 @@ returns-clause-desk c = is_desk _ _ _ _ (invariant_of-self-2 c).keeps
 pub returns-clause-at_most : goal.returns-clause-at_most
 returns-clause-at_most c =
     rw (← c.self.view_is)
-    (counts_replayed _ _ _ _ _ (rw (← c.self.view_is) at c.requires.below) c.rewritten.ensures.at_most c.rewritten.ensures.within)
+    (counts_replayed _ _ _ _ _ _ (rw (← c.self.view_is) at c.requires.below) c.rewritten.ensures.at_most c.rewritten.ensures.close c.self.invariant.keeps.near c.rewritten.ensures.within)
 
 pub returns-clause-compared : goal.returns-clause-compared
 returns-clause-compared c = c.rewritten.ensures.compared

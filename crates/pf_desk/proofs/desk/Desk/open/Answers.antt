@@ -7,7 +7,7 @@ pub invariant_of-result : goal.invariant_of-result
 invariant_of-result c =
     rw (c.new-scenario.ensures.value, c.new-2.ensures) (record {
       keeps = opening_kept c.args.settings c.in-Ok.timeline
-          (c.in-Ok.ensures.stands (opening_plan c.args.settings) refl (rw c.new-scenario.ensures.value at c.new-scenario.ensures.scenario));
+          (c.in-Ok.ensures.stands (opening_plan c.args.settings) refl (rw c.new-scenario.ensures.value at c.new-scenario.ensures.scenario)) c.in-Ok.ensures.near;
       processors = c.processors.ensures.value;
     })
 

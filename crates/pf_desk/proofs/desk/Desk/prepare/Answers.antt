@@ -4,7 +4,7 @@ use Rattle.pf_desk.specs.Machine.{IsStepped}
 use Rattle.pf_desk.specs.Desk.{Ready, MakesReady, entry_of, seen_of}
 use Rattle.pf_desk.specs.Kept.{shown_by, IsKeptDesk, ready_by}
 use Rattle.pf_desk.specs.Applied.{IsApplied}
-use Rattle.pf_desk.proofs.Entering.{as_before, is_desk, parts_roomier, kept_entered}
+use Rattle.pf_desk.proofs.Entering.{as_before, is_desk, parts_roomier, kept_entered, run_stands}
 use Rattle.pf_desk.proofs.Metered.{counts_alike}
 use Rattle.pf_desk.proofs.Readying.{makes_ready, ready_before}
 use Rattle.pf_desk.proofs.Uncounted.{at_most_more, counts_none}
@@ -108,10 +108,10 @@ pub returns-in_err-reply-clause-comparisons : goal.returns-in_err-reply-clause-c
 returns-in_err-reply-clause-comparisons c = rw (← c.self.view_is) (rw c.in_ok-run.ensures at c.apply.ensures.comparisons)
 
 pub copy-requires : goal.copy-requires
-copy-requires c = c.self.invariant.keeps.stands
+copy-requires c = run_stands c.self.inside.run _ c.self.invariant.keeps
 
 pub apply-requires : goal.apply-requires
-apply-requires c = rw c.in_ok-run.ensures c.self.invariant.keeps.stands
+apply-requires c = rw c.in_ok-run.ensures (run_stands c.self.inside.run _ c.self.invariant.keeps)
 
 applied : (c : In_ok-reply) → IsApplied c.args.command c.self.inside.run c.in_ok-reply.reply c.apply.new.self
 applied c = rw c.in_ok-run.ensures at c.in_ok-reply.ensures.ok

@@ -1,11 +1,12 @@
 use Rattle.std.proofs.Common.{subst, sym}
 use Rattle.std.proofs.lemmas.Result.{IfOk-weaker}
 use Rattle.pf_desk.specs.Desk.{StandsForHistory}
+use Rattle.pf_desk.proofs.Entering.{run_stands}
 use Rattle.pf_desk.proofs.Readying.{snapshot_stands}
 use Rattle.pf_desk.proofs.desk.Desk.snapshot.Goals as goal
 
 pub snapshot-requires : goal.snapshot-requires
-snapshot-requires c = c.self.invariant.keeps.stands
+snapshot-requires c = run_stands c.self.inside.run _ c.self.invariant.keeps
 
 pub returns-clause-shown : goal.returns-clause-shown
 returns-clause-shown c =

@@ -2,7 +2,7 @@ use Rattle.std.proofs.Common.{sym, ap, ◌∙◌}
 use Rattle.pf_scenario.specs.Scenario.{number_of_change, plan_after}
 use Rattle.pf_desk.proofs.Changes.{agrees_changed}
 use Rattle.pf_desk.proofs.Metered.{counts_replayed}
-use Rattle.pf_desk.proofs.Applying.{Changes, edited_applied, denied_applied}
+use Rattle.pf_desk.proofs.Applying.{Changes, edited_applied, denied_applied, reaches_rewritten}
 use Rattle.pf_desk.proofs.Uncounted.{counts_none}
 use Rattle.pf_desk.proofs.scenario_run.ScenarioRun.edit_past.Goals as goal
 use Rattle.pf_desk.proofs.scenario_run.ScenarioRun.edit_past.Goals.{In_ok-timeline}
@@ -19,11 +19,11 @@ returns-in_err-id-clause-at_most c = counts_none _ _
 pub rewritten-requires-clause-agrees : goal.rewritten-requires-clause-agrees
 rewritten-requires-clause-agrees c =
     rw (c.in_ok-id.ensures.ok.1, c.in_ok-changed.ensures.value)
-    (agrees_changed _ _ _ _ c.requires.stands c.requires.faultless c.requires.touched c.requires.below)
+    (agrees_changed _ _ _ _ c.requires.stands.run c.requires.faultless c.requires.touched c.requires.below)
 
 pub returns-in_err-timeline-clause-at_most : goal.returns-in_err-timeline-clause-at_most
 returns-in_err-timeline-clause-at_most c =
-    counts_replayed _ _ _ _ _ c.requires.below c.rewritten.ensures.at_most c.rewritten.ensures.within
+    counts_replayed _ _ _ _ _ _ c.requires.below c.rewritten.ensures.at_most c.rewritten.ensures.close c.requires.stands.near c.rewritten.ensures.within
 
 changes : (c : In_ok-timeline) →
     Changes c.args.self.now c.args.change c.in_ok-id.id (record { scenario = c.make.new.self; timeline = c.in_ok-timeline.timeline })
@@ -32,6 +32,7 @@ changes c = record {
   id_is = c.in_ok-id.ensures.ok.0 ∙ ap (λ plan. number_of_change plan c.args.change) c.in_ok-changed.ensures.value;
   scenario = c.in_ok-id.ensures.ok.1 ∙ ap (λ plan. plan_after plan c.args.change) c.in_ok-changed.ensures.value;
   stands = c.in_ok-timeline.ensures.stands;
+  near = reaches_rewritten _ _ _ _ c.requires.stands.near c.in_ok-timeline.ensures.near c.in_ok-timeline.ensures.stands.slots;
   every = c.in_ok-timeline.ensures.every;
 }
 
@@ -43,7 +44,7 @@ returns-in-Some-clause-ok c =
 
 pub returns-in-Some-clause-at_most : goal.returns-in-Some-clause-at_most
 returns-in-Some-clause-at_most c =
-    counts_replayed _ _ _ _ _ c.requires.below c.rewritten.ensures.at_most c.rewritten.ensures.within
+    counts_replayed _ _ _ _ _ _ c.requires.below c.rewritten.ensures.at_most c.rewritten.ensures.close c.requires.stands.near c.rewritten.ensures.within
 
 pub returns-clause-ok : goal.returns-clause-ok
 returns-clause-ok c =
@@ -52,4 +53,4 @@ returns-clause-ok c =
 
 pub returns-clause-at_most : goal.returns-clause-at_most
 returns-clause-at_most c =
-    counts_replayed _ _ _ _ _ c.requires.below c.rewritten.ensures.at_most c.rewritten.ensures.within
+    counts_replayed _ _ _ _ _ _ c.requires.below c.rewritten.ensures.at_most c.rewritten.ensures.close c.requires.stands.near c.rewritten.ensures.within

@@ -16,10 +16,10 @@ seen_of_run : (r : ScenarioRun) (version : ℕ) (rows : List (List (Option Pick)
 seen_of_run r version rows denials seen stands of_rows of_denials shows =
     shows
     ∙ (λ i. record { version = version; state = record { plan = r.scenario; now = length (of_rows i) }; rows = of_rows i; denials = of_denials i })
-    ∙ (λ i. record { version = version; state = record { plan = r.scenario; now = row_each r.scenario r.timeline.now r.timeline.rows r.timeline.denials stands.of_run i }; rows = r.timeline.rows; denials = r.timeline.denials })
+    ∙ (λ i. record { version = version; state = record { plan = r.scenario; now = row_each r.scenario r.timeline.now r.timeline.rows r.timeline.denials stands.run.of_run i }; rows = r.timeline.rows; denials = r.timeline.denials })
 
 pub of-requires : goal.of-requires
-of-requires c = rw (c.rows.ensures, c.shared_denials.ensures) (stood_of_run _ _ c.requires)
+of-requires c = rw (c.rows.ensures, c.shared_denials.ensures) (stood_of_run _ _ c.requires.run)
 
 pub returns : goal.returns
 returns c =

@@ -43,11 +43,12 @@ steps c = record {
   stands = c.in_ok-advance.ensures.ok;
   slot_is = c.now-slot.ensures;
   row_is = c.fill.ensures ∙ ap (λ rows. get_or rows c.now-slot.result []) c.rows.ensures;
+  near = c.in_ok-advance.ensures.near;
   every = c.advance.ensures.every;
 }
 
 pub returns-clause-ok : goal.returns-clause-ok
-returns-clause-ok c = stepped_applied _ _ _ _ (steps ((goal.at.returns-clause-ok c).After-fill))
+returns-clause-ok c = stepped_applied _ _ _ _ c.requires.near (steps ((goal.at.returns-clause-ok c).After-fill))
 
 pub returns-clause-uncounted : goal.returns-clause-uncounted
 returns-clause-uncounted c = λ at. absurd ((steps ((goal.at.returns-clause-uncounted c).After-fill)).below at)
