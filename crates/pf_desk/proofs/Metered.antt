@@ -32,21 +32,21 @@ pub counts_replayed : (now apart t near : ℕ) (c d : Counts) → t < now → Co
     CountsAtMost (most_replayed now apart (Some t)) c d
 counts_replayed now apart t near c d below few close back within =
     record { never_falls = few.never_falls; at_most = by_case (cases_lt near_slots (now - t)) back } where
-  most : most_replayed now apart (Some t) ≡ min now (now - t + distance_back (now - t) apart)
-  most = cond-true (nat_lt t now) _ _ (lt-ltb t now below)
+      most : most_replayed now apart (Some t) ≡ min now (now - t + distance_back (now - t) apart)
+      most = cond-true (nat_lt t now) _ _ (lt-ltb t now below)
 
-  reached : (near : ℕ) → ReachesBack near now → now - t ≤ near_slots → near ≤ t
-  reached near (inl none) soon = omega (arith, none)
-  reached near (inr some) soon = omega (arith, some, soon, below)
+      reached : (near : ℕ) → ReachesBack near now → now - t ≤ near_slots → near ≤ t
+      reached near (inl none) soon = omega (arith, none)
+      reached near (inr some) soon = omega (arith, some, soon, below)
 
-  by_case : (near_slots < now - t) ⊎ (now - t ≤ near_slots) → ReachesBack near now → d.slots ≤ c.slots + most_replayed now apart (Some t)
-  by_case (inl far) any =
-      let apart_is : distance_back (now - t) apart ≡ apart = cond-false (nat_le (now - t) near_slots) _ _ (lt-leb (now - t) near_slots far) in
-      omega (arith, most, apart_is, few.at_most, within.at_most)
-  by_case (inr soon) reaches =
-      let near_is : distance_back (now - t) apart ≡ min apart near_distance = cond-true (nat_le (now - t) near_slots) _ _ (le-leb (now - t) near_slots soon) in
-      let before : near ≤ t = reached near reaches soon in
-      omega (arith, most, near_is, few.at_most, (close before).at_most, within.at_most)
+      by_case : (near_slots < now - t) ⊎ (now - t ≤ near_slots) → ReachesBack near now → d.slots ≤ c.slots + most_replayed now apart (Some t)
+      by_case (inl far) any =
+          let apart_is : distance_back (now - t) apart ≡ apart = cond-false (nat_le (now - t) near_slots) _ _ (lt-leb (now - t) near_slots far) in
+          omega (arith, most, apart_is, few.at_most, within.at_most)
+      by_case (inr soon) reaches =
+          let near_is : distance_back (now - t) apart ≡ min apart near_distance = cond-true (nat_le (now - t) near_slots) _ _ (le-leb (now - t) near_slots soon) in
+          let before : near ≤ t = reached near reaches soon in
+          omega (arith, most, near_is, few.at_most, (close before).at_most, within.at_most)
 
 -- Use: a desk's command may count as many as on its scenario with its run.
 pub counts_alike : (r : ScenarioRun) (es : List Entry) (spare : ℕ) (command : Command) (c d : Counts) → CountsAtMost (most_counted r command) c d →
