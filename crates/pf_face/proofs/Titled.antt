@@ -67,8 +67,8 @@ module _ (caller status : ℕ) (bytes : List ℕ) (was bad : RawBadRecord) (afte
 
 -- where memory was refused, no place is put for another
 kept : (status : ℕ) (bad : Option BadRecord) (was place : RawBadRecord) → status ≡ NO_MEMORY → place ≡ was → place_told status bad place ≡ was
-kept status None was place no same = same
-kept status (Some bad) was place no same = rw no same
+kept status None was place refused same = same
+kept status (Some bad) was place refused same = rw refused same
 
 tells_in_place : (status : ℕ) (bad : Option BadRecord) (fault : Option FaultTold) (was place : RawBadRecord) → AreBothBad bad fault
     → TellsPlace (place_of fault) status was place → TellsPlace (option_map raw_bad_third bad) status was (place_told status bad place)
@@ -80,7 +80,7 @@ tells_in_place status (Some bad) (Some fault) was place both tells = (tells.0, r
 runs_in_place : (caller status : ℕ) (lines : List LineTold) (bad : Option BadRecord) (fault : Option FaultTold) (was place : RawBadRecord)
     (before after : Shown) → AreBothBad bad fault → Runs caller lines (place_of fault) status was place before after
     → Runs caller lines (option_map raw_bad_third bad) status was (place_told status bad place) before after
-runs_in_place caller status lines bad fault was place before after both (inl (no, same, some)) = inl (no, kept status bad was place no same, some)
+runs_in_place caller status lines bad fault was place before after both (inl (refused, same, some)) = inl (refused, kept status bad was place refused same, some)
 runs_in_place caller status lines bad fault was place before after both (inr (tells, all)) =
     inr (tells_in_place status bad fault was place both tells, all)
 
@@ -88,10 +88,10 @@ runs_in_place caller status lines bad fault was place before after both (inr (te
 pub opens_in_place : (caller status : ℕ) (o : Option ScriptSettings) (t : Told) (bad : Option BadRecord) (titles : Titles)
     (was place : RawBadRecord) (after : Option Held) → AreBothBad bad t.rest.fault → OpensTold caller o (told_with t titles) status was place after
     → OpensTold caller o (told_third t bad titles) status was (place_told status bad place) after
-opens_in_place caller status None t bad titles was place after both (none, inl (no, same)) =
-    (none, inl (no, kept status bad was place no same))
+opens_in_place caller status None t bad titles was place after both (none, inl (refused, same)) =
+    (none, inl (refused, kept status bad was place refused same))
 opens_in_place caller status None t bad titles was place after both (none, inr (is, tells)) =
     (none, inr (is, tells_in_place status bad t.rest.fault was place both tells))
-opens_in_place caller status (Some s) t bad titles was place None both (no, same) = (no, kept status bad was place no same)
-opens_in_place caller status (Some s) t bad titles was place (Some held) both ((opened, new, runs), desk, told) =
-    ((opened, new, runs_in_place caller status t.rest.lines bad t.rest.fault was place opened held.desk both runs), desk, told)
+opens_in_place caller status (Some s) t bad titles was place None both (refused, same) = (refused, kept status bad was place refused same)
+opens_in_place caller status (Some s) t bad titles was place (Some held) both ((opened, new, runs), desk, titled) =
+    ((opened, new, runs_in_place caller status t.rest.lines bad t.rest.fault was place opened held.desk both runs), desk, titled)
