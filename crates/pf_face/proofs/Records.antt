@@ -1,5 +1,5 @@
 -- Commands that a text tells, answered line by line.
-use Rattle.std.proofs.Common.{◌≡◌, ◌≤◌, ◌<◌, ◌+◌, ℕ, List, [], ◌∷◌, ◌++◌, length, take, replicate, Option, None, Some, Result, Ok, Err, refl, sym, ap, ◌∙◌, subst, append_assoc, append-nil, inl, inr, arith}
+use Rattle.std.proofs.Common.{◌≡◌, ◌≤◌, ◌<◌, ◌+◌, ℕ, List, [], ◌∷◌, ◌++◌, length, take, replicate, Option, None, Some, Result, Ok, Err, refl, sym, ap, ◌∙◌, subst, append_assoc, append-nil, arith}
 use Rattle.std.specs.Prelude.{OnErr}
 use Rattle.std.specs.Option.{option_map}
 use Rattle.std.proofs.Math.Seq.{take-append_seam, take-append-add}
@@ -18,7 +18,7 @@ use Rattle.pf_script.specs.Asked.{commands_of, commands_in}
 use Rattle.pf_face.specs.declared.raw_bad_record.RawBadRecord.{RawBadRecord}
 use Rattle.pf_face.specs.declared.status.TheConstants.{BAD_RECORD, OK}
 use Rattle.pf_face.specs.Running.{CarriesOut, TellsPlace, place_of, raw_bad}
-use Rattle.pf_face.proofs.Stepping.{none_answered, same_answers}
+use Rattle.pf_face.proofs.Stepping.{same_answers}
 
 -- of all that a text tells this is left, and the desk answered the rest
 pub record IsUnderWay (caller : ℕ) (whole left : LinesTold) (before after : Shown) : Type 0 where

@@ -1,5 +1,5 @@
 -- The lines of the faults of a script of version 3, one row after another.
-use Rattle.std.proofs.Common.{◌≡◌, ◌+◌, ◌++◌, ℕ, List, [], ◌∷◌, Result, Ok, Err, refl, sym, ap, ◌∙◌, subst, append_assoc}
+use Rattle.std.proofs.Common.{◌≡◌, ◌+◌, ◌++◌, ℕ, List, Result, Ok, Err, refl, append_assoc}
 use Rattle.pf_check3.specs.Checked.{fault_shown, faults_at_end, faults_from, faults_next}
 use Rattle.pf_check3.specs.Reports.{FaultShown, third_report_text}
 use Rattle.pf_rows.specs.declared.rows.NextRow.{NextRow}
@@ -9,7 +9,6 @@ use Rattle.pf_version3.specs.declared.fault.RecordFault.{RecordFault}
 use Rattle.pf_version3.specs.declared.said.Said.{Said}
 use Rattle.pf_version3.specs.declared.state.Progress.{Progress}
 use Rattle.pf_version3.specs.Parsing.{end_fault, said_at}
-use Rattle.pf_version3.specs.Progress.{progress_after}
 use Rattle.pf_face.specs.Faults.{HasRead, ReadsAs, third_lines}
 
 -- what was added, and the lines of the rows behind it, are the lines of these rows
