@@ -99,7 +99,8 @@ enum {
 
 /*
  * The texts that a desk has of itself: each is what the program pfair writes in a format (docs/FORMATS.md), without reply
- * lines, which pfair_replies gives. Of those with a star a part can be had, by pfair_part. pfair_svg gives the picture.
+ * lines, which pfair_replies gives. Of those with a star a part can be had, by pfair_part. pfair_svg gives the picture. Of a
+ * desk that a script of version 3 opened they tell what the script named its tasks and how long a slot is.
  */
 enum {
     PFAIR_SCHEDULE = 0,   /* CSV: the slots stepped, with a column for each processor (*) */
@@ -257,10 +258,12 @@ uint32_t pfair_open(pfair_desk *desk, uint64_t processors, uint64_t base, uint64
 uint32_t pfair_open_wide(pfair_desk *desk, uint64_t processors, uint64_t base, uint64_t cap, uint64_t every);
 
 /*
- * Opens a desk with the settings of a whole script (docs/FORMATS.md) at a handle that has none, and asks it for what the
- * records behind them say, as pfair_run does, with the same statuses. PFAIR_BAD_RECORD: *bad tells where it is; where the
- * settings were read the desk is open, and the records before it were carried out, else the handle has no desk.
- * PFAIR_NO_MEMORY: no desk, or one that answered the first commands. PFAIR_ALREADY_OPEN. With these two *bad is as before.
+ * Opens a desk with the settings of a whole script of any version (docs/FORMATS.md) at a handle that has none, and asks it for
+ * what the records behind them say, as pfair_run does, with the same statuses. The names of a script of version 3 and the
+ * length of its slot stay with the desk until pfair_close, for its texts; labels do not, and no call gives a name or takes one.
+ * PFAIR_BAD_RECORD: *bad tells where it is; where the settings were read the desk is open, and the records before it were
+ * carried out, else the handle has no desk. PFAIR_NO_MEMORY: no desk, or one that answered the first commands.
+ * PFAIR_ALREADY_OPEN. With these two *bad is as before.
  */
 uint32_t pfair_open_script(pfair_desk *desk, uint32_t caller, const uint8_t *script, size_t length, pfair_bad_record *bad);
 
@@ -297,10 +300,11 @@ uint32_t pfair_advance(pfair_desk *desk, uint32_t caller, uint64_t count, uint64
 
 /*
  * Asks for what records say, one after another, as they stand behind the settings in a script of version 2
- * (docs/FORMATS.md): "join,0,1,2,3,0\nstrict,alter,1,join,4,1,2,3,0\nstep,8\n". PFAIR_OK where each of them is a record:
+ * (docs/FORMATS.md): "join,0,1,2,3,0\nstrict,alter,1,join,4,1,2,3,0\nstep,8\n". Tasks and events go by number, of a desk that
+ * a script of version 3 opened too: there are no names, labels, comments or blanks. PFAIR_OK where each of them is a record:
  * whether the desk refused what it asks for, pfair_replies tells. PFAIR_BAD_RECORD at the first one that is none: *bad tells
- * where it is, and those before it were carried out. PFAIR_NO_MEMORY: it answered the
- * first commands. PFAIR_NOT_OPEN. With these two *bad is as before.
+ * where it is, and those before it were carried out. PFAIR_NO_MEMORY: it answered the first commands. PFAIR_NOT_OPEN. With
+ * these two *bad is as before.
  */
 uint32_t pfair_run(pfair_desk *desk, uint32_t caller, const uint8_t *records, size_t length, pfair_bad_record *bad);
 
@@ -389,8 +393,8 @@ uint32_t pfair_svg(pfair_desk *desk, uint64_t from, uint64_t to, const pfair_loo
  * ---- What is wrong with records: no desk is needed ----
  *
  * The lines that the program's `check` writes of bad records, as "line 3, record 2, field 2: 0 is not within 1 to 64": of a
- * whole script, as pfair_open_script takes it, and of records, as pfair_run does. *count bytes, all of them ASCII, and none
- * where no record is bad. PFAIR_TOO_SHORT, PFAIR_NO_MEMORY.
+ * whole script of any version, as pfair_open_script takes it, and of records, as pfair_run does. *count bytes, all of them
+ * ASCII, and none where no record is bad. PFAIR_TOO_SHORT, PFAIR_NO_MEMORY.
  */
 uint32_t pfair_script_faults(const uint8_t *script, size_t script_length, uint8_t *room, size_t length, size_t *count);
 uint32_t pfair_record_faults(const uint8_t *records, size_t records_length, uint8_t *room, size_t length, size_t *count);

@@ -376,6 +376,38 @@ static int script(void) {
     return 0;
 }
 
+/* One of version 3 too, whose names and slot its texts tell. */
+static int titled_script(void) {
+    static const char rig[] = "# camera rig\npfair, 3\nsettings, 2, 6\nslot, 500, us\nname, 1, camera\n"
+                              "label, in, join, 0, camera, 2, 3\nstep, 6\nlabel, out, leave, 6, camera\nstep, 3\n";
+    static const char again[] = "pfair,3\nsettings,2,6,12,64\nslot,500,us\nname,1,camera\njoin,0,1,2,3,0\nleave,6,1\nstep,9\n";
+    static const char unknown[] = "pfair,3\nsettings,1,2\nstrike,x\nlabel,x,join,0,1,1,2\n";
+    static const char told[] = "line 3, record 3, field 2: \"x\" labels no event so far\n";
+    pfair_change strike = {PFAIR_STRIKE, 2, {0, 0, 0, 0, 0, 0, 0, 0}};
+    pfair_reply reply = {0, 0};
+    pfair_desk desk = PFAIR_NO_DESK;
+    pfair_bad_record bad = {7, 8, 9};
+    uint8_t text[256];
+    size_t count = 0;
+    memset(text, 0, sizeof text);
+    CHECK(pfair_open_script(&desk, 1, (const uint8_t *)rig, sizeof rig - 1, &bad) == PFAIR_OK && bad.number == 7);
+    CHECK(pfair_text(&desk, PFAIR_SCRIPT, text, sizeof text, &count) == PFAIR_OK && strcmp((const char *)text, again) == 0);
+    memset(text, 0, sizeof text);
+    CHECK(pfair_what_if(&desk, 1, &strike, false, &reply, PFAIR_LAGS, text, sizeof text, &count) == PFAIR_OK);
+    CHECK(strcmp((const char *)text, "task,cost,period,received,lag,name\n1,2,3,6,0,camera\n") == 0);
+    CHECK(pfair_run(&desk, 1, (const uint8_t *)"name,2,lidar\n", 13, &bad) == PFAIR_BAD_RECORD && bad.number == 1);
+    pfair_close(&desk);
+    CHECK(pfair_open_script(&desk, 1, (const uint8_t *)unknown, sizeof unknown - 1, &bad) == PFAIR_BAD_RECORD);
+    CHECK(bad.number == 3 && bad.line == 3 && bad.field == 2 && desk.inner != NULL);
+    pfair_close(&desk);
+    CHECK(pfair_open_script(&desk, 1, (const uint8_t *)"pfair,3\n# y\n", 12, &bad) == PFAIR_BAD_RECORD);
+    CHECK(bad.number == 2 && desk.inner == NULL);
+    memset(text, 0, sizeof text);
+    CHECK(pfair_script_faults((const uint8_t *)unknown, sizeof unknown - 1, text, sizeof text, &count) == PFAIR_OK);
+    CHECK(strcmp((const char *)text, told) == 0);
+    return 0;
+}
+
 static int version(void) {
     uint8_t text[sizeof PFAIR_VERSION];
     size_t count = 0;
@@ -401,6 +433,7 @@ int main(void) {
     if (!failed) failed = faults();
     if (!failed) failed = records();
     if (!failed) failed = script();
+    if (!failed) failed = titled_script();
     if (!failed) failed = refusals(&desk);
     if (!failed) failed = room(&desk, PFAIR_NEVER, 0);
     if (!failed) failed = lists(&desk);

@@ -23,14 +23,14 @@ use Rattle.std.proofs.alloc.Calls.{Al}
 use Rattle.std.proofs.GlobalToken.{dealloc_token-Testable}
 use Rattle.std.specs.Box.Ownership.{box_owns}
 use Rattle.pf_face.specs.Kept.{kept_at, token}
-use Rattle.pf_desk.specs.contracts.desk.Desk as desk
+use Rattle.pf_face.specs.contracts.held.Held as held
 use Rattle.pf_face.specs.contracts.handle.Handle as handle
 
 abbrev pub Z : RattleType
 Z = heap.the_row
 
 abbrev pub R : RattleType
-R = desk.the_row
+R = held.the_row
 
 abbrev pub HandleRow : RattleType
 HandleRow = handle.the_row

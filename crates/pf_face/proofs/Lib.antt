@@ -5,5 +5,7 @@ pub mod Stepping
 pub mod Filling
 pub mod WhatIf
 pub mod Records
+pub mod Titled
 pub mod FaultLines
+pub mod ThirdLines
 pub mod Entries

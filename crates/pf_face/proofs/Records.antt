@@ -1,5 +1,5 @@
 -- Commands that a text tells, answered line by line.
-use Rattle.std.proofs.Common.{◌≡◌, ◌≤◌, ◌<◌, ◌+◌, ℕ, List, [], ◌∷◌, ◌++◌, length, take, replicate, Option, None, Some, Result, Ok, Err, refl, sym, ap, ◌∙◌, subst, append_assoc, append-nil, inl, inr, arith}
+use Rattle.std.proofs.Common.{◌≡◌, ◌≤◌, ◌<◌, ◌+◌, ℕ, List, [], ◌∷◌, ◌++◌, length, take, replicate, Option, None, Some, Result, Ok, Err, refl, sym, ap, ◌∙◌, subst, append_assoc, append-nil, arith}
 use Rattle.std.specs.Prelude.{OnErr}
 use Rattle.std.specs.Option.{option_map}
 use Rattle.std.proofs.Math.Seq.{take-append_seam, take-append-add}
@@ -12,14 +12,13 @@ use Rattle.pf_script.specs.declared.record.LineTold.{LineTold}
 use Rattle.pf_script.specs.declared.fault.BadRecord.{BadRecord}
 use Rattle.pf_script.specs.declared.fault.ScriptFault.{ScriptFault}
 use Rattle.pf_script.specs.declared.fault.ScriptFault.TheVariants as fault
-use Rattle.pf_script.specs.declared.record.ScriptSettings.{ScriptSettings}
-use Rattle.pf_script.specs.Answers.{IsFault, ReadsLine}
-use Rattle.pf_script.specs.Told.{FaultTold, LinesTold, Told}
+use Rattle.pf_script.specs.Answers.{ReadsLine}
+use Rattle.pf_script.specs.Told.{FaultTold, LinesTold}
 use Rattle.pf_script.specs.Asked.{commands_of, commands_in}
 use Rattle.pf_face.specs.declared.raw_bad_record.RawBadRecord.{RawBadRecord}
-use Rattle.pf_face.specs.declared.status.TheConstants.{BAD_RECORD, NO_MEMORY, OK}
-use Rattle.pf_face.specs.Running.{CarriesOut, OpensLines, OpensTold, TellsFault, raw_bad}
-use Rattle.pf_face.proofs.Stepping.{none_answered, same_answers}
+use Rattle.pf_face.specs.declared.status.TheConstants.{BAD_RECORD, OK}
+use Rattle.pf_face.specs.Running.{CarriesOut, TellsPlace, place_of, raw_bad}
+use Rattle.pf_face.proofs.Stepping.{same_answers}
 
 -- of all that a text tells this is left, and the desk answered the rest
 pub record IsUnderWay (caller : ℕ) (whole left : LinesTold) (before after : Shown) : Type 0 where
@@ -27,10 +26,6 @@ pub record IsUnderWay (caller : ℕ) (whole left : LinesTold) (before after : Sh
   pub answers : AnswersAll caller commands before after
   pub lines : commands ++ commands_in left.lines ≡ commands_in whole.lines
   pub fault : left.fault ≡ whole.fault
-
--- Use: nothing was answered yet.
-pub none_read : (caller : ℕ) (told : LinesTold) (d : Shown) → IsUnderWay caller told told d d
-none_read caller told d = record { commands = []; answers = none_answered caller d; lines = refl; fault = refl }
 
 module _ (caller : ℕ) (whole old left : LinesTold) (line : LineTold) (first before after : Shown) (read : old ≡ record left { lines = line ∷ left.lines })
     (way : IsUnderWay caller whole old first before) where
@@ -105,29 +100,11 @@ steps_stopped (Err e) caller taken count first before after few all same = (
       (same_answers caller (replicate taken Step) first before after same all),
 )
 
--- Use: a script opened a desk.
-pub script_opened : (caller status : ℕ) (t : Told) (s : ScriptSettings) (rest : LinesTold) (was bad : RawBadRecord) (after : Option Shown)
-    → t ≡ record { opening = Some s; rest = rest } → OpensLines caller s rest status was bad after → OpensTold caller t.opening t.rest status was bad after
-script_opened caller status t s rest was bad after told opens =
-    subst (λ (u : Told). OpensTold caller u.opening u.rest status was bad after) (sym told) opens
-
--- Use: memory was refused before that.
-pub script_wanting : (caller : ℕ) (o : Option ScriptSettings) (rest : LinesTold) (was : RawBadRecord) → OpensTold caller o rest NO_MEMORY was was None
-script_wanting caller None rest was = (refl, inl (refl, refl))
-script_wanting caller (Some s) rest was = (refl, refl)
-
--- Use: a record before the settings is bad, or they are missing.
-pub script_bad : (caller : ℕ) (t : Told) (bad : BadRecord) (fields : List (List ℕ)) (was : RawBadRecord) → t.opening ≡ None → IsFault bad fields t.rest
-    → OpensTold caller t.opening t.rest BAD_RECORD was (raw_bad bad) None
-script_bad caller t bad fields was none is =
-    subst (λ (o : Option ScriptSettings). OpensTold caller o t.rest BAD_RECORD was (raw_bad bad) None) (sym none)
-    (refl, inr (refl, subst (λ (r : LinesTold). TellsFault r.fault BAD_RECORD was (raw_bad bad)) (sym is) (refl, refl)))
-
--- Use: the first bad record is told.
+-- Use: the place of the first bad record is told.
 pub fault_told : (o : Option FaultTold) (bad : BadRecord) (was : RawBadRecord) → option_map (λ (f : FaultTold). f.bad) o ≡ Some bad
-    → TellsFault o BAD_RECORD was (raw_bad bad)
+    → TellsPlace (place_of o) BAD_RECORD was (raw_bad bad)
 fault_told None bad was e = absurd cc
 fault_told (Some f) bad was e = let same : f.bad ≡ bad = cc in (refl, ap raw_bad (sym same))
 
-pub no_fault_told : (o : Option FaultTold) (was : RawBadRecord) → o ≡ None → TellsFault o OK was was
-no_fault_told o was none = subst (λ (x : Option FaultTold). TellsFault x OK was was) (sym none) (refl, refl)
+pub no_fault_told : (o : Option FaultTold) (was : RawBadRecord) → o ≡ None → TellsPlace (place_of o) OK was was
+no_fault_told o was none = subst (λ (x : Option FaultTold). TellsPlace (place_of x) OK was was) (sym none) (refl, refl)

@@ -7,6 +7,8 @@ use Rattle.pf_desk.specs.declared.command.Command.TheVariants.{Step}
 use Rattle.pf_desk.specs.declared.reply.Reply.{Reply}
 use Rattle.pf_desk.specs.Machine.{opening_state}
 use Rattle.pf_desk.specs.Desk.{Shown, IsAsBefore, IsDesk, AnswersCaller, AnswersAll}
+use Rattle.pf_names.specs.Titled.{untitled}
+use Rattle.pf_face.specs.declared.held.Held.{Held}
 use Rattle.pf_face.specs.declared.raw_reply.RawReply.{RawReply}
 use Rattle.pf_face.specs.declared.status.TheConstants.{OK, AT_HORIZON, BAD_SETTINGS, NOT_OPEN, ALREADY_OPEN, NO_MEMORY}
 use Rattle.pf_face.specs.Replied.{status_of, told_of}
@@ -19,6 +21,10 @@ IsBadDistance every = (every ≡ 0) ⊎ (largest_distance < every)
 abbrev pub AreBadSettings : ℕ → ℕ → ℕ → ℕ → Type 0
 AreBadSettings m h cap every = (IsInLimits m h cap → ⊥) ⊎ IsBadDistance every
 
+-- numbers of which one can
+abbrev pub AreGoodSettings : ℕ → ℕ → ℕ → ℕ → Type 0
+AreGoodSettings m h cap every = IsInLimits m h cap × (IsBadDistance every → ⊥)
+
 -- a desk of these settings on which nothing was asked yet
 pub record IsNewDesk (settings : System) (apart : ℕ) (d : Shown) : Type 0 where
   pub state : d.state ≡ opening_state settings
@@ -26,22 +32,29 @@ pub record IsNewDesk (settings : System) (apart : ℕ) (d : Shown) : Type 0 wher
   pub every : d.every ≡ apart
   pub desk : IsDesk d
 
--- a desk of these numbers, which are within their limits, and this horizon
-abbrev pub IsOpened : ℕ → ℕ → ℕ → ℕ → ℕ → Shown → Type 0
-IsOpened m h cap horizon every d =
-    IsInLimits m h cap × IsNewDesk (record { processors = m; base = h; cap = cap; horizon = horizon }) every d
+-- a desk of these numbers, which are within their limits, and this horizon; no titles are told of it
+abbrev pub IsOpened : ℕ → ℕ → ℕ → ℕ → ℕ → Held → Type 0
+IsOpened m h cap horizon every held =
+    AreGoodSettings m h cap every × IsNewDesk (record { processors = m; base = h; cap = cap; horizon = horizon }) every held.desk
+    × (held.titles ≡ untitled)
+
+-- no desk was opened, and the status tells why
+abbrev pub OpensNone : ℕ → ℕ → ℕ → ℕ → ℕ → Type 0
+OpensNone m h cap every status =
+    ((status ≡ NO_MEMORY) × AreGoodSettings m h cap every) ⊎ ((status ≡ BAD_SETTINGS) × AreBadSettings m h cap every)
 
 -- a handle that is closed gets such a desk, or none, and the status tells why; an open one is as before
-abbrev pub Opens : ℕ → ℕ → ℕ → ℕ → ℕ → Option Shown → ℕ → Option Shown → Type 0
-Opens m h cap horizon every (Some d) status after = (status ≡ ALREADY_OPEN) × (after ≡ Some d)
-Opens m h cap horizon every None status None = (status ≡ NO_MEMORY) ⊎ ((status ≡ BAD_SETTINGS) × AreBadSettings m h cap every)
-Opens m h cap horizon every None status (Some d) = (status ≡ OK) × IsOpened m h cap horizon every d
+abbrev pub Opens : ℕ → ℕ → ℕ → ℕ → ℕ → Option Held → ℕ → Option Held → Type 0
+Opens m h cap horizon every (Some held) status after = (status ≡ ALREADY_OPEN) × (after ≡ Some held)
+Opens m h cap horizon every None status None = OpensNone m h cap every status
+Opens m h cap horizon every None status (Some held) = (status ≡ OK) × IsOpened m h cap horizon every held
 
--- what a call does at a handle: nothing where there is no desk, else this of the desk before and after
-abbrev pub Changes : Option Shown → ℕ → Option Shown → (Shown → Shown → Type 0) → Type 0
+-- what a call does at a handle: nothing where there is no desk, else this of the desk before and after, whose titles are as before
+abbrev pub Changes : Option Held → ℕ → Option Held → (Shown → Shown → Type 0) → Type 0
 Changes None status after of_desks = (status ≡ NOT_OPEN) × (after ≡ None)
 Changes (Some before) status None of_desks = ⊥
-Changes (Some before) status (Some after) of_desks = of_desks before after × IsDesk after
+Changes (Some before) status (Some after) of_desks =
+    of_desks before.desk after.desk × IsDesk after.desk × (after.titles ≡ before.titles)
 
 -- the desk answered the caller's change, and C has the reply; or memory was refused, and all is as before
 abbrev pub AnswersEdit : ℕ → Command → ℕ → RawReply → RawReply → Shown → Shown → Type 0

@@ -1,11 +1,11 @@
 -- Pictures.
 use Rattle.std.specs.Prelude.{ℕ, ◌≡◌, ◌==◌, if◌then◌else◌, Option, None, Some, List}
-use Rattle.pf_desk.specs.Desk.{Shown}
 use Rattle.pf_look.specs.Sizes.{cell_of, wrap_of}
 use Rattle.pf_look.specs.declared.look.Look.{Look}
 use Rattle.pf_look.specs.declared.style.Style.{Style}
 use Rattle.pf_look.specs.declared.style.Style.TheVariants.{Stairs, Strips}
 use Rattle.pf_options.specs.declared.format.Format.TheVariants.{Svg}
+use Rattle.pf_face.specs.declared.held.Held.{Held}
 use Rattle.pf_face.specs.declared.raw_look.RawLook.{RawLook}
 use Rattle.pf_face.specs.declared.raw_look.TheConstants.{STAIRS, STRIPS}
 use Rattle.pf_face.specs.declared.status.TheConstants.{OUT_OF_RANGE}
@@ -26,7 +26,7 @@ abbrev pub look_in : RawLook → Option Look
 look_in raw = look_of (cell_of raw.cell) (wrap_of raw.wrap) (style_in raw.style)
 
 -- the room has the picture of slots that can be drawn; or they cannot, or there is no such look
-abbrev pub TellsPicture : Option Look → ℕ → ℕ → Shown → ℕ → ℕ → List ℕ → List ℕ → Type 0
-TellsPicture None from to d status count room filled = status ≡ OUT_OF_RANGE
-TellsPicture (Some look) from to d status count room filled =
-    TellsFormat (Svg (slots_between from to) look) d status count room filled
+abbrev pub TellsPicture : Option Look → ℕ → ℕ → Held → ℕ → ℕ → List ℕ → List ℕ → Type 0
+TellsPicture None from to held status count room filled = status ≡ OUT_OF_RANGE
+TellsPicture (Some look) from to held status count room filled =
+    TellsFormat (Svg (slots_between from to) look) held status count room filled

@@ -1,14 +1,13 @@
--- The texts that a desk has of itself.
+-- The texts that a desk has of itself, with its titles.
 use Rattle.std.specs.Prelude.{ℕ, ◌≡◌, ◌⊎◌, ◌==◌, if◌then◌else◌, Option, None, Some, List, option_and_then}
-use Rattle.pf_desk.specs.Desk.{Seen, Shown, seen_of}
-use Rattle.pf_desk.specs.declared.entry.Entry.{Entry}
+use Rattle.pf_desk.specs.Desk.{Seen, seen_of}
 use Rattle.pf_formats.specs.Report.{report_text}
-use Rattle.pf_names.specs.Titled.{untitled}
 use Rattle.pf_options.specs.Formats.{format_within, range_fault}
 use Rattle.pf_options.specs.Ranges.{whole}
 use Rattle.pf_options.specs.declared.format.Format.{Format}
 use Rattle.pf_options.specs.declared.format.Format.TheVariants.{Schedule, Tables, Report, Lags, Misses, Denials, Events, Script, Processors, Stats, Chart, Quanta, Windows, Jobs, Load, Trace, C as Code, Full, Html}
 use Rattle.pf_options.specs.declared.slot_range.SlotRange.{SlotRange}
+use Rattle.pf_face.specs.declared.held.Held.{Held}
 use Rattle.pf_face.specs.declared.status.TheConstants.{OUT_OF_RANGE, UNKNOWN_KIND}
 use Rattle.pf_face.specs.declared.text_kind.TheConstants.{SCHEDULE, LAGS, MISSES, DENIALS, EVENTS, SCRIPT, JSON, PROCESSORS, STATS, CHART, WINDOWS, JOBS, LOAD, QUANTA, TRACE, C, FULL, HTML, TABLES}
 use Rattle.pf_face.specs.Refused.{refusals_told}
@@ -45,13 +44,13 @@ slots_between from to = record { from = Some from; to = Some to }
 abbrev pub part_numbered : ℕ → ℕ → ℕ → Option Format
 part_numbered number from to = option_and_then (λ format. format_within format (slots_between from to)) (format_numbered number)
 
--- the text of what is seen of a desk with such a distance of checkpoints and this history
-abbrev pub text_seen : Format → ℕ → Seen → List Entry → List ℕ
-text_seen format every seen history = report_text format every seen untitled (refusals_told format history)
+-- the text of what is seen of a desk, which else is this one
+abbrev pub text_seen : Format → Seen → Held → List ℕ
+text_seen format seen held = report_text format held.desk.every seen held.titles (refusals_told format held.desk.history)
 
 -- the text of a desk
-abbrev pub text_of : Format → Shown → List ℕ
-text_of format d = text_seen format d.every (seen_of d) d.history
+abbrev pub text_of : Format → Held → List ℕ
+text_of format held = text_seen format (seen_of held.desk) held
 
 -- this, where the format can be shown of n slots; or it can't
 abbrev pub WhereShown : Format → ℕ → Type 0 → ℕ → Type 0
@@ -59,11 +58,11 @@ WhereShown format n shows status =
     ((range_fault format n ≡ None) × shows) ⊎ ((status ≡ OUT_OF_RANGE) × (range_fault format n ≡ None → ⊥))
 
 -- the room has the text of a format, where that can be shown of the slots stepped
-abbrev pub TellsFormat : Format → Shown → ℕ → ℕ → List ℕ → List ℕ → Type 0
-TellsFormat format d status count room filled =
-    WhereShown format d.state.now (MayFillRoom (text_of format d) status count room filled) status
+abbrev pub TellsFormat : Format → Held → ℕ → ℕ → List ℕ → List ℕ → Type 0
+TellsFormat format held status count room filled =
+    WhereShown format held.desk.state.now (MayFillRoom (text_of format held) status count room filled) status
 
 -- the same where there is a format
-abbrev pub TellsText : Option Format → Shown → ℕ → ℕ → List ℕ → List ℕ → Type 0
-TellsText None d status count room filled = status ≡ UNKNOWN_KIND
-TellsText (Some format) d status count room filled = TellsFormat format d status count room filled
+abbrev pub TellsText : Option Format → Held → ℕ → ℕ → List ℕ → List ℕ → Type 0
+TellsText None held status count room filled = status ≡ UNKNOWN_KIND
+TellsText (Some format) held status count room filled = TellsFormat format held status count room filled

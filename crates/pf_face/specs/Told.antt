@@ -18,6 +18,7 @@ use Rattle.pf_tally.specs.declared.extremes.Extremes.{Extremes}
 use Rattle.pf_tally.specs.declared.figures.Figures.{Figures}
 use Rattle.pf_tally.specs.Figures.{figures_of}
 use Rattle.pf_desk.specs.Desk.{Shown}
+use Rattle.pf_face.specs.declared.held.Held.{Held}
 use Rattle.pf_face.specs.declared.raw_pick.RawPick.{RawPick}
 use Rattle.pf_face.specs.declared.raw_lag.RawLag.{RawLag}
 use Rattle.pf_face.specs.declared.raw_denial.RawDenial.{RawDenial}
@@ -87,10 +88,14 @@ raw_figures f = record {
 abbrev pub raw_settings : System → ℕ → RawSettings
 raw_settings s every = record { processors = s.processors; base = s.base; cap = s.cap; every = every; horizon = s.horizon }
 
--- what a call answers of the desk at a handle: that there is none, or what it says of that desk
-abbrev pub Tells : Option Shown → ℕ → (Shown → Type 0) → Type 0
-Tells None status of_desk = status ≡ NOT_OPEN
-Tells (Some d) status of_desk = of_desk d
+-- what a call answers of the desk at a handle and its titles: that there is none, or what it says of them
+abbrev pub TellsHeld : Option Held → ℕ → (Held → Type 0) → Type 0
+TellsHeld None status of_held = status ≡ NOT_OPEN
+TellsHeld (Some held) status of_held = of_held held
+
+-- the same of the desk alone
+abbrev pub Tells : Option Held → ℕ → (Shown → Type 0) → Type 0
+Tells held status of_desk = TellsHeld held status (λ h. of_desk h.desk)
 
 -- the caller's room has the list at its front and is else as before; or it is too short, and as before. The count is that
 -- of the list
@@ -104,14 +109,20 @@ FillsRoom list status count room filled =
 abbrev pub MayFillRoom : {Y : Type 0} → List Y → ℕ → ℕ → List Y → List Y → Type 0
 MayFillRoom list status count room filled = (status ≡ NO_MEMORY) ⊎ FillsRoom list status count room filled
 
--- the room has the picks of these places, on the processors below m
-abbrev pub HasPicks : ℕ → List (Option Pick) → List RawPick → Type 0
-HasPicks m places filled = (k : ℕ) → k < m → slice_index_or filled k (raw_pick None) ≡ raw_pick (sitter places k)
+-- where a call writes nothing, the room is as before, and where the room is not too short the count too
+abbrev pub LeavesRest : {Y : Type 0} → ℕ → ℕ → ℕ → List Y → List Y → Type 0
+LeavesRest status was count room filled = (status ≡ OK → ⊥) → (filled ≡ room) × ((status ≡ TOO_SHORT → ⊥) → count ≡ was)
+
+-- the room has the picks of these places, on the processors below m, and is else as before
+abbrev pub HasPicks : ℕ → List (Option Pick) → List RawPick → List RawPick → Type 0
+HasPicks m places room filled =
+    ((k : ℕ) → k < m → slice_index_or filled k (raw_pick None) ≡ raw_pick (sitter places k))
+    × ((k : ℕ) → m ≤ k → slice_index_or filled k (raw_pick None) ≡ slice_index_or room k (raw_pick None))
 
 -- the room has a pick for each processor; or the slot was not stepped, or the room is too short
-abbrev pub FillsRow : ℕ → Shown → ℕ → List RawPick → Type 0
-FillsRow slot d status filled =
-    ((status ≡ OK) × (slot < length d.rows) × HasPicks d.state.plan.settings.processors (slice_index_or d.rows slot []) filled)
+abbrev pub FillsRow : ℕ → Shown → ℕ → List RawPick → List RawPick → Type 0
+FillsRow slot d status room filled =
+    ((status ≡ OK) × (slot < length d.rows) × HasPicks d.state.plan.settings.processors (slice_index_or d.rows slot []) room filled)
     ⊎ (((status ≡ OUT_OF_RANGE) × (length d.rows ≤ slot))
     ⊎ ((status ≡ TOO_SHORT) × (slot < length d.rows) × (length filled < d.state.plan.settings.processors)))
 

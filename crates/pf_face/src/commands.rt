@@ -42,7 +42,7 @@ pub extern "C" fn pfair_edit(
     match desk.take(alloc) {
         None => NOT_OPEN,
         Some(mut held) => {
-            let status = edit(&mut held, caller, change, strict, reply);
+            let status = edit(&mut held.desk, caller, change, strict, reply);
             desk.put(alloc, held);
             status
         }
@@ -61,7 +61,7 @@ pub extern "C" fn pfair_step(alloc: Global, desk: &mut Handle, caller: u32) -> u
     match desk.take(alloc) {
         None => NOT_OPEN,
         Some(mut held) => {
-            let status = step(&mut held, caller);
+            let status = step(&mut held.desk, caller);
             desk.put(alloc, held);
             status
         }
@@ -88,7 +88,7 @@ pub extern "C" fn pfair_advance(
     match desk.take(alloc) {
         None => NOT_OPEN,
         Some(mut held) => {
-            let status = advance(&mut held, caller, count, taken);
+            let status = advance(&mut held.desk, caller, count, taken);
             desk.put(alloc, held);
             status
         }

@@ -1,12 +1,12 @@
 ghost use Rattle.std.specs.Prelude.{◌≡◌, IfOk};
 ghost use Rattle.std.specs.String.{string_bytes};
 ghost use Rattle.pf_script.specs.declared.version.Version.TheVariants.{Second};
-ghost use Rattle.pf_script.specs.Told.{faults, faults_in, readings_after};
-ghost use Rattle.pf_face.specs.declared.status.TheConstants.{OK};
-ghost use Rattle.pf_face.specs.Faults.{AddsNext, fault_lines};
-ghost use Rattle.pf_face.specs.Told.{MayFillRoom};
+ghost use Rattle.pf_script.specs.Told.{faults_in, readings_after};
+ghost use Rattle.pf_face.specs.Faults.{AddsNext, fault_lines, script_lines};
+ghost use Rattle.pf_face.specs.Told.{LeavesRest, MayFillRoom};
 
 use crate::room::fill_text;
+use crate::script_lines::script_lines;
 use crate::status::NO_MEMORY;
 use csv::ByteRecord;
 use pf_check::report::push_report;
@@ -29,13 +29,16 @@ pub extern "C" fn pfair_script_faults(
     room: &mut [u8],
     count: &mut usize,
 ) -> u32
-    ensures faults { MayFillRoom (fault_lines (faults script.now)) result count.new room.old room.new }
-    ensures rest { (result ≡ OK → ⊥) → room.new ≡ room.old }
+    ensures faults { MayFillRoom (script_lines script.now) result count.new room.old room.new }
+    ensures rest { LeavesRest result count.old count.new room.old room.new }
 {
-    fill_faults(alloc, ScriptReader::new(alloc, script), room, count)
+    match script_lines(alloc, script) {
+        Ok(text) => fill_text(text.as_bytes(), room, count),
+        Err(_) => NO_MEMORY,
+    }
 }
 
-/// The same of records as they stand behind the settings in a script of the second version.
+/// The same of records as they stand behind the settings in a script of the second version, which have no names and no labels.
 #[unsafe(no_mangle)]
 pub extern "C" fn pfair_record_faults(
     alloc: Global,
@@ -44,17 +47,9 @@ pub extern "C" fn pfair_record_faults(
     count: &mut usize,
 ) -> u32
     ensures faults { MayFillRoom (fault_lines (faults_in (readings_after Second records.now))) result count.new room.old room.new }
-    ensures rest { (result ≡ OK → ⊥) → room.new ≡ room.old }
+    ensures rest { LeavesRest result count.old count.new room.old room.new }
 {
     let reader = ScriptReader::after_settings(alloc, Version::Second, records);
-    fill_faults(alloc, reader, room, count)
-}
-
-/// Writes the lines of the faults that a reader has left.
-fn fill_faults(alloc: Global, reader: ScriptReader<'_>, room: &mut [u8], count: &mut usize) -> u32
-    ensures faults { MayFillRoom (fault_lines (faults_in reader.entry)) result count.new room.old room.new }
-    ensures rest { (result ≡ OK → ⊥) → room.new ≡ room.old }
-{
     match fault_lines(alloc, reader) {
         Ok(text) => fill_text(text.as_bytes(), room, count),
         Err(_) => NO_MEMORY,
@@ -63,7 +58,7 @@ fn fill_faults(alloc: Global, reader: ScriptReader<'_>, room: &mut [u8], count: 
 
 /// The lines of the faults that a reader has left.
 #[tactic(auto, using(crate::proofs::FaultLines::lines_on, crate::proofs::FaultLines::lines_done, crate::proofs::FaultLines::fewer_left))]
-fn fault_lines(alloc: Global, mut reader: ScriptReader<'_>) -> Result<String, AllocError>
+pub(crate) fn fault_lines(alloc: Global, mut reader: ScriptReader<'_>) -> Result<String, AllocError>
     ensures { IfOk result (λ text. string_bytes text ≡ fault_lines (faults_in reader.entry)) }
 {
     let mut row = ByteRecord::new(alloc);

@@ -31,7 +31,7 @@ pub extern "C" fn pfair_never_misses(alloc: Global, desk: &mut Handle, never: &m
     match desk.take(alloc) {
         None => NOT_OPEN,
         Some(held) => {
-            *never = held.never_misses();
+            *never = held.desk.never_misses();
             desk.put(alloc, held);
             OK
         }
@@ -53,7 +53,7 @@ pub extern "C" fn pfair_fits(alloc: Global, desk: &mut Handle, fit: &mut RawFit)
     match desk.take(alloc) {
         None => NOT_OPEN,
         Some(held) => {
-            let status = write_fit(&held, fit);
+            let status = write_fit(&held.desk, fit);
             desk.put(alloc, held);
             status
         }

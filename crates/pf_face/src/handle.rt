@@ -1,8 +1,8 @@
 ghost use Rattle.std.specs.Prelude.{◌≡◌, Option, None, Some, MatchOption};
-ghost use Rattle.pf_desk.specs.Desk.{Shown};
+ghost use Rattle.pf_face.specs.declared.held.Held.{Held};
 
+use crate::held::Held;
 use crate::raw_box::RawBox;
-use pf_desk::desk::Desk;
 use std::alloc::Global;
 use std::marker::Model;
 use std::mem;
@@ -13,12 +13,12 @@ use std::ptr::null_mut;
 #[repr(C)]
 pub struct Handle {
     at: *mut u8,
-    pub ghost value: { Option Shown },
+    pub ghost value: { Option Held },
 }
 
 impl Model for Handle {
     ghost use Rattle.pf_face.specs.Kept.{kept_at};
-    ghost use Rattle.pf_desk.specs.contracts.desk.Desk.{the_row};
+    ghost use Rattle.pf_face.specs.contracts.held.Held.{the_row};
 
     ghost also_owns = { λ h. kept_at the_row h.at h.value };
 }
@@ -35,7 +35,7 @@ impl Handle {
     }
 
     /// A handle with the desk of this box.
-    fn holding(desk: RawBox<Desk, Global>) -> Self
+    fn holding(desk: RawBox<Held, Global>) -> Self
         ensures { result.value ≡ Some desk.value }
     {
         let RawBox { at, alloc: _ } = desk;
@@ -43,7 +43,7 @@ impl Handle {
     }
 
     /// The box of its desk, where it has one.
-    fn into_raw_box(self, alloc: Global) -> Option<RawBox<Desk, Global>>
+    fn into_raw_box(self, alloc: Global) -> Option<RawBox<Held, Global>>
         ensures { MatchOption result (self.value ≡ None) (λ b. self.value ≡ Some b.value) }
     {
         let Handle { at } = self;
@@ -51,14 +51,14 @@ impl Handle {
             None
         } else {
             Some(RawBox {
-                at: at as *mut Desk,
+                at: at as *mut Held,
                 alloc,
             })
         }
     }
 
     /// Takes its desk out, where it has one: the handle is closed until `put`.
-    pub fn take(&mut self, alloc: Global) -> Option<Box<Desk>>
+    pub fn take(&mut self, alloc: Global) -> Option<Box<Held>>
         ensures value { MatchOption result (self.old.value ≡ None) (λ b. self.old.value ≡ Some b.value) }
         ensures closed { self.new.value ≡ None }
     {
@@ -70,7 +70,7 @@ impl Handle {
     }
 
     /// Puts a desk in, and drops the one that was there.
-    pub fn put(&mut self, alloc: Global, desk: Box<Desk>)
+    pub fn put(&mut self, alloc: Global, desk: Box<Held>)
         ensures { self.new.value ≡ Some desk.value }
     {
         let before = mem::replace(self, Handle::holding(RawBox::of(desk)));

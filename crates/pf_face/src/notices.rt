@@ -1,6 +1,6 @@
 ghost use Rattle.std.specs.Prelude.{◌≡◌};
-ghost use Rattle.pf_face.specs.declared.status.TheConstants.{OK};
 ghost use Rattle.pf_face.specs.Notices.{TellsNotice, name_of, sentence_of};
+ghost use Rattle.pf_face.specs.Told.{LeavesRest};
 
 use crate::notice::Notice;
 use crate::room::fill_text;
@@ -15,7 +15,7 @@ use crate::status::UNKNOWN_KIND;
 #[unsafe(no_mangle)]
 pub extern "C" fn pfair_name(number: u32, room: &mut [u8], count: &mut usize) -> u32
     ensures name { TellsNotice name_of number result count.new room.old room.new }
-    ensures rest { (result ≡ OK → ⊥) → room.new ≡ room.old }
+    ensures rest { LeavesRest result count.old count.new room.old room.new }
 {
     match Notice::numbered(number) {
         None => UNKNOWN_KIND,
@@ -32,7 +32,7 @@ pub extern "C" fn pfair_name(number: u32, room: &mut [u8], count: &mut usize) ->
 #[unsafe(no_mangle)]
 pub extern "C" fn pfair_sentence(number: u32, room: &mut [u8], count: &mut usize) -> u32
     ensures sentence { TellsNotice sentence_of number result count.new room.old room.new }
-    ensures rest { (result ≡ OK → ⊥) → room.new ≡ room.old }
+    ensures rest { LeavesRest result count.old count.new room.old room.new }
 {
     match Notice::numbered(number) {
         None => UNKNOWN_KIND,

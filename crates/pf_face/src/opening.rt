@@ -1,12 +1,14 @@
 ghost use Rattle.std.specs.Prelude.{◌≡◌, ◌⊎◌, None, IfOk, IfErr};
 ghost use Rattle.pf_scenario.specs.System.{near_horizon, wide_horizon};
 ghost use Rattle.pf_face.specs.declared.status.TheConstants.{BAD_SETTINGS, NO_MEMORY};
-ghost use Rattle.pf_face.specs.Commanded.{AreBadSettings, IsBadDistance, IsNewDesk, IsOpened, Opens};
+ghost use Rattle.pf_face.specs.Commanded.{IsBadDistance, IsNewDesk, IsOpened, Opens, OpensNone};
 
 use crate::handle::Handle;
+use crate::held::Held;
 use crate::status::{ALREADY_OPEN, BAD_SETTINGS, NO_MEMORY, OK};
 use pf_desk::desk::Desk;
 use pf_desk::fault::OpenFault;
+use pf_names::titles::Titles;
 use pf_scenario::fault::BadSettings;
 use pf_scenario::settings::Settings;
 use std::alloc::Global;
@@ -82,39 +84,47 @@ pub extern "C" fn pfair_close(alloc: Global, desk: &mut Handle)
 }
 
 /// A desk of 2^20 slots.
-fn near_desk(alloc: Global, m: u64, h: u64, cap: u64, every: u64) -> Result<Box<Desk>, u32>
-    ensures ok { IfOk result (λ desk. IsOpened m h cap near_horizon every desk.value) }
-    ensures err { IfErr result (λ status. (status ≡ NO_MEMORY) ⊎ ((status ≡ BAD_SETTINGS) × AreBadSettings m h cap every)) }
+fn near_desk(alloc: Global, m: u64, h: u64, cap: u64, every: u64) -> Result<Box<Held>, u32>
+    ensures ok { IfOk result (λ held. IsOpened m h cap near_horizon every held.value) }
+    ensures err { IfErr result (OpensNone m h cap every) }
 {
     match Settings::new(m, h, cap) {
-        Ok(settings) => boxed_desk(alloc, settings, every),
+        Ok(settings) => boxed_desk(alloc, settings, every, Titles::none(alloc)),
         Err(BadSettings) => Err(BAD_SETTINGS),
     }
 }
 
 /// A desk of 2^22 slots.
-fn wide_desk(alloc: Global, m: u64, h: u64, cap: u64, every: u64) -> Result<Box<Desk>, u32>
-    ensures ok { IfOk result (λ desk. IsOpened m h cap wide_horizon every desk.value) }
-    ensures err { IfErr result (λ status. (status ≡ NO_MEMORY) ⊎ ((status ≡ BAD_SETTINGS) × AreBadSettings m h cap every)) }
+fn wide_desk(alloc: Global, m: u64, h: u64, cap: u64, every: u64) -> Result<Box<Held>, u32>
+    ensures ok { IfOk result (λ held. IsOpened m h cap wide_horizon every held.value) }
+    ensures err { IfErr result (OpensNone m h cap every) }
 {
     match Settings::wide(m, h, cap) {
-        Ok(settings) => boxed_desk(alloc, settings, every),
+        Ok(settings) => boxed_desk(alloc, settings, every, Titles::none(alloc)),
         Err(BadSettings) => Err(BAD_SETTINGS),
     }
 }
 
-/// A desk of these settings.
-pub(crate) fn boxed_desk(alloc: Global, settings: Settings, every: u64) -> Result<Box<Desk>, u32>
-    ensures ok { IfOk result (λ desk. IsNewDesk settings every desk.value) }
-    ensures err { IfErr result (λ status. (status ≡ NO_MEMORY) ⊎ ((status ≡ BAD_SETTINGS) × IsBadDistance every)) }
+/// A desk of these settings, with these titles.
+pub(crate) fn boxed_desk(
+    alloc: Global,
+    settings: Settings,
+    every: u64,
+    titles: Titles,
+) -> Result<Box<Held>, u32>
+    ensures desk { IfOk result (λ held. IsNewDesk settings every held.value.desk) }
+    ensures titles { IfOk result (λ held. held.value.titles ≡ titles) }
+    ensures distance { IfOk result (λ held. IsBadDistance every → ⊥) }
+    ensures err { IfErr result
+        (λ status. ((status ≡ NO_MEMORY) × (IsBadDistance every → ⊥)) ⊎ ((status ≡ BAD_SETTINGS) × IsBadDistance every)) }
 {
     let desk = match Desk::open(alloc, settings, every) {
         Ok(desk) => desk,
         Err(OpenFault::BadSettings) => return Err(BAD_SETTINGS),
         Err(OpenFault::NoMemory) => return Err(NO_MEMORY),
     };
-    match Box::new(alloc, desk) {
-        Ok(desk) => Ok(desk),
+    match Box::new(alloc, Held { desk, titles }) {
+        Ok(held) => Ok(held),
         Err(_) => Err(NO_MEMORY),
     }
 }

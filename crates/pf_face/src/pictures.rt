@@ -1,7 +1,6 @@
 ghost use Rattle.std.specs.Prelude.{◌≡◌};
-ghost use Rattle.pf_face.specs.declared.status.TheConstants.{OK};
 ghost use Rattle.pf_face.specs.Pictures.{TellsPicture, look_in};
-ghost use Rattle.pf_face.specs.Told.{Tells};
+ghost use Rattle.pf_face.specs.Told.{LeavesRest, TellsHeld};
 
 use crate::handle::Handle;
 use crate::raw_look::RawLook;
@@ -29,9 +28,9 @@ pub extern "C" fn pfair_svg(
     count: &mut usize,
 ) -> u32
     ensures same { desk.new.value ≡ desk.old.value }
-    ensures picture { Tells desk.old.value result
-        (λ d. TellsPicture (look_in look.now) from to d result count.new room.old room.new) }
-    ensures rest { (result ≡ OK → ⊥) → room.new ≡ room.old }
+    ensures picture { TellsHeld desk.old.value result
+        (λ h. TellsPicture (look_in look.now) from to h result count.new room.old room.new) }
+    ensures rest { LeavesRest result count.old count.new room.old room.new }
 {
     match desk.take(alloc) {
         None => NOT_OPEN,

@@ -1,5 +1,5 @@
 ghost use Rattle.std.specs.Prelude.{◌≡◌};
-ghost use Rattle.pf_face.specs.Running.{raw_bad};
+ghost use Rattle.pf_face.specs.Running.{raw_bad, raw_bad_third};
 
 use pf_script::fault::BadRecord;
 
@@ -23,6 +23,18 @@ impl RawBadRecord {
         RawBadRecord {
             number: bad.number,
             line: bad.line,
+            field: bad.fault.field as u64,
+        }
+    }
+
+    /// The same of a script of the third version.
+    pub fn third(bad: pf_version3::fault::BadRecord) -> RawBadRecord
+        ensures { result ≡ raw_bad_third bad }
+    {
+        let (number, line) = (bad.number, bad.line);
+        RawBadRecord {
+            number,
+            line,
             field: bad.fault.field as u64,
         }
     }

@@ -3,7 +3,7 @@ ghost use Rattle.pf_place.specs.Lent.{lent_row};
 ghost use Rattle.pf_run.specs.Computed.{run_of};
 ghost use Rattle.pf_tally.specs.Figures.{figures_of};
 ghost use Rattle.pf_face.specs.declared.status.TheConstants.{OK, TOO_SHORT};
-ghost use Rattle.pf_face.specs.Told.{FillsRoom, FillsRow, HasPicks, MayFillRoom, Tells, denials_now, events_now, figures_now, lags_now, misses_now, raw_settings};
+ghost use Rattle.pf_face.specs.Told.{FillsRoom, FillsRow, HasPicks, LeavesRest, MayFillRoom, Tells, denials_now, events_now, figures_now, lags_now, misses_now, raw_settings};
 
 use crate::handle::Handle;
 use crate::raw_denial::RawDenial;
@@ -35,7 +35,7 @@ pub extern "C" fn pfair_now(alloc: Global, desk: &mut Handle, now: &mut u64) -> 
     match desk.take(alloc) {
         None => NOT_OPEN,
         Some(held) => {
-            *now = held.now();
+            *now = held.desk.now();
             desk.put(alloc, held);
             OK
         }
@@ -60,7 +60,7 @@ pub extern "C" fn pfair_settings(
     match desk.take(alloc) {
         None => NOT_OPEN,
         Some(held) => {
-            *settings = RawSettings::of(held.scenario().settings(), held.distance());
+            *settings = RawSettings::of(held.desk.scenario().settings(), held.desk.distance());
             desk.put(alloc, held);
             OK
         }
@@ -81,13 +81,13 @@ pub extern "C" fn pfair_row(
     room: &mut [RawPick],
 ) -> u32
     ensures same { desk.new.value ≡ desk.old.value }
-    ensures row { Tells desk.old.value result (λ d. FillsRow slot d result room.new) }
+    ensures row { Tells desk.old.value result (λ d. FillsRow slot d result room.old room.new) }
     ensures rest { (result ≡ OK → ⊥) → room.new ≡ room.old }
 {
     match desk.take(alloc) {
         None => NOT_OPEN,
         Some(held) => {
-            let status = fill_row_at(&held, slot, room);
+            let status = fill_row_at(&held.desk, slot, room);
             desk.put(alloc, held);
             status
         }
@@ -109,12 +109,12 @@ pub extern "C" fn pfair_lags(
 ) -> u32
     ensures same { desk.new.value ≡ desk.old.value }
     ensures lags { Tells desk.old.value result (λ d. MayFillRoom (lags_now d) result count.new room.old room.new) }
-    ensures rest { (result ≡ OK → ⊥) → room.new ≡ room.old }
+    ensures rest { LeavesRest result count.old count.new room.old room.new }
 {
     match desk.take(alloc) {
         None => NOT_OPEN,
         Some(held) => {
-            let status = fill_lags(&held, room, count);
+            let status = fill_lags(&held.desk, room, count);
             desk.put(alloc, held);
             status
         }
@@ -136,12 +136,12 @@ pub extern "C" fn pfair_misses(
 ) -> u32
     ensures same { desk.new.value ≡ desk.old.value }
     ensures misses { Tells desk.old.value result (λ d. MayFillRoom (misses_now d) result count.new room.old room.new) }
-    ensures rest { (result ≡ OK → ⊥) → room.new ≡ room.old }
+    ensures rest { LeavesRest result count.old count.new room.old room.new }
 {
     match desk.take(alloc) {
         None => NOT_OPEN,
         Some(held) => {
-            let status = fill_misses(&held, room, count);
+            let status = fill_misses(&held.desk, room, count);
             desk.put(alloc, held);
             status
         }
@@ -162,12 +162,12 @@ pub extern "C" fn pfair_denials(
 ) -> u32
     ensures same { desk.new.value ≡ desk.old.value }
     ensures denials { Tells desk.old.value result (λ d. FillsRoom (denials_now d) result count.new room.old room.new) }
-    ensures rest { (result ≡ OK → ⊥) → room.new ≡ room.old }
+    ensures rest { LeavesRest result count.old count.new room.old room.new }
 {
     match desk.take(alloc) {
         None => NOT_OPEN,
         Some(held) => {
-            let status = fill(held.denials(), room, count);
+            let status = fill(held.desk.denials(), room, count);
             desk.put(alloc, held);
             status
         }
@@ -189,12 +189,12 @@ pub extern "C" fn pfair_figures(
 ) -> u32
     ensures same { desk.new.value ≡ desk.old.value }
     ensures figures { Tells desk.old.value result (λ d. MayFillRoom (figures_now d) result count.new room.old room.new) }
-    ensures rest { (result ≡ OK → ⊥) → room.new ≡ room.old }
+    ensures rest { LeavesRest result count.old count.new room.old room.new }
 {
     match desk.take(alloc) {
         None => NOT_OPEN,
         Some(held) => {
-            let status = fill_figures(&held, room, count);
+            let status = fill_figures(&held.desk, room, count);
             desk.put(alloc, held);
             status
         }
@@ -215,12 +215,12 @@ pub extern "C" fn pfair_events(
 ) -> u32
     ensures same { desk.new.value ≡ desk.old.value }
     ensures events { Tells desk.old.value result (λ d. MayFillRoom (events_now d) result count.new room.old room.new) }
-    ensures rest { (result ≡ OK → ⊥) → room.new ≡ room.old }
+    ensures rest { LeavesRest result count.old count.new room.old room.new }
 {
     match desk.take(alloc) {
         None => NOT_OPEN,
         Some(held) => {
-            let status = fill_events(alloc, &held, room, count);
+            let status = fill_events(alloc, &held.desk, room, count);
             desk.put(alloc, held);
             status
         }
@@ -229,7 +229,7 @@ pub extern "C" fn pfair_events(
 
 /// Writes the row of a slot.
 fn fill_row_at(desk: &Desk, slot: u64, room: &mut [RawPick]) -> u32
-    ensures row { FillsRow slot desk.now result room.new }
+    ensures row { FillsRow slot desk.now result room.old room.new }
     ensures rest { (result ≡ OK → ⊥) → room.new ≡ room.old }
 {
     match desk.schedule().get(slot) {
@@ -242,7 +242,7 @@ fn fill_row_at(desk: &Desk, slot: u64, room: &mut [RawPick]) -> u32
 fn fill_row(row: RowView<'_>, processors: u32, room: &mut [RawPick]) -> u32
     ensures long { length room.new ≡ length room.old }
     ensures status { (result ≡ OK) ⊎ ((result ≡ TOO_SHORT) × (length room.new < processors)) }
-    ensures picks { result ≡ OK → HasPicks processors (lent_row row.entry) room.new }
+    ensures picks { result ≡ OK → HasPicks processors (lent_row row.entry) room.old room.new }
     ensures rest { (result ≡ OK → ⊥) → room.new ≡ room.old }
 {
     if room.len() < processors as usize {
@@ -257,7 +257,7 @@ fn fill_row(row: RowView<'_>, processors: u32, room: &mut [RawPick]) -> u32
 /// Writes the lags.
 fn fill_lags(desk: &Desk, room: &mut [RawLag], count: &mut usize) -> u32
     ensures lags { MayFillRoom (lags_now desk.now) result count.new room.old room.new }
-    ensures rest { (result ≡ OK → ⊥) → room.new ≡ room.old }
+    ensures rest { LeavesRest result count.old count.new room.old room.new }
 {
     match desk.lags() {
         Ok(lags) => fill(&lags, room, count),
@@ -268,7 +268,7 @@ fn fill_lags(desk: &Desk, room: &mut [RawLag], count: &mut usize) -> u32
 /// Writes the missed windows.
 fn fill_misses(desk: &Desk, room: &mut [RawMiss], count: &mut usize) -> u32
     ensures misses { MayFillRoom (misses_now desk.now) result count.new room.old room.new }
-    ensures rest { (result ≡ OK → ⊥) → room.new ≡ room.old }
+    ensures rest { LeavesRest result count.old count.new room.old room.new }
 {
     match desk.misses() {
         Ok(misses) => fill(&misses, room, count),
@@ -279,7 +279,7 @@ fn fill_misses(desk: &Desk, room: &mut [RawMiss], count: &mut usize) -> u32
 /// Writes the figures.
 fn fill_figures(desk: &Desk, room: &mut [RawFigures], count: &mut usize) -> u32
     ensures figures { MayFillRoom (figures_now desk.now) result count.new room.old room.new }
-    ensures rest { (result ≡ OK → ⊥) → room.new ≡ room.old }
+    ensures rest { LeavesRest result count.old count.new room.old room.new }
 {
     match figures(desk) {
         Ok(figures) => fill(&figures, room, count),
@@ -298,7 +298,7 @@ fn figures(desk: &Desk) -> Result<Vec<Figures>, AllocError>
 /// Writes the events held.
 fn fill_events(alloc: Global, desk: &Desk, room: &mut [RawNumbered], count: &mut usize) -> u32
     ensures events { MayFillRoom (events_now desk.now) result count.new room.old room.new }
-    ensures rest { (result ≡ OK → ⊥) → room.new ≡ room.old }
+    ensures rest { LeavesRest result count.old count.new room.old room.new }
 {
     match events(alloc, desk) {
         Ok(events) => fill(&events, room, count),

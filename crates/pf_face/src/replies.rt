@@ -3,7 +3,7 @@ ghost use Rattle.std.specs.List.{flat_map};
 ghost use Rattle.pf_report.specs.Replies.{HasFewPlaces, reply_line};
 ghost use Rattle.pf_face.specs.declared.status.TheConstants.{OK};
 ghost use Rattle.pf_face.specs.Entries.{replies_from};
-ghost use Rattle.pf_face.specs.Told.{MayFillRoom, Tells};
+ghost use Rattle.pf_face.specs.Told.{LeavesRest, MayFillRoom, Tells};
 
 use crate::handle::Handle;
 use crate::room::fill_text;
@@ -27,7 +27,7 @@ pub extern "C" fn pfair_entries(alloc: Global, desk: &mut Handle, count: &mut us
     match desk.take(alloc) {
         None => NOT_OPEN,
         Some(held) => {
-            *count = held.history().len();
+            *count = held.desk.history().len();
             desk.put(alloc, held);
             OK
         }
@@ -50,12 +50,12 @@ pub extern "C" fn pfair_replies(
 ) -> u32
     ensures same { desk.new.value ≡ desk.old.value }
     ensures replies { Tells desk.old.value result (λ d. MayFillRoom (replies_from first d) result count.new room.old room.new) }
-    ensures rest { (result ≡ OK → ⊥) → room.new ≡ room.old }
+    ensures rest { LeavesRest result count.old count.new room.old room.new }
 {
     match desk.take(alloc) {
         None => NOT_OPEN,
         Some(held) => {
-            let status = fill_replies(alloc, &held, first, room, count);
+            let status = fill_replies(alloc, &held.desk, first, room, count);
             desk.put(alloc, held);
             status
         }
@@ -65,7 +65,7 @@ pub extern "C" fn pfair_replies(
 /// Writes the reply lines from the `first` on.
 fn fill_replies(alloc: Global, desk: &Desk, first: usize, room: &mut [u8], count: &mut usize) -> u32
     ensures replies { MayFillRoom (replies_from first desk.now) result count.new room.old room.new }
-    ensures rest { (result ≡ OK → ⊥) → room.new ≡ room.old }
+    ensures rest { LeavesRest result count.old count.new room.old room.new }
 {
     match reply_lines(alloc, desk.history(), first) {
         Ok(text) => fill_text(&text, room, count),

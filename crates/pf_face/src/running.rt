@@ -1,13 +1,13 @@
-ghost use Rattle.std.specs.Prelude.{ℕ, ◌≡◌, ◌≤◌, None, OnOk, OnErr, length, take, replicate};
+ghost use Rattle.std.specs.Prelude.{ℕ, ◌≡◌, ◌≤◌, None, Some, OnOk, OnErr, length, take, replicate};
 ghost use Rattle.pf_desk.specs.declared.command.Command.TheVariants.{Step};
 ghost use Rattle.pf_desk.specs.Desk.{AnswersAll, IsDesk};
 ghost use Rattle.pf_script.specs.Asked.{commands_of};
 ghost use Rattle.pf_script.specs.declared.version.Version.TheVariants.{Second};
 ghost use Rattle.pf_script.specs.Opened.{IsOpening};
 ghost use Rattle.pf_script.specs.Told.{readings_after, rest_in, told};
-ghost use Rattle.pf_face.specs.declared.status.TheConstants.{BAD_RECORD, NOT_OPEN};
+ghost use Rattle.pf_face.specs.declared.status.TheConstants.{NOT_OPEN};
 ghost use Rattle.pf_face.specs.Commanded.{Changes};
-ghost use Rattle.pf_face.specs.Running.{CarriesOut, OpensLines, OpensScript, OpensTold, Runs};
+ghost use Rattle.pf_face.specs.Running.{AreBothBad, CarriesOut, OpensLines, OpensScript, OpensTold, RunsTold, place_told, script_told, told_third, told_with};
 
 use crate::handle::Handle;
 use crate::opening::boxed_desk;
@@ -16,16 +16,19 @@ use crate::status::{ALREADY_OPEN, BAD_RECORD, NO_MEMORY, NOT_OPEN, OK};
 use csv::ByteRecord;
 use pf_desk::command::Command;
 use pf_desk::desk::Desk;
+use pf_names::titles::Titles;
 use pf_order::meter::Meter;
+use pf_plain::plain::{PlainScript, plain_script};
 use pf_script::fault::ScriptFault;
 use pf_script::line::Line;
 use pf_script::line_reader::LineReader;
 use pf_script::opened::OpenedScript;
 use pf_script::version::Version;
+use pf_version3::fault::BadRecord;
 use std::alloc::{AllocError, Global};
 
 /// Has the desk answer the commands of records, as they stand behind the settings in a script of the second version, one
-/// after another up to the first bad one.
+/// after another up to the first bad one. Names and labels are none of them: the titles of the desk are as before.
 ///
 /// # Errors
 ///
@@ -39,14 +42,14 @@ pub extern "C" fn pfair_run(
     records: &[u8],
     bad: &mut RawBadRecord,
 ) -> u32
-    ensures runs { Changes desk.old.value result desk.new.value (Runs caller (rest_in (readings_after Second records.now)) result bad.old bad.new) }
+    ensures runs { Changes desk.old.value result desk.new.value (RunsTold caller (rest_in (readings_after Second records.now)) result bad.old bad.new) }
     ensures closed { result ≡ NOT_OPEN → bad.new ≡ bad.old }
 {
     match desk.take(alloc) {
         None => NOT_OPEN,
         Some(mut held) => {
             let lines = LineReader::after_settings(alloc, Version::Second, records);
-            let status = run(alloc, &mut held, caller, lines, bad);
+            let status = run(alloc, &mut held.desk, caller, lines, bad);
             desk.put(alloc, held);
             status
         }
@@ -54,7 +57,8 @@ pub extern "C" fn pfair_run(
 }
 
 /// Opens a desk with the settings of a script at a closed handle, and has it answer the script's commands, up to the first
-/// bad record.
+/// bad record. A script of the third version is carried out by that of the second that belongs to it, and the texts of the desk
+/// then show the names that it gave and how long a slot is.
 ///
 /// # Errors
 ///
@@ -69,7 +73,7 @@ pub extern "C" fn pfair_open_script(
     script: &[u8],
     bad: &mut RawBadRecord,
 ) -> u32
-    ensures { OpensScript caller (told script.now) desk.old.value result bad.old bad.new desk.new.value }
+    ensures { OpensScript caller (script_told script.now) desk.old.value result bad.old bad.new desk.new.value }
 {
     match desk.take(alloc) {
         Some(held) => {
@@ -81,6 +85,7 @@ pub extern "C" fn pfair_open_script(
 }
 
 /// The same at a handle that is closed.
+#[tactic(auto, using(crate::proofs::Titled::third_opens, crate::proofs::Titled::other_opens, crate::proofs::Titled::both_bad))]
 fn open_script(
     alloc: Global,
     desk: &mut Handle,
@@ -89,11 +94,67 @@ fn open_script(
     bad: &mut RawBadRecord,
 ) -> u32
     requires { desk.old.value ≡ None }
-    ensures { OpensTold caller (told script.now).opening (told script.now).rest result bad.old bad.new desk.new.value }
+    ensures { OpensTold caller (script_told script.now).opening (script_told script.now) result bad.old bad.new desk.new.value }
+{
+    match plain_script(alloc, script) {
+        Ok(Some(plain)) => open_third(alloc, desk, caller, plain, bad),
+        Ok(None) => open_text(alloc, desk, caller, script, Titles::none(alloc), bad),
+        Err(_) => NO_MEMORY,
+    }
+}
+
+/// The same of a script of the third version, to which this one belongs.
+#[tactic(auto, using(crate::proofs::Titled::opens_in_place))]
+fn open_third(
+    alloc: Global,
+    desk: &mut Handle,
+    caller: u32,
+    plain: PlainScript,
+    bad: &mut RawBadRecord,
+) -> u32
+    requires closed { desk.old.value ≡ None }
+    requires bad { AreBothBad plain.bad (told plain.text.items).rest.fault }
+    ensures { OpensTold caller (told plain.text.items).opening (told_third (told plain.text.items) plain.bad plain.titles)
+        result bad.old bad.new desk.new.value }
+{
+    let PlainScript {
+        text,
+        origins: _,
+        titles,
+        bad: fault,
+        last: _,
+    } = plain;
+    let status = open_text(alloc, desk, caller, &text, titles, bad);
+    put_place(status, fault, bad);
+    status
+}
+
+/// Puts the place of the bad record of a script of the third version for that of the record that stands for it.
+fn put_place(status: u32, fault: Option<BadRecord>, bad: &mut RawBadRecord)
+    ensures { bad.new ≡ place_told status fault bad.old }
+{
+    if let Some(fault) = fault
+        && status == BAD_RECORD
+    {
+        *bad = RawBadRecord::third(fault);
+    }
+}
+
+/// The same of a text that is a script of the first or the second version, with these titles.
+fn open_text(
+    alloc: Global,
+    desk: &mut Handle,
+    caller: u32,
+    script: &[u8],
+    titles: Titles,
+    bad: &mut RawBadRecord,
+) -> u32
+    requires { desk.old.value ≡ None }
+    ensures { OpensTold caller (told script.now).opening (told_with (told script.now) titles) result bad.old bad.new desk.new.value }
 {
     let mut row = ByteRecord::new(alloc);
     match OpenedScript::open(alloc, script, &mut row) {
-        Ok(opened) => open_lines(alloc, desk, caller, opened, bad),
+        Ok(opened) => open_lines(alloc, desk, caller, opened, titles, bad),
         Err(ScriptFault::Memory) => NO_MEMORY,
         Err(ScriptFault::Bad(fault) | ScriptFault::Missing(fault)) => {
             *bad = RawBadRecord::of(fault);
@@ -102,22 +163,25 @@ fn open_script(
     }
 }
 
-/// Opens a desk with the settings of a script at a handle that is closed, and has it answer the lines behind them.
+/// Opens a desk with the settings of a script and these titles at a handle that is closed, and has it answer the lines behind the
+/// settings.
 fn open_lines(
     alloc: Global,
     desk: &mut Handle,
     caller: u32,
     script: OpenedScript<'_>,
+    titles: Titles,
     bad: &mut RawBadRecord,
 ) -> u32
     requires closed { desk.old.value ≡ None }
     requires opening { IsOpening script.opening }
-    ensures { OpensLines caller script.entry.opening script.entry.lines result bad.old bad.new desk.new.value }
+    ensures { OpensLines caller script.entry.opening
+        (told_with (record { opening = Some script.entry.opening; rest = script.entry.lines }) titles) result bad.old bad.new desk.new.value }
 {
     let OpenedScript { opening, lines } = script;
-    match boxed_desk(alloc, opening.settings, opening.every) {
+    match boxed_desk(alloc, opening.settings, opening.every, titles) {
         Ok(mut held) => {
-            let status = run(alloc, &mut held, caller, lines, bad);
+            let status = run(alloc, &mut held.desk, caller, lines, bad);
             desk.put(alloc, held);
             status
         }
@@ -134,7 +198,7 @@ pub(crate) fn run(
     lines: LineReader<'_>,
     bad: &mut RawBadRecord,
 ) -> u32
-    ensures runs { Runs caller lines.entry result bad.old bad.new desk.old desk.new }
+    ensures runs { RunsTold caller lines.entry result bad.old bad.new desk.old desk.new }
     ensures desk { IsDesk desk.new }
     ensures open { result ≡ NOT_OPEN → bad.new ≡ bad.old }
 {

@@ -2,13 +2,14 @@ ghost use Rattle.std.specs.Prelude.{◌≡◌, ◌⊎◌, None, IfOk, IfSome};
 ghost use Rattle.pf_desk.specs.declared.command.Command.TheVariants.{Edit};
 ghost use Rattle.pf_desk.specs.Desk.{IsAsBefore};
 ghost use Rattle.pf_options.specs.Formats.{range_fault};
-ghost use Rattle.pf_face.specs.declared.status.TheConstants.{OK, UNKNOWN_KIND};
+ghost use Rattle.pf_face.specs.declared.status.TheConstants.{UNKNOWN_KIND};
 ghost use Rattle.pf_face.specs.Asked.{change_in};
 ghost use Rattle.pf_face.specs.Supposed.{StaysAsBefore, Supposes, TellsReady};
 ghost use Rattle.pf_face.specs.Texts.{format_numbered, text_seen};
-ghost use Rattle.pf_face.specs.Told.{Tells};
+ghost use Rattle.pf_face.specs.Told.{LeavesRest, TellsHeld};
 
 use crate::handle::Handle;
+use crate::held::Held;
 use crate::raw_change::RawChange;
 use crate::raw_reply::{RawReply, status};
 use crate::refusals::refusals_told;
@@ -17,7 +18,6 @@ use crate::status::{NO_MEMORY, NOT_OPEN, OK, OUT_OF_RANGE, UNKNOWN_KIND};
 use crate::text_kind::format_numbered;
 use crate::texts::text_of_snapshot;
 use pf_desk::command::Command;
-use pf_desk::desk::Desk;
 use pf_desk::prepared::Prepared;
 use pf_options::format::Format;
 use pf_order::meter::Meter;
@@ -45,10 +45,10 @@ pub extern "C" fn pfair_what_if(
     count: &mut usize,
 ) -> u32
     ensures unknown { (change_in change.now ≡ None) ⊎ (format_numbered kind ≡ None) → (result ≡ UNKNOWN_KIND) × (reply.new ≡ reply.old) }
-    ensures supposes { IfSome (change_in change.now) (λ c. IfSome (format_numbered kind) (λ f. Tells desk.old.value result
-        (λ d. Supposes caller (Edit c strict) f d result reply.old reply.new count.new room.old room.new))) }
+    ensures supposes { IfSome (change_in change.now) (λ c. IfSome (format_numbered kind) (λ f. TellsHeld desk.old.value result
+        (λ h. Supposes caller (Edit c strict) f h result reply.old reply.new count.new room.old room.new))) }
     ensures desk { StaysAsBefore desk.old.value desk.new.value }
-    ensures rest { (result ≡ OK → ⊥) → room.new ≡ room.old }
+    ensures rest { LeavesRest result count.old count.new room.old room.new }
 {
     let Some(change) = change.change() else {
         return UNKNOWN_KIND;
@@ -73,10 +73,10 @@ fn suppose_at(
     room: &mut [u8],
     count: &mut usize,
 ) -> u32
-    ensures supposes { Tells desk.old.value result
-        (λ d. Supposes caller (Edit change strict) format d result reply.old reply.new count.new room.old room.new) }
+    ensures supposes { TellsHeld desk.old.value result
+        (λ h. Supposes caller (Edit change strict) format h result reply.old reply.new count.new room.old room.new) }
     ensures desk { StaysAsBefore desk.old.value desk.new.value }
-    ensures rest { (result ≡ OK → ⊥) → room.new ≡ room.old }
+    ensures rest { LeavesRest result count.old count.new room.old room.new }
 {
     match desk.take(alloc) {
         None => NOT_OPEN,
@@ -93,7 +93,7 @@ fn suppose_at(
 /// Tells what a change would be answered, and a text of the desk as it would then be.
 fn suppose(
     alloc: Global,
-    desk: &mut Desk,
+    held: &mut Held,
     caller: u32,
     change: Change,
     strict: bool,
@@ -102,13 +102,17 @@ fn suppose(
     room: &mut [u8],
     count: &mut usize,
 ) -> u32
-    ensures supposes { Supposes caller (Edit change strict) format desk.old result telling.old telling.new count.new room.old room.new }
-    ensures desk { IsAsBefore desk.old desk.new }
-    ensures rest { (result ≡ OK → ⊥) → room.new ≡ room.old }
+    ensures supposes { Supposes caller (Edit change strict) format held.old result telling.old telling.new count.new room.old room.new }
+    ensures desk { IsAsBefore held.old.desk held.new.desk }
+    ensures titles { held.new.titles ≡ held.old.titles }
+    ensures rest { LeavesRest result count.old count.new room.old room.new }
 {
     let mut meter = Meter::new();
-    match desk.prepare(&mut meter, caller, Command::Edit { change, strict }) {
-        Ok(prepared) => tell_ready(alloc, desk, &prepared, telling, format, room, count),
+    match held
+        .desk
+        .prepare(&mut meter, caller, Command::Edit { change, strict })
+    {
+        Ok(prepared) => tell_ready(alloc, held, &prepared, telling, format, room, count),
         Err(_) => NO_MEMORY,
     }
 }
@@ -116,15 +120,15 @@ fn suppose(
 /// Tells the reply of a command that was made ready for a desk, and a text of the desk as it would then be.
 fn tell_ready(
     alloc: Global,
-    desk: &Desk,
+    held: &Held,
     prepared: &Prepared,
     telling: &mut RawReply,
     format: Format,
     room: &mut [u8],
     count: &mut usize,
 ) -> u32
-    ensures tells { TellsReady prepared.now.entry.reply prepared.now.seen format desk.now.every desk.now.history result telling.old telling.new count.new room.old room.new }
-    ensures rest { (result ≡ OK → ⊥) → room.new ≡ room.old }
+    ensures tells { TellsReady prepared.now.entry.reply prepared.now.seen format held.now result telling.old telling.new count.new room.old room.new }
+    ensures rest { LeavesRest result count.old count.new room.old room.new }
 {
     let answer = status(prepared.reply());
     if answer != OK {
@@ -135,7 +139,7 @@ fn tell_ready(
         *telling = RawReply::of(prepared.reply());
         return OUT_OF_RANGE;
     }
-    match text_ready(alloc, desk, prepared, format) {
+    match text_ready(alloc, held, prepared, format) {
         Ok(text) => {
             *telling = RawReply::of(prepared.reply());
             fill_text(&text, room, count)
@@ -147,15 +151,23 @@ fn tell_ready(
 /// A text of a desk as it would be behind what was made ready for it.
 fn text_ready(
     alloc: Global,
-    desk: &Desk,
+    held: &Held,
     prepared: &Prepared,
     format: Format,
 ) -> Result<Vec<u8>, AllocError>
     requires { range_fault format prepared.now.seen.state.now ≡ None }
-    ensures { IfOk result (λ text. text.items ≡ text_seen format desk.now.every prepared.now.seen desk.now.history) }
+    ensures { IfOk result (λ text. text.items ≡ text_seen format prepared.now.seen held.now) }
 {
     // A copy of its own for each call: so the check follows both.
     let shown = format;
+    let desk = &held.desk;
     let refusals = refusals_told(alloc, desk.history(), format)?;
-    text_of_snapshot(alloc, prepared.snapshot(), shown, desk.distance(), refusals)
+    text_of_snapshot(
+        alloc,
+        prepared.snapshot(),
+        shown,
+        desk.distance(),
+        &held.titles,
+        refusals,
+    )
 }

@@ -1,17 +1,15 @@
 ghost use Rattle.std.specs.Prelude.{◌≡◌, None, IfOk};
 ghost use Rattle.pf_formats.specs.Report.{report_text};
-ghost use Rattle.pf_names.specs.Titled.{untitled};
 ghost use Rattle.pf_options.specs.Formats.{range_fault};
-ghost use Rattle.pf_face.specs.declared.status.TheConstants.{OK};
-ghost use Rattle.pf_face.specs.Told.{Tells};
+ghost use Rattle.pf_face.specs.Told.{LeavesRest, TellsHeld};
 ghost use Rattle.pf_face.specs.Texts.{TellsFormat, TellsText, format_numbered, part_numbered, text_of};
 
 use crate::handle::Handle;
+use crate::held::Held;
 use crate::refusals::refusals_told;
 use crate::room::fill_text;
 use crate::status::{NO_MEMORY, NOT_OPEN, OUT_OF_RANGE, UNKNOWN_KIND};
 use crate::text_kind::{format_numbered, part_numbered};
-use pf_desk::desk::Desk;
 use pf_desk::snapshot::Snapshot;
 use pf_formats::report::report_pieces;
 use pf_full::refusal::Refusal;
@@ -36,8 +34,8 @@ pub extern "C" fn pfair_text(
     count: &mut usize,
 ) -> u32
     ensures same { desk.new.value ≡ desk.old.value }
-    ensures text { Tells desk.old.value result (λ d. TellsText (format_numbered kind) d result count.new room.old room.new) }
-    ensures rest { (result ≡ OK → ⊥) → room.new ≡ room.old }
+    ensures text { TellsHeld desk.old.value result (λ h. TellsText (format_numbered kind) h result count.new room.old room.new) }
+    ensures rest { LeavesRest result count.old count.new room.old room.new }
 {
     tell_text(alloc, desk, format_numbered(kind), room, count)
 }
@@ -60,9 +58,9 @@ pub extern "C" fn pfair_part(
     count: &mut usize,
 ) -> u32
     ensures same { desk.new.value ≡ desk.old.value }
-    ensures part { Tells desk.old.value result
-        (λ d. TellsText (part_numbered kind from to) d result count.new room.old room.new) }
-    ensures rest { (result ≡ OK → ⊥) → room.new ≡ room.old }
+    ensures part { TellsHeld desk.old.value result
+        (λ h. TellsText (part_numbered kind from to) h result count.new room.old room.new) }
+    ensures rest { LeavesRest result count.old count.new room.old room.new }
 {
     tell_text(alloc, desk, part_numbered(kind, from, to), room, count)
 }
@@ -76,8 +74,8 @@ fn tell_text(
     count: &mut usize,
 ) -> u32
     ensures same { desk.new.value ≡ desk.old.value }
-    ensures text { Tells desk.old.value result (λ d. TellsText format d result count.new room.old room.new) }
-    ensures rest { (result ≡ OK → ⊥) → room.new ≡ room.old }
+    ensures text { TellsHeld desk.old.value result (λ h. TellsText format h result count.new room.old room.new) }
+    ensures rest { LeavesRest result count.old count.new room.old room.new }
 {
     match desk.take(alloc) {
         None => NOT_OPEN,
@@ -95,50 +93,58 @@ fn tell_text(
 /// Writes the text of a format of a desk, where it can be shown.
 pub(crate) fn fill_format(
     alloc: Global,
-    desk: &Desk,
+    held: &Held,
     format: Format,
     room: &mut [u8],
     count: &mut usize,
 ) -> u32
-    ensures text { TellsFormat format desk.now result count.new room.old room.new }
-    ensures rest { (result ≡ OK → ⊥) → room.new ≡ room.old }
+    ensures text { TellsFormat format held.now result count.new room.old room.new }
+    ensures rest { LeavesRest result count.old count.new room.old room.new }
 {
-    if format.range_fault(desk.now()).is_some() {
+    if format.range_fault(held.desk.now()).is_some() {
         return OUT_OF_RANGE;
     }
-    match text(alloc, desk, format) {
+    match text(alloc, held, format) {
         Ok(text) => fill_text(&text, room, count),
         Err(_) => NO_MEMORY,
     }
 }
 
 /// The text of a format of a desk.
-fn text(alloc: Global, desk: &Desk, format: Format) -> Result<Vec<u8>, AllocError>
-    requires { range_fault format desk.now.state.now ≡ None }
-    ensures { IfOk result (λ text. text.items ≡ text_of format desk.now) }
+fn text(alloc: Global, held: &Held, format: Format) -> Result<Vec<u8>, AllocError>
+    requires { range_fault format held.now.desk.state.now ≡ None }
+    ensures { IfOk result (λ text. text.items ≡ text_of format held.now) }
 {
     // A copy of its own for each call: so the check follows both.
     let shown = format;
+    let desk = &held.desk;
     let refusals = refusals_told(alloc, desk.history(), format)?;
     let snapshot = desk.snapshot()?;
-    text_of_snapshot(alloc, &snapshot, shown, desk.distance(), refusals)
+    text_of_snapshot(
+        alloc,
+        &snapshot,
+        shown,
+        desk.distance(),
+        &held.titles,
+        refusals,
+    )
 }
 
-/// The text of a format of what a snapshot of a desk with such a distance of checkpoints shows, of which these commands were
-/// refused.
+/// The text of a format of what a snapshot of a desk with such a distance of checkpoints and these titles shows, of which these
+/// commands were refused.
 pub(crate) fn text_of_snapshot(
     alloc: Global,
     snapshot: &Snapshot,
     format: Format,
     every: u64,
+    titles: &Titles,
     refusals: Vec<Refusal>,
 ) -> Result<Vec<u8>, AllocError>
     requires { range_fault format snapshot.now.state.now ≡ None }
-    ensures { IfOk result (λ text. text.items ≡ report_text format every snapshot.now untitled refusals.items) }
+    ensures { IfOk result (λ text. text.items ≡ report_text format every snapshot.now titles.now refusals.items) }
 {
-    let titles = Titles::none(alloc);
     gathered(
         alloc,
-        report_pieces(alloc, snapshot, every, format, &titles, refusals)?,
+        report_pieces(alloc, snapshot, every, format, titles, refusals)?,
     )
 }

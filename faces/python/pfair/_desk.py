@@ -53,7 +53,11 @@ class Desk:
 
     @classmethod
     def of_script(cls, script: str, caller: int = 0) -> "Desk":
-        """A desk with the settings of a whole script, which carried out the records behind them. Raises BadRecord."""
+        """A desk with the settings of a whole script of any version, which carried out the records behind them.
+
+        The texts of a desk that a script of version 3 opened tell the names of its tasks and how long a slot is. Raises
+        BadRecord.
+        """
         desk = cls.__new__(cls)
         desk._begin(caller)
         desk._carry_out("open_script", script)
@@ -130,7 +134,8 @@ class Desk:
         return self._edit("STRIKE", number, struct("event")(), strict)
 
     def run(self, records: str) -> List[str]:
-        """Asks for what records say, one after another, as they stand behind the settings in a script of version 2.
+        """Asks for what records say, one after another, as they stand behind the settings in a script of version 2,
+        without names and labels.
 
             desk.run("join,0,1,2,3,0\\nstep,3\\n")
 

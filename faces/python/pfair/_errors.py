@@ -62,7 +62,7 @@ def _faults(call: str, records: str) -> List[str]:
 
 
 def script_faults(script: str) -> List[str]:
-    """What the program's `check` tells of the bad records of a script: a line for each, where it is and why it is none."""
+    """What the program's `check` tells of the bad records of a script of any version: a line for each, where and why."""
     return _faults("script_faults", script)
 
 

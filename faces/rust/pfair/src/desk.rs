@@ -37,7 +37,8 @@ impl Desk {
         Ok(Desk { handle, settings, caller: 0 })
     }
 
-    /// Opens a desk with the settings of a whole script, and carries out the records behind them.
+    /// Opens a desk with the settings of a whole script of any version, and carries out the records behind them. The texts of a
+    /// desk that a script of version 3 opened tell the names of its tasks and how long a slot is.
     ///
     /// # Errors
     ///
@@ -157,8 +158,8 @@ impl Desk {
         Ok(reply.event)
     }
 
-    /// Asks for what records say, one after another, as they stand behind the settings in a script of version 2: the reply
-    /// lines. A command that is refused is no error here.
+    /// Asks for what records say, one after another, as they stand behind the settings in a script of version 2, without names
+    /// and labels: the reply lines. A command that is refused is no error here.
     ///
     /// # Errors
     ///

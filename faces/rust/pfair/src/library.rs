@@ -32,7 +32,8 @@ fn told(mut call: impl FnMut(&mut [u8], &mut usize) -> u32) -> Option<String> {
     known.then(|| text(call).expect("it takes no memory"))
 }
 
-/// What the program's `check` tells of the bad records of a script: a line for each, where it is and why it is none.
+/// What the program's `check` tells of the bad records of a script of any version: a line for each, where it is and why it is
+/// none.
 ///
 /// # Errors
 ///
