@@ -9,6 +9,7 @@ use Rattle.pf_place.proofs.rows.Rows.TheSendSync as rows
 use Rattle.pf_run.proofs.denied.Denied.TheSendSync as denied
 use Rattle.pf_engine.proofs.engine.Engine.TheSendSync as engine
 use Rattle.pf_timeline.proofs.checkpoints.Checkpoints.TheSendSync as checkpoints
+use Rattle.pf_timeline.proofs.near_checkpoints.NearCheckpoints.TheSendSync as near_checkpoints
 use Rattle.pf_timeline.specs.contracts.timeline.Timeline as Timeline
 use Rattle.pf_desk.proofs.history.History.TheSendSync as history
 use Rattle.pf_desk.specs.contracts.desk.Desk as Desk
@@ -16,7 +17,7 @@ use Rattle.pf_names.proofs.titles.Titles.TheSendSync as titles
 use Rattle.pf_face.specs.contracts.held.Held as Held
 
 timeline_send : IsSend Timeline.the_row
-timeline_send = search (sendable, crosses, rows.the_send, denied.the_send, denied.the_sync, shared_vec.the_send, engine.the_send, checkpoints.the_send) depth 20
+timeline_send = search (sendable, crosses, rows.the_send, denied.the_send, denied.the_sync, shared_vec.the_send, engine.the_send, checkpoints.the_send, near_checkpoints.the_send) depth 20
 
 desk_send : IsSend Desk.the_row
 desk_send = search (sendable, crosses, scenario.the_send, timeline_send, history.the_send) depth 20

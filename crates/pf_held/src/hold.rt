@@ -13,12 +13,13 @@ use pf_stream::source::Source;
 use std::sync::Wait;
 
 /// Answers the lines that a reader gives, until they end (`Going::On`) or one of them is the last (`Going::Ends`): each answer is
-/// written before more is read than was read already. Where prompts are asked for, one is told before each read, until that fails once.
+/// written before more is read than was read already, and what was answered is kept before it is written. Where prompts are asked for, one is told before each read, until that fails once.
 /// The counts of failures must be below `u64::MAX` before the call, that of the prompts where they are asked for.
 ///
 /// # Errors
 ///
-/// `Deaf` and `Mute` where the reader and the writer fail; `NoMemory` where memory is refused: what was answered by then was written.
+/// `Deaf` and `Mute` where the reader and the writer fail; `NoMemory` where memory is refused: what was answered by then was written;
+/// `Unkept` where what was answered in the last round could not be kept: nothing of that was written.
 pub fn hold<H: AllocGlobal + Wait, A: Answers, R: Source, W: Pipe, F: Sink>(
     rt: &H,
     answers: &mut A,
@@ -30,7 +31,7 @@ pub fn hold<H: AllocGlobal + Wait, A: Answers, R: Source, W: Pipe, F: Sink>(
     requires reads { R.failed reader.old < 2 ^ 64 - 1 }
     requires writes { W.failed writer.old < 2 ^ 64 - 1 }
     requires prompts { prompts ≡ true → F.failed prompted.old < 2 ^ 64 - 1 }
-    ensures { (more : Bool) × HasSat (talk_of A.answers Hears IsDeaf Tells IsMute) answers.old
+    ensures { (more : Bool) × HasSat (talk_of A.answers A.stops A.keeps A.loses Hears IsDeaf Tells IsMute) answers.old
         (streams_of (R.remaining reader.old) (R.failed reader.old) (W.contents writer.old) (W.failed writer.old) (F.contents prompted.old) (F.failed prompted.old) prompts)
         result answers.new
         (streams_of (R.remaining reader.new) (R.failed reader.new) (W.contents writer.new) (W.failed writer.new) (F.contents prompted.new) (F.failed prompted.new) more) }
@@ -56,7 +57,7 @@ fn sit_held<H: AllocGlobal + Wait, A: Answers, R: Source, W: Pipe, F: Sink>(
     ensures reader { held.new.reader.ghost_name ≡ held.old.reader.ghost_name }
     ensures writer { held.new.writer.ghost_name ≡ held.old.writer.ghost_name }
     ensures prompted { held.new.prompted.ghost_name ≡ held.old.prompted.ghost_name }
-    ensures sat { HasSat (talk_of A.answers Hears IsDeaf Tells IsMute) answers.old (seen R.remaining R.failed W.contents W.failed F.contents F.failed held.old)
+    ensures sat { HasSat (talk_of A.answers A.stops A.keeps A.loses Hears IsDeaf Tells IsMute) answers.old (seen R.remaining R.failed W.contents W.failed F.contents F.failed held.old)
         result answers.new (seen R.remaining R.failed W.contents W.failed F.contents F.failed held.new) }
 {
     sit(rt, answers, held)

@@ -4,3 +4,5 @@ mod Shapes
 mod Opening
 mod Putting
 mod Pushing
+mod Counting
+mod Adding

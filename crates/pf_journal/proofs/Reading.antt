@@ -15,7 +15,7 @@ not_ten : (byte : ℕ) → byte ≢ 10 → not (byte == 10) ≡ true
 not_ten byte other = grind (arith, nat_tests)
 
 -- a text has no LF
-text_parts : (byte : ℕ) (rest : List ℕ) → is_text (byte ∷ rest) ≡ true → (byte ≢ 10) × (is_text rest ≡ true)
+pub text_parts : (byte : ℕ) (rest : List ℕ) → is_text (byte ∷ rest) ≡ true → (byte ≢ 10) × (is_text rest ≡ true)
 text_parts byte rest is = elim (cases_eq byte 10) [
   | inl ten ↦ absurd (cc (sym (ap (λ (b : ℕ). is_text (b ∷ rest)) ten) ∙ is))
   | inr other ↦ (other, (both (not (byte == 10)) (is_text rest) is).1)

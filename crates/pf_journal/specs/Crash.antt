@@ -21,6 +21,16 @@ IsBegun file = (rest : List ℕ) × (length rest ≤ 9) × (file ≡ 32 ∷ rest
 abbrev pub IsBeforeOrAfter : List (List ℕ) → List (List ℕ) → List ℕ → Type 0
 IsBeforeOrAfter records more file = (records_of file ≡ records) ⊎ (records_of file ≡ records ++ more)
 
+-- the file stands for these records, and the front of more: all of them, some or none
+abbrev pub IsWithFront : List (List ℕ) → List (List ℕ) → List ℕ → Type 0
+IsWithFront records more file = (front : List (List ℕ)) × (rest : List (List ℕ)) × (more ≡ front ++ rest) × (records_of file ≡ records ++ front)
+
+-- where P holds: a line was added to a batch behind these records, which it had room for; or the batch was put, and the next one has it
+abbrev pub IsAdded : Type 0 → List (List ℕ) → List (List ℕ) → List ℕ → List (List ℕ) → List (List ℕ) → Type 0
+IsAdded P records batch line new_records new_batch =
+    ((new_batch ≡ batch ++ line ∷ []) × (P → new_records ≡ records))
+    ⊎ ((new_batch ≡ line ∷ []) × (P → new_records ≡ records ++ batch))
+
 -- the file is a journal that ends with a shut gate at this offset
 pub record IsAtRest (file : List ℕ) (gate : ℕ) : Type 0 where
   pub records : List (List ℕ)

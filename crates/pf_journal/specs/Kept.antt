@@ -1,6 +1,10 @@
 -- A journal that lines may be added to, and a file as it was found.
-use Rattle.std.specs.Prelude.{◌≡◌, ℕ, Bool, IsTrue, List, length}
-use Rattle.sqlite_disk.specs.Disk.{Only}
+use Rattle.std.specs.Prelude.{◌≡◌, ◌⊎◌, ◌≤◌, ◌^◌, ℕ, Bool, true, not, IsTrue, List, [], length}
+use Rattle.std.specs.List.{list_any}
+use Rattle.sqlite_disk.specs.Disk.{MoreFaults, Only}
+use Rattle.pf_journal.specs.Batches.{has_room}
+use Rattle.pf_journal.specs.declared.journal_error.JournalError.{JournalError}
+use Rattle.pf_journal.specs.declared.journal_error.JournalError.TheVariants.{LongLine, OutOfMemory, TooLong}
 use Rattle.pf_journal.specs.Lines.{lines_of, texts_of}
 use Rattle.pf_journal.specs.Crash.{IsAtRest}
 use Rattle.pf_journal.specs.declared.journal.Journal.{Journal}
@@ -19,6 +23,18 @@ disk_of journal = journal.disk
 pub record IsKept {D : Type 0} (seen : D → List ℕ) (may_leave : D → List ℕ → Type 0) (is_usable is_clean : D → Bool) (journal : Journal D) : Type 0 where
   pub settled : IsSettled seen may_leave is_usable is_clean journal.disk
   pub at_rest : IsTrue (is_clean journal.disk) → IsAtRest (seen journal.disk) journal.size
+
+-- why lines were not put: the journal is too long, one of them is, memory was refused, or a call of the file failed
+pub record IsTooLong {D : Type 0} (seen : D → List ℕ) (is_clean : D → Bool) (error : JournalError) (new : D) : Type 0 where
+  pub is : error ≡ TooLong
+  pub length : IsTrue (is_clean new) → 2 ^ 60 ≤ length (seen new)
+
+abbrev pub HasCause : {D : Type 0} → (D → List ℕ) → (D → ℕ) → (D → Bool) → List (List ℕ) → JournalError → D → D → Type 0
+HasCause seen faults is_clean lines error old new =
+    IsTooLong seen is_clean error new
+    ⊎ ((error ≡ LongLine) × (list_any (λ line. not (has_room [] line)) lines ≡ true))
+    ⊎ (error ≡ OutOfMemory)
+    ⊎ MoreFaults (faults old) (faults new)
 
 abbrev pub found_disk : {D : Type 0} → Found D → D
 found_disk found = found.disk

@@ -1,4 +1,5 @@
 pub mod Lines
+pub mod Texts
 pub mod Crash
 pub mod Kept
 pub mod Batches

@@ -53,3 +53,8 @@ script_of file = if is_new file then [] else lines_of (texts_of file)
 -- the bytes behind the gate that ends the lines of a file
 abbrev pub torn_size : List ℕ → ℕ
 torn_size file = if is_new file then 0 else length file - (length (lines_of (texts_of file)) + 1)
+
+-- the lines that end in these bytes
+abbrev pub ends_in : List ℕ → ℕ
+ends_in [] = 0
+ends_in (byte ∷ bytes) = if byte == 10 then ends_in bytes + 1 else ends_in bytes

@@ -1,5 +1,5 @@
 ghost use Rattle.std.specs.Prelude.{◌≡◌, ◌≢◌, ℕ, List, length, IsTrue, IfOk, IfErr, IsErrAnd, OnOk};
-ghost use Rattle.pf_journal.specs.Lines.{is_new, state_of, script_of, torn_size, lines_of, texts_of, records_of};
+ghost use Rattle.pf_journal.specs.Lines.{is_new, state_of, script_of, torn_size, lines_of, texts_of, records_of, ends_in};
 ghost use Rattle.pf_journal.specs.Kept.{IsSettled, IsKept, IsFound, disk_of, found_disk, found_bytes};
 ghost use Rattle.pf_journal.specs.declared.journal_error.JournalError.TheVariants.{NoHeading};
 ghost use Rattle.pf_journal.specs.declared.state.State.TheVariants.{Other};
@@ -66,6 +66,15 @@ impl<D: Disk + Drop> Found<D> {
         &self.bytes[..self.size]
     }
 
+    /// How many records stand in it, its heading left out.
+    #[tactic(auto, using(crate::proofs::Counting::records_counted))]
+    pub fn records(&self) -> usize
+        requires { IsFound D.Disk.seen D.Disk.may_leave D.Disk.is_usable D.Disk.is_clean self.now }
+        ensures { result ≡ length (records_of (found_bytes self.now)) }
+    {
+        ends_in(self.script()).saturating_sub(1)
+    }
+
     /// How many bytes opening it cuts: those behind the gate that ends its lines. Of a new file it is none.
     pub fn torn_bytes(&self) -> usize
         requires { IsFound D.Disk.seen D.Disk.may_leave D.Disk.is_usable D.Disk.is_clean self.now }
@@ -91,6 +100,8 @@ impl<D: Disk + Drop> Found<D> {
             → D.Disk.may_leave failed.disk c → records_of c ≡ records_of (D.Disk.seen (found_disk self))) }
         ensures other { state_of (found_bytes self) ≡ Other → IsErrAnd result (λ failed. (failed.error ≡ NoHeading) × (failed.disk ≡ found_disk self)) }
         ensures opens { IfOk result (λ journal. state_of (found_bytes self) ≢ Other) }
+        ensures calm { IfOk result (λ journal. D.Disk.is_clean (disk_of journal) ≡ D.Disk.is_clean (found_disk self)) }
+        ensures calm_failed { IfErr result (λ failed. D.Disk.is_clean failed.disk ≡ D.Disk.is_clean (found_disk self)) }
     {
         let state = self.state();
         let Found {
@@ -161,4 +172,19 @@ fn lines_size(bytes: &[u8]) -> usize
         rest = after;
     }
     best
+}
+
+/// How many lines end in these bytes.
+fn ends_in(bytes: &[u8]) -> usize
+    ensures { result ≡ ends_in bytes.now }
+{
+    let mut count = 0;
+    let mut rest = bytes;
+    while let [byte, after @ ..] = rest {
+        if *byte == b'\n' {
+            count += 1;
+        }
+        rest = after;
+    }
+    count
 }

@@ -1,14 +1,15 @@
-ghost use Rattle.std.specs.Prelude.{◌≡◌, ◌⊎◌, ◌++◌, ◌^◌, ◌≤◌, ℕ, List, length, IsTrue, OnOk, IfErr};
+ghost use Rattle.std.specs.Prelude.{◌≡◌, ◌⊎◌, ◌++◌, ◌∷◌, [], ◌^◌, ◌≤◌, ℕ, List, true, length, IsTrue, OnOk, IfErr, OnErr};
 ghost use Rattle.sqlite_disk.specs.Disk.{MoreFaults};
-ghost use Rattle.pf_journal.specs.Lines.{records_of};
-ghost use Rattle.pf_journal.specs.Crash.{IsBeforeOrAfter};
-ghost use Rattle.pf_journal.specs.Kept.{IsKept, disk_of};
-ghost use Rattle.pf_journal.specs.declared.journal_error.JournalError.TheVariants.{TooLong};
+ghost use Rattle.pf_journal.specs.Lines.{is_text, records_of};
+ghost use Rattle.pf_journal.specs.Texts.{whole_lines};
+ghost use Rattle.pf_journal.specs.Crash.{IsAdded, IsBeforeOrAfter, IsWithFront};
+ghost use Rattle.pf_journal.specs.Kept.{HasCause, IsKept, IsTooLong, disk_of};
 
 use crate::batch::Batch;
 use crate::journal_error::JournalError;
 use crate::steps::add;
 use sqlite_disk::Disk;
+use std::alloc::Global;
 
 /// The bytes that a journal has at most before a batch is put.
 const MOST_BYTES: usize = 1 << 60;
@@ -36,8 +37,9 @@ impl<D: Disk> Journal<D> {
         ensures calm { D.is_clean (disk_of self.new) ≡ D.is_clean (disk_of self.old) }
 
         // It doesn't give up by itself.
-        ensures failed { IfErr result (λ error. ((error ≡ TooLong) × (IsTrue (D.is_clean (disk_of self.old)) → 2 ^ 60 ≤ length (D.seen (disk_of self.old))))
+        ensures failed { IfErr result (λ error. IsTooLong D.seen D.is_clean error (disk_of self.new)
             ⊎ MoreFaults (D.faults (disk_of self.old)) (D.faults (disk_of self.new))) }
+        ensures faults { OnOk result (D.faults (disk_of self.new) ≡ D.faults (disk_of self.old)) }
     {
         if self.size >= MOST_BYTES {
             return Err(JournalError::TooLong);
@@ -48,6 +50,69 @@ impl<D: Disk> Journal<D> {
         let added = &batch.bytes()[1..];
         add(&mut self.disk, self.size, added)?;
         self.size += added.len();
+        Ok(())
+    }
+
+    /// Adds the lines of a text, each of which ends with an LF, in batches as large as they may be; what stands behind the last of
+    /// them is left out. At `Ok` all are acknowledged. At `Err` the journal has a front of them, and each crash leaves one; open
+    /// the file again.
+    ///
+    /// # Errors
+    ///
+    /// Those of `put`; `LongLine` where a line has more than 65,536 bytes, and `OutOfMemory` where memory is refused.
+    pub fn put_lines(&mut self, alloc: Global, text: &[u8]) -> Result<(), JournalError>
+        requires { IsKept D.seen D.may_leave D.is_usable D.is_clean self.old }
+        ensures kept { OnOk result (IsKept D.seen D.may_leave D.is_usable D.is_clean self.new) }
+        ensures acknowledged { OnOk result (IsTrue (D.is_clean (disk_of self.old))
+            → records_of (D.seen (disk_of self.new)) ≡ records_of (D.seen (disk_of self.old)) ++ whole_lines text.now) }
+        ensures crash { IsTrue (D.is_clean (disk_of self.old)) → (c : List ℕ) → D.may_leave (disk_of self.new) c
+            → IsWithFront (records_of (D.seen (disk_of self.old))) (whole_lines text.now) c }
+        ensures calm { D.is_clean (disk_of self.new) ≡ D.is_clean (disk_of self.old) }
+        ensures failed { IfErr result (λ error. HasCause D.seen D.faults D.is_clean (whole_lines text.now) error (disk_of self.old) (disk_of self.new)) }
+    {
+        let mut batch = Batch::new(alloc)?;
+        let mut line = Vec::new(alloc);
+        let mut rest = text;
+        while let [byte, after @ ..] = rest {
+            if *byte == b'\n' {
+                match self.add_line(alloc, &mut batch, &line) {
+                    Ok(()) => line.clear(),
+                    Err(error) => return Err(error),
+                }
+            } else if line.push(*byte).is_err() {
+                return Err(JournalError::OutOfMemory);
+            }
+            rest = after;
+        }
+        self.put(&batch)
+    }
+
+    /// Adds a line to a batch, which is put first, and then emptied, where it has no room.
+    fn add_line(
+        &mut self,
+        alloc: Global,
+        batch: &mut Batch,
+        line: &[u8],
+    ) -> Result<(), JournalError>
+        requires kept { IsKept D.seen D.may_leave D.is_usable D.is_clean self.old }
+        requires line { is_text line.now ≡ true }
+        ensures kept { OnOk result (IsKept D.seen D.may_leave D.is_usable D.is_clean self.new) }
+        ensures added { OnOk result (IsAdded (IsTrue (D.is_clean (disk_of self.old))) (records_of (D.seen (disk_of self.old))) batch.old line.now
+            (records_of (D.seen (disk_of self.new))) batch.new) }
+        ensures crash { IsTrue (D.is_clean (disk_of self.old)) → (c : List ℕ) → D.may_leave (disk_of self.new) c
+            → IsBeforeOrAfter (records_of (D.seen (disk_of self.old))) batch.old c }
+        ensures calm { D.is_clean (disk_of self.new) ≡ D.is_clean (disk_of self.old) }
+        ensures failed { IfErr result (λ error. HasCause D.seen D.faults D.is_clean (line.now ∷ []) error (disk_of self.old) (disk_of self.new)) }
+        ensures faults { OnOk result (D.faults (disk_of self.new) ≡ D.faults (disk_of self.old)) }
+    {
+        if !batch.has_room(line) {
+            self.put(batch)?;
+            *batch = Batch::new(alloc)?;
+        }
+        if !batch.has_room(line) {
+            return Err(JournalError::LongLine);
+        }
+        batch.push(alloc, line)?;
         Ok(())
     }
 

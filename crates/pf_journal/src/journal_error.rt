@@ -14,6 +14,9 @@ pub enum JournalError {
     /// The journal has 2^60 bytes or more.
     #[error("the journal is too long")]
     TooLong,
+    /// A line has no room in a batch: it has more than 65,536 bytes.
+    #[error("a line is too long")]
+    LongLine,
     /// Memory was refused.
     #[error("out of memory")]
     OutOfMemory,

@@ -11,7 +11,7 @@ use Rattle.pf_held.specs.Streams.{Hears, IsDeaf, IsMute, Streams, Tells}
 use Rattle.pf_script_notes.specs.Faults.{IsFaultNote}
 use Rattle.pf_session.specs.Session.{SessionState, at_start}
 use Rattle.pf_sitter.specs.Opening.{IsOpened, opened}
-use Rattle.pf_sitter.specs.Sitters.{answers}
+use Rattle.pf_sitter.specs.Sitters.{answers, keeps, loses, stops}
 use Rattle.pf_sitting.specs.Sits.{HasSat, talk_of}
 use Rattle.pf_sitting.specs.declared.answers.Going.{Going}
 use Rattle.pf_sitting.specs.declared.fault.SitFault.{SitFault}
@@ -36,6 +36,7 @@ CameTo (Ok going) has_bad (Err fault) = ⊥
 CameTo (Err stop.Deaf) has_bad outcome = outcome ≡ Err why.Read
 CameTo (Err stop.Mute) has_bad outcome = outcome ≡ Err why.Write
 CameTo (Err stop.NoMemory) has_bad outcome = outcome ≡ Err why.NoMemory
+CameTo (Err stop.Unkept) has_bad outcome = outcome ≡ Err why.Write
 
 -- lines came in behind the beginning, and were answered, each before more was read, and the status tells what that came to; what there
 -- is to tell of it was told behind the prompts, where none of these failed
@@ -43,7 +44,7 @@ pub record HasSatDown (begun : SessionState) (prompts closed : Bool) (status : �
   pub going : Result Going SitFault
   pub behind : SessionState
   pub between : Streams
-  pub sat : HasSat (talk_of answers Hears IsDeaf Tells IsMute) begun (record old { prompts = prompts }) going behind between
+  pub sat : HasSat (talk_of answers stops keeps loses Hears IsDeaf Tells IsMute) begun (record old { prompts = prompts }) going behind between
   pub outcome : Result Ending Fault
   pub came : CameTo going behind.has_bad outcome
   pub status_is : status ≡ status_ended closed StreamFailed outcome

@@ -175,6 +175,7 @@ fn outcome_of(alloc: Global, going: Result<Going, SitFault>, has_bad: bool) -> R
         Err(SitFault::Deaf) => Err(Fault::Read),
         Err(SitFault::Mute) => Err(Fault::Write),
         Err(SitFault::NoMemory) => Err(Fault::NoMemory),
+        Err(SitFault::Unkept) => Err(Fault::Write),
     }
 }
 

@@ -104,6 +104,13 @@ impl Session {
         &self.progress
     }
 
+    /// Its desk, behind the settings.
+    pub fn desk(&self) -> Option<&Desk>
+        ensures { option_map (λ d. d.now.state) result ≡ self.now.course.desk }
+    {
+        self.desk.as_ref()
+    }
+
     /// The script of the records that were good so far, behind its heading.
     pub fn script(&self) -> &[u8]
         ensures { result.now ≡ self.now.script }

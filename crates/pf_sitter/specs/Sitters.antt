@@ -1,5 +1,5 @@
 -- How a sitter answers.
-use Rattle.std.specs.Prelude.{ℕ, List}
+use Rattle.std.specs.Prelude.{ℕ, ⊤, ◌≡◌, List}
 use Rattle.pf_session.specs.Session.{SessionState}
 use Rattle.pf_sitting.specs.declared.answers.Going.{Going}
 use Rattle.pf_turn.specs.Lines.{AnswersLine}
@@ -7,3 +7,14 @@ use Rattle.pf_turn.specs.Lines.{AnswersLine}
 -- a line is answered as its session answers it; no contract says which files could be written
 abbrev pub answers : SessionState → List ℕ → List ℕ → Going → SessionState → Type 0
 answers s line text going t = AnswersLine {S = Unit {0}} (λ v file bytes is_saved w. Unit {0}) s tt line going text t tt
+
+-- nothing is said of a session that could not answer a line
+abbrev pub stops : SessionState → SessionState → Type 0
+stops s t = ⊤
+
+-- it keeps nothing, and that does not fail
+abbrev pub keeps : SessionState → SessionState → Type 0
+keeps s t = t ≡ s
+
+abbrev pub loses : SessionState → SessionState → Type 0
+loses s t = ⊥

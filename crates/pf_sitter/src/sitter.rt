@@ -1,5 +1,5 @@
 use pf_session::session::Session;
-use pf_sitting::answers::{Answers, Going, Stopped};
+use pf_sitting::answers::{Answers, Going, Stopped, Unkept};
 use pf_turn::answer::answer;
 use pf_turn::saver::Saver;
 use std::marker::Model;
@@ -29,6 +29,13 @@ impl<S: Saver> Sitter<S> {
         Sitter { session, saver }
     }
 
+    /// The script of its records that were good so far, behind its heading.
+    pub fn script(&self) -> &[u8]
+        ensures { result.now ≡ self.now.script }
+    {
+        self.session.script()
+    }
+
     /// Whether a line was bad.
     pub fn has_bad(&self) -> bool
         ensures { result ≡ self.now.has_bad }
@@ -38,11 +45,21 @@ impl<S: Saver> Sitter<S> {
 }
 
 impl<S: Saver> Answers for Sitter<S> {
-    ghost use Rattle.pf_sitter.specs.Sitters.{answers};
+    ghost use Rattle.pf_sitter.specs.Sitters.{answers, keeps, loses, stops};
 
     ghost answers = { answers };
 
+    ghost stops = { stops };
+
+    ghost keeps = { keeps };
+
+    ghost loses = { loses };
+
     fn take(&mut self, line: &[u8], text: &mut Vec<u8>) -> Result<Going, Stopped> {
         answer(&mut self.session, &mut self.saver, line, text)
+    }
+
+    fn keep(&mut self) -> Result<(), Unkept> {
+        Ok(())
     }
 }

@@ -5,7 +5,7 @@ use Rattle.std.proofs.lemmas.List.{append-nil}
 use Rattle.pf_sitting.specs.declared.answers.Going.{Going}
 use Rattle.pf_sitting.specs.declared.answers.Going.TheVariants.{On, Ends}
 use Rattle.pf_sitting.specs.declared.answers.Stopped.{Stopped}
-use Rattle.pf_sitting.specs.Answered.{AnswersAll, AnswersFront, AnswersLines, AnswersTo, TakesByte}
+use Rattle.pf_sitting.specs.Answered.{AnswersAll, AnswersFront, AnswersLines, AnswersTo, Stops, TakesByte}
 use Rattle.pf_sitting.specs.Lines.{last_line, lines_in, longer, rest_in}
 
 -- one more line
@@ -81,14 +81,16 @@ midway_last answers a line bytes text front b left byte more answer new c h is a
   text_is = to;
 }
 
-pub midway_front : {A : Type 0} (answers : A → List ℕ → List ℕ → Going → A → Type 0) (a : A) (line bytes text front : List ℕ) (b : A) (left new : List ℕ)
-    → Midway answers a line bytes text front b left → new ≡ text → AnswersFront answers a (lines_in line bytes) new
-midway_front answers a line bytes text front b left new h to = record {
+pub midway_front : {A : Type 0} (answers : A → List ℕ → List ℕ → Going → A → Type 0) (stops : A → A → Type 0) (a : A) (line bytes text front : List ℕ) (b : A)
+    (left new : List ℕ) (c : A) → Midway answers a line bytes text front b left → Stops stops b c → new ≡ text
+    → AnswersFront answers stops a (lines_in line bytes) new c
+midway_front answers stops a line bytes text front b left new c h k to = record {
   done = h.done;
   left = lines_in front left;
   parts = h.lines;
   behind = b;
   answered = rw to h.answered;
+  stopped = k;
 }
 
 -- one more byte

@@ -10,13 +10,19 @@ AnswersAll answers a [] text b = (text ≡ []) × (b ≡ a)
 AnswersAll answers a (line ∷ lines) text b =
     (answer : List ℕ) × (rest : List ℕ) × (mid : _) × answers a line answer On mid × AnswersAll answers mid lines rest b × (text ≡ answer ++ rest)
 
+-- nothing more is answered: a line could not be, or could not be taken in
+abbrev pub Stops : {A : Type 0} → (A → A → Type 0) → A → A → Type 0
+Stops stops a b = (b ≡ a) ⊎ stops a b
+
 -- some of these lines were: all up to one that can't be answered, or to nothing
-pub record AnswersFront {A : Type 0} (answers : A → List ℕ → List ℕ → Going → A → Type 0) (a : A) (lines : List (List ℕ)) (text : List ℕ) : Type 0 where
+pub record AnswersFront {A : Type 0} (answers : A → List ℕ → List ℕ → Going → A → Type 0) (stops : A → A → Type 0) (a : A) (lines : List (List ℕ))
+    (text : List ℕ) (b : A) : Type 0 where
   pub done : List (List ℕ)
   pub left : List (List ℕ)
   pub parts : lines ≡ done ++ left
   pub behind : A
   pub answered : AnswersAll answers a done text behind
+  pub stopped : Stops stops behind b
 
 -- all were up to one that is the last
 pub record AnswersTo {A : Type 0} (answers : A → List ℕ → List ℕ → Going → A → Type 0) (a : A) (lines : List (List ℕ)) (text : List ℕ) (b : A) : Type 0 where
@@ -37,9 +43,9 @@ AnswersLines answers a lines text On b = AnswersAll answers a lines text b
 AnswersLines answers a lines text Ends b = AnswersTo answers a lines text b
 
 -- some lines were answered: those up to one that was not, or to the last one, or all
-abbrev pub SomeAnswered : {A : Type 0} → (A → List ℕ → List ℕ → Going → A → Type 0) → A → List (List ℕ) → List ℕ → Type 0
-SomeAnswered answers a lines text =
-    AnswersFront answers a lines text ⊎ ((going : Going) × (b : _) × AnswersLines answers a lines text going b)
+abbrev pub SomeAnswered : {A : Type 0} → (A → List ℕ → List ℕ → Going → A → Type 0) → (A → A → Type 0) → A → List (List ℕ) → List ℕ → A → Type 0
+SomeAnswered answers stops a lines text b =
+    AnswersFront answers stops a lines text b ⊎ ((going : Going) × AnswersLines answers a lines text going b)
 
 -- one byte behind the front of a line: it makes the line longer, or ends it, and then the line was answered
 abbrev pub TakesByte : {A : Type 0} → (A → List ℕ → List ℕ → Going → A → Type 0) → A → List ℕ → ℕ → List ℕ → Going → A → List ℕ → List ℕ → Type 0

@@ -1,37 +1,50 @@
--- A sitting: what was heard and told, one after the other.
+-- A sitting: what was heard, kept and told, one after the other.
 use Rattle.std.specs.Prelude.{ℕ, ◌≡◌, ◌⊎◌, List, [], ◌∷◌, Option, None, Some, Result, Ok, Err}
 use Rattle.pf_sitting.specs.declared.answers.Going.{Going}
 use Rattle.pf_sitting.specs.declared.answers.Going.TheVariants.{On}
 use Rattle.pf_sitting.specs.declared.answers.Stopped.{Stopped}
 use Rattle.pf_sitting.specs.declared.fault.SitFault.{SitFault}
-use Rattle.pf_sitting.specs.declared.fault.SitFault.TheVariants.{Deaf, Mute, NoMemory}
+use Rattle.pf_sitting.specs.declared.fault.SitFault.TheVariants.{Deaf, Mute, NoMemory, Unkept}
 use Rattle.pf_sitting.specs.Answered.{AnswersLines, SomeAnswered}
 use Rattle.pf_sitting.specs.Lines.{lines_at, lines_in, rest_in}
 
--- how what answers (A) goes on, and whom it talks with (D)
+-- how what answers (A) goes on and keeps what it answered, and whom it talks with (D)
 pub record Talk (A D : Type 0) : Type 1 where
   pub answers : A → List ℕ → List ℕ → Going → A → Type 0
+  pub stops : A → A → Type 0
+  pub keeps : A → A → Type 0
+  pub loses : A → A → Type 0
   pub hears : D → List ℕ → D → Type 0
   pub is_deaf : D → D → Type 0
   pub tells : D → List ℕ → D → Type 0
   pub is_mute : D → List ℕ → D → Type 0
 
-abbrev pub talk_of : {A D : Type 0} → (A → List ℕ → List ℕ → Going → A → Type 0) → (D → List ℕ → D → Type 0) → (D → D → Type 0)
-    → (D → List ℕ → D → Type 0) → (D → List ℕ → D → Type 0) → Talk A D
-talk_of answers hears is_deaf tells is_mute =
-    record { answers = answers; hears = hears; is_deaf = is_deaf; tells = tells; is_mute = is_mute }
+abbrev pub talk_of : {A D : Type 0} → (A → List ℕ → List ℕ → Going → A → Type 0) → (A → A → Type 0) → (A → A → Type 0) → (A → A → Type 0)
+    → (D → List ℕ → D → Type 0) → (D → D → Type 0) → (D → List ℕ → D → Type 0) → (D → List ℕ → D → Type 0) → Talk A D
+talk_of answers stops keeps loses hears is_deaf tells is_mute = record {
+  answers = answers;
+  stops = stops;
+  keeps = keeps;
+  loses = loses;
+  hears = hears;
+  is_deaf = is_deaf;
+  tells = tells;
+  is_mute = is_mute;
+}
 
 -- what came when more was asked for, and what was told then
 pub record Round : Type 0 where
   pub bytes : List ℕ
   pub text : List ℕ
 
--- a round behind the front of a line: more was asked for, the lines that this brought to their end were answered, and the answers were
--- told
+-- a round behind the front of a line: more was asked for, the lines that this brought to their end were answered, what was answered
+-- was kept, and then the answers were told
 pub record HasRound {A D : Type 0} (talk : Talk A D) (a : A) (d : D) (line : List ℕ) (round : Round) (b : A) (e : D) : Type 0 where
   pub heard : D
   pub hears : talk.hears d round.bytes heard
-  pub answers : AnswersLines talk.answers a (lines_in line round.bytes) round.text On b
+  pub answered : A
+  pub answers : AnswersLines talk.answers a (lines_in line round.bytes) round.text On answered
+  pub keeps : talk.keeps answered b
   pub tells : talk.tells heard round.text e
 
 -- rounds, one behind the other, and nothing else
@@ -40,29 +53,46 @@ Sits talk [] a d line b e rest = (b ≡ a) × (e ≡ d) × (rest ≡ line)
 Sits talk (round ∷ rounds) a d line b e rest =
     (mid : _) × (told : _) × HasRound talk a d line round mid told × Sits talk rounds mid told (rest_in line round.bytes) b e rest
 
--- the last round: nothing more came, and the last line was answered, or the lines up to one that ended it
+-- the last round: nothing more came, and the last line was answered, or the lines up to one that ended it; what was answered was
+-- kept, and then told
 pub record EndsRound {A D : Type 0} (talk : Talk A D) (a : A) (d : D) (line : List ℕ) (going : Going) (b : A) (e : D) : Type 0 where
   pub round : Round
   pub heard : D
   pub hears : talk.hears d round.bytes heard
-  pub answers : AnswersLines talk.answers a (lines_at line round.bytes) round.text going b
+  pub answered : A
+  pub answers : AnswersLines talk.answers a (lines_at line round.bytes) round.text going answered
+  pub keeps : talk.keeps answered b
   pub tells : talk.tells heard round.text e
   pub all : going ≡ On → round.bytes ≡ []
 
--- or a round in which the answers to some lines, all of them maybe, were told or were not, as `out` says
-pub record CutsRound {A D : Type 0} (talk : Talk A D) (a : A) (d : D) (line : List ℕ) (out : D → List ℕ → D → Type 0) (e : D) : Type 0 where
+-- or a round in which some lines were answered, all of them maybe, and then what `out` says of these answers
+pub record CutsRound {A D : Type 0} (talk : Talk A D) (a : A) (d : D) (line : List ℕ) (out : A → D → List ℕ → A → D → Type 0) (b : A) (e : D) : Type 0 where
   pub round : Round
   pub heard : D
   pub hears : talk.hears d round.bytes heard
-  pub answers : SomeAnswered talk.answers a (lines_at line round.bytes) round.text
-  pub told : out heard round.text e
+  pub answered : A
+  pub answers : SomeAnswered talk.answers talk.stops a (lines_at line round.bytes) round.text answered
+  pub went : out answered heard round.text b e
+
+-- they were kept and then told, ..
+abbrev pub IsOut : {A D : Type 0} → Talk A D → A → D → List ℕ → A → D → Type 0
+IsOut talk a d text b e = talk.keeps a b × talk.tells d text e
+
+-- .. or kept, but could not be told, ..
+abbrev pub IsUntold : {A D : Type 0} → Talk A D → A → D → List ℕ → A → D → Type 0
+IsUntold talk a d text b e = talk.keeps a b × talk.is_mute d text e
+
+-- .. or could not be kept, and nothing was told
+abbrev pub IsLost : {A D : Type 0} → Talk A D → A → D → List ℕ → A → D → Type 0
+IsLost talk a d text b e = talk.loses a b × (e ≡ d)
 
 -- how the last round went
 abbrev pub LastRound : {A D : Type 0} → Talk A D → A → D → List ℕ → Result Going SitFault → A → D → Type 0
 LastRound talk a d line (Ok going) b e = EndsRound talk a d line going b e
-LastRound talk a d line (Err Deaf) b e = talk.is_deaf d e
-LastRound talk a d line (Err Mute) b e = CutsRound talk a d line talk.is_mute e
-LastRound talk a d line (Err NoMemory) b e = CutsRound talk a d line talk.tells e ⊎ (e ≡ d)
+LastRound talk a d line (Err Deaf) b e = (b ≡ a) × talk.is_deaf d e
+LastRound talk a d line (Err Mute) b e = CutsRound talk a d line (IsUntold talk) b e
+LastRound talk a d line (Err Unkept) b e = CutsRound talk a d line (IsLost talk) b e
+LastRound talk a d line (Err NoMemory) b e = CutsRound talk a d line (IsOut talk) b e ⊎ ((b ≡ a) × (e ≡ d))
 
 -- a sitting from its beginning: rounds, and the last one
 pub record HasSat {A D : Type 0} (talk : Talk A D) (a : A) (d : D) (ending : Result Going SitFault) (b : A) (e : D) : Type 0 where
@@ -73,12 +103,13 @@ pub record HasSat {A D : Type 0} (talk : Talk A D) (a : A) (d : D) (ending : Res
   pub sits : Sits talk rounds a d [] behind told rest
   pub last : LastRound talk behind told rest ending b e
 
--- the answers to a piece were told, or were not; how the piece was answered tells whether more is wanted
-abbrev pub IsTold : {D : Type 0} → (D → List ℕ → D → Type 0) → (D → List ℕ → D → Type 0) → Result Going Stopped → D → List ℕ → Result Going SitFault → D → Type 0
-IsTold tells is_mute going heard text (Ok g) e = (going ≡ Ok g) × tells heard text e
-IsTold tells is_mute going heard text (Err Mute) e = is_mute heard text e
-IsTold tells is_mute going heard text (Err NoMemory) e = tells heard text e
-IsTold tells is_mute going heard text (Err Deaf) e = ⊥
+-- the answers to a piece were kept and told, or were not; how the piece was answered tells whether more is wanted
+abbrev pub IsTold : {A D : Type 0} → Talk A D → Result Going Stopped → A → D → List ℕ → Result Going SitFault → A → D → Type 0
+IsTold talk going a d text (Ok g) b e = (going ≡ Ok g) × IsOut talk a d text b e
+IsTold talk going a d text (Err Mute) b e = IsUntold talk a d text b e
+IsTold talk going a d text (Err Unkept) b e = IsLost talk a d text b e
+IsTold talk going a d text (Err NoMemory) b e = IsOut talk a d text b e
+IsTold talk going a d text (Err Deaf) b e = ⊥
 
 -- how one round went: more is to be asked for, or it was the last
 abbrev pub NextRound : {A D : Type 0} → Talk A D → A → D → List ℕ → Result (Option Going) SitFault → A → D → List ℕ → Type 0

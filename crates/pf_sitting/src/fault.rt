@@ -1,7 +1,7 @@
 ghost use Rattle.std.specs.Prelude.{◌≡◌};
 ghost use Rattle.pf_sitting.specs.declared.fault.SitFault.TheVariants as fault;
 
-use crate::answers::Stopped;
+use crate::answers::{Stopped, Unkept};
 use crate::dialogue::{Deaf, Mute};
 use std::alloc::AllocError;
 
@@ -14,6 +14,8 @@ pub enum SitFault {
     Mute,
     /// Memory was refused, and no further line could be answered.
     NoMemory,
+    /// What was answered could not be kept, so it was not told.
+    Unkept,
 }
 
 impl From<Deaf> for SitFault {
@@ -37,6 +39,14 @@ impl From<Stopped> for SitFault {
 
     fn from(_stopped: Stopped) -> Self {
         SitFault::NoMemory
+    }
+}
+
+impl From<Unkept> for SitFault {
+    ghost from_gives = { λ _ f. f ≡ fault.Unkept };
+
+    fn from(_unkept: Unkept) -> Self {
+        SitFault::Unkept
     }
 }
 

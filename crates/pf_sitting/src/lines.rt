@@ -1,5 +1,5 @@
 ghost use Rattle.std.specs.Prelude.{◌≡◌, ◌++◌, ℕ, List, [], length, IfOk, OnOk, OnErr};
-ghost use Rattle.pf_sitting.specs.Answered.{AnswersFront, AnswersLines, TakesByte};
+ghost use Rattle.pf_sitting.specs.Answered.{AnswersFront, AnswersLines, Stops, TakesByte};
 ghost use Rattle.pf_sitting.specs.Lines.{last_line, lines_in, longer, rest_in};
 ghost use Rattle.pf_sitting.specs.declared.answers.Going.TheVariants.{On};
 
@@ -26,6 +26,7 @@ fn take_byte<A: Answers>(
     text: &mut Vec<u8>,
 ) -> Result<Going, Stopped>
     ensures ok { IfOk result (λ going. TakesByte A.answers answers.old line.old.items byte text.old.items going answers.new line.new.items text.new.items) }
+    ensures stop { OnErr result (Stops A.stops answers.old answers.new) }
     ensures err { OnErr result (text.new.items ≡ text.old.items) }
 {
     if byte != b'\n' {
@@ -47,7 +48,7 @@ pub(crate) fn take_bytes<A: Answers>(
     requires { text.old.items ≡ [] }
     ensures ok { IfOk result (λ going. AnswersLines A.answers answers.old (lines_in line.old.items bytes.now) text.new.items going answers.new) }
     ensures rest { IfOk result (λ going. going ≡ On → line.new.items ≡ rest_in line.old.items bytes.now) }
-    ensures err { OnErr result (AnswersFront A.answers answers.old (lines_in line.old.items bytes.now) text.new.items) }
+    ensures err { OnErr result (AnswersFront A.answers A.stops answers.old (lines_in line.old.items bytes.now) text.new.items answers.new) }
 {
     for byte in bytes {
         match take_byte(answers, line, *byte, text) {
@@ -67,7 +68,7 @@ pub(crate) fn take_last<A: Answers>(
 ) -> Result<Going, Stopped>
     requires { text.old.items ≡ [] }
     ensures ok { IfOk result (λ going. AnswersLines A.answers answers.old (last_line line.now) text.new.items going answers.new) }
-    ensures err { OnErr result (AnswersFront A.answers answers.old (last_line line.now) text.new.items) }
+    ensures err { OnErr result (AnswersFront A.answers A.stops answers.old (last_line line.now) text.new.items answers.new) }
 {
     if line.is_empty() {
         return Ok(Going::On);

@@ -13,4 +13,4 @@ returns-in-Ok-Ends-clause-ok g c =
     (rw c.in-Ok-Ends.field-0-is at c.in-Ok-Ends.ensures.ok)
 
 pub returns-in-Err-clause-err : goal.returns-in-Err-clause-err
-returns-in-Err-clause-err g c = midway_front _ _ _ _ _ _ _ _ _ c.loop-byte.invariant c.in-Err.ensures.err
+returns-in-Err-clause-err g c = midway_front _ _ _ _ _ _ _ _ _ _ _ c.loop-byte.invariant c.in-Err.ensures.stop c.in-Err.ensures.err

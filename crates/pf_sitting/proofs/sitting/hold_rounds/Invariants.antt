@@ -6,6 +6,6 @@ use Rattle.pf_sitting.proofs.sitting.hold_rounds.Given as goal
 abbrev pub invariant-rounds : goal.invariant-rounds
 invariant-rounds g l = record {
   is_open : g.D.Dialogue.is_open l.dialogue;
-  sat : SatSoFar (talk_of g.A.Answers.answers g.D.Dialogue.hears g.D.Dialogue.is_deaf g.D.Dialogue.tells g.D.Dialogue.is_mute)
+  sat : SatSoFar (talk_of g.A.Answers.answers g.A.Answers.stops g.A.Answers.keeps g.A.Answers.loses g.D.Dialogue.hears g.D.Dialogue.is_deaf g.D.Dialogue.tells g.D.Dialogue.is_mute)
       l.fn.answers l.fn.dialogue l.answers l.dialogue l.line.items;
 }
