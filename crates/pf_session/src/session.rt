@@ -46,6 +46,7 @@ impl Model for Session {
 
 impl Session {
     ghost use Rattle.std.specs.Prelude.{◌≡◌, ◌++◌, [], false, IfOk, OnErr, OnOk};
+    ghost use Rattle.std.specs.Option.{option_map};
     ghost use Rattle.pf_answers.specs.Bad.{bad_text};
     ghost use Rattle.pf_answers.specs.Shown.{shown_text};
     ghost use Rattle.pf_answers.specs.Telling.{taken_text, told_text};
