@@ -1,0 +1,179 @@
+ghost use Rattle.std.specs.Prelude.{◌≡◌, ◌++◌, IfOk, OnOk};
+ghost use Rattle.pf_journal_file.specs.Faults.{IsOutcome, fault_of_adding, fault_of_kind, fault_of_opening, fault_text, named_line, no_heading_line, note_behind, status_of};
+
+use crate::journals::OpenFault;
+use pf_fault::ending::Ending;
+use pf_fault::fault::Fault;
+use pf_fault::status::Status;
+use pf_fault_notes::file_fault::{FileFault, file_fault_line};
+use pf_journal::journal_error::JournalError;
+use pf_run_notes::file::push_file;
+use std::alloc::{AllocError, Global};
+use std::io::ErrorKind;
+
+/// Why a file keeps no session's records, or keeps them no longer.
+#[derive(Clone, Copy, Debug, PartialEq, Eq)]
+pub enum JournalFault {
+    /// Another process has it open.
+    InUse,
+    /// It can't be opened or read, by the kind of the failure.
+    Unread(ErrorKind),
+    /// Its first record is no heading of a journal.
+    NoHeading,
+    /// A script is named too, and it has records already.
+    HasRecords,
+    /// A record of the script has more bytes than one of a journal may have.
+    LongRecord,
+    /// It can't be written.
+    Unwritten,
+    /// Memory was refused.
+    NoMemory,
+}
+
+impl JournalFault {
+    /// Why a file was not opened.
+    pub(crate) fn of_opening(fault: OpenFault) -> Self
+        ensures { result ≡ fault_of_opening fault }
+    {
+        match fault {
+            OpenFault::Busy => JournalFault::InUse,
+            OpenFault::Failed(kind) => JournalFault::of_kind(kind),
+            OpenFault::NoMemory => JournalFault::NoMemory,
+        }
+    }
+
+    /// Why a file can't be opened or read, by the kind of the failure.
+    fn of_kind(kind: ErrorKind) -> Self
+        ensures { result ≡ fault_of_kind kind }
+    {
+        match kind {
+            ErrorKind::OutOfMemory => JournalFault::NoMemory,
+            _ => JournalFault::Unread(kind),
+        }
+    }
+
+    /// Why a file that was opened was not read.
+    pub(crate) fn of_reading(error: JournalError) -> Self {
+        match error {
+            JournalError::OutOfMemory => JournalFault::NoMemory,
+            JournalError::File(why) => JournalFault::of_kind(why.kind()),
+            _ => JournalFault::Unread(ErrorKind::Other),
+        }
+    }
+
+    /// Why a journal was not opened or added to.
+    pub fn of_adding(error: JournalError) -> Self
+        ensures { result ≡ fault_of_adding error }
+    {
+        match error {
+            JournalError::File(_) | JournalError::TooLong => JournalFault::Unwritten,
+            JournalError::NoHeading => JournalFault::NoHeading,
+            JournalError::LongLine => JournalFault::LongRecord,
+            JournalError::OutOfMemory => JournalFault::NoMemory,
+        }
+    }
+
+    /// The status that a session ends with for it.
+    fn status(self) -> Status
+        ensures { result ≡ status_of self }
+    {
+        match self {
+            JournalFault::InUse | JournalFault::Unread(_) | JournalFault::Unwritten => {
+                Status::StreamFailed
+            }
+            JournalFault::HasRecords => Status::BadWords,
+            JournalFault::NoHeading | JournalFault::LongRecord => Status::BadScript,
+            JournalFault::NoMemory => Status::NoMemory,
+        }
+    }
+
+    /// What a session with a journal of this name ends with for it, and what is told of that; with `notes` also why a file can't be
+    /// read, or what a journal begins with.
+    ///
+    /// # Errors
+    ///
+    /// `NoMemory` where memory is refused for the text.
+    pub fn outcome(self, alloc: Global, file: &[u8], notes: bool) -> Result<Ending, Fault>
+        ensures { IsOutcome file.now notes self result }
+    {
+        match self.text(alloc, file, notes) {
+            Ok(text) => Ok(Ending {
+                status: self.status(),
+                notes: text,
+            }),
+            Err(_) => Err(Fault::NoMemory),
+        }
+    }
+
+    /// What is told of it.
+    fn text(self, alloc: Global, file: &[u8], notes: bool) -> Result<Vec<u8>, AllocError>
+        ensures { IfOk result (λ text. text.items ≡ fault_text file.now self ++ note_behind file.now notes self) }
+    {
+        let mut text = Vec::new(alloc);
+        self.push_text(&mut text, file)?;
+        text.extend_from_slice(&self.note(alloc, file, notes)?)?;
+        Ok(text)
+    }
+
+    /// Appends its line.
+    fn push_text(self, text: &mut Vec<u8>, file: &[u8]) -> Result<(), AllocError>
+        ensures { OnOk result (text.new.items ≡ text.old.items ++ fault_text file.now self) }
+    {
+        match self {
+            JournalFault::InUse => push_named(text, b"", file, b" is in use\n"),
+            JournalFault::Unread(_) => text.extend_from_slice(b"cannot read the journal\n"),
+            JournalFault::NoHeading => text.extend_from_slice(b"bad record 1\n"),
+            JournalFault::HasRecords => {
+                text.extend_from_slice(b"the journal has records already\n")
+            }
+            JournalFault::LongRecord => {
+                text.extend_from_slice(b"a record has more than 65536 bytes\n")
+            }
+            JournalFault::Unwritten => push_named(text, b"cannot write ", file, b"\n"),
+            JournalFault::NoMemory => text.extend_from_slice(b"out of memory\n"),
+        }
+    }
+
+    /// Why the file can't be read, or what a journal begins with, where that is asked for.
+    fn note(self, alloc: Global, file: &[u8], notes: bool) -> Result<Vec<u8>, AllocError>
+        ensures { IfOk result (λ note. note.items ≡ note_behind file.now notes self) }
+    {
+        match self {
+            JournalFault::Unread(kind) if notes => file_fault_line(
+                alloc,
+                file,
+                FileFault::of(kind),
+            ),
+            JournalFault::NoHeading if notes => no_heading_note(alloc, file),
+            _ => Ok(Vec::new(alloc)),
+        }
+    }
+}
+
+/// What a journal begins with, which this file does not.
+fn no_heading_note(alloc: Global, file: &[u8]) -> Result<Vec<u8>, AllocError>
+    ensures { IfOk result (λ note. note.items ≡ no_heading_line file.now) }
+{
+    let mut text = Vec::new(alloc);
+    push_named(
+        &mut text,
+        b"",
+        file,
+        b":1: record 1: a journal begins with \" pfair,3\"\n",
+    )?;
+    Ok(text)
+}
+
+/// Appends the name of a file between two texts.
+fn push_named(
+    text: &mut Vec<u8>,
+    before: &[u8],
+    file: &[u8],
+    behind: &[u8],
+) -> Result<(), AllocError>
+    ensures { OnOk result (text.new.items ≡ text.old.items ++ named_line before.now file.now behind.now) }
+{
+    text.extend_from_slice(before)?;
+    push_file(text, file)?;
+    text.extend_from_slice(behind)
+}
