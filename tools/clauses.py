@@ -166,6 +166,12 @@ def evidence(crate, texts, edit, found):
     return bool(marks), by_search if marks & {ANSWER, RESTS, VALUES} else {VALUES}
 
 
+def unnamed(edits):
+    """The edits that name no clause though they must: those of the gate, and those of more/ where others there do."""
+    strict = {False} | {edit.is_more for edit in edits if edit.clause}
+    return [edit for edit in edits if not edit.clause and edit.is_more in strict]
+
+
 def ensured(crate, texts, function):
     """The names of what a function ensures, in the order of its contract."""
     for path in (it for it in texts if it.startswith("src/")):
