@@ -1,12 +1,14 @@
 -- A script of version 1 or 2 that has a bad record.
-use Rattle.std.proofs.Common.{◌≡◌, List, Option, Some, None, Err}
+use Rattle.std.proofs.Common.{◌≡◌, ℕ, ◌∷◌, Bool, false, List, Option, Some, None, Err, sym, subst}
+use Rattle.std.specs.Prelude.{if◌then◌else◌}
 use Rattle.pf_carry.specs.Carried.{Stops}
 use Rattle.pf_fault.specs.declared.fault.Fault.{Fault}
 use Rattle.pf_fault.specs.declared.fault.Fault.TheVariants as why
 use Rattle.pf_rows.specs.Rows.{Row}
-use Rattle.pf_script.specs.Told.{FaultTold}
+use Rattle.pf_script.specs.Told.{FaultTold, told}
 use Rattle.pf_session.specs.Session.{SessionState}
-use Rattle.pf_sitter.specs.Opening.{IsOpened, opened_plain}
+use Rattle.pf_version3.specs.Heading.{is_third_heading}
+use Rattle.pf_sitter.specs.Opening.{IsOpened, behind_rows, opened_plain, opened_rows}
 
 -- Use: it is not opened.
 pub stopped_plain : (s : SessionState) (found : List Row) (told : Option FaultTold) (fault : Fault) → Stops told fault
@@ -20,3 +22,11 @@ stopped_plain s found told why.Read h = absurd h
 stopped_plain s found told why.Write h = absurd h
 stopped_plain s found told why.NoReader h = absurd h
 stopped_plain s found told why.GateShut h = absurd h
+
+-- Use: nor are its rows, where the first is no heading of version 3.
+pub stopped_rows : (s : SessionState) (bytes : List ℕ) (row : Row) (rest : List Row) (fault : Fault) → is_third_heading row.fields ≡ false
+    → Stops (told bytes).rest.fault fault → IsOpened (opened_rows s bytes (row ∷ rest)) (Err fault)
+stopped_rows s bytes row rest fault third stops =
+    subst
+    (λ (b : Bool). IsOpened (if b then behind_rows (record s { is_first = false }) 2 rest else opened_plain s (row ∷ rest) (told bytes).rest.fault) (Err fault))
+    (sym third) (stopped_plain s (row ∷ rest) (told bytes).rest.fault fault stops)
