@@ -21,7 +21,7 @@ use Rattle.pf_calendar.specs.declared.waiting_list.WaitingList.{WaitingList}
 use Rattle.pf_calendar.specs.Queues.{Queues, list_at, list_in, key_count, IsQueued, NoneEmpty}
 use Rattle.pf_calendar.specs.Queues as queues
 use Rattle.pf_calendar.specs.Invariant.{lists_in, waiting_in, IsLaidOut, IsCalendar}
-use Rattle.pf_calendar.specs.Steps.{HasEntry, Opens}
+use Rattle.pf_calendar.specs.Steps.{SlotsRise, HasEntry, Opens}
 use Rattle.pf_calendar.proofs.Naming.{no_entry, name_count-cons, name_count-nil, lists_same, lists_set, lists-insert, length-lists, slot_at, list_at_place}
 use Rattle.pf_calendar.proofs.Sets.{has_none, insert_cases, remove_in, some_has, len-insert_new, len-remove_one}
 use Rattle.pf_calendar.proofs.Apart.{Has, apart_by, apart_but}
@@ -416,14 +416,19 @@ pub has_unused : {heaps : Heaps} {ready : ℕ} {es : List WaitingList} {unused :
     held < limit → 1 ≤ length unused
 has_unused {es = es} cal free = omega (arith, free, each_one es cal.some, cal.laid.held_is, cal.laid.enough)
 
-pub slots_rise : {heaps : Heaps} {ready : ℕ} {es : List WaitingList} {unused : List ℕ} {held limit room unused_room : ℕ} → IsLaidOut heaps ready es unused held limit room unused_room →
-    IsNonDecreasingBy (λ (e : WaitingList). e.slot) es
-slots_rise {heaps} {es = es} laid i j d le lt =
-    let li : i < length es = omega (arith, le, lt) in
+pub slots_apart : {heaps : Heaps} {ready : ℕ} {es : List WaitingList} {unused : List ℕ} {held limit room unused_room : ℕ} → IsLaidOut heaps ready es unused held limit room unused_room →
+    SlotsRise es
+slots_apart {heaps} {es = es} laid i j d below lt =
+    let li : i < length es = omega (arith, below, lt) in
     let here : (get_or es i d).slot ≡ (get_or (lists_in heaps es) i (0, fin.empty)).0 = ap (λ (x : WaitingList). x.slot) (get_or_default es i d no_entry li) ∙ sym (slot_at heaps es i fin.empty li) in
     let there : (get_or es j d).slot ≡ (get_or (lists_in heaps es) j (0, fin.empty)).0 = ap (λ (x : WaitingList). x.slot) (get_or_default es j d no_entry lt) ∙ sym (slot_at heaps es j fin.empty lt) in
+    omega (arith, here, there, rises (lists_in heaps es) i j (0, fin.empty) laid.rise below (omega (arith, lt, length-lists heaps es)))
+
+pub slots_rise : {heaps : Heaps} {ready : ℕ} {es : List WaitingList} {unused : List ℕ} {held limit room unused_room : ℕ} → IsLaidOut heaps ready es unused held limit room unused_room →
+    IsNonDecreasingBy (λ (e : WaitingList). e.slot) es
+slots_rise {es = es} laid i j d le lt =
     ⊎_elim
-    (λ below. omega (arith, here, there, rises (lists_in heaps es) i j (0, fin.empty) laid.rise below (omega (arith, lt, length-lists heaps es))))
+    (λ below. omega (arith, slots_apart laid i j d below lt))
     (λ ge. omega (arith, ap (λ k. (get_or es k d).slot) (let s : i ≡ j = omega (arith, le, ge) in s)))
     (cases_lt i j)
 

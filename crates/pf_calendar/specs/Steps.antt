@@ -25,6 +25,10 @@ pub record MergesAll (old new : Heaps) (into : ℕ) (names : List ℕ) : Type 0 
   pub emptied : All (λ h. list_of new h ≡ set.empty) names
   pub others : (h : ℕ) → h ≢ into → name_count h names ≡ 0 → list_of new h ≡ list_of old h
 
+-- the entries are for rising slots, no two for one
+abbrev pub SlotsRise : List WaitingList → Type 0
+SlotsRise entries = (i j : ℕ) (d : WaitingList) → i < j → j < length entries → (slice_index_or entries i d).slot < (slice_index_or entries j d).slot
+
 -- the entries before place `at` are for slots below this one, and the others aren't
 pub record IsSlotPlace (entries : List WaitingList) (slot at : ℕ) : Type 0 where
   pub within : at ≤ length entries

@@ -16,3 +16,4 @@ pub mod rows;
 pub mod schedule;
 pub mod schedule_part;
 pub mod script;
+mod tail_text;

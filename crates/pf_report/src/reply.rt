@@ -1,11 +1,13 @@
-ghost use Rattle.std.specs.Prelude.{◌≡◌, ◌++◌, ◌≤◌, codes, length, OnOk};
+ghost use Rattle.std.specs.Prelude.{◌≡◌, ◌+◌, ◌++◌, ◌≤◌, codes, drop, length, take, OnOk};
 ghost use Rattle.std.specs.Fmt.{decimal};
 ghost use Rattle.std.specs.List.{flat_map};
 ghost use Rattle.pf_place.specs.Lent.{lent_row};
 ghost use Rattle.pf_desk.specs.declared.reply.Fault.TheVariants.{WouldDeny};
 ghost use Rattle.pf_desk.specs.Views.{lent_reply};
+ghost use Rattle.pf_report.specs.Tables.{pick_text};
 ghost use Rattle.pf_report.specs.Replies.{reply_line, reply_text, fault_text, edit_fault_text, weight_text, place_text, HasFewPlaces};
 
+use crate::tail_text::TailText;
 use pf_admit::denial::Denial;
 use pf_desk::reply::Fault;
 use pf_desk::reply_view::ReplyView;
@@ -13,7 +15,6 @@ use pf_order::pick::Pick;
 use pf_place::row_view::RowView;
 use pf_scenario::fault::EditFault;
 use pf_text::numbers::push_number;
-use pf_text::pair_text::PairText;
 use std::alloc::AllocError;
 
 /// Adds a reply's line to a text. Its row has at most 64 places.
@@ -27,7 +28,8 @@ pub fn push_reply(text: &mut Vec<u8>, reply: ReplyView<'_>) -> Result<(), AllocE
     ensures { OnOk result (text.new.items ≡ text.old.items ++ reply_line (lent_reply reply.entry)) }
 {
     push_reply_text(text, reply)?;
-    text.extend_from_slice(b"\n")
+    text.push(b'\n')?;
+    Ok(())
 }
 
 fn push_reply_text(text: &mut Vec<u8>, reply: ReplyView<'_>) -> Result<(), AllocError>
@@ -51,17 +53,21 @@ fn push_reply_text(text: &mut Vec<u8>, reply: ReplyView<'_>) -> Result<(), Alloc
 fn push_edited(text: &mut Vec<u8>, id: u64) -> Result<(), AllocError>
     ensures { OnOk result (text.new.items ≡ text.old.items ++ (codes "event " ++ decimal id)) }
 {
-    text.extend_from_slice(b"event ")?;
-    push_number(text, id)
+    let mut words = TailText::new();
+    words.put_number(id);
+    words.put_bytes(b"event ");
+    text.extend_from_slice(words.as_bytes())
 }
 
 /// The slot that was stepped.
 fn push_slot(text: &mut Vec<u8>, slot: u64) -> Result<(), AllocError>
     ensures { OnOk result (text.new.items ≡ text.old.items ++ (codes "slot " ++ (decimal slot ++ codes ":"))) }
 {
-    text.extend_from_slice(b"slot ")?;
-    push_number(text, slot)?;
-    text.extend_from_slice(b":")
+    let mut words = TailText::new();
+    words.put_byte(b':');
+    words.put_number(slot);
+    words.put_bytes(b"slot ");
+    text.extend_from_slice(words.as_bytes())
 }
 
 /// Who sits on each processor, in order.
@@ -70,22 +76,55 @@ fn push_row(text: &mut Vec<u8>, row: RowView<'_>) -> Result<(), AllocError>
     ensures { OnOk result (text.new.items ≡ text.old.items ++ flat_map place_text (lent_row row.entry)) }
 {
     let processors = row.processors() as u32;
-    for processor in 0..processors {
-        push_place(text, row.get(processor))?;
+    for eight in 0..processors.div_ceil(8) {
+        let from = eight * 8;
+        push_places(text, row, from, processors.min(from + 8))?;
     }
     Ok(())
 }
 
-fn push_place(text: &mut Vec<u8>, place: Option<Pick>) -> Result<(), AllocError>
-    ensures { OnOk result (text.new.items ≡ text.old.items ++ place_text place) }
+/// Who sits on the processors from `from` on and below `to`, of which there are at most eight.
+fn push_places(text: &mut Vec<u8>, row: RowView<'_>, from: u32, to: u32) -> Result<(), AllocError>
+    requires order { from ≤ to }
+    requires few { to ≤ from + 8 }
+    requires within { to ≤ length (lent_row row) }
+    ensures { OnOk result (text.new.items ≡ text.old.items ++ flat_map place_text (drop from (take to (lent_row row.entry)))) }
+{
+    let mut places = TailText::new();
+    for processor in (from..to).rev() {
+        put_place(&mut places, row.get(processor));
+    }
+    text.extend_from_slice(places.as_bytes())?;
+    Ok(())
+}
+
+/// Puts who sits on a processor before a text.
+#[inline(always)]
+fn put_place(text: &mut TailText, place: Option<Pick>)
+    requires { length text.old + 22 ≤ 256 }
+    ensures text { text.new ≡ place_text place ++ text.old }
+    ensures room { length text.new ≤ length text.old + 22 }
 {
     match place {
-        None => text.extend_from_slice(b" -"),
-        Some(pick) => {
-            let pair = PairText::of(u64::from(pick.task), u64::from(pick.sub));
-            text.extend_from_slice(pair.behind_blank())
+        None => {
+            text.put_byte(b'-');
+            text.put_byte(b' ');
         }
+        Some(pick) => put_pick(text, pick),
     }
+}
+
+/// Puts a blank, the pick's task, a slash and its subtask before a text.
+#[inline(always)]
+fn put_pick(text: &mut TailText, pick: Pick)
+    requires { length text.old + 22 ≤ 256 }
+    ensures text { text.new ≡ (codes " " ++ pick_text pick) ++ text.old }
+    ensures room { length text.new ≤ length text.old + 22 }
+{
+    text.put_short(pick.sub);
+    text.put_byte(b'/');
+    text.put_short(pick.task);
+    text.put_byte(b' ');
 }
 
 /// Why a command was refused.

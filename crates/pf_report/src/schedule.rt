@@ -1,13 +1,15 @@
 ghost use Rattle.std.specs.Prelude.{◌≡◌, ◌∷◌, [], length, map, IfOk, OnOk};
 ghost use Rattle.std.specs.Fmt.{decimal};
 ghost use Rattle.pf_place.specs.Lent.{lent_row};
-ghost use Rattle.pf_text.specs.Page.{with_field, with_record};
+ghost use Rattle.pf_text.specs.Page.{with_record};
 ghost use Rattle.pf_report.specs.Tables.{schedule_heading, schedule_text, sitter_field};
 
 use crate::rows::{row_at, row_count};
 use pf_desk::snapshot::Snapshot;
 use pf_order::pick::Pick;
 use pf_place::row_view::RowView;
+use pf_text::fields::Fields;
+use pf_text::pair_text::PairText;
 use pf_text::pieces::{Chain, Whole, gathered};
 use pf_text::records::{RecordPieces, Records};
 use pf_text::table::Table;
@@ -26,13 +28,52 @@ pub(crate) fn push_heading(table: &mut Table, processors: u32) -> Result<(), All
     table.end_record()
 }
 
-/// Adds the field of who sits on a processor.
-fn show_sitter(table: &mut Table, sitter: Option<Pick>) -> Result<(), AllocError>
-    ensures { OnOk result (table.new ≡ with_field table.old (sitter_field sitter)) }
+/// The text of who sits on a processor.
+#[inline(always)]
+fn sitter_text(sitter: Option<Pick>) -> PairText
+    ensures { result ≡ sitter_field sitter }
 {
     match sitter {
-        Some(pick) => table.show_pair(u64::from(pick.task), u64::from(pick.sub)),
-        None => table.show_nothing(),
+        Some(pick) => PairText::of(u64::from(pick.task), u64::from(pick.sub)),
+        None => PairText::empty(),
+    }
+}
+
+/// The fields of a slot's record: the slot, and who sits on each processor.
+#[derive(Drop)]
+struct SlotFields<'a> {
+    slot: u64,
+    processors: u32,
+    row: RowView<'a>,
+}
+
+impl<'a> Model for SlotFields<'a> {
+    ghost use Rattle.std.specs.Prelude.{◌≡◌, ◌∷◌, ℕ, List, length, map};
+    ghost use Rattle.std.specs.Fmt.{decimal};
+    ghost use Rattle.pf_place.specs.Lent.{lent_row};
+    ghost use Rattle.pf_report.specs.Tables.{sitter_field};
+
+    ghost Value = { List (List ℕ) };
+
+    ghost view = { λ s. decimal s.slot ∷ map sitter_field (lent_row s.row) };
+
+    ghost invariant = { λ s. length (lent_row s.row) ≡ s.processors };
+}
+
+impl Fields for SlotFields<'_> {
+    ghost texts = { λ s. s };
+
+    fn count(&self) -> usize {
+        self.processors as usize + 1
+    }
+
+    fn field(&self, at: usize) -> PairText {
+        let processors = self.processors;
+        prove!(at <= processors as usize);
+        if at == 0 {
+            return PairText::of_one(self.slot);
+        }
+        sitter_text(self.row.get((at - 1) as u32))
     }
 }
 
@@ -47,11 +88,12 @@ pub(crate) fn push_row(
     requires row { length (lent_row row) ≡ processors }
     ensures { OnOk result (table.new ≡ with_record table.old (decimal t ∷ map sitter_field (lent_row row.entry))) }
 {
-    table.show_number(t)?;
-    for processor in 0..processors {
-        show_sitter(table, row.get(processor))?;
-    }
-    table.end_record()
+    let slot = t;
+    table.push_fields(&SlotFields {
+        slot,
+        processors,
+        row,
+    })
 }
 
 /// The rows of a schedule: those of the slots below now, in order.

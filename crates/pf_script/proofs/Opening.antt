@@ -15,7 +15,7 @@ use Rattle.pf_script.specs.Fields.{is_word}
 use Rattle.pf_script.specs.Parsing.{◌>>=◌, fault_at, heading_at, line_at, names_line, number_at, number_within, of_length, opening_at, record_at, settings_at}
 use Rattle.pf_script.specs.Places.{line_at as first_line, lines_behind}
 use Rattle.pf_script.specs.Told.{Reading, Good, Bad, Missing, reading, readings_from, stage_after}
-use Rattle.pf_script.specs.Answers.{AreLines, IsAsking}
+use Rattle.pf_script.specs.Answers.{AreLines}
 use Rattle.pf_script.specs.Opened.{IsOpening}
 
 -- Use: after the settings each record is a line, or bad.
@@ -127,9 +127,3 @@ beginning number lines (fields ∷ records) = by (is_word fields 0 (codes "pfair
     by true (Ok u) false = tt
     by true (Err fault) second = tt
     by false long second = settings_follow Beginning First number lines fields records (opening_at First fields) (opening_settled First fields)
-
--- a record after the settings is a line
-pub asking : (said : Record) → IsAsking said → ((line : Line) → said ≡ Asks line → ⊥) → ⊥
-asking Heading asks other = asks
-asking (Settings s) asks other = asks
-asking (Asks line) asks other = other line refl

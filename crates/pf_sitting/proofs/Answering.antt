@@ -31,10 +31,6 @@ pub record Midway {A : Type 0} (answers : A → List ℕ → List ℕ → Going 
   pub lines : lines_in line bytes ≡ done ++ lines_in front left
   pub rest : rest_in line bytes ≡ rest_in front left
 
-pub midway_start : {A : Type 0} (answers : A → List ℕ → List ℕ → Going → A → Type 0) (a : A) (line bytes text : List ℕ) → text ≡ []
-    → Midway answers a line bytes text line a bytes
-midway_start answers a line bytes text none = record { done = []; answered = (none, refl); lines = refl; rest = refl }
-
 pub midway_byte : {A : Type 0} (answers : A → List ℕ → List ℕ → Going → A → Type 0) (a : A) (line bytes text front : List ℕ) (b : A) (left : List ℕ)
     (byte : ℕ) (more next : List ℕ) → Midway answers a line bytes text front b left → left ≡ byte ∷ more → (byte == 10) ≡ false → next ≡ longer front byte
     → Midway answers a line bytes text next b more
@@ -54,16 +50,6 @@ midway_line answers a line bytes text front b left byte more answer new c h is a
   lines = h.lines ∙ ap (λ t. h.done ++ t) (ap (λ t. lines_in front t) is ∙ rw at_end refl) ∙ sym (append_assoc h.done (front ∷ []) (lines_in [] more));
   rest = h.rest ∙ ap (λ t. rest_in front t) is ∙ rw at_end refl;
 }
-
-pub midway_end : {A : Type 0} (answers : A → List ℕ → List ℕ → Going → A → Type 0) (a : A) (line bytes text front : List ℕ) (b : A) (left : List ℕ)
-    → Midway answers a line bytes text front b left → left ≡ [] → AnswersAll answers a (lines_in line bytes) text b
-midway_end answers a line bytes text front b left h none =
-    let all : lines_in line bytes ≡ h.done = h.lines ∙ ap (λ t. h.done ++ lines_in front t) none ∙ append-nil h.done in
-    rw all h.answered
-
-pub midway_rest : {A : Type 0} (answers : A → List ℕ → List ℕ → Going → A → Type 0) (a : A) (line bytes text front : List ℕ) (b : A) (left : List ℕ)
-    → Midway answers a line bytes text front b left → left ≡ [] → front ≡ rest_in line bytes
-midway_rest answers a line bytes text front b left h none = sym (h.rest ∙ ap (λ t. rest_in front t) none)
 
 pub midway_last : {A : Type 0} (answers : A → List ℕ → List ℕ → Going → A → Type 0) (a : A) (line bytes text front : List ℕ) (b : A) (left : List ℕ)
     (byte : ℕ) (more answer new : List ℕ) (c : A) → Midway answers a line bytes text front b left → left ≡ byte ∷ more → (byte == 10) ≡ true

@@ -25,9 +25,6 @@ pub record SatSoFar {A D : Type 0} (talk : Talk A D) (a : A) (d : D) (b : A) (e 
   pub rounds : List Round
   pub sits : Sits talk rounds a d [] b e rest
 
-pub sat_none : {A D : Type 0} (talk : Talk A D) (a : A) (d : D) (rest : List ℕ) → rest ≡ [] → SatSoFar talk a d a d rest
-sat_none talk a d rest none = record { rounds = []; sits = (refl, refl, none) }
-
 pub sat_more : {A D : Type 0} (talk : Talk A D) (a : A) (d : D) (b : A) (e : D) (rest : List ℕ) (round : Round) (c : A) (f : D) (next : List ℕ)
     → SatSoFar talk a d b e rest → HasRound talk b e rest round c f → next ≡ rest_in rest round.bytes → SatSoFar talk a d c f next
 sat_more talk a d b e rest round c f next h k is =

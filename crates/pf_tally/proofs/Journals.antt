@@ -79,10 +79,9 @@ module _ (s : Plan) (rows : List (List (Option Pick))) (denials : List Denied) (
   walked_at : IsAt rows (length rows) run.journal.events.items run.walk j
   walked_at = All-contains (IsAt rows (length rows) run.journal.events.items run.walk) (filter_map (join_of run.journal.settings.base) run.journal.events.items) j known.walk at
 
-  pub walked_received : (received : ℕ) → received ≡ option_map_or (λ p. p.windows.sub - 1) (value_of run.walk.progress j.task) 0 → received ≡ length (slots_in rows j.task)
+  pub walked_received : (received : ℕ) → received ≡ option_map_or (λ p. p.received) (value_of run.walk.progress j.task) 0 → received ≡ length (slots_in rows j.task)
   walked_received received is =
-      is ∙ ap (λ o. option_map_or (λ p. p.windows.sub - 1) o 0) (let a = walked_at in a.progress)
-      ∙ (let n = length (slots_in (take (length rows) rows) j.task) in let same : n + 1 - 1 ≡ n = omega arith in same)
+      is ∙ ap (λ o. option_map_or (λ p. p.received) o 0) (let a = walked_at in a.progress)
       ∙ ap (λ rows. length (slots_in rows j.task)) (take_all (length rows) rows (omega arith))
 
   pub walked_delays : (held : List Held) → held ≡ noted_of run.walk.delays j.task → held ≡ held_from (next_in (slots_in rows j.task)) j j.slot run.journal.events.items
@@ -106,7 +105,7 @@ module _ (s : Plan) (rows : List (List (Option Pick))) (denials : List Denied) (
       subst P (sym (walked_delays held is)) (stops_within j (slots_in rows j.task) run.journal.events.items run.journal.now can.share can.rise can.joined)
 
   pub walked_lag : (held : List Held) (clock received : ℕ) (lag : Lag) → held ≡ noted_of run.walk.delays j.task → clock + stopped_below run.journal.now j.weight held ≡ run.journal.now - j.slot →
-      received ≡ option_map_or (λ p. p.windows.sub - 1) (value_of run.walk.progress j.task) 0 →
+      received ≡ option_map_or (λ p. p.received) (value_of run.walk.progress j.task) 0 →
       lag ≡ record { task = j.task; cost = j.weight.cost; period = j.weight.period; received = received; scaled = pos (j.weight.cost * clock) -ℤ pos (j.weight.period * received) } →
       lag ≡ lag_of (run_of s (length rows)) run.journal.events.items j
   walked_lag held clock received lag of_held of_clock of_received of_lag =
@@ -120,7 +119,7 @@ module _ (s : Plan) (rows : List (List (Option Pick))) (denials : List Denied) (
   journal_misses held is = can_miss j (slots_in rows j.task) run.journal.events.items run.journal.now held journal_can (walked_delays held is)
 
   pub walked_misses : (held : List Held) (late : List Miss) (received last : ℕ) (diary : List Numbered) (misses mid after : List Miss) → held ≡ noted_of run.walk.delays j.task → late ≡ noted_of run.walk.late j.task →
-      received ≡ option_map_or (λ p. p.windows.sub - 1) (value_of run.walk.progress j.task) 0 → diary ≡ noted_of run.journal.diaries j.task →
+      received ≡ option_map_or (λ p. p.received) (value_of run.walk.progress j.task) 0 → diary ≡ noted_of run.journal.diaries j.task →
       ((t : ℕ) → nat_le t last ≡ (nat_le t run.journal.now && leaves_after diary j t)) → mid ≡ misses ++ filter (λ m. nat_le m.deadline last) late →
       ((ran : List ℕ) (start : List Miss) → length ran ≡ received → mid ≡ start ++ late_misses j ran held last received → after ≡ start ++ late_misses j ran held last run.journal.now) →
       after ≡ misses ++ misses_of_task (run_of s (length rows)) run.journal.events.items j

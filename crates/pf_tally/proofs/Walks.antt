@@ -183,8 +183,8 @@ row_walked rows t row xs j old new within is earlier ran at =
 within_once : (b : Bool) (t most : ℕ) (v : Option Progress) → IsWithin t most v → IsWithin (t + 1) most (cond b (with_quantum v) v)
 within_once true t most None small = tt
 within_once false t most None small = tt
-within_once true t most (Some p) small = let h : p.windows.sub ≤ t + 1 = small.0 in (omega arith, small.1)
-within_once false t most (Some p) small = let h : p.windows.sub ≤ t + 1 = small.0 in (omega arith, small.1)
+within_once true t most (Some p) small = let h : p.received ≤ t = small.0 in (omega arith, small.1)
+within_once false t most (Some p) small = let h : p.received ≤ t = small.0 in (omega arith, small.1)
 
 pub within_ran : (old new : Walk) (ran : ℕ → Bool) (t most : ℕ) → HaveRun old new ran t → AreWithin t most old → AreWithin (t + 1) most new
 within_ran old new ran t most have small = record {
@@ -328,7 +328,7 @@ within_more t most t' most' walk later wider small = record { none = small.none;
   where
     one_more : (v : Option Progress) → IsWithin t most v → IsWithin t' most' v
     one_more None small = tt
-    one_more (Some p) small = let low : p.windows.sub ≤ t + 1 = small.0 in let short : p.shift ≤ most = small.1 in (omega arith, omega arith)
+    one_more (Some p) small = let low : p.received ≤ t = small.0 in let short : p.shift ≤ most = small.1 in (omega arith, omega arith)
 
 within_event : (old new : Walk) (t most : ℕ) (system : System) (x : Event) → IsEvent system x → HasEvent old new x → AreWithin t most old → AreWithin t (most + LONGEST_DELAY) new
 within_event old new t most system (Delay slot task by) limits has small = record {

@@ -1,5 +1,5 @@
 -- The misses of a task, by the slots in which it ran and by its delays.
-use Rattle.std.specs.Prelude.{ℕ, ◌+◌, ◌-◌, ◌<◌, ◌≤◌, Bool, true, ◌&&◌, nat_le, cond, List, All, map, filter, sum_by}
+use Rattle.std.specs.Prelude.{ℕ, ◌+◌, ◌-◌, ◌<◌, ◌≤◌, Bool, true, ◌&&◌, nat_le, cond, Some, List, All, map, filter, sum_by}
 use Rattle.std.specs.List.{slice_get, range_with_len}
 use Rattle.std.specs.Option.{option_map_or}
 use Rattle.pf_weight.specs.Share.{IsShare}
@@ -22,6 +22,10 @@ due_at j held i = deadline_of j.weight i + (j.slot + sum_by (hold_of i) held)
 -- the shifted release of subtask i
 abbrev pub released_at : Joined → List Held → ℕ → ℕ
 released_at j held i = release_of j.weight i + (j.slot + sum_by (hold_of i) held)
+
+-- the miss of subtask i, due in the slot `due`, that runs in slot t
+abbrev pub ran_late : ℕ → ℕ → ℕ → ℕ → Miss
+ran_late task i due t = record { task = task; sub = i; deadline = due; ran = Some t }
 
 -- subtask i is due by the last slot, and did not run before it was due
 abbrev pub is_late : Joined → List ℕ → List Held → ℕ → ℕ → Bool

@@ -13,7 +13,7 @@ use Rattle.pf_run.specs.Inside.{Joined}
 use Rattle.pf_table.specs.Grown.{value_of}
 use Rattle.pf_table.specs.Lists.{noted_of}
 use Rattle.pf_tally.specs.Held.{delay_from, next_in, held_from}
-use Rattle.pf_tally.specs.Late.{due_at}
+use Rattle.pf_tally.specs.Late.{due_at, ran_late}
 use Rattle.pf_tally.specs.Quanta.{slots_in}
 use Rattle.pf_tally.specs.declared.held.Held.{Held}
 use Rattle.pf_tally.specs.declared.miss.Miss.{Miss}
@@ -22,8 +22,7 @@ use Rattle.pf_tally.specs.declared.walk.Walk.{Walk}
 
 -- the miss of subtask i that runs in slot t, where it is due in the slot `due`
 abbrev pub late_quantum : ℕ → ℕ → ℕ → ℕ → List Miss
-late_quantum task i due t =
-    cond (nat_le due t) (record { task = task; sub = i; deadline = due; ran = Some t } ∷ []) []
+late_quantum task i due t = cond (nat_le due t) (ran_late task i due t ∷ []) []
 
 -- the misses of the subtasks from i on, which run in these slots
 abbrev pub late_quanta : Joined → List Held → ℕ → List ℕ → List Miss
@@ -36,7 +35,7 @@ delays_in rows j xs = held_from (next_in (slots_in rows j.task)) j j.slot xs
 
 -- how far a task of this weight has come that received so many quanta and has this shift
 abbrev pub come : Share → ℕ → ℕ → Progress
-come w received shift = record { windows = record { weight = w; sub = received + 1 }; shift = shift }
+come w received shift = record { weight = w; received = received; shift = shift }
 
 -- how far a task has come behind the first t rows and these events
 abbrev pub progress_at : List (List (Option Pick)) → ℕ → List Numbered → Joined → Progress
@@ -58,7 +57,7 @@ pub record AreApart (tasks : List Joined) : Type 0 where
 -- so many quanta and slots of shift are the most that a task has
 abbrev pub IsWithin : ℕ → ℕ → Option Progress → Type 0
 IsWithin t most None = Unit {0}
-IsWithin t most (Some p) = (p.windows.sub ≤ t + 1) × (p.shift ≤ most)
+IsWithin t most (Some p) = (p.received ≤ t) × (p.shift ≤ most)
 
 pub record AreWithin (t most : ℕ) (walk : Walk) : Type 0 where
   pub none : walk.progress.1 ≡ None
@@ -72,12 +71,12 @@ pub record IsNew (tasks : List Joined) (walk : Walk) : Type 0 where
 -- one quantum more
 abbrev pub with_quantum : Option Progress → Option Progress
 with_quantum None = None
-with_quantum (Some p) = Some (come p.windows.weight p.windows.sub p.shift)
+with_quantum (Some p) = Some (come p.weight (p.received + 1) p.shift)
 
 -- the miss of that quantum, in slot t
 abbrev pub late_of : ℕ → ℕ → Option Progress → List Miss
 late_of task t None = []
-late_of task t (Some p) = late_quantum task p.windows.sub (deadline_of p.windows.weight p.windows.sub + p.shift) t
+late_of task t (Some p) = late_quantum task (p.received + 1) (deadline_of p.weight (p.received + 1) + p.shift) t
 
 -- the tasks that pass the test ran in slot t
 pub record HaveRun (old new : Walk) (ran : ℕ → Bool) (t : ℕ) : Type 0 where
@@ -94,12 +93,12 @@ pub record HasWalked (rows : List (List (Option Pick))) (from to : ℕ) (old new
 -- one delay more
 abbrev pub with_delay : ℕ → Option Progress → Option Progress
 with_delay by None = None
-with_delay by (Some p) = Some (record { windows = p.windows; shift = p.shift + by })
+with_delay by (Some p) = Some (come p.weight p.received (p.shift + by))
 
 -- what it holds back
 abbrev pub held_of : ℕ → Option Progress → List Held
 held_of by None = []
-held_of by (Some p) = record { sub = p.windows.sub; shift = p.shift; by = by } ∷ []
+held_of by (Some p) = record { sub = p.received + 1; shift = p.shift; by = by } ∷ []
 
 -- the task was delayed by so many slots
 pub record IsHeldBack (old new : Walk) (task by : ℕ) : Type 0 where

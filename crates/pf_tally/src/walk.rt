@@ -24,7 +24,6 @@ use pf_scenario::event::{Event, Numbered};
 use pf_scenario::settings::Settings;
 use pf_table::lists::Lists;
 use pf_table::table::Table;
-use pf_window::windows::Windows;
 use std::alloc::{AllocError, Global};
 
 /// A walk over the slots of a run and its events in force: how far the tasks have come, and what was found on the way.
@@ -52,7 +51,8 @@ impl Walk {
             progress.set(
                 number,
                 Some(Progress {
-                    windows: Windows::at(task.weight, 1),
+                    weight: task.weight,
+                    received: 0,
                     shift: task.slot,
                 }),
             );
@@ -67,10 +67,10 @@ impl Walk {
     /// How many quanta the task has received.
     pub fn received(&self, task: Admitted) -> u64
         requires { task.task ≤ LARGEST_TASK }
-        ensures { result ≡ option_map_or (λ p. p.windows.sub - 1) (value_of self.entry.now.progress task.task) 0 }
+        ensures { result ≡ option_map_or (λ p. p.received) (value_of self.entry.now.progress task.task) 0 }
     {
         match self.progress.get(task.task as u32) {
-            Some(progress) => u64::from(progress.windows.sub()) - 1,
+            Some(progress) => u64::from(progress.received),
             None => 0,
         }
     }
@@ -97,17 +97,10 @@ impl Walk {
         ensures { OnOk result (HaveRun self.old self.new (λ n. task == n) t) }
     {
         if let Some(mut progress) = self.progress.get(task) {
-            let due = progress.windows.deadline() + progress.shift;
-            if due <= t {
-                let miss = Miss {
-                    task,
-                    sub: progress.windows.sub(),
-                    deadline: due,
-                    ran: Some(t),
-                };
-                self.late.note(u64::from(task), miss)?;
+            if progress.is_due(t) {
+                self.late.note(u64::from(task), progress.ran_late(task, t))?;
             }
-            progress.windows.advance();
+            progress.received += 1;
             self.progress.set(task, Some(progress));
         }
         Ok(())
@@ -163,7 +156,7 @@ impl Walk {
         let number = task as u32;
         if let Some(mut progress) = self.progress.get(number) {
             let held = Held {
-                sub: u64::from(progress.windows.sub()),
+                sub: u64::from(progress.received) + 1,
                 shift: progress.shift,
                 by,
             };

@@ -3,6 +3,7 @@
 //! its records.
 #![tactic(auto)]
 
+pub mod fields;
 pub mod numbers;
 pub mod pair_text;
 pub mod pieces;

@@ -4,8 +4,8 @@ use std::marker::Model;
 /// The bytes of the longest text: a blank, two numbers of 20 digits and the slash between them.
 const LONGEST: usize = 42;
 
-/// The text of two numbers with a slash between them, as `12/3`. It takes no memory, and whoever adds it to a longer text
-/// adds it in one move.
+/// The text of two numbers with a slash between them, as `12/3`, or of one number, or none. It takes no memory, and whoever
+/// adds it to a longer text adds it in one move.
 #[derive(Drop)]
 pub struct PairText {
     /// The text stands at the end, and a blank before it.
@@ -26,10 +26,33 @@ impl Model for PairText {
 }
 
 impl PairText {
-    ghost use Rattle.std.specs.Prelude.{◌≡◌, ◌++◌, codes};
+    ghost use Rattle.std.specs.Prelude.{◌≡◌, ◌++◌, [], codes};
     ghost use Rattle.std.specs.Fmt.{decimal};
 
+    /// No text.
+    #[inline(always)]
+    pub fn empty() -> Self
+        ensures { result ≡ [] }
+    {
+        PairText {
+            bytes: [b' '; LONGEST],
+            start: LONGEST,
+        }
+    }
+
+    /// The text of this number.
+    #[inline(always)]
+    pub fn of_one(number: u64) -> Self
+        ensures { result ≡ decimal number }
+    {
+        let mut bytes = [b' '; LONGEST];
+        let start = write_digits(number, &mut bytes, LONGEST);
+        bytes[start - 1] = b' ';
+        PairText { bytes, start }
+    }
+
     /// The text of these two numbers.
+    #[inline(always)]
     pub fn of(first: u64, second: u64) -> Self
         ensures { result ≡ decimal first ++ codes "/" ++ decimal second }
     {
@@ -42,6 +65,7 @@ impl PairText {
     }
 
     /// The text.
+    #[inline(always)]
     pub fn as_bytes(&self) -> &[u8]
         ensures { result.now ≡ self.now }
     {

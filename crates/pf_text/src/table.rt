@@ -1,6 +1,9 @@
-ghost use Rattle.std.specs.Prelude.{◌≡◌, ◌++◌, ◌∷◌, [], OnOk};
+ghost use Rattle.std.specs.Prelude.{◌≡◌, ◌++◌, ◌∷◌, [], true, OnOk};
 ghost use Rattle.csv.specs.Records.{fields_of, partial_of};
+ghost use Rattle.csv.specs.Writing.{default_writer, row_text};
+ghost use Rattle.pf_text.specs.Page.{IsBetweenRecords, text_given};
 
+use crate::fields::Fields;
 use crate::pair_text::PairText;
 use crate::pieces::LONG_PIECE;
 use csv::{ByteRecord, Writer};
@@ -99,6 +102,21 @@ impl Table {
         }
     }
 
+    /// Adds a record of these fields: the text of `show` for each and `end_record`, but no field is kept on the way.
+    pub fn push_fields<F: Fields>(&mut self, fields: &F) -> Result<(), AllocError>
+        requires { self.old.fields ≡ [] }
+        ensures { OnOk result (self.new ≡ with_record self.old (F.texts fields.now)) }
+    {
+        if self.broken {
+            return Err(AllocError);
+        }
+        if write_fields(&mut self.writer, fields) {
+            return Ok(());
+        }
+        self.broken = true;
+        Err(AllocError)
+    }
+
     /// Adds a record of these texts: a heading.
     pub fn push_texts(&mut self, texts: &[&str]) -> Result<(), AllocError>
         requires { self.old.fields ≡ [] }
@@ -125,6 +143,23 @@ impl Table {
             Ok(text) => Ok(text),
             Err(_) => Err(AllocError),
         }
+    }
+}
+
+/// Writes a record of these fields, and says whether no write failed.
+fn write_fields<F: Fields>(writer: &mut Writer<Vec<u8>>, fields: &F) -> bool
+    requires { IsBetweenRecords writer.old }
+    ensures text { result ≡ true → text_given writer.new ≡ text_given writer.old ++ row_text default_writer (F.texts fields.now) }
+    ensures between { result ≡ true → IsBetweenRecords writer.new }
+{
+    for at in 0..fields.count() {
+        if let Err(_) = writer.write_field(fields.field(at).as_bytes()) {
+            return false;
+        }
+    }
+    match writer.end_record() {
+        Ok(()) => true,
+        Err(_) => false,
     }
 }
 

@@ -1,2 +1,4 @@
+pub use Rattle.pf_cli.specs.Answers
 pub use Rattle.pf_cli.specs.Carried
+pub use Rattle.pf_cli.specs.Meaning
 pub mod Answer

@@ -3,3 +3,6 @@
 #![tactic(auto)]
 
 pub mod why;
+
+// For what shows a slot beside a whole run.
+pub use pf_cli::run;

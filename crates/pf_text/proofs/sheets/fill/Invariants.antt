@@ -1,4 +1,4 @@
-use Rattle.std.proofs.Common.{◌≡◌, ◌++◌, [], length}
+use Rattle.std.proofs.Common.{◌≡◌, ◌++◌, []}
 use Rattle.pf_text.specs.Page.{table_text}
 use Rattle.pf_text.proofs.sheets.fill.Given as goal
 

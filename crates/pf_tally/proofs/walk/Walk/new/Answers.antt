@@ -1,7 +1,6 @@
 use Rattle.std.proofs.Common.{◌≡◌, ◌∙◌, arith, sym, ap}
 use Rattle.std.proofs.Common.{Some}
 use Rattle.pf_table.specs.Grown.{with_value}
-use Rattle.pf_tally.specs.declared.progress.Progress.{Progress}
 use Rattle.pf_tally.proofs.Walks.{task_entered, new_progress, room_made}
 use Rattle.pf_tally.proofs.walk.Walk.new.Goals as goal
 
@@ -11,5 +10,4 @@ loop-task-preserved c =
     let room = room_made _ c.loop-task.progress c.reserve.new.self c.in_ok-reserve.ensures.ok in
     task_entered c.args.tasks.now c.loop-task.task-index c.task-item.result c.loop-task.progress c.reserve.new.self c.set.new.self c.requires (omega arith) (sym c.task-item.is)
     (ap (λ t. t.1) c.in_ok-reserve.ensures.ok) c.in_ok-reserve.ensures.same (omega arith)
-    (c.set.ensures ∙ ap (λ w. with_value c.reserve.new.self c.task.inside.task (Some (let p : Progress = record { windows = w; shift = c.task.inside.slot } in p))) c.at.ensures
-    ∙ ap (λ j. with_value c.reserve.new.self j.task (Some (new_progress j))) c.task.view_is) c.loop-task.invariant
+    (c.set.ensures ∙ ap (λ j. with_value c.reserve.new.self j.task (Some (new_progress j))) c.task.view_is) c.loop-task.invariant

@@ -1,0 +1,11 @@
+use Rattle.std.proofs.Common.{length, length-append, ap, arith}
+use Rattle.std.specs.Fmt.{decimal}
+use Rattle.pf_report.proofs.Replying.{ten_digits}
+use Rattle.pf_report.proofs.tail_text.TailText.put_short.Goals as goal
+
+pub put_digits-requires : goal.put_digits-requires
+put_digits-requires c = omega (arith, ap (λ n. length (decimal n)) c.from.ensures, ten_digits c.args.number c.ranges.number.fits)
+
+pub returns-clause-room : goal.returns-clause-room
+returns-clause-room c =
+    omega (arith, ap length c.put_digits.ensures, ap (λ n. length (decimal n)) c.from.ensures, length-append (decimal c.from.result) c.args.self.now, ten_digits c.args.number c.ranges.number.fits)
