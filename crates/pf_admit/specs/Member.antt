@@ -1,6 +1,6 @@
 -- What admission looks at of a task that is inside.
 use Rattle.std.specs.Prelude.{ℕ, ◌+◌, ◌^◌, ◌<◌, if◌then◌else◌, ◌==◌}
-use Rattle.pf_weight.specs.Share.{is_heavy}
+use Rattle.pf_window.specs.Share.{is_heavy}
 use Rattle.pf_window.specs.Window.{release_of, deadline_of, bit_of}
 use Rattle.pf_window.specs.Group.{group_of}
 use Rattle.pf_admit.specs.declared.member.Member.{Member}

@@ -5,3 +5,5 @@
 pub mod denial;
 pub mod member;
 pub mod rules;
+
+pub use pf_window::release;

@@ -5,7 +5,7 @@ ghost use Rattle.pf_desk.specs.Machine.{opening_state};
 ghost use Rattle.pf_script.specs.Asked.{commands_in, commands_of};
 ghost use Rattle.pf_script.specs.Opened.{IsOpening};
 ghost use Rattle.pf_script.specs.Told.{told};
-ghost use Rattle.pf_timeline.specs.Checkpoints.{largest_distance};
+ghost use Rattle.pf_desk.specs.Checkpoints.{largest_distance};
 ghost use Rattle.pf_carry.specs.Carried.{HasAnswered, HasTaken, IsOf, IsOpened, Stops};
 
 use csv::ByteRecord;

@@ -11,7 +11,7 @@ use Rattle.pf_run.specs.RunRows.{AreOfRun, denials_in}
 use Rattle.pf_tally.specs.Standing.{AreNumbersOf}
 use Rattle.pf_tally.proofs.InForce.{kept_in_force, in_force-append}
 use Rattle.pf_report.proofs.Places.{length-rows}
-use Rattle.pf_desk.specs.Desk.{Seen}
+use Rattle.pf_report.specs.Desk.{Seen}
 use Rattle.pf_chart.specs.Built.{count_by_denials}
 use Rattle.pf_chart.specs.Listing.{counts_of}
 

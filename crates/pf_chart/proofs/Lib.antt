@@ -1,3 +1,4 @@
+pub use Rattle.pf_report.proofs.Places
 pub mod Cuts
 pub mod Drawn
 pub mod Built

@@ -9,7 +9,7 @@ use crate::labels::Labels;
 use crate::line::push_line;
 use crate::listed::{Listed, symbol_of};
 use crate::ruler::push_rulers;
-use pf_desk::snapshot::Snapshot;
+use pf_report::snapshot::Snapshot;
 use pf_place::row_view::RowView;
 use pf_report::rows::row_at;
 use std::alloc::{AllocError, Global};

@@ -9,7 +9,7 @@ use crate::frame::{head, legend, task_head, task_legend};
 use crate::labels::Labels;
 use crate::listed::Listed;
 use crate::listings::listings;
-use pf_desk::snapshot::Snapshot;
+use pf_report::snapshot::Snapshot;
 use pf_names::titles::Titles;
 use pf_tasks::task_list::TaskList;
 use pf_text::pieces::{Chain, Pieces, Whole, gathered};

@@ -6,3 +6,5 @@
 pub mod checker;
 pub mod laws;
 pub mod report;
+
+pub use pf_script::fields;

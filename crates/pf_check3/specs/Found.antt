@@ -7,7 +7,7 @@ use Rattle.pf_fault.specs.declared.answer.Answer.{Answer}
 use Rattle.pf_fault.specs.declared.status.Status.TheVariants.{BadScript, Done}
 use Rattle.pf_fault.specs.Answers.{IsQuiet}
 use Rattle.pf_rows.specs.Rows.{Row}
-use Rattle.pf_script.specs.Fields.{field}
+use Rattle.pf_check.specs.Fields.{field}
 use Rattle.pf_version3.specs.declared.fault.BadRecord.{BadRecord}
 use Rattle.pf_version3.specs.declared.fault.RecordFault.{RecordFault}
 use Rattle.pf_version3.specs.declared.said.Said.{Said}

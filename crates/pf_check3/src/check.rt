@@ -6,7 +6,7 @@ use crate::found::Found;
 use csv::ByteRecord;
 use pf_fault::answer::Answer;
 use pf_rows::rows::{NextRow, Rows};
-use pf_script::fields::Fields;
+use pf_check::fields::Fields;
 use pf_version3::fault::BadRecord;
 use std::alloc::{AllocError, Global};
 

@@ -15,7 +15,7 @@ use Rattle.pf_names.specs.declared.named.Named.{Named}
 use Rattle.pf_plain.specs.Plain.{IsPlain, Plain, plain}
 use Rattle.pf_plain.specs.declared.plain.PlainScript.{PlainScript}
 use Rattle.pf_plain.specs.declared.origin.Origin.{Origin}
-use Rattle.pf_recount.specs.Recount.{Recounted, recounted}
+use Rattle.pf_fit_command.specs.Recount.{Recounted, recounted}
 use Rattle.pf_rows.specs.Rows.{rows}
 use Rattle.pf_run.specs.Computed.{run_of}
 use Rattle.pf_run_notes.specs.Notes.{lists_text}

@@ -2,7 +2,7 @@ ghost use Rattle.std.specs.Prelude.{false, ◌≡◌, ◌++◌, Some, IfOk, IfEr
 ghost use Rattle.std.specs.Option.{option_map};
 ghost use Rattle.pf_carry.specs.Carried.{IsOf, Stops};
 ghost use Rattle.pf_fault.specs.Faults.{IsUnwritten};
-ghost use Rattle.pf_recount.specs.Recount.{recounted};
+ghost use Rattle.pf_fit_command.specs.Recount.{recounted};
 ghost use Rattle.pf_script.specs.Told.{told};
 ghost use Rattle.pf_check_run.specs.Answers.{Carries, counted_text, lists_of, most_lines, status_of_lines, totals_line, totals_of};
 
@@ -15,8 +15,8 @@ use pf_fault::fault::Fault;
 use pf_fault::status::Status;
 use pf_names::names::Names;
 use pf_plain::origin::Origin;
-use pf_recount::recount::Recount;
-use pf_recount::recounting::recount;
+use pf_fit_command::recount::Recount;
+use pf_fit_command::recounting::recount;
 use pf_run_notes::behind_run::lists;
 use pf_text::numbers::push_number;
 use std::alloc::{AllocError, Global};

@@ -9,3 +9,5 @@ pub mod check_run;
 mod fault_lines;
 mod faults;
 mod found;
+
+pub use pf_fit_command::fit;

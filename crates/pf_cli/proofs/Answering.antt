@@ -9,7 +9,7 @@ use Rattle.pf_desk.specs.Desk.{Seen, Shown, StandsForHistory}
 use Rattle.pf_script.specs.Told.{Told, told}
 use Rattle.pf_stream.specs.Written.{CountsOutput, TookFront}
 use Rattle.pf_stream.proofs.Sending.{none_written, took-after, took-before}
-use Rattle.pf_full.specs.declared.refusal.Refusal.{Refusal}
+use Rattle.pf_formats.specs.Refusal.{Refusal}
 use Rattle.pf_names.specs.declared.titles.Titles.{Titles}
 use Rattle.pf_plain.specs.declared.origin.Origin.{Origin}
 use Rattle.pf_options.specs.declared.format.Format.{Format}

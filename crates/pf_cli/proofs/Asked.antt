@@ -1,7 +1,7 @@
 -- A desk at which a script ends has carried it out.
 use Rattle.std.proofs.Common.{◌≡◌, ◌∙◌, ℕ, List, [], ◌∷◌, ◌++◌, Option, Some, None, Result, Ok, Err, refl, sym, ap, append-nil, append_assoc}
 use Rattle.std.specs.Prelude.{IfOk}
-use Rattle.pf_carry.specs.Carried.{IsOf}
+use Rattle.pf_recount.specs.Carried.{IsOf}
 use Rattle.pf_desk.specs.Desk.{Shown}
 use Rattle.pf_desk.specs.Machine.{reply_to}
 use Rattle.pf_desk.specs.declared.command.Command.{Command}

@@ -8,7 +8,7 @@ use Rattle.std.proofs.lemmas.List.{append-nil, drop-append-le, length-append, le
 use Rattle.std.proofs.lemmas.List.Elements.{All-nil, All-cons, All-append}
 use Rattle.std.proofs.lemmas.List.Folds.{list_any-append}
 use Rattle.pf_run.specs.RunRows.{rows_in, denials_in}
-use Rattle.pf_carry.specs.Carried.{asked_in}
+use Rattle.pf_recount.specs.Carried.{asked_in}
 use Rattle.pf_desk.specs.declared.command.Command.{Command}
 use Rattle.pf_desk.specs.declared.entry.Entry.{Entry}
 use Rattle.pf_desk.specs.declared.reply.Reply.{Reply}

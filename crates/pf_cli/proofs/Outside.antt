@@ -6,7 +6,7 @@ use Rattle.std.proofs.lemmas.Bool.{le-leb}
 use Rattle.std.proofs.lemmas.List.{append-nil}
 use Rattle.pf_script.specs.Told.{Told, told}
 use Rattle.pf_stream.specs.Reading.{longest_script}
-use Rattle.pf_full.specs.declared.refusal.Refusal.{Refusal}
+use Rattle.pf_formats.specs.Refusal.{Refusal}
 use Rattle.pf_names.specs.declared.titles.Titles.{Titles}
 use Rattle.pf_plain.specs.declared.origin.Origin.{Origin}
 use Rattle.pf_options.specs.declared.format.Format.{Format}

@@ -2,7 +2,7 @@
 use Rattle.std.proofs.Common.{◌≡◌, ℕ, true, List, [], map, Option, Some, Result, Ok, Err}
 use Rattle.std.specs.Prelude.{IfOk, Vec}
 use Rattle.std.specs.declared.alloc.Global.{Global}
-use Rattle.pf_full.specs.declared.refusal.Refusal.{Refusal}
+use Rattle.pf_formats.specs.Refusal.{Refusal}
 use Rattle.pf_options.specs.Formats.{tells_refusals}
 use Rattle.pf_options.specs.declared.format.Format.{Format}
 use Rattle.pf_plain.specs.declared.origin.Origin.{Origin}

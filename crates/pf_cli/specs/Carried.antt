@@ -2,7 +2,7 @@
 use Rattle.std.specs.Prelude.{⊤, ℕ, ◌≡◌, ◌+◌, ◌*◌, ◌<◌, Bool, true, false, if◌then◌else◌, List, [], ◌++◌, length, Option, Result, Ok, Err}
 use Rattle.std.specs.Io.KnownBytes.{Appends}
 use Rattle.pf_desk.specs.Desk.{Seen, Shown}
-use Rattle.pf_full.specs.declared.refusal.Refusal.{Refusal}
+use Rattle.pf_formats.specs.Refusal.{Refusal}
 use Rattle.pf_names.specs.declared.titles.Titles.{Titles}
 use Rattle.pf_script.specs.Told.{Told}
 use Rattle.pf_options.specs.declared.format.Format.{Format}

@@ -1,3 +1,4 @@
+pub use Rattle.pf_formats.specs.Report
 pub use Rattle.pf_stream.specs.Counted
 pub use Rattle.pf_stream.specs.Failing
 pub use Rattle.pf_stream.specs.Written

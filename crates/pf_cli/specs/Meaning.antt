@@ -6,8 +6,8 @@ use Rattle.pf_run.specs.RunRows.{rows_in, denials_in}
 use Rattle.pf_desk.specs.declared.command.Command.{Command}
 use Rattle.pf_desk.specs.Machine.{State, opening_state, reply_to, state_after}
 use Rattle.pf_desk.specs.Desk.{Seen, Shown}
-use Rattle.pf_carry.specs.Carried.{asked_in}
-use Rattle.pf_full.specs.declared.refusal.Refusal.{Refusal}
+use Rattle.pf_recount.specs.Carried.{asked_in}
+use Rattle.pf_formats.specs.Refusal.{Refusal}
 use Rattle.pf_plain.specs.declared.origin.Origin.{Origin}
 use Rattle.pf_stream.specs.Reading.{longest_script}
 use Rattle.pf_script.specs.declared.record.ScriptSettings.{ScriptSettings}

@@ -1,7 +1,7 @@
 -- The refused records that a report tells of.
 use Rattle.std.specs.Prelude.{ℕ, true, if◌then◌else◌, Option, List, [], map}
 use Rattle.std.specs.Option.{option_map_or}
-use Rattle.pf_full.specs.declared.refusal.Refusal.{Refusal}
+use Rattle.pf_formats.specs.Refusal.{Refusal}
 use Rattle.pf_options.specs.Formats.{tells_refusals}
 use Rattle.pf_options.specs.declared.format.Format.{Format}
 use Rattle.pf_plain.specs.declared.origin.Origin.{Origin}

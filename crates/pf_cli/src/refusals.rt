@@ -1,12 +1,12 @@
 ghost use Rattle.std.specs.Prelude.{◌≡◌, true, [], Some, map, IfOk};
 ghost use Rattle.std.specs.Option.{option_map};
-ghost use Rattle.pf_carry.specs.Carried.{IsOf};
+ghost use Rattle.pf_recount.specs.Carried.{IsOf};
 ghost use Rattle.pf_recount.specs.Recount.{recounted};
 ghost use Rattle.pf_script.specs.Told.{told};
 ghost use Rattle.pf_cli.specs.Refusals.{refusal_of, refusals_for};
 
 use pf_desk::desk::Desk;
-use pf_full::refusal::Refusal;
+use pf_formats::refusal::Refusal;
 use pf_names::names::Names;
 use pf_options::format::Format;
 use pf_plain::origin::Origin;

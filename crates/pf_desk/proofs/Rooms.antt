@@ -17,10 +17,10 @@ use Rattle.pf_scenario.specs.declared.fault.EditFault.{EditFault}
 use Rattle.pf_scenario.proofs.Scenarios.{changes_keep_scenarios}
 use Rattle.pf_scenario.proofs.Keeping.{alter_held}
 use Rattle.pf_run.proofs.Containing.{contains_head}
-use Rattle.pf_promise.specs.Laws.{LeavesRoom}
-use Rattle.pf_promise.proofs.Sets.{list_any-contains}
-use Rattle.pf_promise.proofs.Counted.{in_map}
-use Rattle.pf_promise.proofs.Settings.{settings_suffice}
+use Rattle.pf_fit.specs.Laws.{LeavesRoom}
+use Rattle.pf_fit.proofs.Sets.{list_any-contains}
+use Rattle.pf_fit.proofs.Counted.{in_map}
+use Rattle.pf_fit.proofs.Settings.{settings_suffice}
 use Rattle.pf_desk.specs.declared.command.Command.{Command}
 use Rattle.pf_desk.specs.declared.command.Command.TheVariants.{Edit, Step}
 use Rattle.pf_desk.specs.declared.reply.Reply.{Reply}

@@ -1,3 +1,4 @@
+pub use Rattle.pf_timeline.specs.declared.timeline.TheConstants
 pub use Rattle.pf_order.specs.Counts
 pub use Rattle.pf_order.specs.Counted
 pub use Rattle.pf_scenario.specs.System

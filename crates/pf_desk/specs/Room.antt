@@ -10,7 +10,7 @@ use Rattle.pf_scenario.specs.declared.change.Change.TheVariants.{Insert, Alter, 
 use Rattle.pf_run.specs.Record.{Slot}
 use Rattle.pf_run.specs.Run.{IsRun}
 use Rattle.pf_tally.specs.Misses.{misses_of}
-use Rattle.pf_promise.specs.Laws.{LeavesRoom}
+use Rattle.pf_fit.specs.Laws.{LeavesRoom}
 use Rattle.pf_desk.specs.declared.command.Command.{Command}
 use Rattle.pf_desk.specs.declared.command.Command.TheVariants.{Edit, Step}
 use Rattle.pf_desk.specs.declared.entry.Entry.{Entry}

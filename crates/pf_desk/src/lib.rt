@@ -22,3 +22,5 @@ mod settlements;
 mod small_edit;
 mod small_event;
 pub mod snapshot;
+
+pub use pf_timeline::timeline;

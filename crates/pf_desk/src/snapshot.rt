@@ -6,7 +6,7 @@ ghost use Rattle.pf_run.specs.RunRows.{AreOfRun};
 ghost use Rattle.pf_tally.specs.Lags.{lags_of};
 ghost use Rattle.pf_tally.specs.Misses.{misses_of};
 ghost use Rattle.pf_tally.specs.Figures.{figures_of};
-ghost use Rattle.pf_promise.specs.Load.{overload_of};
+ghost use Rattle.pf_fit.specs.Load.{overload_of};
 ghost use Rattle.pf_fit.specs.Fit.{IsFirstAbove};
 ghost use Rattle.pf_desk.specs.Fitting.{LagsAreWithinQuantum};
 

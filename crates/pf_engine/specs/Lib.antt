@@ -1,3 +1,4 @@
+pub use Rattle.pf_admit.specs.declared.denial.Denial
 pub use Rattle.pf_order.specs.Counts
 pub use Rattle.pf_order.specs.Counted
 pub use Rattle.pf_run.specs.Run

@@ -14,7 +14,7 @@ use pf_calendar::calendar::Calendar;
 use pf_order::key::Key;
 use pf_order::meter::Meter;
 use pf_scenario::event::{Event, Numbered};
-use pf_window::release;
+use pf_admit::release;
 use std::alloc::AllocError;
 
 /// Makes room for the keys of the tasks that join by these events. The keys held stay as they were.

@@ -10,7 +10,7 @@ ghost use Rattle.pf_fit.specs.Fit.{IsFirstAbove, fit_with};
 
 use crate::asking::{Asking, load_of, take_event};
 use crate::fit::Fit;
-use pf_place::rows::Rows;
+use pf_run::rows::Rows;
 use pf_run::denied::Denied;
 use pf_scenario::event::Event;
 use pf_scenario::scenario::Scenario;

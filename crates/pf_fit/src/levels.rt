@@ -7,7 +7,7 @@ ghost use Rattle.pf_fit.specs.Levels.{levels_of, with_level};
 use crate::asking::{Asking, load_of, take_event};
 use crate::fits::count_after;
 use crate::level::Level;
-use pf_place::rows::Rows;
+use pf_run::rows::Rows;
 use pf_run::denied::Denied;
 use pf_scenario::scenario::Scenario;
 use pf_tally::ledger::make_ledger;

@@ -1,6 +1,6 @@
 -- The answer to a script, of what its desk shows.
 use Rattle.std.proofs.Common.{◌≡◌, ℕ, List, Option, Some, None, length, refl, sym, ap, subst, ◌∙◌}
-use Rattle.pf_carry.specs.Carried.{IsOf, Stops}
+use Rattle.pf_recount.specs.Carried.{IsOf, Stops}
 use Rattle.pf_desk.specs.Desk.{Seen, Shown, StandsForHistory}
 use Rattle.pf_fault.specs.Answers.{IsQuiet}
 use Rattle.pf_fault.specs.Faults.{IsUnwritten}
@@ -10,7 +10,7 @@ use Rattle.pf_fault.specs.declared.fault.Fault.TheVariants as why
 use Rattle.pf_fault.specs.declared.status.Status.{Status}
 use Rattle.pf_fit_text.specs.declared.fit_format.FitFormat.{FitFormat}
 use Rattle.pf_names.specs.declared.titles.Titles.{Titles}
-use Rattle.pf_plain.specs.declared.origin.Origin.{Origin}
+use Rattle.pf_recount.specs.Origin.{Origin}
 use Rattle.pf_recount.specs.Recount.{Recounted, recounted}
 use Rattle.pf_script.specs.Told.{FaultTold, told}
 use Rattle.pf_verdict.specs.Findings.{Found, findings_of}

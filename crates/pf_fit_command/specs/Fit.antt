@@ -1,6 +1,6 @@
 -- What `pfair fit` answers to a script.
 use Rattle.std.specs.Prelude.{ℕ, ◌≡◌, ◌+◌, Bool, true, false, Option, Some, List, length}
-use Rattle.pf_carry.specs.Carried.{asked_in}
+use Rattle.pf_recount.specs.Carried.{asked_in}
 use Rattle.pf_desk.specs.Desk.{Seen, StandsForHistory}
 use Rattle.pf_desk.specs.declared.entry.Entry.{Entry}
 use Rattle.pf_fault.specs.Answers.{IsQuiet}
@@ -13,7 +13,7 @@ use Rattle.pf_fit_text.specs.declared.carried.Carried.{Carried}
 use Rattle.pf_fit_text.specs.declared.fit_format.FitFormat.{FitFormat}
 use Rattle.pf_fit_text.specs.declared.fit_format.FitFormat.TheVariants.{Text, Json}
 use Rattle.pf_names.specs.declared.titles.Titles.{Titles}
-use Rattle.pf_plain.specs.declared.origin.Origin.{Origin}
+use Rattle.pf_recount.specs.Origin.{Origin}
 use Rattle.pf_recount.specs.Recount.{Recounted, recounted}
 use Rattle.pf_run.specs.Computed.{run_of}
 use Rattle.pf_run_notes.specs.Notes.{lists_text}

@@ -1,13 +1,13 @@
 ghost use Rattle.std.specs.Prelude.{◌≡◌, [], Some, IfOk, IfErr};
 ghost use Rattle.std.specs.Option.{option_map};
-ghost use Rattle.pf_carry.specs.Carried.{IsOf, Stops};
+ghost use Rattle.pf_recount.specs.Carried.{IsOf, Stops};
 ghost use Rattle.pf_fault.specs.Faults.{IsUnwritten};
 ghost use Rattle.pf_fit_command.specs.Fit.{FitMade, most_lines, status_of_verdict, tells_all};
 ghost use Rattle.pf_recount.specs.Recount.{recounted};
 ghost use Rattle.pf_script.specs.Told.{told};
 
 use crate::texts::fit_of;
-use pf_carry::carry::carry;
+use pf_recount::carry::carry;
 use pf_desk::desk::Desk;
 use pf_fault::answer::Answer;
 use pf_fault::ending::Ending;
@@ -15,7 +15,7 @@ use pf_fault::fault::Fault;
 use pf_fault::status::Status;
 use pf_fit_text::fit_format::FitFormat;
 use pf_names::titles::Titles;
-use pf_plain::origin::Origin;
+use pf_recount::origin::Origin;
 use pf_recount::recount::Recount;
 use pf_recount::recounting::recount;
 use pf_verdict::findings::find;

@@ -6,10 +6,10 @@ use Rattle.pf_run.specs.declared.denied.Denied.{Denied}
 use Rattle.pf_tally.specs.declared.miss.Miss.{Miss}
 use Rattle.pf_scenario.specs.declared.fault.EditFault.{EditFault}
 use Rattle.pf_scenario.specs.declared.fault.EditFault.TheVariants.{BadWeight}
-use Rattle.pf_desk.specs.declared.reply.Fault.{Fault}
-use Rattle.pf_desk.specs.declared.reply.Fault.TheVariants.{AtHorizon, BadEdit, WouldDeny}
-use Rattle.pf_notes.specs.declared.grounds.Grounds.{Grounds}
-use Rattle.pf_notes.specs.declared.grounds.Grounds.TheVariants.{OverCapacity, NotInside, TooEarly, Released}
+use Rattle.pf_verdict.specs.Fault.{Fault}
+use Rattle.pf_verdict.specs.Fault.TheVariants.{AtHorizon, BadEdit, WouldDeny}
+use Rattle.pf_run_notes.specs.Grounds.{Grounds}
+use Rattle.pf_run_notes.specs.Grounds.TheVariants.{OverCapacity, NotInside, TooEarly, Released}
 use Rattle.pf_run_notes.specs.Refusals.{fault_code, fault_name}
 use Rattle.pf_run_notes.specs.declared.place.Place.{Place}
 use Rattle.pf_fit_text.specs.Json.{key, key_or_null}

@@ -7,3 +7,5 @@ pub mod report_pieces;
 mod tables;
 pub mod task_pieces;
 pub mod task_report;
+
+pub use pf_full::refusal;

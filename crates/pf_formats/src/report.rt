@@ -14,7 +14,7 @@ ghost use Rattle.pf_look.specs.declared.wrap.TheConstants.{MOST_SLOTS};
 ghost use Rattle.pf_options.specs.Formats.{range_fault};
 ghost use Rattle.pf_options.specs.Ranges.{end_of, first_of, is_within, slots_of};
 ghost use Rattle.pf_trace.specs.Trace.{trace_text};
-ghost use Rattle.pf_windows.specs.Windows.{windows_text};
+ghost use Rattle.pf_trace.specs.Windows.{windows_text};
 ghost use Rattle.pf_formats.specs.Left.{text_left};
 ghost use Rattle.pf_formats.specs.Report.{report_text};
 
@@ -46,7 +46,7 @@ use pf_stats::stats::stats_csv;
 use pf_tasks::task_list::TaskList;
 use pf_text::pieces::{Chain, Whole};
 use pf_trace::trace::trace_pieces;
-use pf_windows::windows::{WindowPieces, window_pieces};
+use pf_trace::windows::{WindowPieces, window_pieces};
 use std::alloc::{AllocError, Global};
 
 /// What stands behind all replies in a format, in pieces. The format can be shown of the slots stepped, `every` is the distance

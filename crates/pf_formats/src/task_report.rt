@@ -4,7 +4,7 @@ ghost use Rattle.pf_look.specs.declared.wrap.TheConstants.{MOST_SLOTS};
 ghost use Rattle.pf_options.specs.Formats.{range_fault};
 ghost use Rattle.pf_options.specs.Ranges.{end_of, first_of, is_within, slots_of};
 ghost use Rattle.pf_picture.specs.Picture.{task_picture_text_of};
-ghost use Rattle.pf_windows.specs.Windows.{windows_text};
+ghost use Rattle.pf_trace.specs.Windows.{windows_text};
 ghost use Rattle.pf_formats.specs.TaskLeft.{task_text_left};
 ghost use Rattle.pf_formats.specs.TaskReport.{task_report_text};
 
@@ -24,7 +24,7 @@ use pf_stats::stats::stats_csv;
 use pf_task_lines::listed_lines::ListedLines;
 use pf_tasks::task_list::TaskList;
 use pf_text::pieces::Whole;
-use pf_windows::windows::{WindowPieces, window_pieces};
+use pf_trace::windows::{WindowPieces, window_pieces};
 use std::alloc::{AllocError, Global};
 
 /// What a format shows of the tasks of a list alone, in pieces: of `windows`, `jobs`, `quanta`, `stats`, `lags`, `misses`, `chart`

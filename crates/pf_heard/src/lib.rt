@@ -11,3 +11,5 @@ pub mod heard;
 pub mod reason;
 pub mod row_text;
 pub mod word;
+
+pub use pf_shown::{show, showing, wanted};

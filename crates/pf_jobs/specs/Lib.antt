@@ -1,3 +1,4 @@
+pub use Rattle.pf_desk.specs.Desk
 pub mod Load
 pub mod Ran
 pub mod Jobs

@@ -4,6 +4,8 @@
 //! A scaled lag is `cost * clock - period * received`: one quantum is `period`. A job is `cost` subtasks, the first 1 to `cost`.
 #![tactic(auto)]
 
+pub use pf_admit::denial;
+
 ghost use Rattle.pf_lags.specs.JobLaws.{DueJobsAreDone, JobsAreInTime, JobsAreNotSooner};
 ghost use Rattle.pf_lags.specs.Laws.{LagsAreAbove, LagsAreBelow, LagsAreWithin, LagsCostQuanta, MissesShowInLags};
 

@@ -1,5 +1,5 @@
 use Rattle.std.specs.Prelude.{ℕ, ◌+◌, ◌&&◌, ◌==◌, if◌then◌else◌}
-use Rattle.pf_weight.specs.Share.{Share, is_heavy}
+use Rattle.pf_window.specs.Share.{Share, is_heavy}
 use Rattle.pf_window.specs.Window.{deadline_of, bit_of}
 use Rattle.pf_window.specs.Group.{group_of}
 use Rattle.pf_order.specs.Priority.{Priority}

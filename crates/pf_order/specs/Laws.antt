@@ -2,7 +2,7 @@
 use Rattle.std.specs.Prelude.{◌≡◌, ◌≢◌, ℕ, ◌+◌, true, false, not, ◌↔◌, IsTrue, if◌then◌else◌}
 use Rattle.std.specs.declared.cmp.Ordering.TheVariants.{Equal}
 use Rattle.std.specs.Cmp.{IsTotalOrder}
-use Rattle.pf_weight.specs.Share.{Share, is_heavy}
+use Rattle.pf_window.specs.Share.{Share, is_heavy}
 use Rattle.pf_window.specs.Group.{group_of}
 use Rattle.pf_order.specs.Priority.{Priority, IsPriority, Precedes, priority_cmp, precedes, key_cmp}
 use Rattle.pf_order.specs.KeyOf.{key_of}

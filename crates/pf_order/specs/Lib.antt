@@ -1,4 +1,4 @@
-pub use Rattle.pf_weight.specs.Share
+pub use Rattle.pf_window.specs.Share
 pub use Rattle.pf_window.specs.Window
 pub use Rattle.pf_window.specs.Group
 pub mod Priority

@@ -3,7 +3,7 @@
 use Rattle.std.specs.Prelude.{◌≡◌, ℕ, ◌<◌, ◌≤◌, ◌^◌, ◌⊎◌, Bool}
 use Rattle.std.specs.declared.cmp.Ordering.{Ordering}
 use Rattle.std.specs.Ordering.{nat_cmp, on, flip_args, then_cmp, is_lt}
-use Rattle.pf_weight.specs.declared.task.TheConstants.{LARGEST_TASK}
+use Rattle.pf_window.specs.TheConstants.{LARGEST_TASK}
 
 -- what the order looks at of a subtask: its deadline, bit and group deadline, shifted, and its task and number
 pub record Priority : Type 0 where

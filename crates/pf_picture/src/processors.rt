@@ -16,7 +16,7 @@ use pf_chart::window::Window;
 use pf_desk::snapshot::Snapshot;
 use pf_order::pick::Pick;
 use pf_place::row_view::RowView;
-use pf_report::rows::row_at;
+use pf_chart::rows::row_at;
 use std::alloc::{AllocError, Global};
 
 /// Appends the number of processor p.

@@ -1,3 +1,4 @@
+pub use Rattle.pf_order.proofs.Order
 pub mod Examples
 pub mod Filling
 pub mod Seats

@@ -1,3 +1,7 @@
+pub use Rattle.pf_order.specs.Priority
+pub use Rattle.pf_order.specs.declared.pick.Pick
+pub use Rattle.pf_order.specs.KeyOf
+pub use Rattle.pf_order.specs.First
 pub mod Occupancy
 pub mod Lent
 pub mod Seating

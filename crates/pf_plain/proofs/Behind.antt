@@ -11,9 +11,9 @@ use Rattle.pf_desk.specs.declared.reply.Reply.{Reply}
 use Rattle.pf_desk.specs.Desk.{Shown, AnswersAll, AnswersCaller}
 use Rattle.pf_desk.specs.History as past
 use Rattle.pf_desk.specs.Machine.{State, reply_to, state_after}
-use Rattle.pf_script.specs.declared.line.Line.{Line}
-use Rattle.pf_script.specs.declared.line.Line.TheVariants.{Steps}
-use Rattle.pf_script.specs.Asked.{commands_of}
+use Rattle.pf_version3.specs.Line.{Line}
+use Rattle.pf_version3.specs.Line.TheVariants.{Steps}
+use Rattle.pf_version3.specs.Asked.{commands_of}
 use Rattle.pf_plain.specs.Carried.{state_behind}
 
 pub behind-append : (st : State) (xs ys : List Command) → state_behind st (xs ++ ys) ≡ state_behind (state_behind st xs) ys

@@ -5,9 +5,9 @@ use Rattle.pf_desk.specs.declared.command.Command.{Command}
 use Rattle.pf_desk.specs.declared.command.Command.TheVariants as command
 use Rattle.pf_desk.specs.declared.reply.Reply.{Reply}
 use Rattle.pf_desk.specs.declared.reply.Reply.TheVariants.{Edited, Stepped, Refused}
-use Rattle.pf_script.specs.declared.line.Line.{Line}
-use Rattle.pf_script.specs.declared.line.Line.TheVariants.{Edit, Steps}
-use Rattle.pf_script.specs.Asked.{commands_of}
+use Rattle.pf_version3.specs.Line.{Line}
+use Rattle.pf_version3.specs.Line.TheVariants.{Edit, Steps}
+use Rattle.pf_version3.specs.Asked.{commands_of}
 
 -- the state behind some commands
 abbrev pub state_behind : State → List Command → State

@@ -3,7 +3,7 @@ use Rattle.std.specs.Prelude.{ℕ, ◌+◌, ◌-◌, ◌≡◌, true, if◌then�
 use Rattle.pf_desk.specs.Machine.{State, opening_state}
 use Rattle.pf_names.specs.declared.titles.Titles.{Titles}
 use Rattle.pf_rows.specs.Rows.{Row, rows}
-use Rattle.pf_script.specs.declared.line.Line.{Line}
+use Rattle.pf_version3.specs.Line.{Line}
 use Rattle.pf_text.specs.Page.{table_text}
 use Rattle.pf_version3.specs.declared.fault.BadRecord.{BadRecord}
 use Rattle.pf_version3.specs.declared.fault.RecordFault.{RecordFault}

@@ -1,7 +1,7 @@
 ghost use Rattle.std.specs.Prelude.{◌≡◌, replicate, IfOk, OnOk};
 ghost use Rattle.std.specs.List.{flat_map};
 ghost use Rattle.pf_desk.specs.declared.command.Command.TheVariants.{Step};
-ghost use Rattle.pf_script.specs.Asked.{commands_of};
+ghost use Rattle.pf_version3.specs.Asked.{commands_of};
 ghost use Rattle.pf_plain.specs.Carried.{number_in, state_behind};
 
 use pf_desk::command::Command;
@@ -10,7 +10,7 @@ use pf_desk::fault::OpenFault;
 use pf_desk::reply::Reply;
 use pf_order::meter::Meter;
 use pf_scenario::settings::Settings;
-use pf_script::line::Line;
+use pf_version3::line::Line;
 use std::alloc::{AllocError, Global};
 use std::marker::Model;
 
@@ -32,7 +32,7 @@ pub(crate) struct Carried {
 impl Model for Carried {
     ghost use Rattle.std.specs.List.{flat_map};
     ghost use Rattle.pf_desk.specs.Machine.{State};
-    ghost use Rattle.pf_script.specs.Asked.{commands_of};
+    ghost use Rattle.pf_version3.specs.Asked.{commands_of};
     ghost use Rattle.pf_plain.specs.Carried.{state_behind};
 
     ghost Value = { State };

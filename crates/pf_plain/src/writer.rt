@@ -7,7 +7,7 @@ use crate::plain::PlainScript;
 use crate::script_text::ScriptText;
 use crate::writing::{push_line, push_settings};
 use pf_names::titles::Titles;
-use pf_script::line::Line;
+use pf_version3::line::Line;
 use pf_version3::fault::BadRecord;
 use pf_version3::said::Said;
 use pf_version3::state::Progress;

@@ -6,8 +6,8 @@ ghost use Rattle.pf_plain.specs.Written.{change_fields, event_fields, line_field
 use crate::script_text::ScriptText;
 use pf_scenario::change::Change;
 use pf_scenario::event::Event;
-use pf_script::line::Line;
-use pf_script::record::ScriptSettings;
+use pf_version3::line::Line;
+use pf_version3::record::ScriptSettings;
 use std::alloc::AllocError;
 
 /// Adds the record of settings, in full.

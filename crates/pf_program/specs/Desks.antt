@@ -9,7 +9,7 @@ use Rattle.pf_fault.specs.declared.fault.Fault.TheVariants as why
 use Rattle.pf_fault.specs.declared.status.Status.TheVariants.{BadScript, Done, StreamFailed}
 use Rattle.pf_held.specs.Streams.{Hears, IsDeaf, IsMute, Streams, Tells}
 use Rattle.pf_script_notes.specs.Faults.{IsFaultNote}
-use Rattle.pf_session.specs.Session.{SessionState, at_start}
+use Rattle.pf_sitter.specs.Session.{SessionState, at_start}
 use Rattle.pf_sitter.specs.Opening.{IsOpened, opened}
 use Rattle.pf_sitter.specs.Sitters.{answers, keeps, loses, stops}
 use Rattle.pf_sitting.specs.Sits.{HasSat, talk_of}

@@ -19,7 +19,7 @@ use pf_fault::status::Status;
 use pf_held::hold::hold;
 use pf_kept::pipe::Pipe;
 use pf_script_notes::behind_fault::fault_note;
-use pf_session::session::Session;
+use pf_sitter::session::Session;
 use pf_sitter::files::FileSaver;
 use pf_sitter::opening::open_script;
 use pf_sitter::sitter::Sitter;

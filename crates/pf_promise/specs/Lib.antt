@@ -1,3 +1,4 @@
+pub use Rattle.pf_order.specs.declared.pick.Pick
 pub use Rattle.pf_scenario.specs.Scenario
 pub use Rattle.pf_scenario.specs.Edit
 pub use Rattle.pf_run.specs.Record

@@ -1,3 +1,5 @@
+pub use Rattle.pf_carry.specs.Carried
+pub use Rattle.pf_plain.specs.declared.origin.Origin
 pub mod Places
 pub mod Replies
 pub mod Recount

@@ -11,7 +11,7 @@ use Rattle.pf_desk.specs.Machine.{State, opening_state, reply_to}
 use Rattle.pf_desk.specs.declared.command.Command.TheVariants as command
 use Rattle.pf_desk.specs.declared.reply.Fault.{Fault}
 use Rattle.pf_desk.specs.declared.reply.Fault.TheVariants.{AtHorizon}
-use Rattle.pf_notes.specs.Refusal.{named_by}
+use Rattle.pf_run_notes.specs.Refusal.{named_by}
 use Rattle.pf_plain.specs.Carried.{state_behind_line}
 use Rattle.pf_plain.specs.declared.origin.Origin.{Origin}
 use Rattle.pf_run_notes.specs.Made.{made_after}

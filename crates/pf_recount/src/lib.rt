@@ -12,3 +12,6 @@ pub mod refused_record;
 mod replies;
 mod stop;
 mod telling;
+
+pub use pf_plain::origin;
+pub use pf_carry::carry;

@@ -6,7 +6,7 @@ use crate::refused_record::RefusedRecord;
 use crate::telling::Telling;
 use pf_desk::reply::Fault;
 use pf_names::names::Names;
-use pf_notes::refusal::named_by;
+use pf_run_notes::refusal::named_by;
 use pf_run_notes::made::Made;
 use pf_run_notes::notes::name_of;
 use pf_run_notes::place::Place;

@@ -1,3 +1,4 @@
+pub use Rattle.pf_desk.specs.Desk
 pub mod Tables
 pub mod Replies
 pub mod Events

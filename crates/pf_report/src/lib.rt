@@ -17,3 +17,5 @@ pub mod schedule;
 pub mod schedule_part;
 pub mod script;
 mod tail_text;
+
+pub use pf_desk::snapshot;

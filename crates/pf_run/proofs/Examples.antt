@@ -4,9 +4,9 @@ use Rattle.std.specs.List.{list_all}
 use Rattle.std.proofs.lemmas.Bool.{and_parts, ltb-true, leb-true, not-true}
 use Rattle.std.proofs.lemmas.List.Kept.{AllPairs-cons}
 use Rattle.std.proofs.lemmas.List.Sums.{AllPass-from_list_all}
-use Rattle.pf_window.specs.Window.{release_of, deadline_of, bit_of}
-use Rattle.pf_window.specs.Group.{group_of}
-use Rattle.pf_order.specs.Priority.{priority_cmp}
+use Rattle.pf_admit.specs.Window.{release_of, deadline_of, bit_of}
+use Rattle.pf_admit.specs.Group.{group_of}
+use Rattle.pf_place.specs.Priority.{priority_cmp}
 use Rattle.pf_scenario.specs.System.{near_horizon}
 use Rattle.pf_scenario.specs.Event.{run_cmp}
 use Rattle.pf_scenario.specs.Scenario.{Plan, events_of}

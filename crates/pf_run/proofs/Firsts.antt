@@ -6,9 +6,9 @@ use Rattle.std.proofs.lemmas.List.Elements.{Contains-append_left, Contains-appen
 use Rattle.std.proofs.lemmas.List.Kept.{AllPairs-filter}
 use Rattle.std.proofs.lemmas.List.Sums.{sum_by-cons, sum_by-append, sum_by-le-sum_by}
 use Rattle.std.proofs.lemmas.List.Sorted.{IsPermutation-sym, Contains-permutation, length_permutation, sum_by-IsPermutation}
-use Rattle.pf_order.specs.Priority.{Priority, precedes}
-use Rattle.pf_order.specs.First.{rank, AreFirst, first_keys}
-use Rattle.pf_order.proofs.Order as order
+use Rattle.pf_place.specs.Priority.{Priority, precedes}
+use Rattle.pf_place.specs.First.{rank, AreFirst, first_keys}
+use Rattle.pf_place.proofs.Order as order
 use Rattle.pf_run.proofs.Containing.{contains_none, contains_head, contains_tail, contains_cases, from_filter, in_filter, pairs_head, pairs_tail, pairs_append, pairs_cases, one_in_order}
 
 -- x before y

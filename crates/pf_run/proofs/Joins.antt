@@ -6,7 +6,7 @@ use Rattle.std.proofs.lemmas.List.Elements.{Contains-get_or, Contains-append_cas
 use Rattle.std.proofs.lemmas.List.Folds.{list_any_at}
 use Rattle.std.proofs.lemmas.List.Sorted.{IsPermutation-sym, Contains-permutation}
 use Rattle.std.proofs.lemmas.List.Kept.{AllPairs-filter, AllPairs-cons}
-use Rattle.pf_order.specs.Priority.{Priority}
+use Rattle.pf_place.specs.Priority.{Priority}
 use Rattle.pf_scenario.specs.Event.{slot_of, is_of_slot, run_cmp, in_run_order}
 use Rattle.pf_scenario.specs.Scenario.{Plan, is_held, events_of, past}
 use Rattle.pf_scenario.specs.Edit.{IsScenario, join_alike}

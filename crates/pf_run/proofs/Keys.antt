@@ -4,8 +4,8 @@ use Rattle.std.specs.List.{cons_option}
 use Rattle.std.proofs.lemmas.Bool.{eq-eqb}
 use Rattle.std.proofs.lemmas.Option.{cond_some}
 use Rattle.std.proofs.lemmas.List.Elements.{All-head, All-tail, All-weaker, All-cons, All-nil, All-contains, All-contains_itself}
-use Rattle.pf_order.specs.Priority.{Priority}
-use Rattle.pf_order.specs.First.{AreFirst}
+use Rattle.pf_place.specs.Priority.{Priority}
+use Rattle.pf_place.specs.First.{AreFirst}
 use Rattle.pf_scenario.specs.declared.event.Numbered.{Numbered}
 use Rattle.pf_admit.specs.declared.member.Member.{Member}
 use Rattle.pf_run.specs.Record.{Slot, next_sub}

@@ -4,10 +4,10 @@ use Rattle.std.specs.List.{list_any}
 use Rattle.std.proofs.Math.Nat.{mul-le-mul_right}
 use Rattle.std.proofs.lemmas.Bool.{and_parts, leb-true, ltb-true}
 use Rattle.std.proofs.lemmas.Bool.Decides.{nat_tests}
-use Rattle.pf_weight.specs.Share.{share_of}
-use Rattle.pf_weight.specs.Weighed.{weight_fault}
-use Rattle.pf_weight.specs.declared.fault.WeightFault.{WeightFault}
-use Rattle.pf_weight.specs.declared.task.TheConstants.{LARGEST_TASK}
+use Rattle.pf_scenario.specs.Share.{share_of}
+use Rattle.pf_scenario.specs.Weighed.{weight_fault}
+use Rattle.pf_scenario.specs.WeightFault.{WeightFault}
+use Rattle.pf_scenario.specs.TheConstants.{LARGEST_TASK}
 use Rattle.pf_scenario.specs.System.{System}
 use Rattle.pf_scenario.specs.Event.{slot_of}
 use Rattle.pf_scenario.specs.Edit.{IsEvent, or_else, unless, is_within, bad_weight, has_task, has_early, has_delay, has_count, join_alike, leave_alike}

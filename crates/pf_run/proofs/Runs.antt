@@ -2,16 +2,16 @@
 use Rattle.std.proofs.Common.{◌≡◌, ℕ, zero, suc, ◌<◌, ◌≤◌, Bool, true, false, nat_lt, cond, List, [], ◌∷◌, ◌++◌, length, take, map, filter, get_or, AllPairs, ⊎_elim, refl, sym, ap, ap₂, ◌∙◌, subst, subst₂, arith}
 use Rattle.std.proofs.lemmas.Bool.{true≢false, false_from_ne_true, cond-false, cases_lt, eqb-true, lt-ltb}
 use Rattle.std.proofs.lemmas.List.{take_at, get_or_at, take-append-le, get_or_append_left, length-take-le, nil_from_length}
-use Rattle.pf_order.specs.Priority.{Priority}
-use Rattle.pf_order.specs.First.{AreFirst, first_keys}
-use Rattle.pf_order.specs.declared.pick.Pick.{Pick}
+use Rattle.pf_place.specs.Priority.{Priority}
+use Rattle.pf_place.specs.First.{AreFirst, first_keys}
+use Rattle.pf_place.specs.Pick.{Pick}
 use Rattle.pf_scenario.specs.System.{System}
 use Rattle.pf_scenario.specs.Event.{slot_of, is_of_slot, in_run_order}
 use Rattle.pf_scenario.specs.Scenario.{Plan, events_of, past}
 use Rattle.pf_scenario.specs.Edit.{IsScenario, join_alike}
 use Rattle.pf_scenario.specs.declared.event.Event.{Event}
 use Rattle.pf_scenario.specs.declared.event.Event.TheVariants.{Join, Leave, Delay, Limit}
-use Rattle.pf_weight.specs.Share.{share_of}
+use Rattle.pf_scenario.specs.Share.{share_of}
 use Rattle.pf_admit.specs.Admission.{join_denial, leave_denial, delay_denial}
 use Rattle.pf_run.specs.declared.denied.Denied.{Denied}
 use Rattle.pf_scenario.specs.declared.event.Numbered.{Numbered}

@@ -2,7 +2,7 @@
 use Rattle.std.proofs.Common.{◌≡◌, ◌≢◌, suc, ◌≤◌, List, [], ◌∷◌, ◌++◌, length, map, All, sym, ap, subst, subst₂, arith}
 use Rattle.std.proofs.lemmas.List.{get_or-map, length-map}
 use Rattle.std.proofs.lemmas.List.Elements.{All-contains, All-map, Contains-get_or}
-use Rattle.pf_order.specs.Priority.{Priority}
+use Rattle.pf_place.specs.Priority.{Priority}
 use Rattle.pf_place.specs.Occupancy.{NoTaskTwice}
 use Rattle.pf_place.specs.Turns.{IsTurn}
 use Rattle.pf_scenario.specs.Scenario.{Plan}

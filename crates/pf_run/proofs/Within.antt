@@ -3,8 +3,8 @@ use Rattle.std.proofs.Common.{◌≡◌, ℕ, suc, ◌+◌, ◌*◌, ◌^◌, �
 use Rattle.std.specs.List.{cons_option}
 use Rattle.std.proofs.lemmas.List.Sums.{sum_by-le, length-filter, count_by-le-length}
 use Rattle.std.proofs.lemmas.List.Elements.{All-head, All-tail, All-weaker, All-filter}
-use Rattle.pf_weight.specs.Share.{share_of}
-use Rattle.pf_weight.specs.declared.task.TheConstants.{LARGEST_TASK}
+use Rattle.pf_scenario.specs.Share.{share_of}
+use Rattle.pf_scenario.specs.TheConstants.{LARGEST_TASK}
 use Rattle.pf_scenario.specs.declared.settings.TheConstants.{WIDE_HORIZON}
 use Rattle.pf_scenario.specs.System.{System, IsSystem}
 use Rattle.pf_scenario.specs.Scenario.{Plan, past}

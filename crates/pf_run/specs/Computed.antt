@@ -1,7 +1,7 @@
 -- The run of a scenario, computed: what the worked examples are tried on, and what higher definitions speak of.
 use Rattle.std.specs.Prelude.{ℕ, zero, suc, Option, None, Some, List, [], ◌∷◌, ◌++◌, length, map}
-use Rattle.pf_order.specs.Priority.{Priority}
-use Rattle.pf_order.specs.First.{first_keys}
+use Rattle.pf_place.specs.Priority.{Priority}
+use Rattle.pf_place.specs.First.{first_keys}
 use Rattle.pf_scenario.specs.System.{System}
 use Rattle.pf_scenario.specs.Scenario.{Plan, events_of}
 use Rattle.pf_scenario.specs.declared.event.Numbered.{Numbered}

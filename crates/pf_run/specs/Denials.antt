@@ -1,6 +1,6 @@
 -- Which events are denied.
 use Rattle.std.specs.Prelude.{ℕ, Option, None, Some, List, [], ◌∷◌, ◌++◌, length}
-use Rattle.pf_weight.specs.Share.{share_of}
+use Rattle.pf_scenario.specs.Share.{share_of}
 use Rattle.pf_scenario.specs.System.{System}
 use Rattle.pf_scenario.specs.declared.event.Event.{Event}
 use Rattle.pf_scenario.specs.declared.event.Event.TheVariants.{Join, Leave, Delay, Limit}

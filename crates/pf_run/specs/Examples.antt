@@ -1,6 +1,6 @@
 -- Worked examples of runs.
 use Rattle.std.specs.Prelude.{ℕ, ◌+◌, List, [], ◌∷◌, ◌++◌, length}
-use Rattle.pf_order.specs.declared.pick.Pick.{Pick}
+use Rattle.pf_place.specs.Pick.{Pick}
 use Rattle.pf_scenario.specs.System.{near_horizon}
 use Rattle.pf_scenario.specs.Scenario.{Plan, with_number, plan_after}
 use Rattle.pf_scenario.specs.declared.event.Event.{Event}

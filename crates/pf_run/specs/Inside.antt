@@ -3,10 +3,10 @@
 use Rattle.std.specs.Prelude.{ℕ, ◌+◌, ◌-◌, ◌==◌, Bool, ◌&&◌, not, nat_le, if◌then◌else◌, max, Option, Some, None, List, filter, filter_map, find, fold, length, sum_by, count_by}
 use Rattle.std.specs.List.{list_any}
 use Rattle.std.specs.Option.{option_map}
-use Rattle.pf_weight.specs.Share.{Share, share_of}
-use Rattle.pf_window.specs.Window.{release_of}
-use Rattle.pf_order.specs.Priority.{Priority}
-use Rattle.pf_order.specs.KeyOf.{key_of}
+use Rattle.pf_scenario.specs.Share.{Share, share_of}
+use Rattle.pf_admit.specs.Window.{release_of}
+use Rattle.pf_place.specs.Priority.{Priority}
+use Rattle.pf_place.specs.KeyOf.{key_of}
 pub use Rattle.pf_scenario.specs.Event.{is_join_of, is_leave_of}
 use Rattle.pf_scenario.specs.declared.event.Event.{Event}
 use Rattle.pf_scenario.specs.declared.event.Event.TheVariants.{Join, Delay, Limit}

@@ -1,7 +1,7 @@
 -- The laws of runs, each the contract of a public function.
 use Rattle.std.specs.Prelude.{◌≡◌, ◌≢◌, ◌↔◌, ℕ, ◌≤◌, List, AllPairs, take, filter, nat_lt}
-use Rattle.pf_order.specs.Priority.{Priority}
-use Rattle.pf_order.specs.First.{AreFirst, first_keys}
+use Rattle.pf_place.specs.Priority.{Priority}
+use Rattle.pf_place.specs.First.{AreFirst, first_keys}
 use Rattle.pf_scenario.specs.System.{System}
 use Rattle.pf_scenario.specs.Event.{slot_of}
 use Rattle.pf_scenario.specs.Scenario.{Plan}

@@ -1,9 +1,9 @@
-pub use Rattle.pf_weight.specs.Share
-pub use Rattle.pf_window.specs.Window
-pub use Rattle.pf_window.specs.Group
-pub use Rattle.pf_order.specs.Priority
-pub use Rattle.pf_order.specs.KeyOf
-pub use Rattle.pf_order.specs.First
+pub use Rattle.pf_scenario.specs.Share
+pub use Rattle.pf_admit.specs.Window
+pub use Rattle.pf_admit.specs.Group
+pub use Rattle.pf_place.specs.Priority
+pub use Rattle.pf_place.specs.KeyOf
+pub use Rattle.pf_place.specs.First
 pub use Rattle.pf_scenario.specs.System
 pub use Rattle.pf_scenario.specs.Event
 pub use Rattle.pf_scenario.specs.Scenario

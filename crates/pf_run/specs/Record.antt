@@ -1,7 +1,7 @@
 -- What a run records: for each slot the subtasks that ran, and the events that were denied.
 use Rattle.std.specs.Prelude.{ℕ, ◌+◌, ◌==◌, Bool, not, List, [], ◌∷◌, ◌++◌, length, take, filter, count_by}
 use Rattle.std.specs.List.{list_any}
-use Rattle.pf_order.specs.declared.pick.Pick.{Pick}
+use Rattle.pf_place.specs.Pick.{Pick}
 use Rattle.pf_scenario.specs.declared.event.Numbered.{Numbered}
 use Rattle.pf_run.specs.declared.denied.Denied.{Denied}
 

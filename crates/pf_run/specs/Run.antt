@@ -1,8 +1,8 @@
 -- The run of a scenario.
 use Rattle.std.specs.Prelude.{◌≡◌, ℕ, suc, ◌<◌, List, [], ◌∷◌, ◌++◌, length, take, map, slice_index_or}
-use Rattle.pf_order.specs.Priority.{Priority}
-use Rattle.pf_order.specs.First.{AreFirst}
-use Rattle.pf_order.specs.declared.pick.Pick.{Pick}
+use Rattle.pf_place.specs.Priority.{Priority}
+use Rattle.pf_place.specs.First.{AreFirst}
+use Rattle.pf_place.specs.Pick.{Pick}
 use Rattle.pf_scenario.specs.Scenario.{Plan, events_of, past}
 use Rattle.pf_scenario.specs.declared.event.Numbered.{Numbered}
 use Rattle.pf_run.specs.Record.{Slot, denials_of, in_force}

@@ -1,6 +1,6 @@
 -- The rows and the denials of a scenario's run.
 use Rattle.std.specs.Prelude.{◌≡◌, ℕ, ◌≤◌, Option, List, [], ◌∷◌, ◌++◌, length}
-use Rattle.pf_order.specs.declared.pick.Pick.{Pick}
+use Rattle.pf_place.specs.Pick.{Pick}
 use Rattle.pf_place.specs.RunRows.{rows_of}
 use Rattle.pf_scenario.specs.Scenario.{Plan}
 use Rattle.pf_scenario.specs.Edit.{IsScenario}

@@ -5,3 +5,5 @@
 
 pub mod denied;
 pub mod laws;
+
+pub use pf_place::rows;

@@ -8,7 +8,7 @@ use Rattle.pf_run.specs.Computed.{run_of}
 use Rattle.pf_table.specs.Grown.{Grown, value_of}
 use Rattle.pf_tally.specs.Misses.{misses_of}
 use Rattle.pf_tally.specs.declared.miss.Miss.{Miss}
-use Rattle.pf_desk.specs.Desk.{Seen}
+use Rattle.pf_notes.specs.Desk.{Seen}
 use Rattle.pf_notes.specs.Absence.{join_among}
 use Rattle.pf_run_notes.specs.Late.{count_of_task, firsts_of, AreLate}
 use Rattle.pf_run_notes.specs.Notes.{counts_text, denied_note, late_lines, lines_of, lists_text, lists_with, missed_note, missed_with, more_text, notes_text, notes_with}

@@ -1,3 +1,5 @@
+pub use Rattle.pf_notes.specs.declared.grounds.Grounds
+pub use Rattle.pf_notes.specs.Refusal
 pub mod File
 pub mod Late
 pub mod Lines

@@ -12,7 +12,7 @@ use Rattle.pf_run.specs.Computed.{run_of}
 use Rattle.pf_table.specs.Grown.{Grown, value_of}
 use Rattle.pf_tally.specs.Misses.{misses_of}
 use Rattle.pf_tally.specs.declared.miss.Miss.{Miss}
-use Rattle.pf_desk.specs.Desk.{Seen}
+use Rattle.pf_notes.specs.Desk.{Seen}
 use Rattle.pf_notes.specs.Absence.{join_among}
 use Rattle.pf_notes.specs.Grounds.{grounds_of, grounds_text, task_of_grounds}
 use Rattle.pf_notes.specs.Point.{event_of}

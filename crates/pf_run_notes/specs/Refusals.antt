@@ -3,8 +3,8 @@ use Rattle.std.specs.Prelude.{ℕ, ◌+◌, ◌-◌, ◌^◌, nat_lt, min, if◌
 use Rattle.pf_scenario.specs.Scenario.{Plan}
 use Rattle.pf_scenario.specs.Refusals.{edit_fault_code, edit_fault_name}
 use Rattle.pf_scenario.specs.declared.change.Change.{Change}
-use Rattle.pf_desk.specs.declared.reply.Fault.{Fault}
-use Rattle.pf_desk.specs.declared.reply.Fault.TheVariants.{BadEdit, AtHorizon, WouldDeny}
+use Rattle.pf_notes.specs.Fault.{Fault}
+use Rattle.pf_notes.specs.Fault.TheVariants.{BadEdit, AtHorizon, WouldDeny}
 use Rattle.pf_notes.specs.Refusal.{refusal_text, horizon_text}
 use Rattle.pf_run_notes.specs.Lines.{refused_line}
 use Rattle.pf_run_notes.specs.declared.place.Place.{Place}

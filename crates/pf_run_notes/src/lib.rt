@@ -10,3 +10,5 @@ pub mod made;
 pub mod notes;
 pub mod place;
 pub mod refusals;
+
+pub use pf_notes::{grounds, refusal};

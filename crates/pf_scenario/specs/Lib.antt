@@ -1,3 +1,6 @@
+pub use Rattle.pf_weight.specs.declared.fault.WeightFault
+pub use Rattle.pf_weight.specs.Weighed
+pub use Rattle.pf_weight.specs.declared.task.TheConstants
 pub use Rattle.pf_weight.specs.Share
 pub mod System
 pub mod Sorted

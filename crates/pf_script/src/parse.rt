@@ -12,7 +12,7 @@ use crate::version::Version;
 use pf_scenario::change::Change;
 use pf_scenario::event::Event;
 use pf_scenario::settings::{LARGEST_CAP, MOST_PROCESSORS, Settings};
-use pf_timeline::timeline::LARGEST_DISTANCE;
+use pf_desk::timeline::LARGEST_DISTANCE;
 use pf_weight::base::LARGEST_BASE;
 
 /// What a record says that comes at a stage of a script, or the first thing that is wrong with it: its length comes before

@@ -8,7 +8,7 @@ use Rattle.pf_fit_command.specs.Fit.{IsSeenBehind}
 use Rattle.pf_names.specs.declared.named.Named.{Named}
 use Rattle.pf_plain.specs.Plain.{Plain, plain}
 use Rattle.pf_plain.specs.declared.origin.Origin.{Origin}
-use Rattle.pf_recount.specs.Recount.{Recounted, recounted}
+use Rattle.pf_fit_command.specs.Recount.{Recounted, recounted}
 use Rattle.pf_run_notes.specs.Notes.{notes_text}
 use Rattle.pf_script.specs.Told.{told}
 use Rattle.pf_text.specs.Page.{table_text}

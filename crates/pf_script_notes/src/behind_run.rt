@@ -1,7 +1,7 @@
 ghost use Rattle.std.specs.Prelude.{false, ◌≡◌, Some, IfOk, IfErr};
 ghost use Rattle.std.specs.Option.{option_map};
 ghost use Rattle.pf_carry.specs.Carried.{IsOf, Stops};
-ghost use Rattle.pf_recount.specs.Recount.{recounted};
+ghost use Rattle.pf_fit_command.specs.Recount.{recounted};
 ghost use Rattle.pf_run_notes.specs.Notes.{notes_text};
 ghost use Rattle.pf_script.specs.Told.{told};
 ghost use Rattle.pf_script_notes.specs.Behind.{NotesMade, RunNotes, most_lines};
@@ -13,8 +13,8 @@ use pf_fault::fault::Fault;
 use pf_names::names::Names;
 use pf_plain::origin::Origin;
 use pf_plain::plain::{PlainScript, plain_script};
-use pf_recount::recount::Recount;
-use pf_recount::recounting::recount;
+use pf_fit_command::recount::Recount;
+use pf_fit_command::recounting::recount;
 use pf_run_notes::behind_run::notes;
 use std::alloc::{AllocError, Global};
 

@@ -1,6 +1,6 @@
 -- What the program answers to a script, of what is wanted.
 use Rattle.std.specs.Prelude.{ℕ, List, [], codes, Option, Some, IfOk, IfErr, Result, Ok, Err}
-use Rattle.pf_carry.specs.Carried.{Stops}
+use Rattle.pf_fit_command.specs.Carried.{Stops}
 use Rattle.pf_why_answer.specs.Answers.{Answers as Means}
 use Rattle.pf_why_answer.specs.Meaning.{Meaning, script_meaning}
 use Rattle.pf_fault.specs.Answers.{IsQuiet}
@@ -9,7 +9,7 @@ use Rattle.pf_fault.specs.declared.ending.Ending.{Ending}
 use Rattle.pf_fault.specs.declared.fault.Fault.{Fault}
 use Rattle.pf_fault.specs.declared.status.Status.TheVariants as status
 use Rattle.pf_fit_command.specs.Fit.{FitMade}
-use Rattle.pf_fit_text.specs.declared.fit_format.FitFormat.TheVariants as fit
+use Rattle.pf_fit_command.specs.FitFormat.TheVariants as fit
 use Rattle.pf_names.specs.declared.titles.Titles.{Titles}
 use Rattle.pf_plain.specs.declared.origin.Origin.{Origin}
 use Rattle.pf_script.specs.Told.{told}

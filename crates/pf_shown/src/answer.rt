@@ -8,7 +8,7 @@ use crate::wanted::Wanted;
 use pf_fault::answer::Answer;
 use pf_fault::fault::Fault;
 use pf_fit_command::fit::fit;
-use pf_fit_text::fit_format::FitFormat;
+use pf_fit_command::fit_format::FitFormat;
 use pf_names::titles::Titles;
 use pf_options::fail_on::FailOn;
 use pf_options::format::Format;

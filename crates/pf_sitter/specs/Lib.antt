@@ -1,2 +1,3 @@
+pub use Rattle.pf_turn.specs.Session
 pub mod Opening
 pub mod Sitters

@@ -1,6 +1,6 @@
 -- How a sitter answers.
 use Rattle.std.specs.Prelude.{ℕ, ⊤, ◌≡◌, List}
-use Rattle.pf_session.specs.Session.{SessionState}
+use Rattle.pf_turn.specs.Session.{SessionState}
 use Rattle.pf_sitting.specs.declared.answers.Going.{Going}
 use Rattle.pf_turn.specs.Lines.{AnswersLine}
 

@@ -7,3 +7,5 @@ pub mod files;
 mod in_rows;
 pub mod opening;
 pub mod sitter;
+
+pub use pf_turn::session;

@@ -1,4 +1,4 @@
-use pf_session::session::Session;
+use pf_turn::session::Session;
 use pf_sitting::answers::{Answers, Going, Stopped, Unkept};
 use pf_turn::answer::answer;
 use pf_turn::saver::Saver;
@@ -12,7 +12,7 @@ pub struct Sitter<S> {
 }
 
 impl<S> Model for Sitter<S> {
-    ghost use Rattle.pf_session.specs.Session.{SessionState};
+    ghost use Rattle.pf_turn.specs.Session.{SessionState};
 
     ghost Value = { SessionState };
 

@@ -2,8 +2,8 @@
 use Rattle.std.proofs.Common.{◌≡◌, ℕ, zero, suc, ◌+◌, ◌<◌, ◌≤◌, Bool, true, false, not, ◌&&◌, if◌then◌else◌, count_by, arith, refl, ap, sym, subst, ⊎_elim}
 use Rattle.std.proofs.lemmas.Bool.{cases_Bool, and_parts, and_from, not_from_false}
 use Rattle.pf_window.specs.Window.{release_of, deadline_of}
-use Rattle.pf_order.specs.Priority.{Priority, precedes}
-use Rattle.pf_order.specs.KeyOf.{key_of}
+use Rattle.pf_reach.specs.Priority.{Priority, precedes}
+use Rattle.pf_reach.specs.KeyOf.{key_of}
 use Rattle.pf_ideal.specs.Schedule.{Schedule, IsByReach, RunsInOrder, StaysInside}
 use Rattle.pf_ideal.proofs.Sums.{count_by-mono}
 use Rattle.pf_reach.specs.Demand.{Service, key_in, schedule_of}

@@ -2,8 +2,8 @@
 -- a test of the two, `runs`.
 use Rattle.std.specs.Prelude.{◌≡◌, ℕ, zero, suc, ◌+◌, ◌<◌, ◌≤◌, Bool, true, false, ◌&&◌, if◌then◌else◌, count_by}
 use Rattle.pf_window.specs.Window.{release_of, deadline_of}
-use Rattle.pf_order.specs.Priority.{Priority, precedes}
-use Rattle.pf_order.specs.KeyOf.{key_of}
+use Rattle.pf_reach.specs.Priority.{Priority, precedes}
+use Rattle.pf_reach.specs.KeyOf.{key_of}
 use Rattle.pf_static.specs.Periodic.{Periodic, is_task_of, weight_of}
 
 -- in how many of the slots below v the task runs

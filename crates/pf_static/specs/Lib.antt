@@ -2,8 +2,8 @@ pub use Rattle.pf_weight.specs.Share
 pub use Rattle.pf_weight.specs.Weighed
 pub use Rattle.pf_window.specs.Window
 pub use Rattle.pf_window.specs.Group
-pub use Rattle.pf_order.specs.Priority
-pub use Rattle.pf_order.specs.KeyOf
+pub use Rattle.pf_reach.specs.Priority
+pub use Rattle.pf_reach.specs.KeyOf
 pub mod Periodic
 pub mod Choice
 pub mod Laws

@@ -8,7 +8,7 @@ use Rattle.pf_place.specs.Turns.{IsTurn, IsRow}
 use Rattle.pf_place.specs.RunRows.{last_row}
 use Rattle.pf_place.proofs.Blocks.{last_behind}
 use Rattle.pf_place.proofs.Seated.{row_is_row, idle_is_row}
-use Rattle.pf_admit.specs.declared.denial.Denial.{Denial}
+use Rattle.pf_engine.specs.Denial.{Denial}
 use Rattle.pf_scenario.specs.System.{System}
 use Rattle.pf_scenario.specs.Scenario.{Plan, events_of, past}
 use Rattle.pf_scenario.specs.Edit.{IsScenario}

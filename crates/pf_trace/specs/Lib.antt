@@ -1,3 +1,4 @@
+pub use Rattle.pf_windows.specs.Windows
 pub mod Titles
 pub mod Times
 pub mod Forms

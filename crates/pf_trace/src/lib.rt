@@ -19,3 +19,5 @@ pub mod title;
 pub mod trace;
 pub mod track_names;
 pub mod window_lines;
+
+pub use pf_windows::windows;

@@ -9,7 +9,7 @@ use crate::task_trace::TaskTrace;
 use crate::title::Title;
 use pf_desk::snapshot::Snapshot;
 use pf_fit::level::Level;
-use pf_report::rows::row_at;
+use pf_chart::rows::row_at;
 use pf_table::lists::Lists;
 use pf_weight::task::LARGEST_TASK;
 use std::alloc::AllocError;

@@ -7,3 +7,5 @@ mod save;
 pub mod saver;
 mod shown;
 mod turn;
+
+pub use pf_session::session;

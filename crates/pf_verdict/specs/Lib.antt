@@ -1,3 +1,5 @@
+pub use Rattle.pf_desk.specs.declared.reply.Fault
+pub use Rattle.pf_desk.specs.Desk
 pub mod Carries
 pub mod Findings
 pub mod Grow

@@ -13,3 +13,5 @@ pub mod stretches;
 pub mod totals;
 pub mod verdict;
 pub mod worst;
+
+pub use pf_desk::reply;

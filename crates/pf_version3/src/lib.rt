@@ -10,3 +10,5 @@ mod parse;
 mod parse_event;
 pub mod said;
 pub mod state;
+
+pub use pf_script::{fields, line, record};

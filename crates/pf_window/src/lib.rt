@@ -6,6 +6,8 @@
 
 pub mod windows;
 
+pub use pf_weight::weight;
+
 ghost use Rattle.std.specs.Prelude.{◌≡◌, ◌^◌, ◌≤◌};
 ghost use Rattle.pf_window.specs.Window.{release_of, deadline_of, bit_of};
 ghost use Rattle.pf_window.specs.Group.{IsGroupOf, group_of};

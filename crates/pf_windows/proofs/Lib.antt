@@ -1,1 +1,2 @@
+pub use Rattle.pf_jobs.proofs.Shown
 pub mod Told

@@ -15,7 +15,7 @@ use Rattle.pf_tally.specs.Figures.{processors_in}
 use Rattle.pf_chart.specs.Course.{end_of, is_drawn, leave_in, window_of}
 use Rattle.pf_chart.specs.declared.quantum.Quantum.{Quantum}
 use Rattle.pf_chart.specs.declared.window.Window.{Window}
-use Rattle.pf_desk.specs.Desk.{Seen}
+use Rattle.pf_jobs.specs.Desk.{Seen}
 use Rattle.pf_names.specs.declared.titles.Titles.{Titles}
 use Rattle.pf_name_column.specs.Column.{name_heading, with_name}
 use Rattle.pf_tasks.specs.declared.task_range.TaskRange.{TaskRange}

@@ -1,5 +1,5 @@
 use Rattle.std.proofs.Common.{ap}
-use Rattle.pf_script.specs.Asked.{commands_of}
+use Rattle.pf_version3.specs.Asked.{commands_of}
 use Rattle.pf_plain.proofs.Behind.{edit_more, steps_behind}
 use Rattle.pf_plain.proofs.carried.take_line.Goals as goal
 

@@ -1,6 +1,6 @@
 use Rattle.std.proofs.Common.{◌≡◌, drop}
 use Rattle.std.specs.List.{flat_map}
-use Rattle.pf_script.specs.Asked.{commands_of}
+use Rattle.pf_version3.specs.Asked.{commands_of}
 use Rattle.pf_plain.specs.Carried.{state_behind}
 use Rattle.pf_plain.proofs.carried.take_lines.Given as goal
 

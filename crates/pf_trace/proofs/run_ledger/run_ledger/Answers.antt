@@ -3,7 +3,7 @@ use Rattle.pf_run.specs.Inside.{join_of}
 use Rattle.pf_tally.specs.Figures.{processors_in}
 use Rattle.pf_tally.specs.Lags.{by_task}
 use Rattle.pf_tally.proofs.Ledgers.{rows_known}
-use Rattle.pf_jobs.proofs.Shown.{ledger_of, of_run}
+use Rattle.pf_windows.proofs.Shown.{ledger_of, of_run}
 use Rattle.pf_trace.proofs.run_ledger.run_ledger.Goals as goal
 
 pub make_ledger-requires : goal.make_ledger-requires

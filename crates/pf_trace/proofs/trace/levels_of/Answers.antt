@@ -2,7 +2,7 @@ use Rattle.std.proofs.Common.{◌∙◌, ap, ap₂, length, arith}
 use Rattle.std.proofs.lemmas.Result.{IfOk-weaker}
 use Rattle.pf_run.specs.Computed.{run_of}
 use Rattle.pf_fit.specs.Levels.{levels_of}
-use Rattle.pf_jobs.proofs.Shown.{length-rows, of_run}
+use Rattle.pf_windows.proofs.Shown.{length-rows, of_run}
 use Rattle.pf_trace.proofs.trace.levels_of.Goals as goal
 
 pub levels-requires-clause-of_run : goal.levels-requires-clause-of_run

@@ -1,4 +1,4 @@
-use Rattle.pf_jobs.proofs.Shown.{length-rows}
+use Rattle.pf_windows.proofs.Shown.{length-rows}
 use Rattle.pf_trace.proofs.run_book.RunBook.new.Goals as goal
 
 pub invariant_of-result : goal.invariant_of-result
