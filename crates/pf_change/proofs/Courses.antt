@@ -5,14 +5,14 @@ use Rattle.std.proofs.lemmas.List.{at_drop_all, at_drop_more, replicate_more, ta
 use Rattle.pf_desk.specs.declared.command.Command.{Command}
 use Rattle.pf_desk.specs.declared.command.Command.TheVariants.{Step}
 use Rattle.pf_desk.specs.declared.reply.Reply.{Reply}
-use Rattle.pf_desk.specs.Desk.{Shown, AnswersAll, AnswersCaller, Seen, StandsForHistory}
+use Rattle.pf_desk.specs.Desk.{Shown, AnswersAll, AnswersCaller, Seen}
 use Rattle.pf_script.specs.declared.line.Line.{Line}
 use Rattle.pf_script.specs.declared.line.Line.TheVariants.{Steps}
 use Rattle.pf_cli.specs.Meaning.{ScriptCourse, course_behind, seen_at}
 use Rattle.pf_script.specs.declared.record.LineTold.{LineTold}
 use Rattle.pf_script.specs.Asked.{commands_in, commands_of}
 use Rattle.pf_cli.specs.Meaning.{course_at}
-use Rattle.pf_cli.proofs.Courses.{answered_course, course_behind-append, one_answered, seen_there}
+use Rattle.pf_cli.proofs.Courses.{answered_course, course_behind-append, one_answered}
 use Rattle.pf_options.specs.declared.diff_options.DiffOptions.{DiffOptions}
 use Rattle.pf_change.specs.Change.{change_behind, lines_before, seen_behind}
 use Rattle.pf_change.specs.Difference.{DiffTold, difference}
@@ -21,10 +21,6 @@ use Rattle.pf_change.specs.Difference.{DiffTold, difference}
 pub on_ok : {A E : Type 0} (r : Result A E) (P Q : Type 0) → (P → Q) → OnOk r P → OnOk r Q
 on_ok (Ok x) P Q then h = then h
 on_ok (Err e) P Q then h = tt
-
-pub ok_anyway : {A E : Type 0} (r : Result A E) (P : Type 0) → P → OnOk r P
-ok_anyway (Ok x) P h = h
-ok_anyway (Err e) P h = tt
 
 -- Use: one step more was taken.
 pub step_more : (caller turn : ℕ) (c : ScriptCourse) (before after : Shown) (reply : Reply) → AnswersCaller caller Step before reply after
@@ -70,12 +66,6 @@ all_taken r caller given edits a b lines i whole same none left answered =
 pub made_at : {V F : Type 0} (told : V → DiffTold) (r : Result V F) (x y : DiffTold) → x ≡ y → IfOk r (λ v. told v ≡ x) → IfOk r (λ v. told v ≡ y)
 made_at told (Ok v) x y same h = h ∙ same
 made_at told (Err e) x y same h = tt
-
--- Use: what a snapshot of a desk shows that is there.
-pub shown_there : {E : Type 0} (r : Result Seen E) (d : Shown) (c : ScriptCourse) → course_at d ≡ c → IfOk r (λ s. StandsForHistory d.history s)
-    → IfOk r (λ s. s ≡ record { version = length d.history; state = d.state; rows = d.rows; denials = d.denials }) → IfOk r (λ s. s ≡ seen_at c)
-shown_there (Ok s) d c is stands shows = seen_there d s stands shows ∙ ap seen_at is
-shown_there (Err e) d c is stands shows = tt
 
 -- the commands of two lists of lines
 commands_in-append : (xs ys : List LineTold) → commands_in (xs ++ ys) ≡ commands_in xs ++ commands_in ys

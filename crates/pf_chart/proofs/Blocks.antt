@@ -44,10 +44,6 @@ further : (wide : Bool) (from to end k : ℕ) → end ≡ from + min (to - from)
 further true from to end k of_end below = omega arith
 further false from to end k of_end below = omega arith
 
-none_more : (wide : Bool) (from to : ℕ) → to ≤ from → div_ceil (to - from) (size_of wide) ≡ 0
-none_more true from to over = omega arith
-none_more false from to over = omega arith
-
 module _ (seen : Seen) (labels : Labels) (listed : List Listing) (from to : ℕ) where
   abbrev wide : Bool
   wide = nat_le labels.places 20
@@ -70,11 +66,6 @@ module _ (seen : Seen) (labels : Labels) (listed : List Listing) (from to : ℕ)
       flat_map_shift f g 1 0 n (λ k below. ap (block_text seen labels listed size to) (further wide from to end k of_end below)) in
       ap (λ n. flat_map f (range_with_len 0 n)) (one_more wide from to end some of_end) ∙ flat_map-cons f 0 (range_with_len 1 n)
       ∙ ap₂ (λ xs ys. xs ++ ys) first rest
-
-  -- Use: none is left.
-  pub blocks_over : to ≤ from → blocks_text seen labels listed from to ≡ []
-  blocks_over over =
-      ap (λ n. flat_map (λ k. block_text seen labels listed size to (from + size * k)) (range_with_len 0 n)) (none_more wide from to over)
 
 -- Use: a block has a line.
 pub block_some : (seen : Seen) (labels : Labels) (listed : List Listing) (a : ℕ) (slots text : List ℕ) → text ≡ block_of seen labels listed a slots

@@ -4,9 +4,9 @@ ghost use Rattle.pf_check3.specs.Found.{EndsAt};
 
 use crate::found::Found;
 use csv::ByteRecord;
+use pf_check::fields::Fields;
 use pf_fault::answer::Answer;
 use pf_rows::rows::{NextRow, Rows};
-use pf_check::fields::Fields;
 use pf_version3::fault::BadRecord;
 use std::alloc::{AllocError, Global};
 

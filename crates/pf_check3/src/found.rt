@@ -1,9 +1,9 @@
 use crate::report::push_report;
+use pf_check::fields::Fields;
 use pf_check::report::push_totals;
 use pf_fault::answer::Answer;
 use pf_fault::ending::Ending;
 use pf_fault::status::Status;
-use pf_check::fields::Fields;
 use pf_version3::fault::BadRecord;
 use pf_version3::state::Progress;
 use std::alloc::{AllocError, Global};

@@ -1,5 +1,5 @@
 -- The lines of faults that were told so far.
-use Rattle.std.specs.Prelude.{ℕ, ◌+◌, ◌-◌, ◌==◌, min, if◌then◌else◌, List, [], ◌++◌, codes, Option, None, Some, fold}
+use Rattle.std.specs.Prelude.{ℕ, ◌+◌, ◌-◌, ◌==◌, min, if◌then◌else◌, List, [], ◌++◌, codes, Option, None, Some}
 use Rattle.pf_check_run.specs.Faults.{FaultLine, lacking_text, others_text}
 use Rattle.pf_run_notes.specs.declared.place.Place.{Place}
 
@@ -40,7 +40,3 @@ behind_end file (Some place) s = if count_of s == 0 then behind_lacking file pla
 -- all lines
 abbrev pub text_of : Lines → List ℕ
 text_of s = if s.lacking == 0 then s.head else s.head ++ others_text (s.lacking - 1) ++ codes "\n" ++ s.tail
-
--- of faults these are the lines, behind the end of the script
-abbrev pub lines_behind : List ℕ → List FaultLine → Option Place → Lines
-lines_behind file faults end = behind_end file end (fold (behind file) no_lines faults)

@@ -1,15 +1,14 @@
 -- What a script comes to at its end.
-use Rattle.std.proofs.Common.{◌≡◌, ◌∙◌, ℕ, length, Result, Ok, Err, refl, ap}
+use Rattle.std.proofs.Common.{◌≡◌, ℕ, Result, Ok, Err}
 use Rattle.std.specs.Prelude.{IfErr}
-use Rattle.pf_desk.specs.Desk.{Seen, Shown, StandsForHistory}
+use Rattle.pf_desk.specs.Desk.{Shown}
 use Rattle.pf_script.specs.Told.{Told}
 use Rattle.pf_options.specs.declared.format.Format.{Format}
 use Rattle.pf_fault.specs.declared.fault.Fault.{Fault}
 use Rattle.pf_fault.specs.declared.fault.Fault.TheVariants as why
 use Rattle.pf_fault.specs.Faults.{IsUnwritten}
-use Rattle.pf_cli.specs.Carried.{EndsBy, OpensReplies, ShowsEnd, StopsAt}
-use Rattle.pf_cli.specs.Meaning.{ScriptCourse, course_at, outcome_told}
-use Rattle.pf_cli.proofs.Courses.{seen_there}
+use Rattle.pf_cli.specs.Carried.{EndsBy, OpensReplies, StopsAt}
+use Rattle.pf_cli.specs.Meaning.{ScriptCourse, outcome_told}
 
 -- Use: the settings were not read.
 pub unopened_stops : (format : Format) (t : Told) (fault : Fault) → OpensReplies format t (Err fault) → StopsAt (outcome_told t) fault
@@ -41,8 +40,3 @@ ends_unwritten outcome (Err fault) h = stops_unwritten outcome fault h
 pub ends_left : (left outcome : Result ScriptCourse ℕ) (result : Result Shown Fault) → left ≡ outcome → EndsBy left result → EndsBy outcome result
 ends_left left outcome (Ok desk) same h = rw (← same) h
 ends_left left outcome (Err fault) same h = rw (← same) h
-
--- Use: a snapshot of the desk there.
-pub seen_end : (outcome : Result ScriptCourse ℕ) (desk : Shown) (seen : Seen) → outcome ≡ Ok (course_at desk) → StandsForHistory desk.history seen
-    → seen ≡ record { version = length desk.history; state = desk.state; rows = desk.rows; denials = desk.denials } → ShowsEnd outcome (Ok seen)
-seen_end outcome desk seen is stands shows = (course_at desk, is, seen_there desk seen stands shows)

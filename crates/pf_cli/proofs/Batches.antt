@@ -1,9 +1,9 @@
 -- A desk with edits that wait, and what it comes to when they are answered together.
-use Rattle.std.proofs.Common.{◌≡◌, ◌≤◌, ℕ, ◌+◌, ◌*◌, List, [], ◌∷◌, ◌++◌, All, length, map, drop, Some, refl, sym, ap, ap₂, subst, ◌∙◌, arith, append_assoc}
+use Rattle.std.proofs.Common.{◌≡◌, ◌≤◌, ℕ, ◌+◌, List, [], ◌∷◌, ◌++◌, All, length, map, drop, Some, refl, sym, ap, ap₂, subst, ◌∙◌, arith, append_assoc}
 use Rattle.std.specs.List.{AllByRecursion, slice_get}
 use Rattle.std.proofs.lemmas.List.{append-nil, drop_more, length-append}
 use Rattle.std.proofs.lemmas.Option.{get_or_from_slice_get, slice_get_within}
-use Rattle.std.proofs.lemmas.List.Elements.{All-nil, All-cons, All-head, All-tail, All-from_recursion, recursion_from_All}
+use Rattle.std.proofs.lemmas.List.Elements.{All-nil, All-cons, All-tail, All-from_recursion, recursion_from_All}
 use Rattle.pf_scenario.specs.Edit.{edit_fault}
 use Rattle.pf_desk.specs.declared.command.Command.{Command}
 use Rattle.pf_desk.specs.declared.command.Command.TheVariants.{Edit, Step}
@@ -14,7 +14,7 @@ use Rattle.pf_desk.specs.Machine.{State, reply_to, state_after}
 use Rattle.pf_desk.specs.History.{IsLegalFrom}
 use Rattle.pf_desk.specs.Desk.{Shown, AnswersAll, AnswersCaller, IsDesk, entry_of}
 use Rattle.pf_desk.specs.Plain.{IsPlain}
-use Rattle.pf_cli.specs.Batched.{Batched, HasAnswered, HasShown, HasTaken, course_to_be, entry_lines, lines_to_be, turns_left}
+use Rattle.pf_cli.specs.Batched.{Batched, HasAnswered, HasShown, HasTaken, course_to_be, entry_lines, lines_to_be}
 use Rattle.pf_cli.specs.Meaning.{course_at, course_after, course_behind, reply_lines}
 use Rattle.pf_report.specs.Replies.{HasFewPlaces, reply_line}
 use Rattle.pf_cli.proofs.Courses.{answered_course, course_behind-append, entries_then, lines_then, one_answered, places_then, reply_lines-append}
@@ -132,6 +132,3 @@ module _ (d : Shown) (k : ℕ) (e : Entry) (next : drop k d.history ≡ e ∷ dr
   pub places_left : All (λ x. HasFewPlaces x.reply) (drop k d.history) → All (λ x. HasFewPlaces x.reply) (drop (k + 1) d.history)
   places_left all =
       All-tail (λ x. HasFewPlaces x.reply) e (drop (k + 1) d.history) (subst (All (λ x. HasFewPlaces x.reply)) next all)
-
-  pub next_place : All (λ x. HasFewPlaces x.reply) (drop k d.history) → HasFewPlaces e.reply
-  next_place all = All-head (λ x. HasFewPlaces x.reply) e (drop (k + 1) d.history) (subst (All (λ x. HasFewPlaces x.reply)) next all)

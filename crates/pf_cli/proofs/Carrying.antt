@@ -1,24 +1,17 @@
 -- The turns of a script that is carried out.
-use Rattle.std.proofs.Common.{◌≡◌, ◌≤◌, ◌<◌, ℕ, ◌+◌, ◌*◌, Bool, true, false, List, [], ◌∷◌, ◌++◌, length, Option, None, Some, Result, Ok, Err, refl, sym, ap, ap₂, ◌∙◌, arith, append_assoc}
+use Rattle.std.proofs.Common.{◌≡◌, ◌≤◌, ◌+◌, Bool, true, false, [], ◌++◌, length, None, Some, Result, Ok, Err, refl, sym, ap, ap₂, ◌∙◌, arith, append_assoc}
 use Rattle.std.specs.Prelude.{if◌then◌else◌, IfOk, OnOk}
-use Rattle.std.proofs.lemmas.List.{append-nil}
 use Rattle.pf_desk.specs.declared.command.Command.{Command}
 use Rattle.pf_script.specs.declared.record.ScriptSettings.{ScriptSettings}
 use Rattle.pf_script.specs.Asked.{commands_in}
 use Rattle.pf_script.specs.Told.{LinesTold, Told}
 use Rattle.pf_options.specs.declared.format.Format.{Format}
-use Rattle.pf_options.specs.Formats.{has_replies}
 use Rattle.pf_cli.specs.declared.script_replies.ScriptReplies.{ScriptReplies}
-use Rattle.pf_cli.specs.Batched.{Batched, HasAnswered, HasTaken, course_to_be, entry_lines, lines_to_be, turns_left}
-use Rattle.pf_cli.specs.Batched as batched
-use Rattle.pf_cli.specs.Carried.{CarriesOn, GoesOn, HasNoLine, IsAtEnd, OpensReplies, ShowsLine, first_turn, lines_left, outcome_left, text_left, turns_to_come}
+use Rattle.pf_cli.specs.Batched.{Batched, HasAnswered, HasTaken, course_to_be, lines_to_be}
+use Rattle.pf_cli.specs.Carried.{CarriesOn, GoesOn, OpensReplies, first_turn, lines_left}
 use Rattle.pf_cli.specs.Commands.{CommandsLeft, TakesCommand}
-use Rattle.pf_cli.specs.Meaning.{ScriptCourse, course_after, course_behind, fault_number, opening_course, outcome_at, ready_line, reply_lines, text_if_replies}
+use Rattle.pf_cli.specs.Meaning.{course_after, course_behind, fault_number, opening_course, outcome_at, ready_line, reply_lines, text_if_replies}
 use Rattle.pf_cli.proofs.Batches.{settled_course, settled_lines}
-
--- what is to come where the desk and the commands are these
-lines_by : Bool → Batched → List Command → List ℕ
-lines_by begun desk commands = (if begun then [] else ready_line) ++ (lines_to_be desk ++ reply_lines (course_to_be desk) commands)
 
 -- Use: a command was taken.
 module _ (a b : ScriptReplies) (command : Command) (taken : TakesCommand (Some command) a.commands b.commands) (h : HasTaken command a.desk b.desk)
@@ -70,63 +63,6 @@ end_carried (Ok false) a commands desk taken answered some none = record {
   waiting = sym (ap (λ d. d.waiting) (none refl)) ∙ answered.none;
 }
 end_carried (Err e) a commands desk taken answered some none = tt
-
--- Use: the line for the settings was shown.
-pub settings_shown : (a b : ScriptReplies) (text more : List ℕ) → has_replies a.format ≡ true → a.begun ≡ false → b ≡ record a { begun = true }
-    → more ≡ text ++ ready_line → ShowsLine text more a b
-settings_shown a b text more shows begun same is =
-    let rest = lines_to_be a.desk ++ reply_lines (course_to_be a.desk) a.commands.commands in
-    let before : text_left a ≡ ready_line ++ rest = rw (shows, begun) refl in
-    let after : text_left b ≡ rest = ap text_left same ∙ rw shows refl in
-    record {
-      text = ap (λ t. text ++ t) before ∙ sym (append_assoc text ready_line rest) ∙ ap₂ (λ t u. t ++ u) (sym is) (sym after);
-      outcome = ap outcome_left same;
-      turns = rw (same, begun) (omega arith);
-    }
-
--- Use: a line of the desk was shown.
-pub entry_shown : (a b : ScriptReplies) (text more : List ℕ) → has_replies a.format ≡ true → a.begun ≡ true → b ≡ record a { desk = b.desk }
-    → batched.HasShown text more a.desk b.desk → ShowsLine text more a b
-entry_shown a b text more shows begun same h =
-    let replies = reply_lines a.desk.answered a.desk.waiting in
-    let rest = reply_lines (course_to_be a.desk) a.commands.commands in
-    let before : text_left a ≡ (entry_lines a.desk.unshown ++ replies) ++ rest = rw (shows, begun) refl in
-    let course : course_to_be b.desk ≡ course_to_be a.desk = ap₂ course_behind h.answered h.waiting in
-    let after : text_left b ≡ (entry_lines b.desk.unshown ++ replies) ++ rest =
-    ap text_left same ∙ rw (shows, begun) (ap₂ (λ t c. t ++ reply_lines c a.commands.commands)
-    (ap (λ t. entry_lines b.desk.unshown ++ t) (ap₂ reply_lines h.answered h.waiting)) course) in
-    record {
-      text =
-          ap (λ t. text ++ t) before ∙ regrouped text (entry_lines a.desk.unshown) replies rest
-          ∙ ap (λ t. (t ++ replies) ++ rest) h.lines
-          ∙ sym (regrouped more (entry_lines b.desk.unshown) replies rest) ∙ ap (λ t. more ++ t) (sym after);
-      outcome = ap outcome_left same ∙ ap (λ c. outcome_at (course_behind c a.commands.commands) a.commands.fault) course;
-      turns =
-          let turns : turns_to_come b ≡ 3 * length a.commands.commands + turns_left b.desk + first_turn a.begun = ap turns_to_come same in
-          omega (arith, turns, ap length h.waiting, h.entries);
-    }
-  where
-    regrouped : (t x y z : List ℕ) → t ++ ((x ++ y) ++ z) ≡ ((t ++ x) ++ y) ++ z
-    regrouped t x y z = sym (append_assoc t (x ++ y) z) ∙ ap (λ w. w ++ z) (sym (append_assoc t x y))
-
--- Use: no command and no line is left, so no text is.
-pub nothing_left : (a b : ScriptReplies) → HasNoLine a → IsAtEnd a b → text_left b ≡ []
-nothing_left a b silent h = ap text_left h.same ∙ by (has_replies a.format) refl
-  where
-    by : (shows : Bool) → has_replies a.format ≡ shows → (if shows then lines_left a else []) ≡ []
-    by false hides = refl
-    by true shows =
-        let none = silent shows in
-        ap₂ (λ x t. (if x then [] else ready_line) ++ t) none.0
-        (ap₂ (λ t cs. t ++ reply_lines (course_to_be a.desk) cs)
-        (settled_lines a.desk h.waiting ∙ ap entry_lines none.1) h.commands)
-
--- Use: where the commands left the script.
-pub outcome_there : (a b : ScriptReplies) → IsAtEnd a b → outcome_left b ≡ outcome_at b.desk.answered b.commands.fault
-outcome_there a b h =
-    ap outcome_left h.same
-    ∙ ap₂ (λ c cs. outcome_at (course_behind c cs) a.commands.fault) (settled_course a.desk h.waiting) h.commands
-    ∙ ap (λ r. outcome_at r.desk.answered r.commands.fault) (sym h.same)
 
 -- Use: replies to a script whose settings were read.
 pub opened_replies : (format : Format) (t : Told) (s : ScriptSettings) (lines : LinesTold) (commands : CommandsLeft) (desk : Batched)

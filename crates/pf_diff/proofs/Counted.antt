@@ -3,12 +3,10 @@ use Rattle.std.proofs.Common.{◌≡◌, ◌∙◌, ℕ, ◌+◌, ◌<◌, ◌�
 use Rattle.std.specs.List.{slice_get}
 use Rattle.std.specs.Fmt.{decimal}
 use Rattle.std.proofs.lemmas.List.{length-append}
-use Rattle.std.proofs.Math.Nat.{min-le_left, min-le_right}
 use Rattle.pf_order.specs.declared.pick.Pick.{Pick}
-use Rattle.pf_place.specs.Occupancy.{sitter}
 use Rattle.pf_report.specs.Tables.{sitter_field}
 use Rattle.pf_diff.specs.Diff.{same_sitter, sitter_changes, row_changes, slot_changes}
-use Rattle.pf_diff.proofs.SideBySide.{row_end, row_more, slot_end, slot_more}
+use Rattle.pf_diff.proofs.SideBySide.{row_end, slot_end, slot_more}
 
 length_of : (b : Bool) (x : List (List ℕ)) → length (cond b [] (x ∷ [])) ≡ cond b 0 1
 length_of true x = refl
@@ -29,20 +27,6 @@ any_slot t u p (x ∷ xs) (y ∷ ys) =
       one_sitter t p x y (same_sitter x y) refl,
       one_sitter u p x y (same_sitter x y) refl,
       any_slot t u (p + 1) xs ys,
-    )
-
--- a processor more
-pub row_counted : (p cells : ℕ) (xs ys : List (Option Pick)) (b : Bool) → p < min (length xs) (length ys) → same_sitter (sitter xs p) (sitter ys p) ≡ b →
-    cells + length (row_changes 0 p (drop p xs) (drop p ys)) ≡ length (row_changes 0 0 xs ys) →
-    cells + cond b 0 1 + length (row_changes 0 (p + 1) (drop (p + 1) xs) (drop (p + 1) ys)) ≡ length (row_changes 0 0 xs ys)
-row_counted p cells xs ys b within same before =
-    let more = row_more 0 p xs ys (omega (arith, within, min-le_left (length xs) (length ys))) (omega (arith, within, min-le_right (length xs) (length ys))) in
-    omega (
-      arith,
-      before,
-      ap length more,
-      length-append (sitter_changes 0 p (sitter xs p) (sitter ys p)) (row_changes 0 (p + 1) (drop (p + 1) xs) (drop (p + 1) ys)),
-      one_sitter 0 p (sitter xs p) (sitter ys p) b same,
     )
 
 pub row_all : (p cells : ℕ) (xs ys : List (Option Pick)) → min (length xs) (length ys) ≤ p →

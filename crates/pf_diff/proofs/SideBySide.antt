@@ -1,31 +1,22 @@
 -- What differs between two schedules, slot by slot and processor by processor.
-use Rattle.std.proofs.Common.{◌≡◌, ◌∙◌, ◌⊎◌, ℕ, zero, suc, ◌+◌, ◌<◌, ◌≤◌, List, [], ◌∷◌, ◌++◌, Option, Some, None, Result, Ok, Err, length, drop, min, ⊎_elim, inl, inr, ap, sym, refl, append_assoc, arith}
+use Rattle.std.proofs.Common.{◌≡◌, ◌∙◌, ◌⊎◌, ℕ, zero, suc, ◌+◌, ◌<◌, ◌≤◌, List, [], ◌∷◌, ◌++◌, Option, Some, Result, Ok, Err, length, drop, min, ⊎_elim, inl, inr, ap, sym, refl, append_assoc, arith}
 use Rattle.std.specs.Prelude.{OnOk}
 use Rattle.std.specs.List.{slice_get}
 use Rattle.std.proofs.Math.ListN.{drop_of_length-le}
 use Rattle.std.proofs.lemmas.Grind.{flat_map-append}
-use Rattle.std.proofs.Math.Nat.{min-le_left, min-le_right, le-min}
+use Rattle.std.proofs.Math.Nat.{le-min}
 use Rattle.std.proofs.lemmas.List.{at_drop_more, append-nil}
 use Rattle.csv.specs.Writing.{row_text, default_writer}
 use Rattle.pf_order.specs.declared.pick.Pick.{Pick}
-use Rattle.pf_place.specs.Occupancy.{sitter}
 use Rattle.pf_tally.proofs.Noting.{got_at}
 use Rattle.pf_text.specs.Page.{Page}
 use Rattle.pf_text.specs.Page.{table_text}
-use Rattle.pf_diff.specs.Diff.{sitter_changes, row_changes, slot_changes}
+use Rattle.pf_diff.specs.Diff.{row_changes, slot_changes}
 use Rattle.pf_diff.specs.Written.{with_records, AddsSlot}
 
 -- the text of records behind others
 pub table_append : (xs ys : List (List (List ℕ))) → table_text (xs ++ ys) ≡ table_text xs ++ table_text ys
 table_append xs ys = flat_map-append (row_text default_writer) xs ys
-
--- the processors from p on: p, and those behind it
-pub row_more : (t p : ℕ) (xs ys : List (Option Pick)) → p < length xs → p < length ys
-    → row_changes t p (drop p xs) (drop p ys)
-    ≡ sitter_changes t p (sitter xs p) (sitter ys p) ++ row_changes t (p + 1) (drop (p + 1) xs) (drop (p + 1) ys)
-row_more t p xs ys first second =
-    at_drop_more (λ row. row_changes t p row (drop p ys)) xs p None first
-    ∙ at_drop_more (λ row. row_changes t p (sitter xs p ∷ drop (p + 1) xs) row) ys p None second
 
 row_none : (t p : ℕ) (row : List (Option Pick)) → row_changes t p row [] ≡ []
 row_none t p [] = refl
@@ -40,10 +31,6 @@ within_or zero p = inl (omega arith)
 within_or (suc n) zero = inr (omega arith)
 within_or (suc n) (suc p) = ⊎_elim (λ h. inl (omega (arith, h))) (λ h. inr (omega (arith, h))) (within_or n p)
 
--- what both have up to their lesser length
-below_both : (a b p : ℕ) → p < min a b → (p < a) × (p < b)
-below_both a b p within = (omega (arith, within, min-le_left a b), omega (arith, within, min-le_right a b))
-
 past_one : (a b p : ℕ) → min a b ≤ p → (a ≤ p) ⊎ (b ≤ p)
 past_one a b p over = ⊎_elim inl (λ first. ⊎_elim inr (λ second. absurd (omega (arith, over, le-min {k = suc p} {a = a} {b = b} (omega (arith, first)) (omega (arith, second))))) (within_or b p)) (within_or a p)
 
@@ -53,17 +40,6 @@ row_end t p xs ys over =
     ⊎_elim (λ first. ap (λ row. row_changes t p row (drop p ys)) (drop_of_length-le xs first))
     (λ second. ap (row_changes t p (drop p xs)) (drop_of_length-le ys second) ∙ row_none t p (drop p xs))
     (past_one (length xs) (length ys) p over)
-
--- the text of the processors from p on, where those of p are written
-pub row_written : (text whole : List ℕ) (t p : ℕ) (xs ys : List (Option Pick)) → p < min (length xs) (length ys)
-    → text ++ table_text (row_changes t p (drop p xs) (drop p ys)) ≡ whole
-    → (text ++ table_text (sitter_changes t p (sitter xs p) (sitter ys p))) ++ table_text (row_changes t (p + 1) (drop (p + 1) xs) (drop (p + 1) ys)) ≡ whole
-row_written text whole t p xs ys within h =
-    let both = below_both (length xs) (length ys) p within in
-    append_assoc text _ _
-    ∙ ap (λ more. text ++ more) (sym (table_append (sitter_changes t p (sitter xs p) (sitter ys p)) (row_changes t (p + 1) (drop (p + 1) xs) (drop (p + 1) ys))))
-    ∙ ap (λ records. text ++ table_text records) (sym (row_more t p xs ys both.0 both.1))
-    ∙ h
 
 -- the text of all processors
 pub row_done : (text before : List ℕ) (t p : ℕ) (xs ys : List (Option Pick)) → min (length xs) (length ys) ≤ p

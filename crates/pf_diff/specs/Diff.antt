@@ -84,10 +84,6 @@ pub record ChangeTable : Type 0 where
   pub changes : List Change
   pub paired : Bool
 
--- their records
-abbrev pub change_records : ChangeTable → List (List (List ℕ))
-change_records table = map (change_record table.paired) table.changes
-
 -- a table behind its title and its heading
 abbrev pub titled : List ℕ → List (List ℕ) → List (List (List ℕ)) → List ℕ
 titled title heading records = table_text ((title ∷ []) ∷ heading ∷ records)

@@ -1,16 +1,10 @@
 -- The crew of a desk that was just opened, and what is shown at its end.
-use Rattle.std.proofs.Common.{◌≡◌, ℕ, zero, suc, ◌+◌, ◌<◌, Option, Some, List, [], ◌∷◌, ◌++◌, length, map, refl, ap, ap₂, sym, subst, ◌∙◌, arith, length-append, append_assoc}
+use Rattle.std.proofs.Common.{◌≡◌, ℕ, zero, suc, ◌+◌, ◌<◌, Option, Some, List, [], ◌∷◌, ◌++◌, length, map, refl, ap, ap₂, sym, subst, ◌∙◌, arith, length-append}
 use Rattle.std.specs.Prelude.{option_to_list, slice_index_or}
-use mathlib.Core.List.{IsPrefix}
 use Rattle.atomic_table.specs.Seated.{TableId}
 use Rattle.pf_scenario.specs.System.{System}
-use Rattle.pf_order.specs.declared.pick.Pick.{Pick}
-use Rattle.pf_run.specs.declared.denied.Denied.{Denied}
-use Rattle.pf_run.specs.RunRows.{rows_in, denials_in}
 use Rattle.pf_desk.specs.declared.entry.Entry.{Entry}
-use Rattle.pf_desk.specs.Machine.{State}
-use Rattle.pf_desk.specs.Desk.{Seen, StandsForHistory}
-use Rattle.pf_desk.specs.History.{last_state}
+use Rattle.pf_desk.specs.Desk.{Seen}
 use Rattle.pf_board.specs.Passes.{Passing, new_pass, new_passes}
 use Rattle.pf_board.specs.Quanta.{issues}
 use Rattle.pf_share.specs.Opening.{new_viewers}
@@ -19,9 +13,8 @@ use Rattle.pf_share.specs.Stories.{Origin}
 use Rattle.pf_share.specs.Histories.{IsHistory, entries_of, quanta_of}
 use Rattle.pf_drill.specs.declared.crew.Crew.{Crew}
 use Rattle.pf_drill.specs.declared.worker.Worker.{Worker}
-use Rattle.pf_drill.specs.Drilled.{IsDrill, drill_text, seen_in}
+use Rattle.pf_drill.specs.Drilled.{IsDrill, drill_text}
 use Rattle.pf_drill.specs.Rounds.{AreAbreast, IsAbreast, IsInStep, ShowsPlan, commands_given, new_worker}
-use Rattle.pf_drill.proofs.Entered.{prefix_whole}
 
 -- Use: the last of a list, taken off.
 pub snoc_same : {A : Type 0} (ys xs : List A) (p a : A) → ys ++ p ∷ [] ≡ xs ++ a ∷ [] → (ys ≡ xs) × (p ≡ a)
@@ -72,34 +65,6 @@ hired board settings (suc n) =
           (record { board_is = refl; number = omega (arith, before.count); taken = λ q of. omega arith });
     } in
     subst (λ (ws : List Worker). AreAbreast board (suc n) [] ws) (sym more) all
-
-entries_long : (log : List (ℕ × Entry)) → length (entries_of log) ≡ length log
-entries_long [] = refl
-entries_long (x ∷ log) = let t = entries_long log in omega arith
-
-prefix_trans : {A : Type 0} (xs ys zs : List A) → IsPrefix xs ys → IsPrefix ys zs → IsPrefix xs zs
-prefix_trans xs ys zs p q = (p.0 ++ q.0, sym (append_assoc xs p.0 q.0) ∙ (ap (λ w. w ++ q.0) p.1 ∙ q.1))
-
--- Use: a snapshot of as many entries as were answered is one of the planner's history.
-pub shows : (board : TableId) (settings : System) (crew : Crew) (seen : Seen) (told read : List Entry) → IsInStep board settings crew
-    → IsPrefix (entries_of crew.planner.seen) told → IsPrefix told read → StandsForHistory read seen → seen.state.plan.settings ≡ settings
-    → seen.version ≡ crew.answered → ShowsPlan settings crew seen
-shows board settings crew seen told read step begins goes stands of version =
-    let log = entries_of crew.planner.seen in
-    let whole : log ≡ read = prefix_whole log read (prefix_trans log told read begins goes) (omega (arith, stands.version, version, step.answered, entries_long crew.planner.seen)) in
-    let state : seen.state ≡ last_state settings log =
-    sym stands.last ∙ (ap (λ s. last_state s read) of ∙ ap (last_state settings) (sym whole)) in
-    let long : seen.version ≡ length log = stands.version ∙ ap length (sym whole) in
-    record {
-      is_legal = step.history.is_legal;
-      shown = seen_there seen (length log) (last_state settings log) long state stands.of_run.are_rows stands.of_run.are_denials;
-    }
-  where
-    seen_there : (s : Seen) (n : ℕ) (st : State) → s.version ≡ n → s.state ≡ st → s.rows ≡ rows_in s.state.plan s.state.now
-        → s.denials ≡ denials_in s.state.plan s.state.now → s ≡ seen_in n st
-    seen_there s n st version state rows denials =
-        let with : List (List (Option Pick)) → List Denied → Seen = λ r d. record { version = s.version; state = s.state; rows = r; denials = d } in
-        ap₂ with rows denials ∙ ap₂ seen_in version state
 
 commands_same : (log : List (ℕ × Entry)) → map (λ e. e.command) (entries_of log) ≡ map (λ x. x.1.command) log
 commands_same [] = refl

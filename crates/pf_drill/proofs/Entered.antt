@@ -1,5 +1,5 @@
 -- A planner's command, entered where nobody else enters any.
-use Rattle.std.proofs.Common.{◌≡◌, ℕ, ◌-◌, ◌≤◌, List, [], ◌∷◌, ◌++◌, length, map, refl, ap, sym, subst, ◌∙◌, arith, length-append}
+use Rattle.std.proofs.Common.{◌≡◌, ℕ, ◌-◌, ◌≤◌, List, [], ◌∷◌, ◌++◌, length, refl, ap, sym, subst, ◌∙◌, arith}
 use Rattle.std.specs.Prelude.{Result, Ok, Err, IfOk, Option}
 use mathlib.Core.List.{IsPrefix}
 use Rattle.atomic_table.specs.Seated.{TableId}
@@ -20,7 +20,7 @@ use Rattle.pf_share.specs.Entered.{Enters}
 use Rattle.pf_share.specs.Histories.{entries_of, quanta_of, quanta_of_reply}
 use Rattle.pf_drill.specs.declared.crew.Crew.{Crew}
 use Rattle.pf_drill.specs.declared.worker.Worker.{Worker}
-use Rattle.pf_drill.specs.Rounds.{AreAbreast, GoesOn, HasEntered, IsInStep, commands_given}
+use Rattle.pf_drill.specs.Rounds.{AreAbreast, GoesOn, HasEntered, IsInStep}
 use Rattle.pf_drill.proofs.Issued.{issues_push}
 use Rattle.pf_drill.proofs.Legal.{places_of_step}
 use Rattle.std.proofs.lemmas.List.{append-nil}
@@ -50,48 +50,6 @@ pub goes_on_if : {F : Type 0} (settings : System) (command : Command) (v w : Pas
     → IfOk r (λ done. Enters settings command v done w) → IfOk r (λ done. GoesOn settings command v done w)
 goes_on_if settings command v w (Ok done) e = goes_on settings command v v w done refl e
 goes_on_if settings command v w (Err fault) e = tt
-
--- some entry stands in front
-pub some_front : (settings : System) (command : Command) (v w : Passing Entry System) (done : Done) → GoesOn settings command v done w → 1 ≤ done.front
-some_front settings command v w done e =
-    omega (arith, e.front, ap length e.seen, length-append e.before ((v.me, entry_of v.me command done.reply) ∷ []))
-
--- where no other entry came between, the pass had seen all before its own
-alone : (settings : System) (command : Command) (v w : Passing Entry System) (done : Done) → GoesOn settings command v done w
-    → done.front - 1 ≡ length v.seen → w.seen ≡ v.seen ++ (v.me, entry_of v.me command done.reply) ∷ []
-alone settings command v w done e is =
-    let one : ℕ × Entry = (v.me, entry_of v.me command done.reply) in
-    let long = length-append e.before (one ∷ []) in
-    let whole = prefix_whole v.seen e.before e.begins (omega (arith, e.front, ap length e.seen, long)) in
-    e.seen ∙ ap (λ l. l ++ one ∷ []) (sym whole)
-
-given_append : (xs : List (ℕ × Entry)) (x : ℕ × Entry) → map (λ y. y.1.command) (xs ++ x ∷ []) ≡ map (λ y. y.1.command) xs ++ x.1.command ∷ []
-given_append [] x = refl
-given_append (y ∷ xs) x = ap (λ l. y.1.command ∷ l) (given_append xs x)
-
--- Use: the crew after its command was entered.
-pub entered : (board : TableId) (settings : System) (command : Command) (done : Done) (old new : Crew) → IsInStep board settings old
-    → GoesOn settings command old.planner done new.planner → done.front - 1 ≡ old.answered
-    → new ≡ record old { planner = new.planner; answered = done.front } → HasEntered board settings done.reply new
-entered board settings command done old new was e is rest =
-    let one : ℕ × Entry = (old.planner.me, entry_of old.planner.me command done.reply) in record {
-      before = old.planner.seen;
-      entry = one;
-      seen = alone settings command old.planner new.planner done e (is ∙ sym was.answered);
-      reply_is = refl;
-      planner = e.board ∙ was.planner;
-      history = e.history;
-      answered = sym e.front ∙ sym (ap (λ c. c.answered) rest);
-      taken = ap (λ c. c.taken.items) rest ∙ was.taken;
-      workers = subst (λ (ws : List Worker). AreAbreast board settings.processors old.planner.seen ws) (sym (ap (λ c. c.workers.items) rest)) was.workers;
-    }
-
-pub given : (board : TableId) (settings : System) (command : Command) (done : Done) (old new : Crew) → IsInStep board settings old
-    → GoesOn settings command old.planner done new.planner → done.front - 1 ≡ old.answered
-    → commands_given new ≡ commands_given old ++ command ∷ []
-given board settings command done old new was e is =
-    ap (map (λ y. y.1.command)) (alone settings command old.planner new.planner done e (is ∙ sym was.answered))
-    ∙ given_append old.planner.seen (old.planner.me, entry_of old.planner.me command done.reply)
 
 entries_append : (xs : List (ℕ × Entry)) (x : ℕ × Entry) → entries_of (xs ++ x ∷ []) ≡ entries_of xs ++ x.1 ∷ []
 entries_append [] x = refl

@@ -1,8 +1,6 @@
 -- What a script asks for, and how a drill of it is stopped.
-use Rattle.std.proofs.Common.{◌≡◌, ℕ, ◌+◌, Option, Some, None, List, [], ◌∷◌, ◌++◌, ◌≤◌, ◌∙◌, refl, sym, ap, append_assoc, subst, arith, inl, inr}
+use Rattle.std.proofs.Common.{◌≡◌, ℕ, ◌+◌, Option, Some, None, List, [], ◌∷◌, ◌++◌, ◌∙◌, refl, sym, ap, append_assoc, subst}
 use Rattle.std.specs.Prelude.{All, Result, Ok, Err, IfOk, IfErr}
-use Rattle.pf_timeline.specs.Checkpoints.{largest_distance}
-use Rattle.pf_share.specs.Opening.{IsBadOpening}
 use Rattle.pf_scenario.specs.System.{System}
 use Rattle.pf_desk.specs.declared.command.Command.{Command}
 use Rattle.pf_board.specs.declared.quantum.Quantum.{Quantum}
@@ -90,12 +88,3 @@ drills_same lets_in items a b r is drills = subst (λ x. IfOk r (λ v. Drills le
 
 pub stops_same : {V : Type 0} (shut : Type 0) (a b : Asked) (r : Result V Fault) → a ≡ b → IfErr r (Stops shut a) → IfErr r (Stops shut b)
 stops_same shut a b r is stops = subst (λ x. IfErr r (Stops shut x)) is stops
-
--- Use: settings that are within their limits open a desk with a pass for each processor and the planner, and one viewer.
-pub may_open : (every passes m : ℕ) → 1 ≤ every → every ≤ largest_distance → m ≤ 64 → passes ≡ m + 1 → IsBadOpening every passes 1 → ⊥
-may_open every passes m some few within is (inl (inl none)) = omega arith
-may_open every passes m some few within is (inl (inr many)) = omega arith
-may_open every passes m some few within is (inr (inl (inl none))) = omega arith
-may_open every passes m some few within is (inr (inl (inr many))) = omega arith
-may_open every passes m some few within is (inr (inr (inl none))) = omega arith
-may_open every passes m some few within is (inr (inr (inr many))) = omega arith

@@ -10,11 +10,11 @@ ghost use Rattle.pf_engine.specs.Agenda.{with_put, TakesFirst};
 ghost use Rattle.pf_engine.specs.Roll.{AllJoinBelow};
 
 use pf_admit::member::Member;
+use pf_admit::release;
 use pf_calendar::calendar::Calendar;
 use pf_order::key::Key;
 use pf_order::meter::Meter;
 use pf_scenario::event::{Event, Numbered};
-use pf_admit::release;
 use std::alloc::AllocError;
 
 /// Makes room for the keys of the tasks that join by these events. The keys held stay as they were.

@@ -1,5 +1,5 @@
 -- A caller's steps, one after another.
-use Rattle.std.proofs.Common.{◌≡◌, ◌<◌, ◌+◌, ◌==◌, ℕ, inl, inr, if◌then◌else◌, Bool, true, false, List, [], ◌∷◌, replicate, refl, sym, ap, ◌∙◌, subst, arith, append-nil}
+use Rattle.std.proofs.Common.{◌≡◌, ◌<◌, ◌+◌, ◌==◌, ℕ, inl, inr, if◌then◌else◌, Bool, true, false, List, [], ◌∷◌, replicate, refl, sym, ap, ◌∙◌, subst, arith}
 use Rattle.std.proofs.lemmas.List.{replicate_more}
 use Rattle.std.proofs.lemmas.List.Elements.{All-nil, All-cons}
 use Rattle.pf_desk.specs.declared.command.Command.{Command}
@@ -13,18 +13,6 @@ use Rattle.pf_desk.proofs.Gathering.{answers_append}
 use Rattle.pf_face.specs.declared.status.TheConstants.{OK, AT_HORIZON, NO_MEMORY}
 use Rattle.pf_face.specs.Replied.{status_of}
 use Rattle.pf_face.specs.Commanded.{AnswersStep, AnswersSteps, answered}
-
--- Use: no command was answered yet.
-pub none_answered : (caller : ℕ) (d : Shown) → AnswersAll caller [] d d
-none_answered caller d = record {
-  entries = [];
-  commands_in_order = refl;
-  callers = All-nil (λ e. e.caller ≡ caller);
-  answers = tt;
-  entered = sym (append-nil d.history);
-  state = refl;
-  every = refl;
-}
 
 -- one command
 answered_alone : (caller : ℕ) (command : Command) (reply : Reply) (before after : Shown) → AnswersCaller caller command before reply after

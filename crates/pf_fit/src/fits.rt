@@ -10,8 +10,8 @@ ghost use Rattle.pf_fit.specs.Fit.{IsFirstAbove, fit_with};
 
 use crate::asking::{Asking, load_of, take_event};
 use crate::fit::Fit;
-use pf_run::rows::Rows;
 use pf_run::denied::Denied;
+use pf_run::rows::Rows;
 use pf_scenario::event::Event;
 use pf_scenario::scenario::Scenario;
 use pf_tally::ledger::make_ledger;

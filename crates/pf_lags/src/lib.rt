@@ -4,10 +4,10 @@
 //! A scaled lag is `cost * clock - period * received`: one quantum is `period`. A job is `cost` subtasks, the first 1 to `cost`.
 #![tactic(auto)]
 
-pub use pf_admit::denial;
-
 ghost use Rattle.pf_lags.specs.JobLaws.{DueJobsAreDone, JobsAreInTime, JobsAreNotSooner};
 ghost use Rattle.pf_lags.specs.Laws.{LagsAreAbove, LagsAreBelow, LagsAreWithin, LagsCostQuanta, MissesShowInLags};
+
+pub use pf_admit::denial;
 
 /// In every run, at each point of a task's stay, its scaled lag is above `-(period + cost * early)`: it is ahead by less
 /// than a quantum and what its clock gains in `early` slots.

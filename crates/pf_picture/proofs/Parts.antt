@@ -2,7 +2,6 @@
 use Rattle.std.proofs.Common.{◌≡◌, ℕ, suc, ◌+◌, ◌-◌, ◌<◌, ◌≤◌, Option, Some, List, [], ◌∷◌, ◌++◌, drop, length, get_or, sym, ap, ap₂, ◌∙◌, append_assoc, arith}
 use Rattle.std.specs.Prelude.{codes}
 use Rattle.std.specs.List.{flat_map, range_with_len, slice_get}
-use Rattle.std.proofs.Math.ListN.{drop_of_length-le}
 use Rattle.std.proofs.Math.Seq.{drop-cons}
 use Rattle.std.proofs.lemmas.List.{get_or_default}
 use Rattle.std.proofs.lemmas.List.FromFn.{get_or-map-range_with_len}
@@ -59,11 +58,6 @@ module _ (seen : Seen) (s : Measures) (drawings : TaskDrawings) where
       processors_over p place top over ∙ ap (λ ds. tasks_from s place top ds ++ codes "</g>\n") at
       ∙ append_assoc (task_text_of s top place drawing) (tasks_from s (place + 1) (top + height_of s drawing) (drop (place + 1) drawings.shown)) (codes "</g>\n")
       ∙ ap (λ xs. task_text_of s top place drawing ++ xs) (sym (processors_over p (place + 1) (top + height_of s drawing) over))
-
-  -- Use: nothing but the block's end is left.
-  pub rows_over : (p place top : ℕ) → s.processors ≤ p → length drawings.shown ≤ place → rows_text seen s drawings p place top ≡ codes "</g>\n"
-  rows_over p place top over all =
-      processors_over p place top over ∙ ap (λ ds. tasks_from s place top ds ++ codes "</g>\n") (drop_of_length-le drawings.shown all)
 
 -- Use: the part of a task has a line.
 pub task_some : (s : Measures) (top place : ℕ) (drawing : Drawing) (text : List ℕ) → text ≡ task_text_of s top place drawing → 1 ≤ length text

@@ -6,8 +6,8 @@ use crate::writer::PlainWriter;
 use csv::ByteRecord;
 use pf_names::titles::Titles;
 use pf_rows::rows::{NextRow, Rows};
-use pf_version3::fields::Fields;
 use pf_version3::fault::BadRecord;
+use pf_version3::fields::Fields;
 use pf_version3::heading::is_third_heading;
 use std::alloc::{AllocError, Global};
 

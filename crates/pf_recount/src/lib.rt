@@ -13,5 +13,5 @@ mod replies;
 mod stop;
 mod telling;
 
-pub use pf_plain::origin;
 pub use pf_carry::carry;
+pub use pf_plain::origin;

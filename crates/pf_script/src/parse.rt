@@ -9,10 +9,10 @@ use crate::line::Line;
 use crate::record::{Record, ScriptSettings};
 use crate::stage::Stage;
 use crate::version::Version;
+use pf_desk::timeline::LARGEST_DISTANCE;
 use pf_scenario::change::Change;
 use pf_scenario::event::Event;
 use pf_scenario::settings::{LARGEST_CAP, MOST_PROCESSORS, Settings};
-use pf_desk::timeline::LARGEST_DISTANCE;
 use pf_weight::base::LARGEST_BASE;
 
 /// What a record says that comes at a stage of a script, or the first thing that is wrong with it: its length comes before

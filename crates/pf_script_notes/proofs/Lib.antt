@@ -1,2 +1,1 @@
-pub mod Plainly
 pub mod Seen

@@ -1,7 +1,7 @@
-use pf_turn::session::Session;
 use pf_sitting::answers::{Answers, Going, Stopped, Unkept};
 use pf_turn::answer::answer;
 use pf_turn::saver::Saver;
+use pf_turn::session::Session;
 use std::marker::Model;
 
 /// A session that answers lines, and who writes files for it. Contracts see the session.

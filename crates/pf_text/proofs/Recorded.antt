@@ -1,5 +1,5 @@
 -- A table's text, record by record.
-use Rattle.std.proofs.Common.{◌≡◌, ℕ, ◌∙◌, List, ◌∷◌, ◌++◌, [], Result, Ok, Err, map, ap, sym, append_assoc}
+use Rattle.std.proofs.Common.{◌≡◌, ℕ, ◌∙◌, List, ◌∷◌, ◌++◌, [], Result, Ok, Err, ap, sym, append_assoc}
 use Rattle.std.specs.Prelude.{OnOk}
 use Rattle.std.proofs.lemmas.List.{append-nil}
 use Rattle.csv.specs.Writing.{row_text, default_writer}
@@ -21,7 +21,3 @@ pub first_added : {A E : Type 0} (r : Result A E) (was left : List (List (List �
     → OnOk r (new ≡ with_record old fields) → OnOk r (AddsRecord was left old new)
 first_added (Ok x) was left fields old new first h = (fields, first, h)
 first_added (Err e) was left fields old new first h = tt
-
--- of the items left, each shown alike, the first is shown first
-pub item_first : {X Y : Type 0} (show : X → Y) (xs left : List X) (x : X) → xs ≡ x ∷ left → map show xs ≡ show x ∷ map show left
-item_first show xs left x first = ap (map show) first

@@ -71,11 +71,4 @@ impl PairText {
     {
         &self.bytes[self.start..]
     }
-
-    /// The text, and a blank before it.
-    pub fn behind_blank(&self) -> &[u8]
-        ensures { result.now ≡ codes " " ++ self.now }
-    {
-        &self.bytes[self.start - 1..]
-    }
 }

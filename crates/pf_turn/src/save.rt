@@ -8,11 +8,11 @@ ghost use Rattle.pf_turn.specs.Lines.{Saves, saved_text};
 
 use crate::saver::Saver;
 use pf_answers::telling::{push_told, taken};
-use pf_options::format::Format;
-use pf_session::session::Session;
 use pf_heard::show::show;
 use pf_heard::showing::Showing;
 use pf_heard::wanted::Wanted;
+use pf_options::format::Format;
+use pf_session::session::Session;
 use std::alloc::{AllocError, Global};
 
 /// Writes what the script shows as a script to the file of this name, and tells whether it was written.

@@ -3,10 +3,10 @@ ghost use Rattle.pf_heard.specs.Shown.{Shows};
 ghost use Rattle.pf_heard.specs.Showing.{Showing};
 ghost use Rattle.pf_turn.specs.Lines.{behind_showing, showing_answer};
 
-use pf_session::session::Session;
 use pf_heard::show::show;
 use pf_heard::showing::Showing;
 use pf_heard::wanted::Wanted;
+use pf_session::session::Session;
 use std::alloc::AllocError;
 
 /// Tells what the script shows of what is wanted, or that it can't be shown.
