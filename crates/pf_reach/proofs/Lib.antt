@@ -1,3 +1,4 @@
+pub use Rattle.pf_order.proofs.Order
 pub mod Lacks
 pub mod Reaching
 pub mod Ranking

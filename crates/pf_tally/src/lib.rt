@@ -33,3 +33,5 @@ mod tardiness;
 pub mod task_figures;
 mod walk;
 mod walked_run;
+
+pub use pf_run::{denied, rows};
