@@ -1,1 +1,0 @@
-pub use Rattle.pf_window.proofs.Groups

@@ -6,11 +6,11 @@ use Rattle.pf_scenario.specs.Event.{is_join_of}
 use Rattle.pf_scenario.specs.Scenario.{Plan}
 use Rattle.pf_scenario.specs.Edit.{IsScenario}
 use Rattle.pf_scenario.specs.declared.event.Numbered.{Numbered}
-use Rattle.pf_tally.specs.Record.{Slot}
-use Rattle.pf_tally.specs.Inside.{has_left, joins_of}
-use Rattle.pf_tally.specs.Denials.{denial_of}
-use Rattle.pf_tally.specs.Run.{events_in_force, IsRun}
-use Rattle.pf_tally.proofs.Counting.{count_by-cons}
+use Rattle.pf_run.specs.Record.{Slot}
+use Rattle.pf_run.specs.Inside.{has_left, joins_of}
+use Rattle.pf_run.specs.Denials.{denial_of}
+use Rattle.pf_run.specs.Run.{events_in_force, IsRun}
+use Rattle.pf_run.proofs.Counting.{count_by-cons}
 use Rattle.pf_promise.proofs.Points.{IsBetween, along_points}
 use Rattle.std.proofs.Common.{None}
 

@@ -10,12 +10,12 @@ use Rattle.pf_scenario.specs.Scenario.{Plan}
 use Rattle.pf_scenario.specs.Edit.{IsEvent}
 use Rattle.pf_scenario.specs.declared.event.Numbered.{Numbered}
 use Rattle.pf_scenario.specs.declared.settings.TheConstants.{LARGEST_CAP, WIDE_HORIZON}
-use Rattle.pf_tally.specs.Record.{Slot}
-use Rattle.pf_tally.specs.Inside.{count_after}
-use Rattle.pf_tally.specs.Run.{events_in_force, IsRun}
-use Rattle.pf_tally.specs.Computed.{run_of}
-use Rattle.pf_tally.proofs.Runs.{run_is_computed}
-use Rattle.pf_tally.proofs.Within.{count_within, horizon_within}
+use Rattle.pf_run.specs.Record.{Slot}
+use Rattle.pf_run.specs.Inside.{count_after}
+use Rattle.pf_run.specs.Run.{events_in_force, IsRun}
+use Rattle.pf_run.specs.Computed.{run_of}
+use Rattle.pf_run.proofs.Runs.{run_is_computed}
+use Rattle.pf_run.proofs.Within.{count_within, horizon_within}
 use Rattle.pf_tally.specs.declared.ledger.Ledger.{Ledger}
 use Rattle.pf_tally.specs.Figures.{figures_of}
 use Rattle.pf_tally.specs.Ledger.{IsLedger}

@@ -7,7 +7,7 @@ use Rattle.std.proofs.lemmas.List.{append-nil, get_or_push, length_push}
 use Rattle.std.proofs.lemmas.Option.{slice_get-get_or}
 use Rattle.std.proofs.lemmas.List.FromFn.{filter_of_map_range_with_len_more}
 use Rattle.pf_scenario.specs.Scenario.{Plan}
-use Rattle.pf_tally.specs.Record.{Slot}
+use Rattle.pf_run.specs.Record.{Slot}
 use Rattle.pf_promise.specs.Load.{load_in, room_in}
 use Rattle.pf_fit.specs.declared.level.Level.{Level}
 use Rattle.pf_fit.specs.Levels.{has_level, is_as_before, level_in, levels_of, with_level}

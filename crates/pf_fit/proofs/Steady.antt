@@ -8,9 +8,9 @@ use Rattle.pf_scenario.specs.Edit.{IsScenario}
 use Rattle.pf_scenario.specs.declared.event.Event.TheVariants.{Limit}
 use Rattle.pf_scenario.specs.declared.event.Numbered.{Numbered}
 use Rattle.pf_scenario.specs.declared.settings.TheConstants.{LARGEST_CAP}
-use Rattle.pf_tally.specs.Record.{Slot}
-use Rattle.pf_tally.specs.Inside.{load_of}
-use Rattle.pf_tally.specs.Run.{events_in_force, IsRun}
+use Rattle.pf_run.specs.Record.{Slot}
+use Rattle.pf_run.specs.Inside.{load_of}
+use Rattle.pf_run.specs.Run.{events_in_force, IsRun}
 use Rattle.pf_promise.specs.Load.{load_in, room_in, overload_of}
 use Rattle.pf_promise.proofs.Standing.{Splits, splits}
 use Rattle.pf_promise.proofs.Shifts.{standing_below}

@@ -11,10 +11,10 @@ use Rattle.pf_scenario.specs.declared.event.Event.{Event}
 use Rattle.pf_scenario.specs.declared.event.Event.TheVariants.{Join, Leave, Delay, Limit}
 use Rattle.pf_scenario.specs.declared.event.Numbered.{Numbered}
 use Rattle.pf_scenario.specs.declared.settings.TheConstants.{LARGEST_CAP}
-use Rattle.pf_tally.specs.Record.{Slot}
-use Rattle.pf_tally.specs.Inside.{Joined, has_left, inside, load_of, count_after, count_of}
-use Rattle.pf_tally.specs.Run.{events_in_force, IsRun}
-use Rattle.pf_tally.proofs.Points.{inside_push_other, inside_push_join, inside_push_leave, count_push}
+use Rattle.pf_run.specs.Record.{Slot}
+use Rattle.pf_run.specs.Inside.{Joined, has_left, inside, load_of, count_after, count_of}
+use Rattle.pf_run.specs.Run.{events_in_force, IsRun}
+use Rattle.pf_run.proofs.Points.{inside_push_other, inside_push_join, inside_push_leave, count_push}
 use Rattle.pf_promise.specs.Load.{load_in, room_in, overload_of}
 use Rattle.pf_fit.specs.declared.asking.Asking.{Asking}
 use Rattle.pf_fit.specs.declared.fit.Fit.{Fit}

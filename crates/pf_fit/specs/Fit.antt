@@ -1,7 +1,7 @@
 -- The first slot of a run whose load is above its room, and the overload of some more slots.
 use Rattle.std.specs.Prelude.{ℕ, ◌+◌, ◌-◌, ◌*◌, ◌<◌, ◌≤◌, ◌&&◌, nat_lt, if◌then◌else◌, Option, None, Some, List}
 use Rattle.pf_scenario.specs.Scenario.{Plan}
-use Rattle.pf_tally.specs.Record.{Slot}
+use Rattle.pf_run.specs.Record.{Slot}
 use Rattle.pf_promise.specs.Load.{load_in, room_in}
 use Rattle.pf_fit.specs.declared.fit.Fit.{Fit}
 

@@ -3,7 +3,7 @@ use Rattle.std.specs.Prelude.{ℕ, ◌-◌, ◌==◌, Bool, false, not, ◌&&◌
 use Rattle.std.specs.List.{range_with_len, slice_get}
 use Rattle.std.specs.Option.{option_map_or}
 use Rattle.pf_scenario.specs.Scenario.{Plan}
-use Rattle.pf_tally.specs.Record.{Slot}
+use Rattle.pf_run.specs.Record.{Slot}
 use Rattle.pf_promise.specs.Load.{load_in, room_in}
 use Rattle.pf_fit.specs.declared.level.Level.{Level}
 

@@ -1,8 +1,8 @@
 pub use Rattle.pf_promise.specs.Laws
 pub use Rattle.pf_scenario.specs.Edit
-pub use Rattle.pf_tally.specs.Computed
-pub use Rattle.pf_tally.specs.Inside
-pub use Rattle.pf_tally.specs.RunRows
+pub use Rattle.pf_run.specs.Computed
+pub use Rattle.pf_run.specs.Inside
+pub use Rattle.pf_run.specs.RunRows
 pub use Rattle.pf_tally.specs.Figures
 pub use Rattle.pf_tally.specs.Misses
 pub use Rattle.pf_promise.specs.Load

@@ -1,8 +1,8 @@
 ghost use Rattle.std.specs.Prelude.{◌≡◌, ◌≤◌, ◌*◌, ◌↔◌, None, [], length, sum_by, All, IfOk};
 ghost use Rattle.pf_scenario.specs.declared.settings.TheConstants.{LARGEST_CAP, WIDE_HORIZON};
-ghost use Rattle.pf_tally.specs.Computed.{run_of};
-ghost use Rattle.pf_tally.specs.Inside.{count_after};
-ghost use Rattle.pf_tally.specs.RunRows.{AreOfRun};
+ghost use Rattle.pf_run.specs.Computed.{run_of};
+ghost use Rattle.pf_run.specs.Inside.{count_after};
+ghost use Rattle.pf_run.specs.RunRows.{AreOfRun};
 ghost use Rattle.pf_tally.specs.Figures.{figures_of};
 ghost use Rattle.pf_tally.specs.Misses.{misses_of};
 ghost use Rattle.pf_promise.specs.Load.{overload_of, IsWithinRoom};
@@ -10,11 +10,11 @@ ghost use Rattle.pf_fit.specs.Fit.{IsFirstAbove, fit_with};
 
 use crate::asking::{Asking, load_of, take_event};
 use crate::fit::Fit;
+use pf_run::denied::Denied;
+use pf_run::rows::Rows;
 use pf_scenario::event::Event;
 use pf_scenario::scenario::Scenario;
-use pf_tally::denied::Denied;
 use pf_tally::ledger::make_ledger;
-use pf_tally::rows::Rows;
 use std::alloc::{AllocError, Global};
 
 /// How many processors are in use after the event.

@@ -1,16 +1,16 @@
 ghost use Rattle.std.specs.Prelude.{◌≡◌, ◌≤◌, length, sum_by, IfOk, OnOk};
 ghost use Rattle.pf_scenario.specs.declared.settings.TheConstants.{LARGEST_CAP};
-ghost use Rattle.pf_tally.specs.Computed.{run_of};
-ghost use Rattle.pf_tally.specs.RunRows.{AreOfRun};
+ghost use Rattle.pf_run.specs.Computed.{run_of};
+ghost use Rattle.pf_run.specs.RunRows.{AreOfRun};
 ghost use Rattle.pf_fit.specs.Levels.{levels_of, with_level};
 
 use crate::asking::{Asking, load_of, take_event};
 use crate::fits::count_after;
 use crate::level::Level;
+use pf_run::denied::Denied;
+use pf_run::rows::Rows;
 use pf_scenario::scenario::Scenario;
-use pf_tally::denied::Denied;
 use pf_tally::ledger::make_ledger;
-use pf_tally::rows::Rows;
 use std::alloc::{AllocError, Global};
 
 /// Adds the level of the slots from `from` on and below `to`, in which these tasks are inside and the processors in use have

@@ -7,9 +7,9 @@ use Rattle.pf_window.proofs.Quotients.{floor_is}
 use Rattle.pf_scenario.specs.Scenario.{Plan}
 use Rattle.pf_scenario.specs.Edit.{IsScenario}
 use Rattle.pf_scenario.specs.declared.event.Numbered.{Numbered}
-use Rattle.pf_tally.specs.Record.{Slot, done}
-use Rattle.pf_tally.specs.Inside.{Joined, shift_of}
-use Rattle.pf_tally.specs.Run.{events_in_force, IsRun}
+use Rattle.pf_run.specs.Record.{Slot, done}
+use Rattle.pf_run.specs.Inside.{Joined, shift_of}
+use Rattle.pf_run.specs.Run.{events_in_force, IsRun}
 use Rattle.pf_weight.specs.Share.{Share, IsShare}
 use Rattle.pf_tally.specs.Clock.{clock_of}
 use Rattle.pf_promise.proofs.Joining.{all_joined}

@@ -12,10 +12,10 @@ use Rattle.pf_scenario.specs.Event.{slot_of, is_leave_of}
 use Rattle.pf_scenario.specs.Scenario.{Plan}
 use Rattle.pf_scenario.specs.Edit.{IsScenario}
 use Rattle.pf_scenario.specs.declared.event.Numbered.{Numbered}
-use Rattle.pf_tally.specs.Record.{Slot, done}
-use Rattle.pf_tally.specs.Inside.{Joined}
-use Rattle.pf_tally.specs.Run.{events_in_force, IsRun}
-use Rattle.pf_tally.proofs.Containing.{contains_none, in_filter}
+use Rattle.pf_run.specs.Record.{Slot, done}
+use Rattle.pf_run.specs.Inside.{Joined}
+use Rattle.pf_run.specs.Run.{events_in_force, IsRun}
+use Rattle.pf_run.proofs.Containing.{contains_none, in_filter}
 use Rattle.pf_tally.specs.Clock.{stops_behind, is_stopped, clock_of}
 use Rattle.pf_tally.specs.Misses.{due_of, leaves_after, is_missed, miss_of, misses_of_task}
 use Rattle.pf_tally.proofs.Windows.{deadline_late}

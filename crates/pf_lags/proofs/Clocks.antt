@@ -8,8 +8,8 @@ use Rattle.pf_weight.specs.Share.{Share, IsShare}
 use Rattle.pf_window.specs.Window.{release_of, deadline_of}
 use Rattle.pf_window.proofs.Quotients.{floor_is, ceil_is}
 use Rattle.pf_scenario.specs.declared.event.Numbered.{Numbered}
-use Rattle.pf_tally.specs.Record.{Slot}
-use Rattle.pf_tally.specs.Inside.{Joined, shift_of}
+use Rattle.pf_run.specs.Record.{Slot}
+use Rattle.pf_run.specs.Inside.{Joined, shift_of}
 use Rattle.pf_tally.specs.Clock.{next_at, clock_of}
 use Rattle.pf_tally.specs.Log.{RiseFrom}
 use Rattle.pf_tally.specs.Held.{held_from, stop_of, part_of, stopped_below, AreSuccessive}

@@ -7,9 +7,9 @@ use Rattle.pf_scenario.specs.Event.{slot_of, is_leave_of}
 use Rattle.pf_scenario.specs.Scenario.{Plan}
 use Rattle.pf_scenario.specs.Edit.{IsScenario}
 use Rattle.pf_scenario.specs.declared.event.Numbered.{Numbered}
-use Rattle.pf_tally.specs.Record.{Slot, runs, done}
-use Rattle.pf_tally.specs.Inside.{Joined, member_of, shift_of, count_of, eligible_from}
-use Rattle.pf_tally.specs.Run.{events_in_force, IsRun}
+use Rattle.pf_run.specs.Record.{Slot, runs, done}
+use Rattle.pf_run.specs.Inside.{Joined, member_of, shift_of, count_of, eligible_from}
+use Rattle.pf_run.specs.Run.{events_in_force, IsRun}
 use Rattle.pf_tally.proofs.Joined.{inside_joined}
 use Rattle.pf_promise.proofs.Standing.{Splits, splits}
 use Rattle.pf_promise.proofs.Members.{joined_of, one_joined}

@@ -8,9 +8,9 @@ use Rattle.pf_window.specs.Window.{deadline_of}
 use Rattle.pf_scenario.specs.Scenario.{Plan}
 use Rattle.pf_scenario.specs.Edit.{IsScenario}
 use Rattle.pf_scenario.specs.declared.event.Numbered.{Numbered}
-use Rattle.pf_tally.specs.Record.{Slot, done}
-use Rattle.pf_tally.specs.Inside.{Joined}
-use Rattle.pf_tally.specs.Run.{events_in_force, IsRun}
+use Rattle.pf_run.specs.Record.{Slot, done}
+use Rattle.pf_run.specs.Inside.{Joined}
+use Rattle.pf_run.specs.Run.{events_in_force, IsRun}
 use Rattle.pf_tally.specs.Clock.{clock_of}
 use Rattle.pf_tally.specs.Misses.{due_of, leaves_after}
 use Rattle.pf_tally.proofs.Windows.{deadline_late}

@@ -15,9 +15,9 @@ use Rattle.pf_scenario.specs.Event.{slot_of, is_leave_of}
 use Rattle.pf_scenario.specs.Scenario.{Plan}
 use Rattle.pf_scenario.specs.Edit.{IsScenario}
 use Rattle.pf_scenario.specs.declared.event.Numbered.{Numbered}
-use Rattle.pf_tally.specs.Record.{Slot, runs, done}
-use Rattle.pf_tally.specs.Inside.{Joined, shift_of}
-use Rattle.pf_tally.specs.Run.{events_in_force, IsRun}
+use Rattle.pf_run.specs.Record.{Slot, runs, done}
+use Rattle.pf_run.specs.Inside.{Joined, shift_of}
+use Rattle.pf_run.specs.Run.{events_in_force, IsRun}
 use Rattle.pf_tally.specs.Misses.{due_of, ran_in, leaves_after, is_missed, misses_of_task}
 use Rattle.pf_tally.proofs.Windows.{deadline_late}
 use Rattle.pf_ideal.proofs.Rising.{rises}

@@ -12,10 +12,10 @@ use Rattle.pf_scenario.proofs.Sorting.{All-sorted_by}
 use Rattle.pf_scenario.specs.Scenario.{Plan}
 use Rattle.pf_scenario.specs.Edit.{IsScenario}
 use Rattle.pf_scenario.specs.declared.event.Numbered.{Numbered}
-use Rattle.pf_tally.specs.Record.{Slot, done}
-use Rattle.pf_tally.specs.Inside.{Joined}
-use Rattle.pf_tally.specs.Run.{events_in_force, IsRun}
-use Rattle.pf_tally.proofs.Containing.{contains_head, from_filter}
+use Rattle.pf_run.specs.Record.{Slot, done}
+use Rattle.pf_run.specs.Inside.{Joined}
+use Rattle.pf_run.specs.Run.{events_in_force, IsRun}
+use Rattle.pf_run.proofs.Containing.{contains_head, from_filter}
 use Rattle.pf_weight.specs.Share.{Share, IsShare}
 use Rattle.pf_tally.specs.Clock.{clock_of}
 use Rattle.pf_tally.specs.Lags.{task_cmp, by_task}

@@ -8,9 +8,9 @@ use Rattle.pf_scenario.specs.Event.{slot_of, is_leave_of}
 use Rattle.pf_scenario.specs.Scenario.{Plan}
 use Rattle.pf_scenario.specs.Edit.{IsScenario}
 use Rattle.pf_scenario.specs.declared.event.Numbered.{Numbered}
-use Rattle.pf_tally.specs.Record.{Slot, denials_of}
-use Rattle.pf_tally.specs.Inside.{Joined, join_of}
-use Rattle.pf_tally.specs.Run.{events_in_force}
+use Rattle.pf_run.specs.Record.{Slot, denials_of}
+use Rattle.pf_run.specs.Inside.{Joined, join_of}
+use Rattle.pf_run.specs.Run.{events_in_force}
 use Rattle.pf_tally.specs.Figures.{last_slot}
 use Rattle.pf_tally.specs.Log.{RiseFrom}
 use Rattle.pf_tally.specs.Misses.{leaves_after}

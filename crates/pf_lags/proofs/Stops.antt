@@ -15,12 +15,12 @@ use Rattle.pf_scenario.specs.declared.event.Numbered.{Numbered}
 use Rattle.pf_admit.specs.declared.member.Member.{Member}
 use Rattle.pf_admit.specs.Member.{next_release}
 use Rattle.pf_admit.specs.Admission.{delay_denial}
-use Rattle.pf_tally.specs.Record.{Slot, runs, done, next_sub}
-use Rattle.pf_tally.specs.Inside.{Joined, join_of, joins_of, shift_of, member_of, member_at}
-use Rattle.pf_tally.specs.Denials.{denial_of}
-use Rattle.pf_tally.specs.Run.{events_in_force, IsNextSlot, IsRun}
-use Rattle.pf_tally.proofs.Containing.{contains_none}
-use Rattle.pf_tally.proofs.Counting.{count_by-cons}
+use Rattle.pf_run.specs.Record.{Slot, runs, done, next_sub}
+use Rattle.pf_run.specs.Inside.{Joined, join_of, joins_of, shift_of, member_of, member_at}
+use Rattle.pf_run.specs.Denials.{denial_of}
+use Rattle.pf_run.specs.Run.{events_in_force, IsNextSlot, IsRun}
+use Rattle.pf_run.proofs.Containing.{contains_none}
+use Rattle.pf_run.proofs.Counting.{count_by-cons}
 use Rattle.pf_tally.specs.Clock.{next_at, clock_of}
 use Rattle.pf_tally.specs.Misses.{due_of}
 use Rattle.pf_tally.specs.Held.{delay_from, held_by, held_from, stop_of, part_of, stopped_below}

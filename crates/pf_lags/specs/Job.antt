@@ -1,9 +1,9 @@
 -- The jobs of a task, numbered from 1: each `cost` subtasks are one.
 use Rattle.std.specs.Prelude.{ℕ, ◌+◌, ◌-◌, ◌*◌, ℤ, List, length}
 use Rattle.pf_scenario.specs.Scenario.{Plan}
-use Rattle.pf_tally.specs.Record.{Slot}
-use Rattle.pf_tally.specs.Inside.{Joined, shift_of}
-use Rattle.pf_tally.specs.Run.{events_in_force}
+use Rattle.pf_run.specs.Record.{Slot}
+use Rattle.pf_run.specs.Inside.{Joined, shift_of}
+use Rattle.pf_run.specs.Run.{events_in_force}
 use Rattle.pf_tally.specs.Clock.{release_at}
 use Rattle.pf_tally.specs.Figures.{response_of}
 

@@ -3,9 +3,9 @@ use Rattle.std.specs.Prelude.{◌≡◌, ℕ, ◌+◌, ◌≤◌, ◌+ℤ◌, �
 use Rattle.std.specs.Int.{div_ceil}
 use Rattle.pf_scenario.specs.Scenario.{Plan}
 use Rattle.pf_scenario.specs.Edit.{IsScenario}
-use Rattle.pf_tally.specs.Record.{Slot, done}
-use Rattle.pf_tally.specs.Inside.{Joined}
-use Rattle.pf_tally.specs.Run.{events_in_force, IsRun}
+use Rattle.pf_run.specs.Record.{Slot, done}
+use Rattle.pf_run.specs.Inside.{Joined}
+use Rattle.pf_run.specs.Run.{events_in_force, IsRun}
 use Rattle.pf_tally.specs.Misses.{due_of, ran_in, is_missed, misses_of_task}
 use Rattle.pf_lags.specs.Stay.{IsAdmitted, IsStay}
 use Rattle.pf_lags.specs.Job.{last_of, response_in, delay_within}

@@ -1,8 +1,8 @@
 pub use Rattle.pf_scenario.specs.Scenario
 pub use Rattle.pf_scenario.specs.Edit
-pub use Rattle.pf_tally.specs.Record
-pub use Rattle.pf_tally.specs.Inside
-pub use Rattle.pf_tally.specs.Run
+pub use Rattle.pf_run.specs.Record
+pub use Rattle.pf_run.specs.Inside
+pub use Rattle.pf_run.specs.Run
 pub use Rattle.pf_tally.specs.Misses
 pub use Rattle.pf_tally.specs.Figures
 pub use Rattle.pf_promise.specs.Load

@@ -1,9 +1,9 @@
 -- The stay of a task in a run, and its lag through it.
 use Rattle.std.specs.Prelude.{ℕ, ◌≤◌, ℤ, List, length, filter_map, Contains}
 use Rattle.pf_scenario.specs.Scenario.{Plan}
-use Rattle.pf_tally.specs.Record.{Slot}
-use Rattle.pf_tally.specs.Inside.{Joined, join_of}
-use Rattle.pf_tally.specs.Run.{events_in_force}
+use Rattle.pf_run.specs.Record.{Slot}
+use Rattle.pf_run.specs.Inside.{Joined, join_of}
+use Rattle.pf_run.specs.Run.{events_in_force}
 use Rattle.pf_tally.specs.Figures.{scaled_at, last_slot}
 
 -- the task was admitted in the run r of the scenario

@@ -4,21 +4,21 @@ use Rattle.std.specs.List.{list_any}
 use Rattle.std.proofs.lemmas.Bool.{cases_Bool, cases_lt, eqb-true, eq-eqb, both_ways, and_from, and_parts, not_from_false, false_from_ne_true}
 use Rattle.std.proofs.lemmas.List.{take_more, take-take, length-take-le, get_or_past}
 use Rattle.std.proofs.lemmas.List.Sums.{sum_by-cons}
-use Rattle.pf_admit.specs.Window.{release_of, deadline_of}
-use Rattle.pf_reach.specs.Priority.{Priority, precedes}
-use Rattle.pf_reach.specs.KeyOf.{key_of}
-use Rattle.pf_reach.specs.Pick.{Pick}
-use Rattle.pf_reach.specs.First.{AreFirst, rank}
-use Rattle.pf_reach.proofs.Order.{preceding_is_transitive}
+use Rattle.pf_window.specs.Window.{release_of, deadline_of}
+use Rattle.pf_order.specs.Priority.{Priority, precedes}
+use Rattle.pf_order.specs.KeyOf.{key_of}
+use Rattle.pf_order.specs.declared.pick.Pick.{Pick}
+use Rattle.pf_order.specs.First.{AreFirst, rank}
+use Rattle.pf_order.proofs.Order.{preceding_is_transitive}
 use Rattle.pf_scenario.specs.Event.{slot_of}
 use Rattle.pf_scenario.specs.Scenario.{Plan}
 use Rattle.pf_scenario.specs.Edit.{IsScenario}
 use Rattle.pf_scenario.specs.declared.event.Numbered.{Numbered}
-use Rattle.pf_tally.specs.Record.{Slot, denials_of, runs, done, next_sub}
-use Rattle.pf_tally.specs.Inside.{Joined, inside, ready, member_of, shift_of, count_of, eligible_from}
-use Rattle.pf_tally.specs.Run.{events_in_force, pick_of_key, IsNextSlot, IsRun}
-use Rattle.pf_tally.proofs.Joins.{ready_differ, joins_once_in_force}
-use Rattle.pf_tally.proofs.Firsts.{first_differ, one_at_most}
+use Rattle.pf_run.specs.Record.{Slot, denials_of, runs, done, next_sub}
+use Rattle.pf_run.specs.Inside.{Joined, inside, ready, member_of, shift_of, count_of, eligible_from}
+use Rattle.pf_run.specs.Run.{events_in_force, pick_of_key, IsNextSlot, IsRun}
+use Rattle.pf_run.proofs.Joins.{ready_differ, joins_once_in_force}
+use Rattle.pf_run.proofs.Firsts.{first_differ, one_at_most}
 use Rattle.pf_tally.proofs.Joined.{inside_joined}
 use Rattle.pf_tally.specs.Misses.{leaves_after}
 use Rattle.pf_ideal.specs.Schedule.{Schedule, RunsInOrder}

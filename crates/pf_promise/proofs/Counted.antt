@@ -11,11 +11,11 @@ use Rattle.pf_scenario.specs.Scenario.{Plan}
 use Rattle.pf_scenario.specs.Edit.{IsScenario}
 use Rattle.pf_scenario.specs.declared.event.Numbered.{Numbered}
 use Rattle.pf_scenario.proofs.Sorting.{sorted_keeps}
-use Rattle.pf_tally.specs.Record.{Slot, done}
-use Rattle.pf_tally.specs.Inside.{Joined}
-use Rattle.pf_tally.specs.Run.{events_in_force, IsRun}
-use Rattle.pf_tally.proofs.Containing.{contains_none, contains_head, contains_tail, contains_cases, in_filter}
-use Rattle.pf_tally.proofs.Counting.{sum_by-map}
+use Rattle.pf_run.specs.Record.{Slot, done}
+use Rattle.pf_run.specs.Inside.{Joined}
+use Rattle.pf_run.specs.Run.{events_in_force, IsRun}
+use Rattle.pf_run.proofs.Containing.{contains_none, contains_head, contains_tail, contains_cases, in_filter}
+use Rattle.pf_run.proofs.Counting.{sum_by-map}
 use Rattle.pf_tally.specs.declared.miss.Miss.{Miss}
 use Rattle.pf_tally.specs.Misses.{due_of, leaves_after, is_missed, miss_of, misses_of_task, miss_cmp, misses_of}
 use Rattle.pf_ideal.proofs.Sums.{one, one-mono}

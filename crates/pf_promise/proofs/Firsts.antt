@@ -3,12 +3,12 @@ use Rattle.std.proofs.Common.{◌≡◌, ℕ, ◌≤◌, List, length, take, min
 use Rattle.std.proofs.lemmas.List.{length-take}
 use Rattle.std.proofs.lemmas.List.Sums.{count_by-le-length}
 use Rattle.std.proofs.lemmas.List.Sorted.{length_permutation}
-use Rattle.pf_reach.specs.Priority.{Priority, precedes, priority_cmp}
-use Rattle.pf_reach.specs.First.{AreFirst, rank}
-use Rattle.pf_reach.proofs.Order.{priority_cmp_total, apart}
+use Rattle.pf_order.specs.Priority.{Priority, precedes, priority_cmp}
+use Rattle.pf_order.specs.First.{AreFirst, rank}
+use Rattle.pf_order.proofs.Order.{priority_cmp_total, apart}
 use Rattle.pf_scenario.specs.Sorted.{sorted_by}
 use Rattle.pf_scenario.proofs.Sorting.{sorted_keeps}
-use Rattle.pf_tally.proofs.Firsts.{TasksDiffer, first_is_one, first_of_sorted}
+use Rattle.pf_run.proofs.Firsts.{TasksDiffer, first_is_one, first_of_sorted}
 use Rattle.pf_tally.proofs.Sorts.{sorted_rises}
 
 pub first_fill : (n : ℕ) (keys chosen : List Priority) → TasksDiffer keys → AreFirst n keys chosen →

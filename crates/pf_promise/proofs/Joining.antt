@@ -10,13 +10,13 @@ use Rattle.pf_scenario.specs.System.{System}
 use Rattle.pf_scenario.specs.declared.event.Event.{Event}
 use Rattle.pf_scenario.specs.declared.event.Event.TheVariants.{Join, Leave, Delay, Limit}
 use Rattle.pf_scenario.specs.declared.event.Numbered.{Numbered}
-use Rattle.pf_tally.specs.Record.{Slot, denials_of, done}
-use Rattle.pf_tally.specs.Inside.{Joined, joined_by, join_of, hold_back_of, shift_of}
-use Rattle.pf_tally.specs.Run.{events_in_force}
-use Rattle.pf_tally.specs.Inside.{joins_of}
-use Rattle.pf_tally.proofs.Limits.{join_weight}
-use Rattle.pf_tally.proofs.Joins.{joins_once_in_force, joined_differ}
-use Rattle.pf_tally.proofs.Plans.{joins_few, limits_of_past}
+use Rattle.pf_run.specs.Record.{Slot, denials_of, done}
+use Rattle.pf_run.specs.Inside.{Joined, joined_by, join_of, hold_back_of, shift_of}
+use Rattle.pf_run.specs.Run.{events_in_force}
+use Rattle.pf_run.specs.Inside.{joins_of}
+use Rattle.pf_run.proofs.Limits.{join_weight}
+use Rattle.pf_run.proofs.Joins.{joins_once_in_force, joined_differ}
+use Rattle.pf_run.proofs.Plans.{joins_few, limits_of_past}
 use Rattle.pf_tally.proofs.Subs.{Giver, from_filter_map}
 use Rattle.pf_reach.specs.Demand.{Demand, IsDemand}
 use Rattle.pf_reach.proofs.Weights.{weight-share, weight-exact}

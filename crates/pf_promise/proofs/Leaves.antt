@@ -5,8 +5,8 @@ use Rattle.std.proofs.lemmas.Bool.Decides.{nat_tests}
 use Rattle.std.proofs.lemmas.List.{get_or_push}
 use Rattle.std.proofs.lemmas.List.Elements.{All-head, Contains-append_cases, filter_map-append}
 use Rattle.pf_weight.specs.Share.{is_heavy}
-use Rattle.pf_admit.specs.Window.{deadline_of, bit_of}
-use Rattle.pf_admit.specs.Group.{group_of}
+use Rattle.pf_window.specs.Window.{deadline_of, bit_of}
+use Rattle.pf_window.specs.Group.{group_of}
 use Rattle.pf_scenario.specs.Event.{slot_of, is_join_of, is_leave_of}
 use Rattle.pf_scenario.specs.Scenario.{Plan}
 use Rattle.pf_scenario.specs.Edit.{IsScenario}
@@ -16,15 +16,15 @@ use Rattle.pf_scenario.specs.declared.event.Numbered.{Numbered}
 use Rattle.pf_admit.specs.declared.member.Member.{Member}
 use Rattle.pf_admit.specs.Member.{free_from}
 use Rattle.pf_admit.specs.Admission.{leave_denial}
-use Rattle.pf_tally.specs.Record.{Slot, runs, done}
-use Rattle.pf_tally.specs.Inside.{Joined, join_of, shift_of, member_of, member_at}
-use Rattle.pf_tally.specs.Denials.{denial_of}
-use Rattle.pf_tally.specs.Run.{events_in_force, IsNextSlot, IsRun}
-use Rattle.pf_tally.specs.Inside.{joins_of}
-use Rattle.pf_tally.proofs.Containing.{contains_none, contains_cases}
-use Rattle.pf_tally.proofs.Counting.{count_by-cons}
-use Rattle.pf_tally.proofs.Judged.{length_snoc}
-use Rattle.pf_tally.proofs.Points.{shift_push}
+use Rattle.pf_run.specs.Record.{Slot, runs, done}
+use Rattle.pf_run.specs.Inside.{Joined, join_of, shift_of, member_of, member_at}
+use Rattle.pf_run.specs.Denials.{denial_of}
+use Rattle.pf_run.specs.Run.{events_in_force, IsNextSlot, IsRun}
+use Rattle.pf_run.specs.Inside.{joins_of}
+use Rattle.pf_run.proofs.Containing.{contains_none, contains_cases}
+use Rattle.pf_run.proofs.Counting.{count_by-cons}
+use Rattle.pf_run.proofs.Judged.{length_snoc}
+use Rattle.pf_run.proofs.Points.{shift_push}
 use Rattle.pf_promise.proofs.Points.{IsBetween, along_points}
 use Rattle.pf_promise.proofs.Members.{joined_of, joined_count, contains_counted, one_joined, member_found}
 use Rattle.pf_promise.proofs.Shifts.{no_slot, done-most, done-front, done-idle, shift-slots, HoldsBack, held_or_not}

@@ -11,13 +11,13 @@ use Rattle.pf_scenario.specs.Event.{is_join_of}
 use Rattle.pf_scenario.specs.declared.event.Event.{Event}
 use Rattle.pf_scenario.specs.declared.event.Event.TheVariants.{Join, Leave, Delay, Limit}
 use Rattle.pf_scenario.specs.declared.event.Numbered.{Numbered}
-use Rattle.pf_tally.specs.Record.{Slot}
-use Rattle.pf_tally.specs.Inside.{Joined, load_of, inside}
-use Rattle.pf_tally.specs.Denials.{denial_of}
-use Rattle.pf_tally.specs.Run.{events_in_force, IsRun}
-use Rattle.pf_tally.specs.Inside.{joins_of}
-use Rattle.pf_tally.proofs.Counting.{count_by-cons}
-use Rattle.pf_tally.proofs.Points.{inside_push_other, inside_push_join, inside_push_leave}
+use Rattle.pf_run.specs.Record.{Slot}
+use Rattle.pf_run.specs.Inside.{Joined, load_of, inside}
+use Rattle.pf_run.specs.Denials.{denial_of}
+use Rattle.pf_run.specs.Run.{events_in_force, IsRun}
+use Rattle.pf_run.specs.Inside.{joins_of}
+use Rattle.pf_run.proofs.Counting.{count_by-cons}
+use Rattle.pf_run.proofs.Points.{inside_push_other, inside_push_join, inside_push_leave}
 use Rattle.pf_promise.specs.Laws.{LoadIsWithinCap}
 use Rattle.pf_promise.proofs.Points.{IsPoint, IsBetween, along_points}
 

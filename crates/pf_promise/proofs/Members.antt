@@ -8,11 +8,11 @@ use Rattle.pf_scenario.specs.declared.event.Event.{Event}
 use Rattle.pf_scenario.specs.declared.event.Event.TheVariants.{Join, Leave, Delay, Limit}
 use Rattle.pf_scenario.specs.declared.event.Numbered.{Numbered}
 use Rattle.pf_admit.specs.declared.member.Member.{Member}
-use Rattle.pf_tally.specs.Record.{Slot}
-use Rattle.pf_tally.specs.Inside.{Joined, joined_by, join_of, has_left, inside, member_of, member_at}
-use Rattle.pf_tally.specs.Inside.{joins_of}
-use Rattle.pf_tally.proofs.Containing.{contains_none, contains_head, contains_tail, contains_cases, from_filter}
-use Rattle.pf_tally.proofs.Counting.{count_by-cons}
+use Rattle.pf_run.specs.Record.{Slot}
+use Rattle.pf_run.specs.Inside.{Joined, joined_by, join_of, has_left, inside, member_of, member_at}
+use Rattle.pf_run.specs.Inside.{joins_of}
+use Rattle.pf_run.proofs.Containing.{contains_none, contains_head, contains_tail, contains_cases, from_filter}
+use Rattle.pf_run.proofs.Counting.{count_by-cons}
 use Rattle.pf_tally.proofs.Joined.{inside_joined}
 
 -- the tasks that these events bring

@@ -5,10 +5,10 @@ use Rattle.std.proofs.lemmas.Bool.{eqb-true, eq-eqb}
 use Rattle.std.proofs.lemmas.List.Elements.{Contains-get_or}
 use Rattle.pf_scenario.specs.Scenario.{Plan}
 use Rattle.pf_scenario.specs.Edit.{IsScenario}
-use Rattle.pf_tally.specs.Record.{Slot}
-use Rattle.pf_tally.specs.Inside.{Joined, inside, load_of}
-use Rattle.pf_tally.specs.Run.{events_in_force, IsRun}
-use Rattle.pf_tally.proofs.Counting.{sum_by-map}
+use Rattle.pf_run.specs.Record.{Slot}
+use Rattle.pf_run.specs.Inside.{Joined, inside, load_of}
+use Rattle.pf_run.specs.Run.{events_in_force, IsRun}
+use Rattle.pf_run.proofs.Counting.{sum_by-map}
 use Rattle.pf_tally.proofs.Joined.{inside_joined}
 use Rattle.pf_ideal.specs.Schedule.{load, overload}
 use Rattle.pf_promise.specs.Load.{load_in, overload_of}

@@ -13,19 +13,19 @@ use Rattle.pf_scenario.specs.declared.event.Numbered.{Numbered}
 use Rattle.pf_admit.specs.declared.denial.Denial.{Denial}
 use Rattle.pf_admit.specs.declared.member.Member.{Member}
 use Rattle.pf_admit.specs.Admission.{leave_denial}
-use Rattle.pf_tally.specs.Record.{Slot, runs, denials_of, in_force}
-use Rattle.pf_tally.specs.Inside.{Joined, has_left, member_at, count_of}
-use Rattle.pf_tally.proofs.Points.{has_left_push}
+use Rattle.pf_run.specs.Record.{Slot, runs, denials_of, in_force}
+use Rattle.pf_run.specs.Inside.{Joined, has_left, member_at, count_of}
+use Rattle.pf_run.proofs.Points.{has_left_push}
 use Rattle.pf_tally.proofs.Joined.{inside_joined}
 use Rattle.pf_promise.proofs.Members.{joined_of, joined_count, contains_counted, member_found}
 use Rattle.pf_promise.proofs.Slots.{runs_by}
-use Rattle.pf_tally.specs.Denials.{denial_of}
-use Rattle.pf_tally.specs.Run.{events_in_force, IsNextSlot, IsRun}
-use Rattle.pf_tally.specs.Computed.{with_event, after_events}
-use Rattle.pf_tally.specs.Inside.{joins_of}
-use Rattle.pf_tally.proofs.Counting.{count_by-cons}
-use Rattle.pf_tally.proofs.Judged.{along_run, length_snoc, next_from_equation}
-use Rattle.pf_tally.proofs.Plans.{slots_of_events, joins_at}
+use Rattle.pf_run.specs.Denials.{denial_of}
+use Rattle.pf_run.specs.Run.{events_in_force, IsNextSlot, IsRun}
+use Rattle.pf_run.specs.Computed.{with_event, after_events}
+use Rattle.pf_run.specs.Inside.{joins_of}
+use Rattle.pf_run.proofs.Counting.{count_by-cons}
+use Rattle.pf_run.proofs.Judged.{along_run, length_snoc, next_from_equation}
+use Rattle.pf_run.proofs.Plans.{slots_of_events, joins_at}
 
 -- a point of a run: the events xs in force are of slots up to that after q, and a task that didn't join did not leave or
 -- run

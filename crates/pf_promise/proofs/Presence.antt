@@ -6,19 +6,19 @@ use Rattle.std.specs.Option.{option_map_or}
 use Rattle.std.proofs.lemmas.Bool.{cases_Bool, cases_lt, and_parts, eq-eqb, leb-true, le-leb, both_ways, or_cases, not_from_false, false≢true}
 use Rattle.std.proofs.lemmas.List.Elements.{All-contains, Contains-append_cases, filter_map-append}
 use Rattle.pf_weight.specs.Share.{Share, IsShare, is_heavy}
-use Rattle.pf_admit.specs.Window.{release_of, deadline_of, bit_of}
-use Rattle.pf_admit.specs.Group.{group_of}
-use Rattle.pf_admit.proofs.Groups.{group_of-is}
+use Rattle.pf_window.specs.Window.{release_of, deadline_of, bit_of}
+use Rattle.pf_window.specs.Group.{group_of}
+use Rattle.pf_window.proofs.Groups.{group_of-is}
 use Rattle.pf_scenario.specs.Event.{slot_of, is_leave_of}
 use Rattle.pf_scenario.specs.Scenario.{Plan}
 use Rattle.pf_scenario.specs.Edit.{IsScenario}
 use Rattle.pf_scenario.specs.declared.event.Event.{Event}
 use Rattle.pf_scenario.specs.declared.event.Event.TheVariants.{Join, Leave, Delay, Limit}
 use Rattle.pf_scenario.specs.declared.event.Numbered.{Numbered}
-use Rattle.pf_tally.specs.Record.{Slot, runs, done}
-use Rattle.pf_tally.specs.Inside.{Joined, joined_by, join_of, has_left, inside, shift_of}
-use Rattle.pf_tally.specs.Run.{events_in_force, IsRun}
-use Rattle.pf_tally.proofs.Containing.{contains_head, contains_tail}
+use Rattle.pf_run.specs.Record.{Slot, runs, done}
+use Rattle.pf_run.specs.Inside.{Joined, joined_by, join_of, has_left, inside, shift_of}
+use Rattle.pf_run.specs.Run.{events_in_force, IsRun}
+use Rattle.pf_run.proofs.Containing.{contains_head, contains_tail}
 use Rattle.pf_tally.specs.Misses.{due_of, leaves_after}
 use Rattle.pf_tally.proofs.Windows.{deadlines_rise, deadline_late}
 use Rattle.pf_tally.proofs.Subs.{Giver, from_filter_map}

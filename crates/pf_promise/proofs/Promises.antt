@@ -3,9 +3,9 @@ use Rattle.std.proofs.Common.{◌≡◌, ℕ, zero, suc, ◌<◌, ◌≤◌, ◌
 use Rattle.std.proofs.Math.Nat.{mul-le-mul_left}
 use Rattle.std.proofs.lemmas.Bool.{cases_lt, eq-eqb, cond-true}
 use Rattle.pf_scenario.specs.Scenario.{Plan}
-use Rattle.pf_tally.specs.Record.{Slot}
-use Rattle.pf_tally.specs.Run.{IsRun}
-use Rattle.pf_tally.proofs.Counting.{count_by-cons}
+use Rattle.pf_run.specs.Record.{Slot}
+use Rattle.pf_run.specs.Run.{IsRun}
+use Rattle.pf_run.proofs.Counting.{count_by-cons}
 use Rattle.pf_tally.specs.declared.miss.Miss.{Miss}
 use Rattle.pf_tally.specs.Misses.{misses_of}
 use Rattle.pf_ideal.proofs.Rising.{rises}

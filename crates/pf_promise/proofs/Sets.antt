@@ -5,7 +5,7 @@ use Rattle.std.proofs.lemmas.Bool.{or_cases, or_left, or_right, eqb-true, eq-eqb
 use Rattle.std.proofs.lemmas.List.Sums.{sum_by-cons}
 use Rattle.std.proofs.lemmas.List.Folds.{list_any_at}
 use Rattle.std.proofs.lemmas.List.{get_or_default}
-use Rattle.pf_tally.proofs.Containing.{contains_head, contains_tail, pairs_tail}
+use Rattle.pf_run.proofs.Containing.{contains_head, contains_tail, pairs_tail}
 
 -- the number is among these
 abbrev pub is_among : List ℕ → ℕ → Bool

@@ -7,10 +7,10 @@ use Rattle.pf_scenario.specs.Scenario.{past}
 use Rattle.pf_scenario.specs.declared.event.Event.{Event}
 use Rattle.pf_scenario.specs.declared.event.Event.TheVariants.{Join, Leave, Delay, Limit}
 use Rattle.pf_scenario.specs.declared.event.Numbered.{Numbered}
-use Rattle.pf_tally.specs.Record.{denials_of}
-use Rattle.pf_tally.specs.Inside.{load_of, count_of, count_after}
-use Rattle.pf_tally.specs.Run.{events_in_force}
-use Rattle.pf_tally.proofs.Joins.{contains_past}
+use Rattle.pf_run.specs.Record.{denials_of}
+use Rattle.pf_run.specs.Inside.{load_of, count_of, count_after}
+use Rattle.pf_run.specs.Run.{events_in_force}
+use Rattle.pf_run.proofs.Joins.{contains_past}
 use Rattle.pf_promise.specs.Load.{IsWithinRoom}
 use Rattle.pf_promise.specs.Laws.{LeavesRoom, SettingsSuffice}
 use Rattle.pf_promise.proofs.Standing.{Splits, splits, in_force_all}

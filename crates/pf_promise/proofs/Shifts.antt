@@ -6,7 +6,7 @@ use Rattle.std.proofs.lemmas.Bool.Decides.{nat_tests}
 use Rattle.std.proofs.lemmas.List.{take_all, take-append-le, take-take, get_or_append_left}
 use Rattle.std.proofs.lemmas.List.Elements.{All-head, All-tail, All-weaker, Contains-get_or, filter_map-append}
 use Rattle.std.proofs.lemmas.List.Sums.{sum_by-cons, sum_by-append, count_by_more_yes, count_by_more_no, sum_by-take-le}
-use Rattle.pf_admit.specs.Window.{release_of}
+use Rattle.pf_window.specs.Window.{release_of}
 use Rattle.pf_scenario.specs.Event.{slot_of}
 use Rattle.pf_scenario.specs.Scenario.{Plan, past}
 use Rattle.pf_scenario.specs.Edit.{IsScenario}
@@ -16,13 +16,13 @@ use Rattle.pf_scenario.specs.declared.event.Numbered.{Numbered}
 use Rattle.pf_admit.specs.declared.member.Member.{Member}
 use Rattle.pf_admit.specs.Member.{next_release}
 use Rattle.pf_admit.specs.Admission.{delay_denial}
-use Rattle.pf_tally.specs.Record.{Slot, denials_of, runs, done, next_sub}
-use Rattle.pf_tally.specs.Inside.{Joined, join_of, hold_back_of, shift_of, member_of, member_at}
-use Rattle.pf_tally.specs.Denials.{denial_of}
-use Rattle.pf_tally.specs.Run.{events_in_force, IsNextSlot, IsRun}
-use Rattle.pf_tally.proofs.Points.{shift_push}
-use Rattle.pf_tally.proofs.Joins.{past_below}
-use Rattle.pf_tally.proofs.Judged.{length_snoc}
+use Rattle.pf_run.specs.Record.{Slot, denials_of, runs, done, next_sub}
+use Rattle.pf_run.specs.Inside.{Joined, join_of, hold_back_of, shift_of, member_of, member_at}
+use Rattle.pf_run.specs.Denials.{denial_of}
+use Rattle.pf_run.specs.Run.{events_in_force, IsNextSlot, IsRun}
+use Rattle.pf_run.proofs.Points.{shift_push}
+use Rattle.pf_run.proofs.Joins.{past_below}
+use Rattle.pf_run.proofs.Judged.{length_snoc}
 use Rattle.pf_promise.proofs.Points.{IsBetween, along_points}
 use Rattle.pf_promise.proofs.Standing.{Splits, splits, in_force_all, standing-more}
 use Rattle.pf_promise.proofs.Members.{joined_of, one_joined, IsMemberAt, member_found}

@@ -3,15 +3,15 @@ use Rattle.std.proofs.Common.{◌≡◌, ℕ, ◌≤◌, ◌==◌, Bool, true, f
 use Rattle.std.specs.List.{list_any, cons_option}
 use Rattle.std.proofs.lemmas.Bool.{not-true, eqb-true, eq-eqb, leb-true, le-leb, cond-true, both_ways}
 use Rattle.std.proofs.lemmas.Option.{cond_some}
-use Rattle.pf_reach.specs.Priority.{Priority}
-use Rattle.pf_reach.specs.First.{AreFirst}
-use Rattle.pf_reach.specs.Pick.{Pick}
+use Rattle.pf_order.specs.Priority.{Priority}
+use Rattle.pf_order.specs.First.{AreFirst}
+use Rattle.pf_order.specs.declared.pick.Pick.{Pick}
 use Rattle.pf_scenario.specs.Event.{is_leave_of}
 use Rattle.pf_scenario.specs.declared.event.Numbered.{Numbered}
-use Rattle.pf_tally.specs.Record.{Slot, runs}
-use Rattle.pf_tally.specs.Inside.{Joined, inside, has_left, ready, ready_key, next_key, member_of, eligible_from}
-use Rattle.pf_tally.specs.Run.{pick_of_key}
-use Rattle.pf_tally.proofs.Containing.{contains_none, contains_head, contains_tail, contains_cases, from_filter}
+use Rattle.pf_run.specs.Record.{Slot, runs}
+use Rattle.pf_run.specs.Inside.{Joined, inside, has_left, ready, ready_key, next_key, member_of, eligible_from}
+use Rattle.pf_run.specs.Run.{pick_of_key}
+use Rattle.pf_run.proofs.Containing.{contains_none, contains_head, contains_tail, contains_cases, from_filter}
 use Rattle.pf_tally.proofs.Subs.{from_filter_map}
 use Rattle.pf_promise.proofs.Sets.{list_any-contains, contains-list_any, list_any-map}
 use Rattle.pf_promise.proofs.Members.{joined_of}

@@ -11,11 +11,11 @@ use Rattle.pf_scenario.specs.Event.{slot_of}
 use Rattle.pf_scenario.specs.Scenario.{Plan, is_held, events_of, past}
 use Rattle.pf_scenario.specs.Edit.{IsScenario}
 use Rattle.pf_scenario.specs.declared.event.Numbered.{Numbered}
-use Rattle.pf_tally.specs.Denied.{Denied}
-use Rattle.pf_tally.specs.Record.{Slot, denials_of, is_denied, in_force}
-use Rattle.pf_tally.specs.Run.{events_in_force, IsNextSlot, IsRun}
-use Rattle.pf_tally.proofs.Plans.{slots_of_events}
-use Rattle.pf_tally.proofs.Judged.{along_run, length_snoc, denials_of_snoc, failing_within, slot_comes_after}
+use Rattle.pf_run.specs.declared.denied.Denied.{Denied}
+use Rattle.pf_run.specs.Record.{Slot, denials_of, is_denied, in_force}
+use Rattle.pf_run.specs.Run.{events_in_force, IsNextSlot, IsRun}
+use Rattle.pf_run.proofs.Plans.{slots_of_events}
+use Rattle.pf_run.proofs.Judged.{along_run, length_snoc, denials_of_snoc, failing_within, slot_comes_after}
 use Rattle.pf_tally.proofs.InForce.{in_force-append}
 
 -- those in force at n begin with those at t

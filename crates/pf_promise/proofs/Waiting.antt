@@ -7,7 +7,7 @@ use Rattle.std.proofs.Math.Nat.{mul-le-mul_left}
 use Rattle.std.proofs.lemmas.Bool.{cases_Bool, cases_lt, or_cases, and_parts, and_from, eqb-true, leb-true, le-leb, false_from_ne_true, false≢true}
 use Rattle.std.proofs.lemmas.List.Elements.{All-head, All-tail}
 use Rattle.std.proofs.lemmas.List.Sums.{sum_by-cons}
-use Rattle.pf_admit.specs.Window.{release_of}
+use Rattle.pf_window.specs.Window.{release_of}
 use Rattle.pf_scenario.specs.Event.{slot_of, is_leave_of}
 use Rattle.pf_scenario.specs.System.{System}
 use Rattle.pf_scenario.specs.Scenario.{Plan}
@@ -15,11 +15,11 @@ use Rattle.pf_scenario.specs.Edit.{IsScenario, IsEvent}
 use Rattle.pf_scenario.specs.declared.event.Event.{Event}
 use Rattle.pf_scenario.specs.declared.event.Event.TheVariants.{Join, Leave, Delay, Limit}
 use Rattle.pf_scenario.specs.declared.event.Numbered.{Numbered}
-use Rattle.pf_tally.specs.Record.{Slot, runs, done, denials_of}
-use Rattle.pf_tally.specs.Inside.{Joined, join_of, inside, count_of, count_after}
-use Rattle.pf_tally.specs.Run.{events_in_force, IsRun}
-use Rattle.pf_tally.proofs.Limits.{passes_tests}
-use Rattle.pf_tally.proofs.Within.{in_force_limits}
+use Rattle.pf_run.specs.Record.{Slot, runs, done, denials_of}
+use Rattle.pf_run.specs.Inside.{Joined, join_of, inside, count_of, count_after}
+use Rattle.pf_run.specs.Run.{events_in_force, IsRun}
+use Rattle.pf_run.proofs.Limits.{passes_tests}
+use Rattle.pf_run.proofs.Within.{in_force_limits}
 use Rattle.pf_tally.specs.Misses.{due_of, leaves_after}
 use Rattle.pf_ideal.specs.Schedule as ideal
 use Rattle.pf_ideal.specs.Schedule.{IsByReach}

@@ -1,9 +1,9 @@
 -- What the tasks inside ask of the slots of a run, beside the processors in use.
 use Rattle.std.specs.Prelude.{ℕ, zero, suc, ◌+◌, ◌-◌, ◌*◌, ◌<◌, ◌≤◌, List, length}
 use Rattle.pf_scenario.specs.Scenario.{Plan}
-use Rattle.pf_tally.specs.Record.{Slot}
-use Rattle.pf_tally.specs.Inside.{load_of, count_of}
-use Rattle.pf_tally.specs.Run.{events_in_force}
+use Rattle.pf_run.specs.Record.{Slot}
+use Rattle.pf_run.specs.Inside.{load_of, count_of}
+use Rattle.pf_run.specs.Run.{events_in_force}
 
 -- the load of slot t, in units, where the events of the slots up to t are taken, and the units that its processors have
 abbrev pub load_in : Plan → List Slot → ℕ → ℕ

@@ -3,9 +3,9 @@ use Rattle.std.specs.Prelude.{ℕ, Bool, ◌&&◌, nat_le, nat_lt, List, length,
 use Rattle.std.specs.List.{range_with_len}
 use Rattle.pf_scenario.specs.Scenario.{Plan}
 use Rattle.pf_scenario.specs.declared.event.Numbered.{Numbered}
-use Rattle.pf_tally.specs.Record.{Slot, done}
-use Rattle.pf_tally.specs.Inside.{Joined, join_of}
-use Rattle.pf_tally.specs.Run.{events_in_force}
+use Rattle.pf_run.specs.Record.{Slot, done}
+use Rattle.pf_run.specs.Inside.{Joined, join_of}
+use Rattle.pf_run.specs.Run.{events_in_force}
 use Rattle.pf_tally.specs.Misses.{due_of, leaves_after}
 
 -- subtask i is overdue at slot t: its deadline is over, it did not run below t, and its task had not left before t

@@ -2,8 +2,8 @@
 use Rattle.std.proofs.Common.{◌≡◌, ℕ, zero, suc, ◌+◌, ◌-◌, ◌*◌, ◌/◌, ◌<◌, ◌≤◌, true, false, not, arith, ap, subst, ⊎_elim}
 use Rattle.std.proofs.lemmas.Bool.{cases_lt, not-true, not_from_false}
 use Rattle.pf_weight.specs.Share.{Share, IsShare}
-use Rattle.pf_order.specs.Window.{release_of, deadline_of}
-use Rattle.pf_order.proofs.Quotients.{IsFloor, IsCeil, floor_is, ceil_is}
+use Rattle.pf_window.specs.Window.{release_of, deadline_of}
+use Rattle.pf_window.proofs.Quotients.{IsFloor, IsCeil, floor_is, ceil_is}
 use Rattle.pf_order.specs.Priority.{precedes}
 use Rattle.pf_ideal.specs.Schedule as ideal
 use Rattle.pf_ideal.specs.Schedule.{HasWindows, RanksByReach}

@@ -2,7 +2,7 @@
 -- then the task has lacked l = d - i slots.
 use Rattle.std.proofs.Common.{◌≡◌, ℕ, ◌+◌, ◌*◌, ◌<◌, arith, ap}
 use Rattle.std.proofs.Math.Nat.{lt_of_mul-lt-mul_right, mul-le-mul_right}
-use Rattle.pf_order.proofs.Quotients.{IsCeil}
+use Rattle.pf_window.proofs.Quotients.{IsCeil}
 
 module _ (e p c i d l : ℕ) (whole : c + e ≡ p) (lacks : d ≡ l + i) (due : IsCeil (i * p) e d) where
   times_period : (x : ℕ) → x * p ≡ x * c + x * e

@@ -1,4 +1,3 @@
-pub use Rattle.pf_order.proofs.Order
 pub mod Lacks
 pub mod Reaching
 pub mod Ranking

@@ -3,8 +3,8 @@ use Rattle.std.proofs.Common.{◌≡◌, ℕ, zero, suc, ◌+◌, ◌*◌, ◌<�
 use Rattle.std.proofs.lemmas.Bool.{cases_lt, cases_Bool, leb-true, le-leb, cond-true, cond-false, and_from, eq-eqb, and_left}
 use Rattle.std.proofs.lemmas.Bool.Decides.{nat_tests}
 use Rattle.pf_weight.specs.Share.{Share, IsShare, is_heavy}
-use Rattle.pf_order.specs.Window.{deadline_of, bit_of}
-use Rattle.pf_order.specs.Group.{group_of}
+use Rattle.pf_window.specs.Window.{deadline_of, bit_of}
+use Rattle.pf_window.specs.Group.{group_of}
 use Rattle.pf_order.specs.Priority.{Priority, precedes, priority_cmp}
 use Rattle.pf_order.specs.KeyOf.{key_of}
 use Rattle.pf_reach.specs.Reach.{WindowsReach}

@@ -4,10 +4,10 @@ use Rattle.std.proofs.Math.Nat.{lt_of_mul-lt-mul_right}
 use Rattle.std.proofs.lemmas.Bool.{cases_lt, leb-true, le-leb, both_ways}
 use Rattle.std.specs.Int.{div_ceil}
 use Rattle.pf_weight.specs.Share.{Share, IsShare, is_heavy}
-use Rattle.pf_order.specs.Window.{deadline_of, bit_of}
-use Rattle.pf_order.specs.Group.{group_from, group_of}
-use Rattle.pf_order.proofs.Quotients.{IsCeil, floor_is, ceil_is, ceil_only}
-use Rattle.pf_order.proofs.Groups.{group_of_part}
+use Rattle.pf_window.specs.Window.{deadline_of, bit_of}
+use Rattle.pf_window.specs.Group.{group_from, group_of}
+use Rattle.pf_window.proofs.Quotients.{IsCeil, floor_is, ceil_is, ceil_only}
+use Rattle.pf_window.proofs.Groups.{group_of_part}
 use Rattle.pf_reach.specs.Reach.{WindowsReach}
 use Rattle.pf_reach.specs.Laws.{GroupDeadlinesEndReach}
 use Rattle.pf_reach.proofs.Lacks.{lack_is, group_from_reach, reach_from_group}

@@ -1,7 +1,7 @@
 -- What tasks ask for, and what they get, as a schedule by PD2.
 use Rattle.std.specs.Prelude.{◌≡◌, ℕ, suc, ◌+◌, ◌-◌, ◌*◌, ◌≤◌, Bool, not, List}
 use Rattle.pf_weight.specs.Share.{Share, IsShare}
-use Rattle.pf_order.specs.Window.{release_of, deadline_of}
+use Rattle.pf_window.specs.Window.{release_of, deadline_of}
 use Rattle.pf_order.specs.Priority.{Priority, precedes}
 use Rattle.pf_order.specs.KeyOf.{key_of}
 use Rattle.pf_ideal.specs.Schedule.{Schedule}

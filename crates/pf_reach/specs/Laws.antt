@@ -1,8 +1,8 @@
 -- The laws of reach, each the contract of a public function. They say what bits and group deadlines are for.
 use Rattle.std.specs.Prelude.{◌≡◌, ℕ, ◌+◌, ◌<◌, ◌≤◌, true, false, ◌↔◌}
 use Rattle.pf_weight.specs.Share.{Share, IsShare, is_heavy}
-use Rattle.pf_order.specs.Window.{deadline_of, bit_of}
-use Rattle.pf_order.specs.Group.{group_of}
+use Rattle.pf_window.specs.Window.{deadline_of, bit_of}
+use Rattle.pf_window.specs.Group.{group_of}
 use Rattle.pf_order.specs.Priority.{precedes}
 use Rattle.pf_order.specs.KeyOf.{key_of}
 use Rattle.pf_ideal.specs.Schedule.{Schedule, HasWindows, RanksByReach}

@@ -1,8 +1,6 @@
-pub use Rattle.pf_order.specs.declared.pick.Pick
-pub use Rattle.pf_order.specs.First
 pub use Rattle.pf_weight.specs.Share
-pub use Rattle.pf_order.specs.Window
-pub use Rattle.pf_order.specs.Group
+pub use Rattle.pf_window.specs.Window
+pub use Rattle.pf_window.specs.Group
 pub use Rattle.pf_order.specs.Priority
 pub use Rattle.pf_order.specs.KeyOf
 pub mod Reach

@@ -2,7 +2,7 @@
 use Rattle.std.proofs.Common.{refl}
 use Rattle.pf_window.specs.Window.{release_of, deadline_of, bit_of}
 use Rattle.pf_window.specs.Group.{group_of}
-use Rattle.pf_place.specs.Priority.{priority_cmp}
+use Rattle.pf_order.specs.Priority.{priority_cmp}
 use Rattle.pf_scenario.specs.Event.{run_cmp}
 use Rattle.pf_scenario.specs.Scenario.{events_of}
 use Rattle.pf_run.specs.Record.{done, in_force}

@@ -9,7 +9,7 @@ use Rattle.std.specs.List.{flat_map}
 use Rattle.std.specs.List.Sorted.{IsSortedBy}
 use Rattle.std.specs.Ordering.{is_lt}
 use Rattle.pf_weight.specs.Share.{IsShare}
-use Rattle.pf_place.specs.Pick.{Pick}
+use Rattle.pf_order.specs.declared.pick.Pick.{Pick}
 use Rattle.pf_scenario.specs.Scenario.{Plan}
 use Rattle.pf_scenario.specs.System.{System}
 use Rattle.pf_scenario.specs.declared.event.Numbered.{Numbered}

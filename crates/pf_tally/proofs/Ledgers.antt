@@ -1,6 +1,6 @@
 -- The ledger of a run, and what it says of a task.
 use Rattle.std.proofs.Common.{◌≡◌, ℕ, ◌&&◌, nat_le, Option, List, ◌++◌, length, filter_map, All, Contains, refl, sym, ap, ◌∙◌, subst, subst₂, arith}
-use Rattle.pf_place.specs.Pick.{Pick}
+use Rattle.pf_order.specs.declared.pick.Pick.{Pick}
 use Rattle.pf_scenario.specs.Scenario.{Plan, past}
 use Rattle.pf_scenario.specs.Edit.{IsScenario}
 use Rattle.pf_scenario.specs.System.{System}

@@ -1,13 +1,3 @@
-pub use Rattle.pf_run.proofs.Runs
-pub use Rattle.pf_run.proofs.Within
-pub use Rattle.pf_run.proofs.Points
-pub use Rattle.pf_run.proofs.Plans
-pub use Rattle.pf_run.proofs.Limits
-pub use Rattle.pf_run.proofs.Judged
-pub use Rattle.pf_run.proofs.Joins
-pub use Rattle.pf_run.proofs.Firsts
-pub use Rattle.pf_run.proofs.Counting
-pub use Rattle.pf_run.proofs.Containing
 pub mod Examples
 pub mod Sorts
 pub mod Places

@@ -7,7 +7,7 @@ use Rattle.std.proofs.lemmas.Bool.{cases_eq, ne_eqb, eq-eqb, or_from}
 use Rattle.std.proofs.lemmas.Option.{get_or_from_slice_get}
 use Rattle.std.proofs.lemmas.List.{append-nil, take_more, length-take-le}
 use Rattle.std.proofs.lemmas.List.Folds.{list_any_more}
-use Rattle.pf_place.specs.Pick.{Pick}
+use Rattle.pf_order.specs.declared.pick.Pick.{Pick}
 use Rattle.pf_place.specs.Occupancy.{sitter, sitters, is_seated, NoTaskTwice}
 use Rattle.pf_run.proofs.Containing.{contains_head, contains_tail, pairs_head, pairs_tail}
 use Rattle.pf_table.specs.Lists.{noted_of}

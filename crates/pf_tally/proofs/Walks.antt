@@ -8,7 +8,7 @@ use Rattle.std.proofs.lemmas.List.Elements.{All-nil, All-cons, All-head, All-tai
 use Rattle.std.proofs.lemmas.List.Sums.{sum_by-cons, sum_by_push, sum_by-append}
 use Rattle.pf_weight.specs.Share.{Share}
 use Rattle.pf_window.specs.Window.{deadline_of}
-use Rattle.pf_place.specs.Pick.{Pick}
+use Rattle.pf_order.specs.declared.pick.Pick.{Pick}
 use Rattle.pf_place.specs.Occupancy.{sitter, sitters, is_seated, NoTaskTwice}
 use Rattle.pf_scenario.specs.Event.{slot_of}
 use Rattle.pf_scenario.specs.declared.event.Event.{Event}

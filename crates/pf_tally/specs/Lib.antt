@@ -1,5 +1,3 @@
-pub use Rattle.pf_run.specs.declared.denied.Denied
-pub use Rattle.pf_run.specs.Denials
 pub use Rattle.pf_weight.specs.Share
 pub use Rattle.pf_scenario.specs.System
 pub use Rattle.pf_scenario.specs.Scenario

@@ -1,6 +1,6 @@
 -- How a schedule's rows are noted by task: of each task the slots in which it runs.
 use Rattle.std.specs.Prelude.{◌≡◌, ℕ, cond, Option, List, [], ◌∷◌, ◌++◌}
-use Rattle.pf_place.specs.Pick.{Pick}
+use Rattle.pf_order.specs.declared.pick.Pick.{Pick}
 use Rattle.pf_place.specs.Occupancy.{is_seated}
 pub use Rattle.pf_place.specs.Turns.{IsRow}
 use Rattle.pf_table.specs.Lists.{noted_of}

@@ -1,6 +1,6 @@
 -- The slots in which a task runs.
 use Rattle.std.specs.Prelude.{ℕ, ◌+◌, Bool, cond, Option, List, [], ◌∷◌}
-use Rattle.pf_place.specs.Pick.{Pick}
+use Rattle.pf_order.specs.declared.pick.Pick.{Pick}
 use Rattle.pf_place.specs.Occupancy.{is_seated}
 use Rattle.pf_run.specs.Record.{Slot, runs}
 

@@ -3,7 +3,7 @@ use Rattle.std.specs.Prelude.{◌≡◌, ◌≢◌, ℕ, ◌+◌, ◌≤◌, Boo
 use Rattle.pf_weight.specs.Share.{Share}
 use Rattle.pf_weight.specs.declared.task.TheConstants.{LARGEST_TASK}
 use Rattle.pf_window.specs.Window.{deadline_of}
-use Rattle.pf_place.specs.Pick.{Pick}
+use Rattle.pf_order.specs.declared.pick.Pick.{Pick}
 use Rattle.pf_scenario.specs.Event.{slot_of}
 use Rattle.pf_scenario.specs.declared.event.Event.{Event}
 use Rattle.pf_scenario.specs.declared.event.Event.TheVariants.{Delay}

@@ -33,5 +33,3 @@ mod tardiness;
 pub mod task_figures;
 mod walk;
 mod walked_run;
-
-pub use pf_run::{denied, rows};

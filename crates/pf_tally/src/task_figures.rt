@@ -1,5 +1,5 @@
 ghost use Rattle.std.specs.Prelude.{◌≡◌, Option, List, length, IfOk};
-ghost use Rattle.pf_place.specs.Pick.{Pick};
+ghost use Rattle.pf_order.specs.declared.pick.Pick.{Pick};
 ghost use Rattle.pf_scenario.specs.Scenario.{Plan};
 ghost use Rattle.pf_run.specs.declared.denied.Denied.{Denied};
 ghost use Rattle.pf_run.specs.Computed.{run_of};

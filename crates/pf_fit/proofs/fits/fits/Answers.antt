@@ -1,5 +1,5 @@
 use Rattle.std.proofs.Common.{◌∙◌, arith, ap, sym, subst, List, [], length}
-use Rattle.pf_tally.specs.Computed.{run_of}
+use Rattle.pf_run.specs.Computed.{run_of}
 use Rattle.pf_fit.specs.declared.asking.Asking.{Asking}
 use Rattle.pf_fit.proofs.Walked.{IsAt}
 use Rattle.pf_fit.proofs.Fitting.{fit_start, few_overload, lent_few, room_few, next_order, next_short, next_limits, kept, ended, end_order, end_short, none_missed, late_within}

@@ -1,5 +1,5 @@
 use Rattle.std.proofs.Common.{◌∙◌, ◌*◌, None, arith, ap, sym, subst, refl, min, max, List, [], length}
-use Rattle.pf_tally.specs.Computed.{run_of}
+use Rattle.pf_run.specs.Computed.{run_of}
 use Rattle.pf_fit.specs.Levels.{levels_of}
 use Rattle.pf_fit.specs.declared.asking.Asking.{Asking}
 use Rattle.pf_fit.specs.declared.fit.Fit.{Fit}

@@ -1,5 +1,5 @@
 use Rattle.std.proofs.Common.{length, min, max}
-use Rattle.pf_tally.specs.Computed.{run_of}
+use Rattle.pf_run.specs.Computed.{run_of}
 use Rattle.pf_fit.specs.declared.fit.Fit.{Fit}
 use Rattle.pf_fit.proofs.Walked.{IsAt}
 use Rattle.pf_fit.proofs.Levelled.{AreLevels}

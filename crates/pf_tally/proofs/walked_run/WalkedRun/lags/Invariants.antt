@@ -1,5 +1,5 @@
 use Rattle.std.proofs.Common.{◌≡◌, Option, List, map, take, length}
-use Rattle.pf_place.specs.Pick.{Pick}
+use Rattle.pf_order.specs.declared.pick.Pick.{Pick}
 use Rattle.pf_scenario.specs.Scenario.{Plan}
 use Rattle.pf_run.specs.declared.denied.Denied.{Denied}
 use Rattle.pf_run.specs.Computed.{run_of}

@@ -1,6 +1,6 @@
 use Rattle.std.proofs.Common.{◌≡◌, Option, List, take, length}
 use Rattle.std.specs.List.{flat_map}
-use Rattle.pf_place.specs.Pick.{Pick}
+use Rattle.pf_order.specs.declared.pick.Pick.{Pick}
 use Rattle.pf_scenario.specs.Scenario.{Plan}
 use Rattle.pf_run.specs.declared.denied.Denied.{Denied}
 use Rattle.pf_run.specs.Computed.{run_of}
