@@ -31,8 +31,8 @@ pub record Advances (e : Kept) (events : List Numbered) (taken : Taken) (e' : Ke
   pub count : taken.count ≡ (kept_after_events e events).count
   pub after : e' ≡ kept_after_picks (kept_after_events e events) (map pick_of_key chosen)
 
--- these keys can be run in the slot: of different ones of these tasks, each the next one of its task, no task of which ran
--- more often than slots were taken
+-- these keys can be run in the slot: they are of different ones of these tasks, each is the next one of its task, and no
+-- task ran more often than slots were taken
 pub record CanRun (slot : ℕ) (tasks : List KeptTask) (keys : List Priority) : Type 0 where
   pub slot_within : slot ≤ WIDE_HORIZON
   pub inside : All IsInside tasks

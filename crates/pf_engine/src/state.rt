@@ -221,11 +221,10 @@ impl State {
         ensures comparisons { Compares (3 * digits (length self.old.kept.tasks + 1)) meter.old meter.new }
     {
         may_delay(slot, self.tasks.get(task))?;
-        let Some(member) = self.tasks.delay(task, by) else {
-            unreachable!()
-        };
-        let _ = self.calendar.take_out(meter, task as u32);
-        put_next(&mut self.calendar, meter, task, &member, self.slots);
+        if let Some(member) = self.tasks.delay(task, by) {
+            let _ = self.calendar.take_out(meter, task as u32);
+            put_next(&mut self.calendar, meter, task, &member, self.slots);
+        }
         Ok(())
     }
 

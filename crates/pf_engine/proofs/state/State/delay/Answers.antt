@@ -28,13 +28,6 @@ delay-requires-clause-fits c = λ x e.
 allowed : (c : In_ok-may_delay) → delay_denial c.args.slot (member_in c.self.inside.tasks.tasks c.args.task) ≡ None
 allowed c = ap (delay_denial c.args.slot) (sym c.get.ensures) ∙ sym c.in_ok-may_delay.ensures
 
-pub unreachable-requires : goal.unreachable-requires
-unreachable-requires c =
-    let tasks = c.self.inside.tasks.tasks in
-    let m = inside_of_delay c.args.slot (member_in tasks c.args.task) (allowed (goal.at.unreachable-requires c).In_ok-may_delay) in
-    found_changed tasks c.args.task (member_after_delay c.args.by) m.0 m.1
-    (ap (λ ts. member_in ts c.args.task) (sym c.in_default.ensures.tasks) ∙ sym c.in_default.ensures.member)
-
 pub put_next-requires-clause-member : goal.put_next-requires-clause-member
 put_next-requires-clause-member c =
     let engine : IsEngine (record (kept_of c.self.inside) { tasks = c.delay.new.self.tasks }) = engine_after c.requires.can (search rules) in
@@ -81,9 +74,16 @@ invariant_of-self c =
           c.put_next.ensures.some (away g.After-take_out none));
     }
 
-pub returns-clause-takes : goal.returns-clause-takes
-returns-clause-takes c =
-    let g = goal.at.returns-clause-takes c in
+pub invariant_of-self-in_default : goal.invariant_of-self-in_default
+invariant_of-self-in_default c =
+    let tasks = c.self.inside.tasks.tasks in
+    let m = inside_of_delay c.args.slot (member_in tasks c.args.task) (allowed (goal.at.invariant_of-self-in_default c).In_ok-may_delay) in
+    absurd (found_changed tasks c.args.task (member_after_delay c.args.by) m.0 m.1
+    (ap (λ ts. member_in ts c.args.task) (sym c.in_default.ensures.tasks) ∙ sym c.in_default.ensures.member))
+
+pub returns-in-Some-clause-takes : goal.returns-in-Some-clause-takes
+returns-in-Some-clause-takes c =
+    let g = goal.at.returns-in-Some-clause-takes c in
     let none = allowed g.In_ok-may_delay in
     record {
       denial = search rules;
@@ -102,8 +102,8 @@ returns-clause-takes c =
       );
     }
 
-pub returns-clause-comparisons : goal.returns-clause-comparisons
-returns-clause-comparisons c =
+pub returns-in-Some-clause-comparisons : goal.returns-in-Some-clause-comparisons
+returns-in-Some-clause-comparisons c =
     let fewer = count_taken c.self.inside.calendar c.take_out.new.self c.args.task c.take_out.result c.take_out.ensures.taken c.take_out.ensures.counted in
     let long = ap (λ (s : Keeping). length s.kept.tasks) c.self.view_is in
     both_made (omega (arith, c.self.invariant.agenda.count, long)) (omega (arith, c.self.invariant.agenda.count, long, fewer)) c.take_out.ensures.comparisons
