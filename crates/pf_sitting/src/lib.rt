@@ -6,4 +6,5 @@ pub mod answers;
 pub mod dialogue;
 pub mod fault;
 mod lines;
+pub mod scripted;
 pub mod sitting;

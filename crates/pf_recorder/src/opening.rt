@@ -1,0 +1,104 @@
+ghost use Rattle.std.specs.Prelude.{◌≡◌, ◌≢◌, ◌++◌, ℕ, List, IsTrue, IfErr, IfOk};
+ghost use Rattle.pf_journal.specs.Crash.{IsWithFront};
+ghost use Rattle.pf_journal.specs.Kept.{IsFound, IsKept, disk_of, found_bytes, found_disk};
+ghost use Rattle.pf_journal.specs.Lines.{records_of, state_of};
+ghost use Rattle.pf_journal.specs.Texts.{whole_lines};
+ghost use Rattle.pf_journal.specs.declared.state.State.TheVariants.{Other};
+ghost use Rattle.pf_recorder.specs.Recording.{BeginsWith, added_to, records_in};
+
+use crate::recorder::Recorder;
+use pf_journal::failed::Failed;
+use pf_journal::found::Found;
+use pf_journal::journal::Journal;
+use pf_sitting::scripted::Scripted;
+use sqlite_disk::Disk;
+use std::alloc::Global;
+
+impl<S: Scripted + Drop, D: Disk + Drop> Recorder<S, D> {
+    /// Begins to keep what is answered in a file as it was found. A file without records gets those of the script so far; one that has
+    /// records stays with them, and who answers has carried them out.
+    ///
+    /// # Errors
+    ///
+    /// Those of `Found::open` and `Journal::put_lines`, with the file. A crash leaves the records that it had, and behind them none, or
+    /// where it had none a front of those of the script.
+    pub fn open(alloc: Global, found: Found<D>, machine: S) -> Result<Self, Failed<D>>
+        requires { IsFound D.Disk.seen D.Disk.may_leave D.Disk.is_usable D.Disk.is_clean found }
+        ensures begins { IfOk result (λ r. BeginsWith D.Disk.seen D.Disk.may_leave D.Disk.is_clean S.script machine (found_disk found) (found_bytes found) r) }
+        ensures known { IfOk result (λ r. state_of (found_bytes found) ≢ Other) }
+        ensures crash { IfErr result (λ failed. IsTrue (D.Disk.is_clean (found_disk found)) → (c : List ℕ) → D.Disk.may_leave failed.disk c
+            → IsWithFront (records_of (found_bytes found)) (added_to (records_of (found_bytes found)) (S.script machine)) c) }
+    {
+        match open_with(alloc, found, machine.script()) {
+            Ok(journal) => Ok(Recorder::over(alloc, machine, journal)),
+            Err(failed) => Err(failed),
+        }
+    }
+}
+
+/// Opens a file as it was found, and gives it the records of a script where it has none.
+fn open_with<D: Disk + Drop>(
+    alloc: Global,
+    found: Found<D>,
+    script: &[u8],
+) -> Result<Journal<D>, Failed<D>>
+    requires { IsFound D.Disk.seen D.Disk.may_leave D.Disk.is_usable D.Disk.is_clean found }
+    ensures kept { IfOk result (λ j. IsKept D.Disk.seen D.Disk.may_leave D.Disk.is_usable D.Disk.is_clean j) }
+    ensures calm { IfOk result (λ j. D.Disk.is_clean (disk_of j) ≡ D.Disk.is_clean (found_disk found)) }
+    ensures put { IfOk result (λ j. IsTrue (D.Disk.is_clean (found_disk found))
+        → records_of (D.Disk.seen (disk_of j)) ≡ records_of (found_bytes found) ++ added_to (records_of (found_bytes found)) script.now) }
+    ensures known { IfOk result (λ j. state_of (found_bytes found) ≢ Other) }
+    ensures crash { IfErr result (λ failed. IsTrue (D.Disk.is_clean (found_disk found)) → (c : List ℕ) → D.Disk.may_leave failed.disk c
+        → IsWithFront (records_of (found_bytes found)) (added_to (records_of (found_bytes found)) script.now) c) }
+{
+    let begins = found.records() == 0;
+    let journal = match found.open() {
+        Ok(journal) => journal,
+        Err(failed) => return Err(failed),
+    };
+    if begins {
+        return put_all(alloc, journal, behind_heading(script));
+    }
+    Ok(journal)
+}
+
+/// Adds the lines of a text to a journal.
+///
+/// # Errors
+///
+/// Those of `Journal::put_lines`, with the file.
+fn put_all<D: Disk + Drop>(
+    alloc: Global,
+    mut journal: Journal<D>,
+    text: &[u8],
+) -> Result<Journal<D>, Failed<D>>
+    requires { IsKept D.Disk.seen D.Disk.may_leave D.Disk.is_usable D.Disk.is_clean journal }
+    ensures kept { IfOk result (λ j. IsKept D.Disk.seen D.Disk.may_leave D.Disk.is_usable D.Disk.is_clean j) }
+    ensures calm { IfOk result (λ j. D.Disk.is_clean (disk_of j) ≡ D.Disk.is_clean (disk_of journal)) }
+    ensures put { IfOk result (λ j. IsTrue (D.Disk.is_clean (disk_of journal))
+        → records_of (D.Disk.seen (disk_of j)) ≡ records_of (D.Disk.seen (disk_of journal)) ++ whole_lines text.now) }
+    ensures crash { IfErr result (λ failed. IsTrue (D.Disk.is_clean (disk_of journal)) → (c : List ℕ) → D.Disk.may_leave failed.disk c
+        → IsWithFront (records_of (D.Disk.seen (disk_of journal))) (whole_lines text.now) c) }
+{
+    match journal.put_lines(alloc, text) {
+        Ok(()) => Ok(journal),
+        Err(error) => {
+            let disk = journal.into_disk();
+            Err(Failed { error, disk })
+        }
+    }
+}
+
+/// The lines of a script behind its first one.
+fn behind_heading(script: &[u8]) -> &[u8]
+    ensures { whole_lines result.now ≡ records_in script.now }
+{
+    let mut rest = script;
+    while let [byte, after @ ..] = rest {
+        rest = after;
+        if *byte == b'\n' {
+            return rest;
+        }
+    }
+    rest
+}
