@@ -1,5 +1,5 @@
 -- What is told where a file keeps no session's records.
-use Rattle.std.specs.Prelude.{ℕ, ◌≡◌, Bool, true, List, [], ◌++◌, Result, Ok, Err, codes}
+use Rattle.std.specs.Prelude.{⊤, ℕ, ◌≡◌, Bool, true, List, [], ◌++◌, Result, Ok, Err, codes}
 use Rattle.std.specs.declared.io.ErrorKind.{ErrorKind}
 use Rattle.std.specs.declared.io.ErrorKind.TheVariants as kind
 use Rattle.pf_fault.specs.declared.ending.Ending.{Ending}
@@ -33,6 +33,13 @@ fault_of_adding error.TooLong = Unwritten
 fault_of_adding error.NoHeading = NoHeading
 fault_of_adding error.LongLine = LongRecord
 fault_of_adding error.OutOfMemory = NoMemory
+
+-- a file could not be had: it is in use, it can't be opened or read, or memory was refused
+abbrev pub IsUnhad : JournalFault → Type 0
+IsUnhad InUse = ⊤
+IsUnhad (Unread kind) = ⊤
+IsUnhad NoMemory = ⊤
+IsUnhad fault = ⊥
 
 abbrev pub status_of : JournalFault → Status
 status_of InUse = status.StreamFailed

@@ -1,5 +1,5 @@
 ghost use Rattle.std.specs.Prelude.{◌≡◌, ◌++◌, IfOk, OnOk};
-ghost use Rattle.pf_journal_file.specs.Faults.{IsOutcome, fault_of_adding, fault_of_kind, fault_of_opening, fault_text, named_line, no_heading_line, note_behind, status_of};
+ghost use Rattle.pf_journal_file.specs.Faults.{IsOutcome, IsUnhad, fault_of_adding, fault_of_kind, fault_of_opening, fault_text, named_line, no_heading_line, note_behind, status_of};
 
 use crate::journals::OpenFault;
 use pf_fault::ending::Ending;
@@ -33,7 +33,8 @@ pub enum JournalFault {
 impl JournalFault {
     /// Why a file was not opened.
     pub(crate) fn of_opening(fault: OpenFault) -> Self
-        ensures { result ≡ fault_of_opening fault }
+        ensures fault { result ≡ fault_of_opening fault }
+        ensures unhad { IsUnhad result }
     {
         match fault {
             OpenFault::Busy => JournalFault::InUse,
@@ -44,7 +45,8 @@ impl JournalFault {
 
     /// Why a file can't be opened or read, by the kind of the failure.
     fn of_kind(kind: ErrorKind) -> Self
-        ensures { result ≡ fault_of_kind kind }
+        ensures fault { result ≡ fault_of_kind kind }
+        ensures unhad { IsUnhad result }
     {
         match kind {
             ErrorKind::OutOfMemory => JournalFault::NoMemory,
@@ -53,7 +55,9 @@ impl JournalFault {
     }
 
     /// Why a file that was opened was not read.
-    pub(crate) fn of_reading(error: JournalError) -> Self {
+    pub(crate) fn of_reading(error: JournalError) -> Self
+        ensures { IsUnhad result }
+    {
         match error {
             JournalError::OutOfMemory => JournalFault::NoMemory,
             JournalError::File(why) => JournalFault::of_kind(why.kind()),

@@ -1,5 +1,6 @@
-ghost use Rattle.std.specs.Prelude.{IsTrue, IfOk};
+ghost use Rattle.std.specs.Prelude.{IsTrue, IfErr, IfOk};
 ghost use Rattle.pf_journal.specs.Kept.{IsFound};
+ghost use Rattle.pf_journal_file.specs.Faults.{IsUnhad};
 
 use crate::journal_fault::JournalFault;
 use pf_journal::failed::Failed;
@@ -43,7 +44,8 @@ pub fn find_journal<J: Journals>(
     journals: J,
     path: &str,
 ) -> Result<Found<J::File>, JournalFault>
-    ensures { IfOk result (λ found. IsFound J.File.seen J.File.may_leave J.File.is_usable J.File.is_clean found) }
+    ensures found { IfOk result (λ found. IsFound J.File.seen J.File.may_leave J.File.is_usable J.File.is_clean found) }
+    ensures unhad { IfErr result IsUnhad }
 {
     match journals.open(path) {
         Ok(file) => read_found(alloc, file),
@@ -54,7 +56,8 @@ pub fn find_journal<J: Journals>(
 /// The same, of a file that was opened.
 fn read_found<D: Disk + Drop>(alloc: Global, file: D) -> Result<Found<D>, JournalFault>
     requires { IsTrue (D.Disk.is_usable file) }
-    ensures { IfOk result (λ found. IsFound D.Disk.seen D.Disk.may_leave D.Disk.is_usable D.Disk.is_clean found) }
+    ensures found { IfOk result (λ found. IsFound D.Disk.seen D.Disk.may_leave D.Disk.is_usable D.Disk.is_clean found) }
+    ensures unhad { IfErr result IsUnhad }
 {
     match Found::read(alloc, file) {
         Ok(found) => Ok(found),

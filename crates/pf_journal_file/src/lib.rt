@@ -2,6 +2,7 @@
 //! file that was opened can be used, and what is told of one, or of why it is no journal for a session, is the text of that.
 #![tactic(auto)]
 
+pub mod host_journals;
 pub mod journal_fault;
 pub mod journals;
 pub mod sizes;
