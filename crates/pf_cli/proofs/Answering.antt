@@ -11,7 +11,7 @@ use Rattle.pf_stream.specs.Written.{CountsOutput, TookFront}
 use Rattle.pf_stream.proofs.Sending.{none_written, took-after, took-before}
 use Rattle.pf_formats.specs.Refusal.{Refusal}
 use Rattle.pf_names.specs.declared.titles.Titles.{Titles}
-use Rattle.pf_plain.specs.declared.origin.Origin.{Origin}
+use Rattle.pf_recount.specs.Origin.{Origin}
 use Rattle.pf_options.specs.declared.format.Format.{Format}
 use Rattle.pf_fault.specs.declared.range_fault.RangeFault.{RangeFault}
 use Rattle.pf_options.specs.Formats.{has_replies, range_fault}

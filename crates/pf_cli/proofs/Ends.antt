@@ -13,7 +13,7 @@ use Rattle.pf_script.specs.Told.{FaultTold, Reading, Good, Bad, Missing, faults,
 use Rattle.pf_script.proofs.Opening.{AreUnopened, beginning}
 use Rattle.pf_formats.specs.Refusal.{Refusal}
 use Rattle.pf_names.specs.declared.titles.Titles.{Titles}
-use Rattle.pf_plain.specs.declared.origin.Origin.{Origin}
+use Rattle.pf_recount.specs.Origin.{Origin}
 use Rattle.pf_options.specs.declared.format.Format.{Format}
 use Rattle.pf_fault.specs.declared.range_fault.RangeFault.{RangeFault}
 use Rattle.pf_options.specs.Formats.{range_fault}

@@ -8,7 +8,7 @@ use Rattle.pf_script.specs.Told.{Told, told}
 use Rattle.pf_stream.specs.Reading.{longest_script}
 use Rattle.pf_formats.specs.Refusal.{Refusal}
 use Rattle.pf_names.specs.declared.titles.Titles.{Titles}
-use Rattle.pf_plain.specs.declared.origin.Origin.{Origin}
+use Rattle.pf_recount.specs.Origin.{Origin}
 use Rattle.pf_options.specs.declared.format.Format.{Format}
 use Rattle.pf_options.specs.declared.format.Format.TheVariants.{Schedule, Quanta, Windows, Load, Jobs, Trace, C, Full, Html, Tables, Json, Report, Replies, Lags, Misses, Denials, Events, Script, Processors, Stats, Chart, Svg}
 use Rattle.pf_fault.specs.declared.range_fault.RangeFault.{RangeFault}

@@ -5,7 +5,7 @@ use Rattle.std.specs.declared.alloc.Global.{Global}
 use Rattle.pf_formats.specs.Refusal.{Refusal}
 use Rattle.pf_options.specs.Formats.{tells_refusals}
 use Rattle.pf_options.specs.declared.format.Format.{Format}
-use Rattle.pf_plain.specs.declared.origin.Origin.{Origin}
+use Rattle.pf_recount.specs.Origin.{Origin}
 use Rattle.pf_recount.specs.Recount.{Recounted, recounted}
 use Rattle.pf_cli.specs.Refusals.{refusal_of, refusals_for}
 

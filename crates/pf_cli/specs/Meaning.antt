@@ -8,7 +8,7 @@ use Rattle.pf_desk.specs.Machine.{State, opening_state, reply_to, state_after}
 use Rattle.pf_desk.specs.Desk.{Seen, Shown}
 use Rattle.pf_recount.specs.Carried.{asked_in}
 use Rattle.pf_formats.specs.Refusal.{Refusal}
-use Rattle.pf_plain.specs.declared.origin.Origin.{Origin}
+use Rattle.pf_recount.specs.Origin.{Origin}
 use Rattle.pf_stream.specs.Reading.{longest_script}
 use Rattle.pf_script.specs.declared.record.ScriptSettings.{ScriptSettings}
 use Rattle.pf_script.specs.Asked.{commands_in}

@@ -4,7 +4,7 @@ use Rattle.std.specs.Option.{option_map_or}
 use Rattle.pf_formats.specs.Refusal.{Refusal}
 use Rattle.pf_options.specs.Formats.{tells_refusals}
 use Rattle.pf_options.specs.declared.format.Format.{Format}
-use Rattle.pf_plain.specs.declared.origin.Origin.{Origin}
+use Rattle.pf_recount.specs.Origin.{Origin}
 use Rattle.pf_recount.specs.Recount.{recounted}
 use Rattle.pf_recount.specs.declared.refused_record.RefusedRecord.{RefusedRecord}
 

@@ -9,7 +9,7 @@ use pf_desk::desk::Desk;
 use pf_formats::refusal::Refusal;
 use pf_names::names::Names;
 use pf_options::format::Format;
-use pf_plain::origin::Origin;
+use pf_recount::origin::Origin;
 use pf_recount::recount::Recount;
 use pf_recount::recounting::recount;
 use pf_recount::refused_record::RefusedRecord;

@@ -26,7 +26,7 @@ use pf_formats::report::report_pieces;
 use pf_names::titles::Titles;
 use pf_options::fail_on::FailOn;
 use pf_options::format::Format;
-use pf_plain::origin::Origin;
+use pf_recount::origin::Origin;
 use pf_stream::output_fault::OutputFault;
 use pf_stream::sink::Sink;
 use pf_stream::writing::write_pieces;
