@@ -1,4 +1,5 @@
 use pf_sitting::answers::{Answers, Going, Stopped, Unkept};
+use pf_sitting::scripted::Scripted;
 use pf_turn::answer::answer;
 use pf_turn::saver::Saver;
 use pf_turn::session::Session;
@@ -29,13 +30,6 @@ impl<S: Saver> Sitter<S> {
         Sitter { session, saver }
     }
 
-    /// The script of its records that were good so far, behind its heading.
-    pub fn script(&self) -> &[u8]
-        ensures { result.now ≡ self.now.script }
-    {
-        self.session.script()
-    }
-
     /// Whether a line was bad.
     pub fn has_bad(&self) -> bool
         ensures { result ≡ self.now.has_bad }
@@ -62,4 +56,16 @@ impl<S: Saver> Answers for Sitter<S> {
     fn keep(&mut self) -> Result<(), Unkept> {
         Ok(())
     }
+}
+
+impl<S: Saver> Scripted for Sitter<S> {
+    ghost use Rattle.pf_sitter.specs.Grows.{grows};
+
+    ghost script = { λ s. s.script };
+
+    fn script(&self) -> &[u8] {
+        self.session.script()
+    }
+
+    ghost grows = { grows };
 }
