@@ -8,6 +8,6 @@ pub mod unopened;
 
 // For whoever holds such a session.
 pub use pf_journal::{found, journal_error};
-pub use pf_journal_file::{host_journals, journal_fault, journals};
+pub use pf_journal_file::{host_journals, journal_fault, journals, sizes};
 pub use pf_recorder::recorder;
 pub use sqlite_disk::Disk;

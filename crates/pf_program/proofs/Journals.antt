@@ -73,7 +73,7 @@ pub begins_on : {D : Type 0} (seen : D → List ℕ) (may_leave : D → List ℕ
     (script lines : Option (List ℕ)) (path : List ℕ) (found : Found D) (opened begun : Recording SessionState D) (note : List ℕ)
     → IsFound seen may_leave is_usable is_clean found → is_some lines ≡ is_some script
     → ((sizes : _) × Begins seen may_leave is_clean manner lines (found_disk found) (found_bytes found) opened sizes
-      × (note ≡ (if manner.quiet then [] else sizes_line path sizes)))
+    × (note ≡ (if manner.quiet then [] else sizes_line path sizes)))
     → begun ≡ opened → BeginsOn seen may_leave is_usable is_clean manner script path begun note
 begins_on seen may_leave is_usable is_clean manner script lines path found opened begun note is named begins same =
     rw same (record { found = found; is_found = is; lines = lines; named = named; begins = begins })

@@ -21,12 +21,13 @@ use pf_journaled::journal_fault::JournalFault;
 use pf_journaled::journals::{Journals, find_journal};
 use pf_journaled::opening::{Opened, open_journal};
 use pf_journaled::recorder::Recorder;
+use pf_journaled::sizes::Sizes;
 use pf_journaled::unopened::Unopened;
 use pf_script_notes::behind_fault::fault_note;
 use pf_sitter::files::FileSaver;
 use pf_sitter::sitter::Sitter;
 use pf_words::desk_words::DeskWords;
-use std::alloc::Global;
+use std::alloc::{AllocError, Global};
 use std::rt::Files;
 
 /// A session with a journal, as it begins.
@@ -110,7 +111,7 @@ fn make_with<'a, H: AllocGlobal + Files, D: Disk + Drop>(
     }
 }
 
-/// The session that began, with what is told of its journal, unless the words ask for quiet.
+/// The session that began, with what is told of its journal.
 ///
 /// # Errors
 ///
@@ -124,18 +125,31 @@ fn with_note<'a, H: AllocGlobal + Files, D: Disk + Drop>(
     ensures made { IfOk result (λ m. (m.recorder ≡ opened.entry.recorder) × (m.note.items ≡ (if words.now.quiet then [] else sizes_line path.now opened.entry.sizes))) }
     ensures unmade { IfErr result (λ n. DoesNotBeginOn (manner_of (desk_named words.now)) (desk_named words.now).script path.now n) }
 {
-    let Opened { recorder, sizes } = opened;
-    if words.quiet {
-        let note = Vec::new(alloc);
-        return Ok(Made { recorder, note });
-    }
-    match sizes.line(alloc, path.as_bytes()) {
-        Ok(note) => Ok(Made { recorder, note }),
+    match opening_note(alloc, words.quiet, path.as_bytes(), opened.sizes) {
+        Ok(note) => Ok(Made {
+            recorder: opened.recorder,
+            note,
+        }),
         Err(_) => {
-            drop(recorder);
+            drop(opened);
             Err(refused(alloc, words, path, JournalFault::NoMemory))
         }
     }
+}
+
+/// How much a journal has, as it is told, unless the words ask for quiet.
+fn opening_note(
+    alloc: Global,
+    quiet: bool,
+    path: &[u8],
+    sizes: Sizes,
+) -> Result<Vec<u8>, AllocError>
+    ensures { IfOk result (λ note. note.items ≡ (if quiet then [] else sizes_line path.now sizes)) }
+{
+    if quiet {
+        return Ok(Vec::new(alloc));
+    }
+    sizes.line(alloc, path)
 }
 
 /// What is told where no session begins on a file that was found.
