@@ -48,7 +48,9 @@ pub(crate) fn hold_kept<H: AllocGlobal + Files + Wait, R: Source, W: Pipe, F: Si
     match make_of(rt, words, path, journals) {
         Ok(mut made) => {
             let notes = !words.quiet;
-            sit_noted(rt, &mut made, path, notes, prompts, reader, writer, faults)
+            let status = sit_noted(rt, &mut made, path, notes, prompts, reader, writer, faults);
+            drop(made);
+            status
         }
         Err(noted) => {
             let closed = writer.is_closed();
