@@ -20,12 +20,9 @@ use Rattle.pf_sitter.specs.Session.{SessionState}
 use Rattle.pf_held.specs.Streams.{Streams}
 use Rattle.pf_fault.specs.declared.ending.Ending.{Ending}
 use Rattle.pf_fault.specs.declared.status.Status.TheVariants.{StreamFailed}
-use Rattle.pf_sitting.specs.declared.answers.Going.{Going}
-use Rattle.pf_sitting.specs.declared.fault.SitFault.{SitFault}
-use Rattle.pf_sitting.specs.declared.fault.SitFault.TheVariants as stop
 use Rattle.pf_words.specs.Desks.{DeskNames}
-use Rattle.pf_program.specs.Desks.{CameTo, DoesNotBegin, manner_of}
-use Rattle.pf_program.specs.Journals.{BeginsOn, CameToKept, DoesNotBeginOn, HoldsKept}
+use Rattle.pf_program.specs.Desks.{DoesNotBegin, manner_of}
+use Rattle.pf_program.specs.Journals.{BeginsOn, DoesNotBeginOn, HoldsKept}
 use Rattle.pf_program.specs.Noted.{IsTold, OneOf, notes_in, status_ended}
 use Rattle.pf_program.specs.Source.{told_name}
 use Rattle.pf_program.specs.Status.{Tells}
@@ -93,12 +90,3 @@ kept_not_held seen may_leave is_usable is_clean desk path prompts closed ended s
   input = (input, reads);
   output = (output, writes);
 })
-
--- Use: all that was answered was kept.
-pub came_kept : (path : List ℕ) (notes : Bool) (going : Result Going SitFault) (has_bad : Bool) (outcome : Result Ending Fault) → ¬ (going ≡ Err stop.Unkept)
-    → CameTo going has_bad outcome → CameToKept path notes going has_bad outcome
-came_kept path notes (Ok going) has_bad outcome kept came = came
-came_kept path notes (Err stop.Deaf) has_bad outcome kept came = came
-came_kept path notes (Err stop.Mute) has_bad outcome kept came = came
-came_kept path notes (Err stop.NoMemory) has_bad outcome kept came = came
-came_kept path notes (Err stop.Unkept) has_bad outcome kept came = absurd (kept refl)
