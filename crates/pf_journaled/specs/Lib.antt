@@ -1,1 +1,9 @@
+pub use Rattle.pf_journal.specs.Kept
+pub use Rattle.pf_journal.specs.Lines
+pub use Rattle.pf_journal.specs.declared.found.Found
+pub use Rattle.pf_journal.specs.declared.journal_error.JournalError
+pub use Rattle.pf_journal_file.specs.Faults
+pub use Rattle.pf_journal_file.specs.Sizes
+pub use Rattle.pf_journal_file.specs.declared.journal_fault.JournalFault
+pub use Rattle.pf_recorder.specs.Recording
 pub mod Journaled

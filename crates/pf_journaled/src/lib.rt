@@ -5,3 +5,9 @@
 
 pub mod opening;
 pub mod unopened;
+
+// For whoever holds such a session.
+pub use pf_journal::{found, journal_error};
+pub use pf_journal_file::{host_journals, journal_fault, journals, sizes};
+pub use pf_recorder::recorder;
+pub use sqlite_disk::Disk;

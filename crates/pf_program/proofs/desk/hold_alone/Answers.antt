@@ -1,7 +1,7 @@
 use Rattle.std.proofs.Common.{refl}
 use Rattle.pf_words.specs.Asked.{desk_named}
 use Rattle.pf_program.proofs.Sittings.{desk_not_held}
-use Rattle.pf_program.proofs.desk.hold_desk.Goals as goal
+use Rattle.pf_program.proofs.desk.hold_alone.Goals as goal
 
 pub returns-in-Err : goal.returns-in-Err
 returns-in-Err g c =
