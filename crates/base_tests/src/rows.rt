@@ -1,0 +1,101 @@
+//! Rows, placed, copied and kept, though memory may be refused. A call that was refused is made again, and says so.
+
+ghost use Rattle.std.specs.Prelude.{◌≡◌};
+ghost use Rattle.pf_place.specs.Occupancy.{idle_row};
+
+use crate::refused::say;
+use pf_order::pick::Pick;
+use pf_place::row::Row;
+use pf_place::rows::Rows;
+use std::alloc::{AllocError, Global};
+use std::process::Abort;
+
+const FIVE: Pick = Pick { task: 5, sub: 1 };
+
+/// The row of two idle processors, again where memory is refused.
+fn idle_again(rt: &(impl Abort + Print), alloc: Global) -> Row
+    ensures { result ≡ idle_row 2 }
+{
+    match Row::idle(alloc, 2) {
+        Ok(row) => row,
+        Err(AllocError) => {
+            say(rt, "Row::idle");
+            Row::idle(alloc, 2).expect(rt, "memory is ample")
+        }
+    }
+}
+
+/// A pick on the one processor of the two that is in use, again where memory is refused.
+fn place_again(rt: &(impl Abort + Print), alloc: Global, before: &Row) -> Row
+    requires { before.now ≡ idle_row 2 }
+{
+    match Row::place(alloc, 2, 1, before, &[FIVE]) {
+        Ok(row) => row,
+        Err(AllocError) => {
+            say(rt, "Row::place");
+            Row::place(alloc, 2, 1, before, &[FIVE]).expect(rt, "memory is ample")
+        }
+    }
+}
+
+/// A copy of the row, again where memory is refused.
+fn copy_again(rt: &(impl Abort + Print), row: &Row) -> Row {
+    match row.copy() {
+        Ok(copy) => copy,
+        Err(AllocError) => {
+            say(rt, "Row::copy");
+            row.copy().expect(rt, "memory is ample")
+        }
+    }
+}
+
+/// A copy of the placed row.
+fn placed(rt: &(impl Abort + Print), alloc: Global) -> Row {
+    let before = idle_again(rt, alloc);
+    let row = place_again(rt, alloc, &before);
+    copy_again(rt, &row)
+}
+
+/// Appends the row, again where memory is refused.
+fn push_again(rt: &(impl Abort + Print), rows: &mut Rows, row: &Row) {
+    match rows.push(row) {
+        Ok(()) => (),
+        Err(AllocError) => {
+            say(rt, "Rows::push");
+            rows.push(row).expect(rt, "memory is ample")
+        }
+    }
+}
+
+/// The row in each of 512 slots: two full blocks.
+fn many(rt: &(impl Abort + Print), alloc: Global, row: &Row) -> Rows {
+    let mut rows = Rows::new(alloc);
+    for _ in 0..512 {
+        push_again(rt, &mut rows, row);
+    }
+    rows
+}
+
+/// Equal rows, again where memory is refused.
+fn copy_all_again(rt: &(impl Abort + Print), rows: &Rows) -> Rows {
+    match rows.copy() {
+        Ok(copy) => copy,
+        Err(AllocError) => {
+            say(rt, "Rows::copy");
+            rows.copy().expect(rt, "memory is ample")
+        }
+    }
+}
+
+/// Who sits in a copy of the placed row, and how many rows there are in a copy of many.
+fn copied(rt: &(impl Abort + AllocGlobal + Print)) -> ([Option<Pick>; 2], usize) {
+    let row = placed(rt, rt.alloc());
+    let rows = many(rt, rt.alloc(), &row);
+    ([row.get(0), row.get(1)], copy_all_again(rt, &rows).len())
+}
+
+/// Full blocks are shared: a copy of the rows asks for the two pieces of the last one alone.
+#[test]
+fn rows_are_placed_pushed_and_copied_again(rt: HostRuntime) {
+    assert_eq!(rt; copied(&rt), ([Some(FIVE), None], 512));
+}

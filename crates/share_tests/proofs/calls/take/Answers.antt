@@ -1,6 +1,0 @@
-use Rattle.std.proofs.Common.{◌∙◌}
-use Rattle.share_tests.proofs.Kept.{takes_on}
-use Rattle.share_tests.proofs.calls.take.Goals as goal
-
-pub returns : goal.returns
-returns g c = takes_on _ _ _ _ c.take.result c.take.ensures.taken ∙ c.requires

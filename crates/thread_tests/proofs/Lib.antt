@@ -1,0 +1,3 @@
+mod Boarded
+pub mod Kept
+pub mod Stepping

@@ -1,0 +1,6 @@
+use Rattle.std.proofs.Common.{◌∙◌}
+use Rattle.thread_tests.proofs.Kept.{takes_on}
+use Rattle.thread_tests.proofs.calls.take.Goals as goal
+
+pub returns : goal.returns
+returns g c = takes_on _ _ _ _ c.take.result c.take.ensures.taken ∙ c.requires
