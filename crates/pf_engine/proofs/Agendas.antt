@@ -249,12 +249,7 @@ pub record HasAway (q : Queues) (now : ℕ) (tasks : List KeptTask) (task spare 
   pub freed : q.spare ≡ spare + 1
   pub agenda : IsAgenda q now tasks (key ∷ [])
 
--- so much more room there is then
-pub room_taken : (q q' : Queues) (task : ℕ) (o : Option Priority) →
-    MatchOption o ((¬ (IsQueued q task)) × (q' ≡ q)) (λ k. (k.task ≡ task) × TakesOut q q' k) → q.spare ≤ q'.spare
-room_taken q q' task None none = omega (arith, ap (λ (x : Queues). x.spare) none.1)
-room_taken q q' task (Some key) takes = omega (arith, (room_more q q' key takes.1).0)
-
+-- the same numbers fit then
 pub tasks_taken : (q q' : Queues) (task : ℕ) (o : Option Priority) →
     MatchOption o ((¬ (IsQueued q task)) × (q' ≡ q)) (λ k. (k.task ≡ task) × TakesOut q q' k) → q'.tasks ≡ q.tasks
 tasks_taken q q' task None none = ap (λ (x : Queues). x.tasks) none.1

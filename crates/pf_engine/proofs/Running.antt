@@ -7,8 +7,7 @@ use Rattle.pf_order.specs.Priority.{Priority}
 use Rattle.pf_calendar.specs.Queues.{Queues}
 use Rattle.pf_admit.specs.declared.member.Member.{Member}
 use Rattle.pf_run.specs.Run.{pick_of_key}
-use Rattle.pf_run.proofs.Within.{horizon_within}
-use Rattle.pf_engine.specs.Fits.{KeptTask, Kept}
+use Rattle.pf_engine.specs.Fits.{KeptTask}
 use Rattle.pf_engine.specs.Kept.{member_in, tasks_after_pick}
 use Rattle.pf_engine.specs.Agenda.{IsAgenda}
 use Rattle.pf_engine.specs.Taking.{CanRun}
@@ -35,27 +34,26 @@ pub next_away : (q : Queues) (now : ℕ) (tasks : List KeptTask) (keys : List Pr
 next_away q now tasks keys i k within is a =
     subst (IsAgenda q now tasks) (drop_more keys i k within ∙ ap (λ x. x ∷ drop (i + 1) keys) (sym is)) a
 
-pub behind_apart : (e : Kept) (keys : List Priority) (i : ℕ) (k : Priority) → CanRun e keys → i < length keys → k ≡ get_or keys i k →
+pub behind_apart : (slot : ℕ) (tasks : List KeptTask) (keys : List Priority) (i : ℕ) (k : Priority) → CanRun slot tasks keys → i < length keys → k ≡ get_or keys i k →
     All (λ p. p.task ≢ k.task) (drop (i + 1) keys)
-behind_apart e keys i k can within is =
+behind_apart slot tasks keys i k can within is =
     subst (λ (x : Priority). All (λ (p : Priority). p.task ≢ x.task) (drop (i + 1) keys)) (sym is) (others_apart keys i k can.differ within)
 
 -- a key is of a task inside, and of no late subtask
-pub key_small : (e : Kept) (keys : List Priority) (i : ℕ) (k : Priority) → CanRun e keys → i < length keys → k ≡ get_or keys i k → k.sub < 2 ^ 24
-key_small e keys i k can within is =
+pub key_small : (slot : ℕ) (tasks : List KeptTask) (keys : List Priority) (i : ℕ) (k : Priority) → CanRun slot tasks keys → i < length keys → k ≡ get_or keys i k → k.sub < 2 ^ 24
+key_small slot tasks keys i k can within is =
     let n = can.next k (i, within, sym is) in
     omega (
       arith,
       ap (λ (x : Priority). x.sub) n.2,
-      All-contains (λ (x : KeptTask). x.member.done ≤ e.now) e.tasks n.0 can.done n.1,
-      can.engine.now,
-      horizon_within e.settings can.engine.settings,
+      All-contains (λ (x : KeptTask). x.member.done ≤ slot) tasks n.0 can.done n.1,
+      can.slot_within,
     )
 
 -- its task is inside still
-pub key_inside : (e : Kept) (keys : List Priority) (i : ℕ) (k : Priority) (tasks : List KeptTask) → CanRun e keys → i < length keys → k ≡ get_or keys i k →
-    ((x : KeptTask) → Contains e.tasks x → member_in tasks x.task ≡ None → ⊥) → member_in tasks k.task ≡ None → ⊥
-key_inside e keys i k tasks can within is stay none =
+pub key_inside : (slot : ℕ) (start : List KeptTask) (keys : List Priority) (i : ℕ) (k : Priority) (tasks : List KeptTask) → CanRun slot start keys → i < length keys →
+    k ≡ get_or keys i k → ((x : KeptTask) → Contains start x → member_in tasks x.task ≡ None → ⊥) → member_in tasks k.task ≡ None → ⊥
+key_inside slot start keys i k tasks can within is stay none =
     let n = can.next k (i, within, sym is) in
     stay n.0 n.1 (ap (member_in tasks) (sym (ap (λ (x : Priority). x.task) n.2)) ∙ none)
 

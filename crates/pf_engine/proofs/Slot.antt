@@ -1,10 +1,11 @@
 -- A slot of an engine, once its events were taken.
-use Rattle.std.proofs.Common.{◌≡◌, ◌+◌, ◌≤◌, ◌⊎◌, [], None, List, length}
+use Rattle.std.proofs.Common.{◌≡◌, ◌+◌, ◌≤◌, ◌⊎◌, [], None, List, length, arith}
 use Rattle.std.specs.FinSet as set
 use Rattle.pf_order.specs.Priority.{Priority}
 use Rattle.pf_order.specs.First.{AreFirst}
 use Rattle.pf_calendar.specs.Queues.{Queues, EachTaskOnce, NoneEmpty, key_count}
 use Rattle.pf_run.proofs.Firsts.{first_differ}
+use Rattle.pf_run.proofs.Within.{horizon_within}
 use Rattle.pf_engine.specs.Fits.{Kept}
 use Rattle.pf_engine.specs.Kept.{ready_keys}
 use Rattle.pf_engine.specs.Points.{IsAt}
@@ -36,9 +37,11 @@ module _ (e : Kept) (q q' q'' : Queues) (keys : List Priority) (at : IsAt e []) 
   left_agenda = agenda_chosen q' q'' (e.now + 1) e.tasks keys takes once ready_agenda
 
   -- their subtasks can be run
-  pub can_run : (length keys ≡ e.count) ⊎ (q''.ready ≡ set.empty) → length keys ≤ e.count → CanRun e keys
+  pub can_run : (length keys ≡ e.count) ⊎ (q''.ready ≡ set.empty) → length keys ≤ e.count → CanRun e.now e.tasks keys
   can_run enough few = record {
-    engine = engine;
+    slot_within = omega (arith, engine.now, horizon_within e.settings engine.settings);
+    inside = engine.tasks;
+    apart = engine.apart;
     done = done_at e [] at;
     next = λ k among. let o = (next_all ready_agenda).only None k (takes.taken k among) in (o.kept, o.among, o.is);
     differ = first_differ e.count (ready_keys e) keys (ready_differ e [] at) (are_first enough few);

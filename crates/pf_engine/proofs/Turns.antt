@@ -46,11 +46,10 @@ passed b = cond b 1 0
 
 -- the first of the events can be taken
 first_of_kept : (s : System) (r : List Slot) (standing : List Numbered) (x : Numbered) (xs : List Numbered) → CanFollow s r standing (x ∷ xs) →
-    IsEngine (kept_after s r standing) → length (kept_after s r standing).tasks < MOST_EVENTS → IsEngine (kept_after_event (kept_after s r standing) x.event) →
+    length (kept_after s r standing).tasks < MOST_EVENTS → IsEngine (kept_after_event (kept_after s r standing) x.event) →
     CanTakeEvent (kept_after s r standing) x.event
 unfolding kept_after
-first_of_kept s r standing x xs can engine few next = record {
-  engine = engine;
+first_of_kept s r standing x xs can few next = record {
   limits = All-head (λ y. IsEvent s y.event) x xs can.limits_of_events;
   absent = λ task joins.
       let one = ap passed joins in
@@ -63,7 +62,7 @@ first_of_kept s r standing x xs can engine few next = record {
 first_of : (e : Kept) (x : Numbered) (xs : List Numbered) → IsAt e (x ∷ xs) → CanTakeEvent e x.event
 first_of e x xs at =
     subst (λ k. CanTakeEvent k x.event) (sym at.keeps)
-    (first_of_kept at.settings at.run at.standing x xs at.follow (subst IsEngine at.keeps (engine_at e (x ∷ xs) at))
+    (first_of_kept at.settings at.run at.standing x xs at.follow
     (subst (λ k. length k.tasks < MOST_EVENTS) at.keeps (omega (arith, few_at e (x ∷ xs) at)))
     (subst (λ k. IsEngine (kept_after_event k x.event)) at.keeps (engine_at (kept_after_event e x.event) xs (at_more e x xs at))))
 

@@ -12,5 +12,6 @@ pub mod Roll
 pub mod Places
 pub mod Agenda
 pub mod Keeping
+pub mod States
 pub mod Saved
 pub mod Rooms

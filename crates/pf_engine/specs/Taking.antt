@@ -5,18 +5,18 @@ use Rattle.pf_order.specs.First.{AreFirst}
 use Rattle.pf_scenario.specs.Event.{is_join_of}
 use Rattle.pf_scenario.specs.Edit.{IsEvent}
 use Rattle.pf_scenario.specs.declared.scenario.TheConstants.{MOST_EVENTS}
+use Rattle.pf_scenario.specs.declared.settings.TheConstants.{WIDE_HORIZON}
 use Rattle.pf_scenario.specs.declared.event.Event.{Event}
 use Rattle.pf_scenario.specs.declared.event.Numbered.{Numbered}
 use Rattle.pf_run.specs.Inside.{next_key}
 use Rattle.pf_run.specs.Run.{pick_of_key}
 use Rattle.pf_engine.specs.Fits.{KeptTask, Kept, Taken}
 use Rattle.pf_engine.specs.Kept.{member_in, kept_after_event, kept_after_events, denials_of_slot, ready_keys, kept_after_picks}
-use Rattle.pf_engine.specs.Engines.{IsEngine}
+use Rattle.pf_engine.specs.Engines.{tasks_of, IsInside, IsEngine}
 
 -- this event can be taken: it is within its limits, a task that it joins isn't inside, one more task finds a place, and
 -- what is kept afterwards is within its limits, too
 pub record CanTakeEvent (e : Kept) (event : Event) : Type 0 where
-  pub engine : IsEngine e
   pub limits : IsEvent e.settings event
   pub absent : (task : ℕ) → is_join_of task event ≡ true → member_in e.tasks task ≡ None
   pub few : length e.tasks < MOST_EVENTS
@@ -31,9 +31,12 @@ pub record Advances (e : Kept) (events : List Numbered) (taken : Taken) (e' : Ke
   pub count : taken.count ≡ (kept_after_events e events).count
   pub after : e' ≡ kept_after_picks (kept_after_events e events) (map pick_of_key chosen)
 
--- these keys can be run: of different tasks inside, each the next one of its task, in a slot in which a scenario has one
-pub record CanRun (e : Kept) (keys : List Priority) : Type 0 where
-  pub engine : IsEngine e
-  pub done : All (λ k. k.member.done ≤ e.now) e.tasks
-  pub next : (q : Priority) → Contains keys q → (k : KeptTask) × Contains e.tasks k × (q ≡ next_key k.task k.member)
+-- these keys can be run in the slot: they are of different ones of these tasks, each is the next one of its task, and no
+-- task ran more often than slots were taken
+pub record CanRun (slot : ℕ) (tasks : List KeptTask) (keys : List Priority) : Type 0 where
+  pub slot_within : slot ≤ WIDE_HORIZON
+  pub inside : All IsInside tasks
+  pub apart : (task : ℕ) → tasks_of task tasks ≤ 1
+  pub done : All (λ k. k.member.done ≤ slot) tasks
+  pub next : (q : Priority) → Contains keys q → (k : KeptTask) × Contains tasks k × (q ≡ next_key k.task k.member)
   pub differ : AllPairs (λ x y. x.task ≢ y.task) keys

@@ -1,4 +1,4 @@
-ghost use Rattle.std.specs.Prelude.{◌≡◌, ◌+◌, ◌*◌, ◌<◌, ◌≤◌, ◌⊎◌, [], max, length, OnOk, vec_capacity};
+ghost use Rattle.std.specs.Prelude.{◌≡◌, ◌+◌, ◌*◌, ◌<◌, ◌≤◌, ◌⊎◌, ◌++◌, [], max, length, fold, map, OnOk, vec_len, vec_capacity};
 ghost use Rattle.std.specs.FinSet as set;
 ghost use Rattle.pf_weight.specs.declared.task.TheConstants.{LARGEST_TASK};
 ghost use Rattle.pf_order.specs.Counts.{Compares};
@@ -6,14 +6,19 @@ ghost use Rattle.pf_heap.specs.Digits.{digits};
 ghost use Rattle.pf_calendar.specs.Queues.{IsQueued, NoneEmpty, key_count};
 ghost use Rattle.pf_admit.specs.Member.{IsMember};
 ghost use Rattle.pf_run.specs.Inside.{eligible_from, next_key};
-ghost use Rattle.pf_engine.specs.Agenda.{with_put, TakesFirst};
+ghost use Rattle.pf_run.specs.Run.{pick_of_key};
+ghost use Rattle.pf_engine.specs.Kept.{tasks_after_pick};
+ghost use Rattle.pf_engine.specs.Agenda.{IsAgenda, with_put, TakesFirst};
 ghost use Rattle.pf_engine.specs.Roll.{AllJoinBelow};
+ghost use Rattle.pf_engine.specs.Taking.{CanRun};
 
+use crate::roster::Roster;
 use pf_admit::member::Member;
 use pf_admit::release;
 use pf_calendar::calendar::Calendar;
 use pf_order::key::Key;
 use pf_order::meter::Meter;
+use pf_order::pick::Pick;
 use pf_scenario::event::{Event, Numbered};
 use std::alloc::AllocError;
 
@@ -76,6 +81,38 @@ pub(crate) fn choose(calendar: &mut Calendar, meter: &mut Meter, count: usize, k
             return;
         };
         keys.push_reserved(key);
+    }
+}
+
+/// Runs the subtasks of these keys, adds them, and puts the keys that come next for the slots after this one.
+pub(crate) fn run(
+    tasks: &mut Roster,
+    calendar: &mut Calendar,
+    meter: &mut Meter,
+    slot: u64,
+    keys: &[Key],
+    picks: &mut Vec<Pick>,
+)
+    requires can { CanRun slot tasks.old.tasks keys.now }
+    requires agenda { IsAgenda calendar.old (slot + 1) tasks.old.tasks keys.now }
+    requires room { vec_len picks.old + length keys.now ≤ vec_capacity picks.old }
+    ensures tasks { tasks.new.tasks ≡ fold tasks_after_pick tasks.old.tasks (map pick_of_key keys.now) }
+    ensures picks { picks.new.items ≡ picks.old.items ++ map pick_of_key keys.now }
+    ensures agenda { IsAgenda calendar.new (slot + 1) tasks.new.tasks [] }
+    ensures comparisons { Compares (length keys.now * digits (length tasks.old.tasks)) meter.old meter.new }
+{
+    let next = slot + 1;
+    for key in keys {
+        let pick = Pick {
+            task: key.task(),
+            sub: key.sub(),
+        };
+        let task = u64::from(pick.task);
+        let Some(member) = tasks.run(task, u64::from(pick.sub)) else {
+            unreachable!()
+        };
+        put_next(calendar, meter, task, &member, next);
+        picks.push_reserved(pick);
     }
 }
 

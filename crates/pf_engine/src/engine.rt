@@ -35,14 +35,7 @@ impl Model for Engine {
 
     ghost Value = { Kept };
 
-    ghost use Rattle.pf_engine.specs.Keeping.{kept_of};
-    ghost use Rattle.std.specs.Prelude.{[]};
-    ghost use Rattle.pf_engine.specs.Agenda.{IsAgenda};
-    ghost use Rattle.pf_engine.specs.Engines.{IsEngine};
-
-    ghost view = { λ e. kept_of e.state };
-
-    ghost invariant = { λ e. IsEngine (kept_of e.state) × IsAgenda e.state.calendar e.state.slots e.state.tasks.tasks [] };
+    ghost view = { λ e. e.state.kept };
 }
 
 impl Engine {

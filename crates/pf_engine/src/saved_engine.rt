@@ -1,8 +1,6 @@
 ghost use Rattle.std.specs.Prelude.{◌≡◌, ◌*◌, IfOk, length};
 ghost use Rattle.pf_order.specs.Counts.{Compares};
 ghost use Rattle.pf_heap.specs.Digits.{digits};
-ghost use Rattle.pf_engine.specs.Engines.{IsEngine};
-ghost use Rattle.pf_engine.specs.Keeping.{kept_of};
 
 use crate::agenda::put_next;
 use crate::engine::Engine;
@@ -58,8 +56,7 @@ impl SavedEngine {
     ///
     /// Where memory is refused.
     pub(crate) fn of(state: &State) -> Result<Self, AllocError>
-        requires { IsEngine (kept_of state.now) }
-        ensures { IfOk result (λ saved. saved ≡ kept_of state.now) }
+        ensures { IfOk result (λ saved. saved ≡ state.now.kept) }
     {
         Ok(SavedEngine {
             settings: state.settings,

@@ -7,6 +7,11 @@ returns-in_err-told-clause-stopped c =
     let p = err_from_is_err_and c.from_residual.result c.from_residual.ensures.1 in
     rw (p.1, p.2) (line_stops c.args.lines.fault c.lines.lines _ _ _ c.lines.invariant.fault c.in_err-told.ensures)
 
+pub returns-in_err-take_line-clause-stopped : goal.returns-in_err-take_line-clause-stopped
+returns-in_err-take_line-clause-stopped c =
+    let p = err_from_is_err_and c.from_residual-in_err-take_line.result c.from_residual-in_err-take_line.ensures.1 in
+    rw (p.1, p.2) tt
+
 pub returns-in_err-apply_all-clause-stopped : goal.returns-in_err-apply_all-clause-stopped
 returns-in_err-apply_all-clause-stopped c =
     let p = err_from_is_err_and c.from_residual-in_err-apply_all.result c.from_residual-in_err-apply_all.ensures.1 in

@@ -9,5 +9,5 @@ pub returns-clause-fits : goal.returns-clause-fits
 unfolding in_force
 returns-clause-fits c = λ s same. record {
   is_run = run_none s;
-  keeps = c.in_ok-new.ensures.kept ∙ ap (λ (t : System). kept_after t [] []) (sym same);
+  keeps = c.in_ok-new.ensures ∙ ap (λ (t : System). kept_after t [] []) (sym same);
 }

@@ -191,10 +191,11 @@ loop-saved-preserved c =
 pub invariant_of-result : goal.invariant_of-result
 invariant_of-result c =
     let g = (goal.at.invariant_of-result c).After-deref-saved-items in
-    let all = c.loop-saved.invariant.tasks ∙ take_all c.loop-saved.saved-index c.args.self.now.tasks (omega (arith, long g)) in (
-      subst IsEngine (sym (same_kept c.args.self.now _ _ c.self.inside.tasks.items _ _ c.loop-saved.tasks.tasks c.self.view_is all)) (is_engine g),
-      subst (λ n. IsAgenda c.loop-saved.calendar n c.loop-saved.tasks.tasks []) (sym (ap (λ (k : Kept). k.now) c.self.view_is)) c.loop-saved.invariant.agenda,
-    )
+    let all = c.loop-saved.invariant.tasks ∙ take_all c.loop-saved.saved-index c.args.self.now.tasks (omega (arith, long g)) in
+    record {
+      engine = subst IsEngine (sym (same_kept c.args.self.now _ _ c.self.inside.tasks.items _ _ c.loop-saved.tasks.tasks c.self.view_is all)) (is_engine g);
+      agenda = subst (λ n. IsAgenda c.loop-saved.calendar n c.loop-saved.tasks.tasks []) (sym (ap (λ (k : Kept). k.now) c.self.view_is)) c.loop-saved.invariant.agenda;
+    }
 
 pub returns-clause-engine : goal.returns-clause-engine
 returns-clause-engine c =

@@ -1,29 +1,33 @@
-use Rattle.std.proofs.Common.{◌≡◌, Ok, [], refl, sym, ap, ◌∙◌, subst}
+use Rattle.std.proofs.Common.{◌<◌, min, refl, sym, ap, ◌∙◌, subst, arith, rules}
 use Rattle.std.proofs.lemmas.Bool.{eq-eqb}
-use Rattle.pf_weight.specs.Share.{share_of}
-use Rattle.pf_weight.specs.Weighed.{ok_unless, share_or_fault}
-use Rattle.pf_run.proofs.Limits.{join_weight}
-use Rattle.pf_engine.specs.Agenda.{IsAgenda}
+use Rattle.pf_engine.specs.Kept.{member_in}
+use Rattle.pf_engine.specs.Keeping.{Keeping}
 use Rattle.pf_engine.proofs.Agendas.{absent_task, agenda_joined}
+use Rattle.pf_engine.proofs.Allowed.{engine_after}
+use Rattle.pf_engine.proofs.state.State.join.Goals.{After-units-2}
 use Rattle.pf_engine.proofs.state.State.join.Goals as goal
 
-pub unreachable-requires : goal.unreachable-requires
-unreachable-requires c =
-    let settings = c.args.self.now.settings in
-    let fits = join_weight settings c.args.slot c.args.task c.args.cost c.args.period c.args.early c.requires.can.limits in
-    let weight : share_or_fault settings.base c.args.cost c.args.period ≡ Ok (share_of settings.base c.args.cost c.args.period) =
-    ap (λ o. ok_unless o (share_of settings.base c.args.cost c.args.period)) fits in
-    let two = sym c.in_default.is ∙ c.new.ensures.value ∙ ap (λ base. share_or_fault base c.args.cost c.args.period) c.base.ensures.value ∙ weight in
-    cc
+-- there is room for the task's number
+number : (c : After-units-2) → c.args.task < min c.self.inside.tasks.numbers c.self.inside.calendar.tasks
+number c =
+    subst (λ (s : Keeping). c.args.task < s.numbers) (sym c.self.view_is) (c.requires.number c.args.task (eq-eqb c.args.task c.args.task refl))
 
-pub push-requires-clause-absent : goal.push-requires-clause-absent
-push-requires-clause-absent c = c.requires.can.absent c.args.task (eq-eqb c.args.task c.args.task refl)
+pub push-requires-clause-number : goal.push-requires-clause-number
+push-requires-clause-number c = omega (arith, number (goal.at.push-requires-clause-number c).After-units-2)
+
+pub put_next-requires-clause-placed : goal.put_next-requires-clause-placed
+put_next-requires-clause-placed c = omega (arith, number (goal.at.put_next-requires-clause-placed c).After-units-2)
 
 pub put_next-requires-clause-absent : goal.put_next-requires-clause-absent
-put_next-requires-clause-absent c = absent_task c.args.task (c.requires.can.absent c.args.task (eq-eqb c.args.task c.args.task refl)) c.requires.agenda
+put_next-requires-clause-absent c =
+    absent_task c.args.task
+    (ap (λ (s : Keeping). member_in s.kept.tasks c.args.task) c.self.view_is ∙ c.requires.can.absent c.args.task (eq-eqb c.args.task c.args.task refl))
+    c.self.invariant.agenda
 
-pub returns-clause-agenda : goal.returns-clause-agenda
-returns-clause-agenda c =
-    subst (λ ts. IsAgenda c.put_next.new.calendar c.args.self.now.slots ts []) (sym c.push.ensures.tasks)
-    (agenda_joined c.args.self.now.calendar c.put_next.new.calendar c.args.self.now.slots _ c.args.self.now.tasks.tasks _ refl c.put_next.ensures.put
-    c.put_next.ensures.counted c.put_next.ensures.some c.requires.key_number c.requires.agenda)
+pub invariant_of-self : goal.invariant_of-self
+invariant_of-self c = record {
+  engine = engine_after c.requires.can (search rules);
+  agenda = rw c.push.ensures.tasks (agenda_joined c.self.inside.calendar c.put_next.new.calendar c.self.inside.slots _ c.self.inside.tasks.tasks _ refl
+      c.put_next.ensures.put c.put_next.ensures.counted c.put_next.ensures.some (omega (arith, number (goal.at.invariant_of-self c).After-units-2))
+      c.self.invariant.agenda);
+}

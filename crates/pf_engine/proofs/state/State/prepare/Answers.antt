@@ -1,11 +1,19 @@
-use Rattle.std.proofs.Common.{arith}
-use Rattle.pf_engine.specs.Keeping.{kept_of}
-use Rattle.pf_engine.proofs.Bounding.{few_at}
+use Rattle.std.proofs.Common.{length, ap, arith}
+use Rattle.pf_engine.specs.Keeping.{Keeping}
+use Rattle.pf_engine.proofs.Bounding.{at_taking, few_at}
 use Rattle.pf_engine.proofs.Advancing.{all_join_below}
 use Rattle.pf_engine.proofs.state.State.prepare.Goals as goal
 
 pub reserve_joins-requires : goal.reserve_joins-requires
-reserve_joins-requires c = all_join_below (kept_of c.args.self.now) c.args.events.now c.requires.at
+reserve_joins-requires c = all_join_below c.args.self.now.kept c.args.events.now (at_taking _ _ c.requires)
 
 pub reserve-requires-2 : goal.reserve-requires-2
-reserve-requires-2 c = omega (arith, few_at (kept_of c.args.self.now) c.args.events.now c.requires.at, c.requires.agenda.count)
+reserve-requires-2 c = omega (
+  arith,
+  few_at c.args.self.now.kept c.args.events.now (at_taking _ _ c.requires),
+  ap (λ (s : Keeping). length s.kept.tasks) c.self.view_is,
+  c.self.invariant.agenda.count,
+)
+
+pub reserve_joins-requires-2 : goal.reserve_joins-requires-2
+reserve_joins-requires-2 c = all_join_below c.args.self.now.kept c.args.events.now (at_taking _ _ c.requires)

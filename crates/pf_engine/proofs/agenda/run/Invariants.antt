@@ -8,22 +8,18 @@ use Rattle.pf_engine.specs.Kept.{member_in}
 use Rattle.pf_engine.specs.Engines.{IsInside}
 use Rattle.pf_engine.specs.Agenda.{IsAgenda}
 use Rattle.pf_engine.proofs.NextKeys.{Differ}
-use Rattle.pf_engine.proofs.state.State.run.Given as goal
+use Rattle.pf_engine.proofs.agenda.run.Given as goal
 
 abbrev pub invariant-loop-key : goal.invariant-loop-key
 invariant-loop-key l = record {
-  tasks : l.self.tasks.tasks ≡ fold tasks_after_pick l.fn.self.tasks.tasks (map pick_of_key (take l.key-index l.keys));
-  settings : l.self.settings ≡ l.fn.self.settings;
-  slots : l.self.slots ≡ l.fn.self.slots;
-  load : l.self.load ≡ l.fn.self.load;
-  count : l.self.count ≡ l.fn.self.count;
+  tasks : l.tasks.tasks ≡ fold tasks_after_pick l.fn.tasks.tasks (map pick_of_key (take l.key-index l.keys));
   picks : l.picks.items ≡ l.fn.picks.items ++ map pick_of_key (take l.key-index l.keys);
   few : vec_len l.picks ≡ vec_len l.fn.picks + l.key-index;
-  agenda : IsAgenda l.self.calendar (l.fn.self.slots + 1) l.self.tasks.tasks (drop l.key-index l.keys);
-  members : All IsInside l.self.tasks.tasks;
-  differ : Differ (Contains l.self.tasks.tasks);
-  stay : (k : KeptTask) → Contains l.fn.self.tasks.tasks k → member_in l.self.tasks.tasks k.task ≡ None → ⊥;
-  many : length l.self.tasks.tasks ≡ length l.fn.self.tasks.tasks;
-  comparisons : Compares (l.key-index * digits (length l.fn.self.tasks.tasks)) l.fn.meter l.meter;
+  agenda : IsAgenda l.calendar (l.slot + 1) l.tasks.tasks (drop l.key-index l.keys);
+  members : All IsInside l.tasks.tasks;
+  differ : Differ (Contains l.tasks.tasks);
+  stay : (k : KeptTask) → Contains l.fn.tasks.tasks k → member_in l.tasks.tasks k.task ≡ None → ⊥;
+  many : length l.tasks.tasks ≡ length l.fn.tasks.tasks;
+  comparisons : Compares (l.key-index * digits (length l.fn.tasks.tasks)) l.fn.meter l.meter;
   room : vec_capacity l.picks ≡ vec_capacity l.fn.picks;
 }
