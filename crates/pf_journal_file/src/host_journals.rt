@@ -5,8 +5,8 @@ use crate::journals::{Journals, OpenFault};
 use sqlite_std_file::{FileFrom, OpenError, Wary, open};
 use std::io::ErrorKind;
 
-/// The files of the operating system. One is locked while it is open, and so is an empty file beside it, whose name has `-wal`
-/// behind: the ported opening is one of databases with their logs.
+/// The files of the operating system. One is locked while it is open. An empty file is made beside it, whose name has `-wal` behind,
+/// since the ported opening is one of databases with their logs.
 #[derive(Drop)]
 pub struct HostJournals<'r> {
     rt: &'r HostRuntime,

@@ -1,6 +1,6 @@
 -- A session that begins on a file.
 use Rattle.std.specs.Prelude.{ℕ, ◌≡◌, ◌⊎◌, Bool, true, false, Option, None, Some, is_some, Result, Ok, Err, List, [], ◌∷◌}
-use Rattle.pf_answers.specs.declared.manner.Manner.{Manner}
+use Rattle.pf_sitter.specs.Manner.{Manner}
 use Rattle.pf_fault.specs.declared.fault.Fault.{Fault}
 use Rattle.pf_journal.specs.Lines.{records_of, script_of, state_of, torn_size}
 use Rattle.pf_journal.specs.declared.journal_error.JournalError.{JournalError}
@@ -15,7 +15,7 @@ use Rattle.pf_journaled.specs.declared.unopened.Unopened.{Unopened}
 use Rattle.pf_journaled.specs.declared.unopened.Unopened.TheVariants.{Journal, Record, Script}
 use Rattle.pf_recorder.specs.Recording.{BeginsWith, Recording}
 use Rattle.pf_sitter.specs.Opening.{IsOpened, opened}
-use Rattle.pf_turn.specs.Session.{SessionState, at_start}
+use Rattle.pf_sitter.specs.Session.{SessionState, at_start}
 
 -- a script goes with a file that has no record alone; and no other file is taken for a journal
 abbrev pub refused_with : Bool → List (List ℕ) → Option JournalFault

@@ -1,1 +1,13 @@
+pub use Rattle.pf_journal.specs.Kept
+pub use Rattle.pf_journal.specs.Lines
+pub use Rattle.pf_journal.specs.declared.found.Found
+pub use Rattle.pf_journal.specs.declared.journal_error.JournalError
+pub use Rattle.pf_journal_file.specs.Faults
+pub use Rattle.pf_journal_file.specs.Sizes
+pub use Rattle.pf_journal_file.specs.declared.journal_fault.JournalFault
+pub use Rattle.pf_recorder.specs.Recording
+pub use Rattle.pf_sitter.specs.Manner
+pub use Rattle.pf_sitter.specs.Opening
+pub use Rattle.pf_sitter.specs.Session
+pub use Rattle.pf_sitter.specs.Sitters
 pub mod Journaled

@@ -3,5 +3,12 @@
 //! so, and is left as it is.
 #![tactic(auto)]
 
-pub mod opening;
+pub mod begun;
 pub mod unopened;
+
+// For whoever holds such a session.
+pub use pf_journal::{found, journal_error};
+pub use pf_journal_file::{host_journals, journal_fault, journals, sizes};
+pub use pf_recorder::recorder;
+pub use pf_sitter::{files, manner, opening, session, sitter};
+pub use sqlite_disk::Disk;

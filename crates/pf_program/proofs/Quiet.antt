@@ -1,5 +1,5 @@
 -- A status of 0 is that of what was done.
-use Rattle.std.proofs.Common.{◌≡◌, ◌≢◌, ℕ, refl, arith}
+use Rattle.std.proofs.Common.{◌≡◌, ◌≢◌, refl, arith}
 use Rattle.pf_fault.specs.Faults.{number_of, status_behind}
 use Rattle.pf_fault.specs.declared.fault.Fault.{Fault}
 use Rattle.pf_fault.specs.declared.fault.Fault.TheVariants as why

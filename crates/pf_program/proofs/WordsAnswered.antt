@@ -1,6 +1,6 @@
 -- What the program does for words, whether they ask for a task or for nothing.
 use Rattle.std.proofs.Common.{◌≡◌, ◌∙◌, ◌+◌, ◌⊎◌, ℕ, append-nil, refl, sym, subst, inl, inr, arith, Bool, true, false, List, [], Option, Some, None, Ok, Err}
-use Rattle.std.specs.Prelude.{not, IfSome}
+use Rattle.std.specs.Prelude.{IfSome}
 use Rattle.std.proofs.KnownBytes.{Keeps-refl, Consumes-nil}
 use Rattle.pf_fault.specs.declared.fault.Fault.TheVariants as stop
 use Rattle.pf_fault.specs.declared.status.Status.{Status}
@@ -18,9 +18,10 @@ use Rattle.pf_words.specs.declared.mistake.Mistake.{Mistake}
 use Rattle.pf_words.proofs.Unasked.{mistaken_asks_no_desk, mistaken_asks_no_pair, mistaken_asks_none, untaken_asks_no_desk, untaken_asks_no_pair, untaken_asks_none}
 use Rattle.pf_stream.specs.Reading.{longest_script, TakesAtMost}
 use Rattle.pf_program.specs.Source.{IsOf, IsSource}
-use Rattle.pf_answers.specs.declared.manner.Manner.{Manner}
-use Rattle.pf_program.specs.Desks.{DoesNotBegin, HasNotBegun}
+use Rattle.pf_journaled.specs.Manner.{Manner}
+use Rattle.pf_program.specs.Desks.{DoesNotBegin, HasNotBegun, manner_of}
 use Rattle.pf_program.specs.FaultLines.{fault_line}
+use Rattle.pf_program.specs.Journals.{HoldsWith}
 use Rattle.pf_program.specs.Noted.{IsTold, gone_diff, gone_of, status_ended}
 use Rattle.pf_program.specs.Status.{AnswersAsked, AnswersWords, Compares, Does, IsToldOf, IsWritten, ReadsNothing, Streams, Tells, status_of_words, told_of}
 use Rattle.pf_program.specs.declared.noted.Noted.{Noted}
@@ -136,7 +137,7 @@ no_memory_to_begin manner None = (refl, refl)
 no_memory_to_begin manner (Some name) = inl (tt, tt)
 
 -- and to a session, which does not begin
-pub no_memory_at_desk : (manner : Manner) (file : Option (List ℕ)) (closed : Bool) (status : ℕ) (old new : Held.Streams) → status ≡ 4
+no_memory_at_desk : (manner : Manner) (file : Option (List ℕ)) (closed : Bool) (status : ℕ) (old new : Held.Streams) → status ≡ 4
     → Tells old.prompted new.prompted old.failed_prompts new.failed_prompts (fault_line stop.NoMemory) → new.input ≡ old.input → new.failed_reads ≡ old.failed_reads
     → new.output ≡ old.output → new.failed_writes ≡ old.failed_writes → HasNotBegun manner file closed status old new
 no_memory_at_desk manner file closed status old new is told input reads output writes = record {
@@ -148,6 +149,22 @@ no_memory_at_desk manner file closed status old new is told input reads output w
   input = (input, reads);
   output = (output, writes);
 }
+
+-- with a journal too
+pub no_memory_at_any_desk : {D : Type 0} (seen : D → List ℕ) (may_leave : D → List ℕ → Type 0) (is_usable is_clean : D → Bool) (path : Option (List ℕ))
+    (desk : DeskNames) (prompts closed : Bool) (status : ℕ) (old new : Held.Streams) → status ≡ 4
+    → Tells old.prompted new.prompted old.failed_prompts new.failed_prompts (fault_line stop.NoMemory) → new.input ≡ old.input → new.failed_reads ≡ old.failed_reads
+    → new.output ≡ old.output → new.failed_writes ≡ old.failed_writes → HoldsWith seen may_leave is_usable is_clean path desk prompts closed status old new
+no_memory_at_any_desk seen may_leave is_usable is_clean None desk prompts closed status old new is told input reads output writes =
+    inr (no_memory_at_desk (manner_of desk) desk.script closed status old new is told input reads output writes)
+no_memory_at_any_desk seen may_leave is_usable is_clean (Some path) desk prompts closed status old new is told input reads output writes = inr (record {
+  noted = no_memory_noted;
+  why_not = inr (stop.NoMemory, refl, inl (no_memory_to_begin (manner_of desk) desk.script));
+  status_is = is ∙ status_of_memory closed StreamFailed;
+  told = memory_told closed (Tells old.prompted new.prompted old.failed_prompts new.failed_prompts) told;
+  input = (input, reads);
+  output = (output, writes);
+})
 
 -- and to all words
 memory_answers : (words : List (List ℕ)) (old : Streams) (told : List ℕ → Type 0) (held : DeskNames → Type 0) (want : Option Task) (pair : Option PairNames)

@@ -1,7 +1,7 @@
 -- What the program does where words ask for a session at a desk.
 use Rattle.std.specs.Prelude.{ℕ, ◌≡◌, ◌⊎◌, not, Bool, if◌then◌else◌, List, [], IfOk, Option, None, Some, Result, Ok, Err, Vec}
 use Rattle.std.specs.declared.alloc.Global.{Global}
-use Rattle.pf_answers.specs.declared.manner.Manner.{Manner}
+use Rattle.pf_journaled.specs.Manner.{Manner}
 use Rattle.pf_fault.specs.Answers.{IsQuiet}
 use Rattle.pf_fault.specs.declared.ending.Ending.{Ending}
 use Rattle.pf_fault.specs.declared.fault.Fault.{Fault}
@@ -9,10 +9,10 @@ use Rattle.pf_fault.specs.declared.fault.Fault.TheVariants as why
 use Rattle.pf_fault.specs.declared.status.Status.TheVariants.{BadScript, Done, StreamFailed}
 use Rattle.pf_held.specs.Streams.{Hears, IsDeaf, IsMute, Streams, Tells}
 use Rattle.pf_script_notes.specs.Faults.{IsFaultNote}
-use Rattle.pf_sitter.specs.Session.{SessionState, at_start}
-use Rattle.pf_sitter.specs.Opening.{IsOpened, opened}
-use Rattle.pf_sitter.specs.Sitters.{answers, keeps, loses, stops}
-use Rattle.pf_sitting.specs.Sits.{HasSat, talk_of}
+use Rattle.pf_journaled.specs.Session.{SessionState, at_start}
+use Rattle.pf_journaled.specs.Opening.{IsOpened, opened}
+use Rattle.pf_journaled.specs.Sitters.{answers, keeps, loses, stops}
+use Rattle.pf_sitting.specs.Sits.{HasSat, Talk, talk_of}
 use Rattle.pf_sitting.specs.declared.answers.Going.{Going}
 use Rattle.pf_sitting.specs.declared.fault.SitFault.{SitFault}
 use Rattle.pf_sitting.specs.declared.fault.SitFault.TheVariants as stop
@@ -39,19 +39,30 @@ CameTo (Err stop.NoMemory) has_bad outcome = outcome ≡ Err why.NoMemory
 CameTo (Err stop.Unkept) has_bad outcome = outcome ≡ Err why.Write
 
 -- lines came in behind the beginning, and were answered, each before more was read, and the status tells what that came to; what there
--- is to tell of it was told behind the prompts, where none of these failed
-pub record HasSatDown (begun : SessionState) (prompts closed : Bool) (status : ℕ) (old new : Streams) : Type 0 where
+-- is to tell of it was told, where as many writes had failed there as before anything was told
+pub record HasSatDown {A : Type 0} (talk : Talk A Streams) (came : Result Going SitFault → A → Result Ending Fault → Type 0) (begun : A)
+    (prompts closed : Bool) (failed status : ℕ) (old new : Streams) : Type 0 where
   pub going : Result Going SitFault
-  pub behind : SessionState
+  pub behind : A
   pub between : Streams
-  pub sat : HasSat (talk_of answers stops keeps loses Hears IsDeaf Tells IsMute) begun (record old { prompts = prompts }) going behind between
+  pub sat : HasSat talk begun (record old { prompts = prompts }) going behind between
   pub outcome : Result Ending Fault
-  pub came : CameTo going behind.has_bad outcome
+  pub came_to : came going behind outcome
   pub status_is : status ≡ status_ended closed StreamFailed outcome
-  pub told : between.failed_prompts ≡ old.failed_prompts
+  pub told : between.failed_prompts ≡ failed
       → IsTold closed outcome [] (IsToldSo between.prompted new.prompted between.failed_prompts new.failed_prompts)
   pub input : (new.input ≡ between.input) × (new.failed_reads ≡ between.failed_reads)
   pub output : (new.output ≡ between.output) × (new.failed_writes ≡ between.failed_writes)
+
+-- of one without a journal
+abbrev pub talk_alone : Talk SessionState Streams
+talk_alone = talk_of answers stops keeps loses Hears IsDeaf Tells IsMute
+
+abbrev pub CameToAlone : Result Going SitFault → SessionState → Result Ending Fault → Type 0
+CameToAlone going behind outcome = CameTo going behind.has_bad outcome
+
+abbrev pub SatAlone : SessionState → Bool → Bool → ℕ → Streams → Streams → Type 0
+SatAlone begun prompts closed status old new = HasSatDown talk_alone CameToAlone begun prompts closed old.failed_prompts status old new
 
 -- the script of this file could not be had, which is told where that is asked for
 abbrev pub IsUnread : Bool → List ℕ → Fault → Result (Vec ℕ Global) Fault → Type 0
@@ -81,5 +92,5 @@ pub record HasNotBegun (manner : Manner) (file : Option (List ℕ)) (closed : Bo
 -- the session that these words ask for was held, or did not begin
 abbrev pub HoldsDesk : DeskNames → Bool → Bool → ℕ → Streams → Streams → Type 0
 HoldsDesk desk prompts closed status old new =
-    ((begun : SessionState) × Begins (manner_of desk) desk.script begun × HasSatDown begun prompts closed status old new)
+    ((begun : SessionState) × Begins (manner_of desk) desk.script begun × SatAlone begun prompts closed status old new)
     ⊎ HasNotBegun (manner_of desk) desk.script closed status old new

@@ -12,6 +12,7 @@ pub use Rattle.pf_change.specs.Change
 pub mod Compared
 pub mod Desks
 pub mod FaultLines
+pub mod Journals
 pub mod Noted
 pub mod Source
 pub mod Status

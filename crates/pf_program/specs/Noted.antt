@@ -1,5 +1,5 @@
 -- What is told behind an answer of a task, or behind its fault.
-use Rattle.std.specs.Prelude.{⊤, ℕ, ◌≡◌, ◌||◌, ◌&&◌, not, Bool, true, false, if◌then◌else◌, List, [], ◌++◌, IfOk, Option, None, Some, Result, Ok, Err, Vec}
+use Rattle.std.specs.Prelude.{ℕ, ◌≡◌, ◌||◌, ◌&&◌, not, Bool, true, false, if◌then◌else◌, List, [], ◌++◌, IfOk, Option, None, Some, Result, Ok, Err, Vec}
 use Rattle.std.specs.declared.alloc.Global.{Global}
 use Rattle.std.specs.declared.io.ErrorKind.{ErrorKind}
 use Rattle.pf_fault.specs.Answers.{status_of}

@@ -1,5 +1,5 @@
 -- What the program answers to a task with a script, or with a list of tasks, and what it writes.
-use Rattle.std.specs.Prelude.{ℕ, ⊤, ◌≡◌, List, [], length, Option, None, Some, option_map, IfOk, IfErr, Result, Ok, Err}
+use Rattle.std.specs.Prelude.{ℕ, ⊤, ◌≡◌, List, [], Option, Some, option_map, IfOk, IfErr, Result, Ok, Err}
 use Rattle.std.specs.Io.KnownBytes.{Appends, Keeps}
 use Rattle.pf_fault.specs.declared.answer.Answer.{Answer}
 use Rattle.pf_fault.specs.declared.ending.Ending.{Ending}

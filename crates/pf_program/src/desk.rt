@@ -1,30 +1,30 @@
 //! A session at a desk.
-ghost use Rattle.std.specs.Prelude.{◌≡◌, ◌-◌, ◌^◌, ◌<◌, ◌&&◌, not, Bool, [], false, Ok, IfErr, IfOk};
-ghost use Rattle.pf_fault.specs.declared.status.Status.TheVariants.{StreamFailed};
+ghost use Rattle.std.specs.Prelude.{◌≡◌, ◌-◌, ◌^◌, ◌<◌, ◌&&◌, not, [], false, Ok, IfErr, IfOk};
 ghost use Rattle.pf_held.specs.Streams.{streams_of};
-ghost use Rattle.pf_sitter.specs.Opening.{opened};
+ghost use Rattle.pf_journaled.specs.Opening.{opened};
 ghost use Rattle.pf_words.specs.Asked.{desk_named, name_of};
-ghost use Rattle.pf_program.specs.Desks.{Begins, CameTo, DoesNotBegin, HasSatDown, HoldsDesk, IsUnopened, manner_of};
-ghost use Rattle.pf_program.specs.Noted.{notes_in, status_ended};
+ghost use Rattle.pf_program.specs.Desks.{Begins, DoesNotBegin, HoldsDesk, IsUnopened, SatAlone, manner_of};
+ghost use Rattle.pf_program.specs.Journals.{HoldsWith};
+ghost use Rattle.pf_program.specs.Noted.{notes_in};
 ghost use Rattle.pf_program.specs.Source.{told_name};
 
 use crate::ending::end;
+use crate::kept_desk::hold_kept;
 use crate::noted::Noted;
 use crate::notes::unread_note;
+use crate::sat::{end_sat, outcome_of};
 use crate::script_source::{read_file, told_name};
-use pf_answers::manner::Manner;
-use pf_fault::ending::Ending;
 use pf_fault::fault::Fault;
 use pf_fault::status::Status;
 use pf_held::hold::hold;
+use pf_journaled::files::FileSaver;
+use pf_journaled::journals::Journals;
+use pf_journaled::manner::Manner;
+use pf_journaled::opening::open_script;
+use pf_journaled::session::Session;
+use pf_journaled::sitter::Sitter;
 use pf_kept::pipe::Pipe;
 use pf_script_notes::behind_fault::fault_note;
-use pf_sitter::files::FileSaver;
-use pf_sitter::opening::open_script;
-use pf_sitter::session::Session;
-use pf_sitter::sitter::Sitter;
-use pf_sitting::answers::Going;
-use pf_sitting::fault::SitFault;
 use pf_stream::sink::Sink;
 use pf_stream::source::Source;
 use pf_words::desk_words::DeskWords;
@@ -39,12 +39,19 @@ struct Unbegun {
     notes: Result<Vec<u8>, Fault>,
 }
 
-/// Holds the session that words ask for, and answers the status. At a terminal prompts are told, unless the words ask for quiet; where
-/// one could not be told, nothing more is told there.
-pub(crate) fn hold_desk<H: AllocGlobal + Files + Wait, R: Source, W: Pipe, F: Sink>(
+/// Holds the session that words ask for, with a journal where they name one, and answers the status. At a terminal prompts are told,
+/// unless the words ask for quiet; where one could not be told, nothing more is told there.
+pub(crate) fn hold_desk<
+    H: AllocGlobal + Files + Wait,
+    R: Source,
+    W: Pipe,
+    F: Sink,
+    J: Journals + Drop,
+>(
     rt: &H,
     words: &DeskWords,
     is_terminal: bool,
+    journals: J,
     reader: &mut R,
     writer: &mut W,
     faults: &mut F,
@@ -52,14 +59,46 @@ pub(crate) fn hold_desk<H: AllocGlobal + Files + Wait, R: Source, W: Pipe, F: Si
     requires reads { R.failed reader.old < 2 ^ 64 - 1 }
     requires writes { W.failed writer.old < 2 ^ 64 - 1 }
     requires tells { F.failed faults.old < 2 ^ 64 - 1 }
-    ensures { HoldsDesk (desk_named words.now) (is_terminal && not words.now.quiet) (W.closed writer.new) result
+    ensures { HoldsWith J.File.seen J.File.may_leave J.File.is_usable J.File.is_clean (name_of words.now.journal) (desk_named words.now) (is_terminal && not words.now.quiet)
+        (W.closed writer.new) result
+        (streams_of (R.remaining reader.old) (R.failed reader.old) (W.contents writer.old) (W.failed writer.old) (F.contents faults.old) (F.failed faults.old) false)
+        (streams_of (R.remaining reader.new) (R.failed reader.new) (W.contents writer.new) (W.failed writer.new) (F.contents faults.new) (F.failed faults.new) false) }
+{
+    let prompts = is_terminal && !words.quiet;
+    match &words.journal {
+        Some(path) => hold_kept(
+            rt,
+            words,
+            path.as_str(),
+            journals,
+            prompts,
+            reader,
+            writer,
+            faults,
+        ),
+        None => hold_alone(rt, words, prompts, reader, writer, faults),
+    }
+}
+
+/// Holds a session without a journal.
+fn hold_alone<H: AllocGlobal + Files + Wait, R: Source, W: Pipe, F: Sink>(
+    rt: &H,
+    words: &DeskWords,
+    prompts: bool,
+    reader: &mut R,
+    writer: &mut W,
+    faults: &mut F,
+) -> u8
+    requires reads { R.failed reader.old < 2 ^ 64 - 1 }
+    requires writes { W.failed writer.old < 2 ^ 64 - 1 }
+    requires tells { F.failed faults.old < 2 ^ 64 - 1 }
+    ensures { HoldsDesk (desk_named words.now) prompts (W.closed writer.new) result
         (streams_of (R.remaining reader.old) (R.failed reader.old) (W.contents writer.old) (W.failed writer.old) (F.contents faults.old) (F.failed faults.old) false)
         (streams_of (R.remaining reader.new) (R.failed reader.new) (W.contents writer.new) (W.failed writer.new) (F.contents faults.new) (F.failed faults.new) false) }
 {
     match begin(rt, words) {
         Ok(session) => {
             let mut sitter = Sitter::new(session, FileSaver::new(rt));
-            let prompts = is_terminal && !words.quiet;
             sit_down(rt, &mut sitter, prompts, reader, writer, faults)
         }
         Err(Unbegun { fault, notes }) => {
@@ -87,23 +126,14 @@ fn sit_down<H: AllocGlobal + Files + Wait, R: Source, W: Pipe, F: Sink>(
     requires reads { R.failed reader.old < 2 ^ 64 - 1 }
     requires writes { W.failed writer.old < 2 ^ 64 - 1 }
     requires tells { F.failed faults.old < 2 ^ 64 - 1 }
-    ensures { HasSatDown sitter.old prompts (W.closed writer.new) result
+    ensures { SatAlone sitter.old prompts (W.closed writer.new) result
         (streams_of (R.remaining reader.old) (R.failed reader.old) (W.contents writer.old) (W.failed writer.old) (F.contents faults.old) (F.failed faults.old) false)
         (streams_of (R.remaining reader.new) (R.failed reader.new) (W.contents writer.new) (W.failed writer.new) (F.contents faults.new) (F.failed faults.new) false) }
 {
     let failed = faults.failures();
     let going = hold(rt, sitter, reader, writer, faults, prompts);
     let outcome = outcome_of(rt.alloc(), going, sitter.has_bad());
-    if faults.failures() != failed {
-        return status_of(&outcome);
-    }
-    let notes = Ok(Vec::new(rt.alloc()));
-    end(
-        Noted { outcome, notes },
-        writer.is_closed(),
-        Status::StreamFailed,
-        faults,
-    )
+    end_sat(rt.alloc(), outcome, failed, writer.is_closed(), faults)
 }
 
 /// The session as it begins: behind the records of a script, where one is named.
@@ -163,28 +193,4 @@ fn untold(alloc: Global, fault: Fault) -> Unbegun
 {
     let notes = Ok(Vec::new(alloc));
     Unbegun { fault, notes }
-}
-
-/// What a sitting came to, where a line was bad or none was.
-fn outcome_of(alloc: Global, going: Result<Going, SitFault>, has_bad: bool) -> Result<Ending, Fault>
-    ensures { CameTo going has_bad result }
-{
-    match going {
-        Ok(_) if has_bad => Ok(Ending::quiet(alloc, Status::BadScript)),
-        Ok(_) => Ok(Ending::quiet(alloc, Status::Done)),
-        Err(SitFault::Deaf) => Err(Fault::Read),
-        Err(SitFault::Mute) => Err(Fault::Write),
-        Err(SitFault::NoMemory) => Err(Fault::NoMemory),
-        Err(SitFault::Unkept) => Err(Fault::Write),
-    }
-}
-
-/// The status of that, whether anybody reads the output any more or not.
-fn status_of(outcome: &Result<Ending, Fault>) -> u8
-    ensures { (closed : Bool) → result ≡ status_ended closed StreamFailed outcome.now }
-{
-    match outcome {
-        Ok(ending) => ending.status.number(),
-        Err(fault) => fault.status().number(),
-    }
 }

@@ -4,7 +4,7 @@ ghost use Rattle.std.specs.Io.KnownBytes.{Keeps};
 ghost use Rattle.pf_fault.specs.Faults.{CountsWrites};
 ghost use Rattle.pf_stream.specs.Reading.{longest_script};
 ghost use Rattle.pf_held.specs.Streams.{streams_of};
-ghost use Rattle.pf_program.specs.Desks.{HoldsDesk};
+ghost use Rattle.pf_program.specs.Journals.{HoldsWith};
 ghost use Rattle.pf_words.specs.Asked.{IsSound, desk_asked, name_of, reads_input, task_asked, telling_asked};
 ghost use Rattle.pf_program.specs.Noted.{AreNotesOf, notes_in, noting_behind, noting_of};
 ghost use Rattle.pf_program.specs.Tasks.{IsOfScript, IsQuietIfDone};
@@ -22,6 +22,7 @@ use crate::two_scripts::compare_scripts;
 use crate::versions::do_script;
 use pf_fault::fault::Fault;
 use pf_fault::status::Status;
+use pf_journaled::journals::Journals;
 use pf_kept::pipe::Pipe;
 use pf_stream::sink::Sink;
 use pf_stream::source::Source;
@@ -46,7 +47,7 @@ const NO_TEXT: &str = "error: invalid UTF-8 was detected in one or more argument
 
 /// Does what the program's words say, its own name not among them: runs a script and writes its answer to the writer, or
 /// checks it and writes what it finds there, or writes what its last records changed, or what differs between two, or whether it fits, or drills it
-/// at gates that are always open and writes what came of that, or converts a list of tasks, or holds a session at a desk, or writes help or the version. The
+/// at gates that are always open and writes what came of that, or converts a list of tasks, or holds a session at a desk, on the file of `journals` that they name as its journal, if one, or writes help or the version. The
 /// script is that of the file that the words name, and else the reader's, and so is the list; a drill's is always the reader's.
 /// Of two the first is read first, and the second where the first has no fault. Without words the script is run in the format
 /// `Tables`. The text of a fault goes to `faults`, whose own faults are passed over, and so do notes, where the words ask for them
@@ -66,7 +67,16 @@ pub fn main_words<
     R: Source,
     W: Pipe,
     F: Sink,
->(rt: &H, words: &[S], is_terminal: bool, reader: &mut R, writer: &mut W, faults: &mut F) -> u8
+    J: Journals + Drop,
+>(
+    rt: &H,
+    words: &[S],
+    is_terminal: bool,
+    journals: J,
+    reader: &mut R,
+    writer: &mut W,
+    faults: &mut F,
+) -> u8
     requires reads { R.failed reader.old < 2 ^ 64 - 1 }
     requires writes { W.failed writer.old < 2 ^ 64 - 1 }
     requires tells { F.failed faults.old < 2 ^ 64 - 1 }
@@ -74,7 +84,7 @@ pub fn main_words<
         (seen_streams (R.remaining reader.old) (R.failed reader.old) (W.contents writer.old) (W.failed writer.old))
         (seen_streams (R.remaining reader.new) (R.failed reader.new) (W.contents writer.new) (W.failed writer.new))
         (Tells (F.contents faults.old) (F.contents faults.new) (F.failed faults.old) (F.failed faults.new))
-        (λ desk. HoldsDesk desk (is_terminal && not desk.quiet) (W.closed writer.new) result
+        (λ desk. HoldsWith J.File.seen J.File.may_leave J.File.is_usable J.File.is_clean desk.journal desk (is_terminal && not desk.quiet) (W.closed writer.new) result
         (streams_of (R.remaining reader.old) (R.failed reader.old) (W.contents writer.old) (W.failed writer.old) (F.contents faults.old) (F.failed faults.old) false)
         (streams_of (R.remaining reader.new) (R.failed reader.new) (W.contents writer.new) (W.failed writer.new) (F.contents faults.new) (F.failed faults.new) false)) }
     ensures unread { reads_input (map S.text words.now) ≡ false → reader.new ≡ reader.old }
@@ -92,7 +102,9 @@ pub fn main_words<
             let noted = compare_scripts(rt, &pair, telling.notes, reader, writer);
             end(noted, writer.is_closed(), gone, faults)
         }
-        Ok(Request::Sit(desk)) => hold_desk(rt, &desk, is_terminal, reader, writer, faults),
+        Ok(Request::Sit(desk)) => {
+            hold_desk(rt, &desk, is_terminal, journals, reader, writer, faults)
+        }
         Ok(Request::Show(text)) => show(text.as_str(), writer, faults),
         Err(fault) => refuse(&fault, faults),
     }

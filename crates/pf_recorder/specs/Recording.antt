@@ -1,19 +1,20 @@
 -- What answers lines, beside the file that has what was answered.
-use Rattle.std.specs.Prelude.{ℕ, ◌≡◌, Bool, true, false, IsTrue, List, [], ◌∷◌, ◌++◌, drop}
+use Rattle.std.specs.Prelude.{ℕ, ◌≡◌, Bool, true, IsTrue, List, [], ◌∷◌, ◌++◌, drop, Option, None, is_some}
 use Rattle.sqlite_disk.specs.Disk.{Only}
 use Rattle.pf_journal.specs.Crash.{IsWithFront}
 use Rattle.pf_journal.specs.Lines.{records_of}
 use Rattle.pf_journal.specs.Texts.{whole_lines}
+use Rattle.pf_journal.specs.declared.journal_error.JournalError.{JournalError}
 use Rattle.pf_sitting.specs.Scripts.{IsOfLines}
 use Rattle.pf_sitting.specs.declared.answers.Going.{Going}
 
--- what answers lines (S), the file that has its records (D), the lines of its script that are not in the file yet, and whether the
--- file takes no more
+-- what answers lines (S), the file that has its records (D), the lines of its script that are not in the file yet, and why the file
+-- takes no more, where it takes none
 pub record Recording (S D : Type 0) : Type 0 where
   pub machine : S
   pub file : D
   pub waiting : List ℕ
-  pub is_lost : Bool
+  pub lost : Option JournalError
 
 -- a line is answered: the lines that the script got by it wait
 pub record Answers {S D : Type 0} (answers : S → List ℕ → List ℕ → Going → S → Type 0) (script : S → List ℕ) (r : Recording S D)
@@ -24,31 +25,31 @@ pub record Answers {S D : Type 0} (answers : S → List ℕ → List ℕ → Goi
   pub script_is : script t.machine ≡ script r.machine ++ more
   pub waiting_is : t.waiting ≡ r.waiting ++ more
   pub file_is : t.file ≡ r.file
-  pub lost_is : t.is_lost ≡ r.is_lost
+  pub lost_is : t.lost ≡ r.lost
 
 -- a line is not answered: nothing more waits
 pub record Stops {S D : Type 0} (r t : Recording S D) : Type 0 where
   pub waiting_is : t.waiting ≡ r.waiting
   pub file_is : t.file ≡ r.file
-  pub lost_is : t.is_lost ≡ r.is_lost
+  pub lost_is : t.lost ≡ r.lost
 
 -- what waited is in the file, and a crash leaves just that
 pub record Keeps {S D : Type 0} (seen : D → List ℕ) (may_leave : D → List ℕ → Type 0) (is_clean : D → Bool) (r t : Recording S D) : Type 0 where
   pub machine_is : t.machine ≡ r.machine
   pub waiting_is : t.waiting ≡ []
-  pub was : r.is_lost ≡ false
-  pub lost_is : t.is_lost ≡ false
+  pub was : r.lost ≡ None
+  pub lost_is : t.lost ≡ None
   pub calm : is_clean t.file ≡ is_clean r.file
   pub records_are : IsTrue (is_clean r.file) → records_of (seen t.file) ≡ records_of (seen r.file) ++ whole_lines r.waiting
   pub durable : IsTrue (is_clean t.file) → Only (seen t.file) (may_leave t.file)
 
--- it is not all there: a crash leaves a front of its lines; and nothing more is put there
+-- it is not all there: a crash leaves a front of its lines; and nothing more is put there, for the reason that came first
 pub record Loses {S D : Type 0} (seen : D → List ℕ) (may_leave : D → List ℕ → Type 0) (is_clean : D → Bool) (r t : Recording S D) : Type 0 where
   pub machine_is : t.machine ≡ r.machine
-  pub lost_is : t.is_lost ≡ true
-  pub front : r.is_lost ≡ false → IsTrue (is_clean r.file) → (c : List ℕ) → may_leave t.file c
+  pub lost_is : is_some t.lost ≡ true
+  pub front : r.lost ≡ None → IsTrue (is_clean r.file) → (c : List ℕ) → may_leave t.file c
       → IsWithFront (records_of (seen r.file)) (whole_lines r.waiting) c
-  pub same : r.is_lost ≡ true → t.file ≡ r.file
+  pub same : is_some r.lost ≡ true → (t.file ≡ r.file) × (t.lost ≡ r.lost)
 
 -- the records of a script: its lines behind the heading
 abbrev pub records_in : List ℕ → List (List ℕ)
@@ -64,7 +65,7 @@ pub record BeginsWith {S D : Type 0} (seen : D → List ℕ) (may_leave : D → 
     (machine : S) (file : D) (bytes : List ℕ) (r : Recording S D) : Type 0 where
   pub machine_is : r.machine ≡ machine
   pub waiting_is : r.waiting ≡ []
-  pub lost_is : r.is_lost ≡ false
+  pub lost_is : r.lost ≡ None
   pub calm : is_clean r.file ≡ is_clean file
   pub records_are : IsTrue (is_clean file) → records_of (seen r.file) ≡ records_of bytes ++ added_to (records_of bytes) (script machine)
   pub durable : IsTrue (is_clean r.file) → Only (seen r.file) (may_leave r.file)

@@ -20,25 +20,25 @@ pub struct Recorder<S: Scripted, D: Disk> {
 }
 
 impl<S: Scripted, D: Disk> Model for Recorder<S, D> {
-    ghost use Rattle.std.specs.Prelude.{◌≡◌, false, is_some};
+    ghost use Rattle.std.specs.Prelude.{◌≡◌, None};
     ghost use Rattle.pf_journal.specs.Kept.{IsKept, disk_of};
     ghost use Rattle.pf_recorder.specs.Recording.{Recording};
 
     ghost Value = { Recording S D };
 
-    ghost view = { λ r. record { machine = r.machine; file = disk_of r.journal; waiting = r.waiting.items; is_lost = is_some r.fault } };
+    ghost view = { λ r. record { machine = r.machine; file = disk_of r.journal; waiting = r.waiting.items; lost = r.fault } };
 
-    ghost invariant = { λ r. is_some r.fault ≡ false → IsKept D.seen D.may_leave D.is_usable D.is_clean r.journal };
+    ghost invariant = { λ r. r.fault ≡ None → IsKept D.seen D.may_leave D.is_usable D.is_clean r.journal };
 }
 
 impl<S: Scripted, D: Disk> Recorder<S, D> {
-    ghost use Rattle.std.specs.Prelude.{◌≡◌, [], false, is_some};
+    ghost use Rattle.std.specs.Prelude.{◌≡◌, [], None};
     ghost use Rattle.pf_journal.specs.Kept.{IsKept, disk_of};
 
     /// What answers, over a journal that takes more.
     pub(crate) fn over(alloc: Global, machine: S, journal: Journal<D>) -> Self
         requires { IsKept D.seen D.may_leave D.is_usable D.is_clean journal }
-        ensures { result ≡ record { machine = machine; file = disk_of journal; waiting = []; is_lost = false } }
+        ensures { result ≡ record { machine = machine; file = disk_of journal; waiting = []; lost = None } }
     {
         Recorder {
             alloc,
@@ -58,7 +58,7 @@ impl<S: Scripted, D: Disk> Recorder<S, D> {
 
     /// Why what was answered could not be kept, where it could not.
     pub fn fault(&self) -> Option<JournalError>
-        ensures { is_some result ≡ self.now.is_lost }
+        ensures { result ≡ self.now.lost }
     {
         self.fault
     }

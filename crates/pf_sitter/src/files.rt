@@ -1,5 +1,5 @@
 use pf_turn::saver::Saver;
-use std::fs::{File, OpenFile, remove_file, rename};
+use std::fs::{File, OpenFile, canonicalize, remove_file, rename};
 use std::io;
 use std::io::{ErrorKind, Write};
 use std::rt::Files;
@@ -11,12 +11,30 @@ const NAMES: u8 = 100;
 #[derive(Drop)]
 pub struct FileSaver<'a, H> {
     rt: &'a H,
+    /// The file of the session's journal, where it has one: nothing is written in its place.
+    journal: Option<&'a str>,
 }
 
 impl<'a, H: AllocGlobal + Files> FileSaver<'a, H> {
     /// Of the files of a runtime.
     pub fn new(rt: &'a H) -> Self {
-        FileSaver { rt }
+        FileSaver { rt, journal: None }
+    }
+
+    /// Of the files of a runtime, one of which is the session's journal.
+    pub fn beside(rt: &'a H, journal: &'a str) -> Self {
+        FileSaver {
+            rt,
+            journal: Some(journal),
+        }
+    }
+
+    /// Whether this path leads to the journal, or where it leads can't be told.
+    fn may_be_journal(&self, path: &str) -> bool {
+        match self.journal {
+            Some(journal) => may_be_same(self.rt, path, journal),
+            None => false,
+        }
     }
 }
 
@@ -26,9 +44,20 @@ impl<H: AllocGlobal + Files> Saver for FileSaver<'_, H> {
 
     fn save(&mut self, file: &[u8], bytes: &[u8]) -> bool {
         match str::from_utf8(file) {
-            Ok(path) => write_beside(self.rt, path, bytes).is_ok(),
+            Ok(path) => !self.may_be_journal(path) && write_beside(self.rt, path, bytes).is_ok(),
             Err(_) => false,
         }
+    }
+}
+
+/// Whether a path leads to the same file as that of a file that is there, or where one of them leads can't be told.
+fn may_be_same<H: AllocGlobal + Files>(rt: &H, path: &str, other: &str) -> bool {
+    match canonicalize(rt, path) {
+        Ok(found) => match canonicalize(rt, other) {
+            Ok(known) => found.into_string().as_str() == known.into_string().as_str(),
+            Err(_) => true,
+        },
+        Err(fault) => fault.kind() != ErrorKind::NotFound,
     }
 }
 

@@ -8,4 +8,6 @@ mod in_rows;
 pub mod opening;
 pub mod sitter;
 
-pub use pf_turn::session;
+// For whoever holds a session.
+pub use pf_answers::manner;
+pub use pf_turn::{saver, session};

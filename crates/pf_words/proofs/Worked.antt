@@ -76,6 +76,10 @@ many_is_not_shown : ¬ IsShown kind.TooManyValues
 many_is_not_shown (inl help) = cc
 many_is_not_shown (inr version) = cc
 
+invalid_is_not_shown : ¬ IsShown kind.InvalidValue
+invalid_is_not_shown (inl help) = cc
+invalid_is_not_shown (inr version) = cc
+
 conflict_is_not_shown : ¬ IsShown kind.ArgumentConflict
 conflict_is_not_shown (inl help) = cc
 conflict_is_not_shown (inr version) = cc
@@ -207,9 +211,13 @@ desks = record {
   alone = refl;
   json = refl;
   quiet = refl;
+  kept = refl;
+  begun = refl;
   no_task = refl;
   no_desk = refl;
   input_read = refl;
+  unnamed = (kind.InvalidValue, invalid_is_not_shown, inl refl);
+  journals = (kind.ArgumentConflict, conflict_is_not_shown, inl refl);
   twice = (kind.UnknownArgument, unknown_is_not_shown, inl refl);
   in_format = (kind.UnknownArgument, unknown_is_not_shown, inl refl);
   noted = (kind.UnknownArgument, unknown_is_not_shown, inl refl);

@@ -356,7 +356,7 @@ abbrev pub names_of : ScriptPair → PairNames
 names_of pair = record { first = name_of pair.first; second = name_of pair.second; options = pair.options }
 
 abbrev pub desk_named : DeskWords → DeskNames
-desk_named desk = record { script = name_of desk.script; json = desk.json; quiet = desk.quiet }
+desk_named desk = record { script = name_of desk.script; journal = name_of desk.journal; json = desk.json; quiet = desk.quiet }
 
 -- whether the script of a task is standard input, or one of two scripts is; the lines of a session are
 abbrev pub reads_input_for : Option Task → Option Text → Option PairNames → Option DeskNames → Bool

@@ -130,9 +130,10 @@ why_command =
 abbrev pub fit_command : App
 fit_command = with_rule (with_rule (new_app (codes "fit")) format_option) file_argument
 
--- `desk`, which may have these flags and SCRIPT
+-- `desk`, which may have these flags, the option `--journal` and SCRIPT
 abbrev pub desk_command : App
-desk_command = with_rule (with_rule (with_rule (new_app (codes "desk")) (flag_named (codes "json"))) quiet_flag) file_argument
+desk_command =
+    with_rule (with_rule (with_rule (with_rule (new_app (codes "desk")) (flag_named (codes "json"))) (text_option (codes "journal"))) quiet_flag) file_argument
 
 -- the program's own name is not among the words, and it tells its version
 abbrev pub as_program : App → App

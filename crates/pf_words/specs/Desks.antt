@@ -1,11 +1,13 @@
 -- What words ask a desk for.
 use Rattle.std.specs.Prelude.{Bool, List, Option, codes}
 use Rattle.clap.specs.Words.{Row, Text}
-use Rattle.pf_words.specs.CommandLine.{has_flag}
+use Rattle.pf_words.specs.CommandLine.{has_flag, text_behind}
 
--- the file of the script whose records come first, if there is one; whether answers are JSON; and whether nothing is told beside them
+-- the file of the script whose records come first, if there is one, and that of the journal; whether answers are JSON; and whether
+-- nothing is told beside them
 pub record DeskNames : Type 0 where
   pub script : Option Text
+  pub journal : Option Text
   pub json : Bool
   pub quiet : Bool
 
@@ -13,6 +15,7 @@ pub record DeskNames : Type 0 where
 abbrev pub desk_given : Option Text → Option (Text × List Row) → DeskNames
 desk_given script found = record {
   script = script;
+  journal = text_behind (codes "desk") (codes "journal") found;
   json = has_flag (codes "desk") (codes "json") found;
   quiet = has_flag (codes "desk") (codes "quiet") found;
 }

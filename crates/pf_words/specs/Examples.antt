@@ -255,18 +255,22 @@ pub record Fitting : Type 0 where
   pub help : AsksHelp (codes "fit" ∷ codes "--help" ∷ [])
 
 -- words that ask for a session at a desk
-abbrev pub desk : Option Text → Bool → Bool → DeskNames
-desk script json quiet = record { script = script; json = json; quiet = quiet }
+abbrev pub desk : Option Text → Option Text → Bool → Bool → DeskNames
+desk script journal json quiet = record { script = script; journal = journal; json = json; quiet = quiet }
 
 pub record Desks : Type 0 where
-  pub alone : desk_asked (codes "desk" ∷ []) ≡ Some (desk None false false)
-  pub json : desk_asked (codes "desk" ∷ codes "--json" ∷ codes "plan.csv" ∷ []) ≡ Some (desk (Some (codes "plan.csv")) true false)
-  pub quiet : desk_asked (codes "desk" ∷ codes "-q" ∷ codes "-" ∷ []) ≡ Some (desk None false true)
+  pub alone : desk_asked (codes "desk" ∷ []) ≡ Some (desk None None false false)
+  pub json : desk_asked (codes "desk" ∷ codes "--json" ∷ codes "plan.csv" ∷ []) ≡ Some (desk (Some (codes "plan.csv")) None true false)
+  pub quiet : desk_asked (codes "desk" ∷ codes "-q" ∷ codes "-" ∷ []) ≡ Some (desk None None false true)
+  pub kept : desk_asked (codes "desk" ∷ codes "--journal" ∷ codes "kept.csv" ∷ []) ≡ Some (desk None (Some (codes "kept.csv")) false false)
+  pub begun : desk_asked (codes "desk" ∷ codes "--journal=-" ∷ codes "plan.csv" ∷ []) ≡ Some (desk (Some (codes "plan.csv")) (Some (codes "-")) false false)
   -- a session is no task, and reads standard input beside its script
   pub no_task : task_asked (codes "desk" ∷ codes "plan.csv" ∷ []) ≡ None
   pub no_desk : desk_asked (codes "fit" ∷ codes "plan.csv" ∷ []) ≡ None
   pub input_read : reads_input (codes "desk" ∷ codes "plan.csv" ∷ []) ≡ true
-  -- a second script, and options that `run` alone has
+  -- a journal without its file, two of them, a second script, and options that `run` alone has
+  pub unnamed : IsRefused (codes "desk" ∷ codes "--journal" ∷ [])
+  pub journals : IsRefused (codes "desk" ∷ codes "--journal" ∷ codes "a.csv" ∷ codes "--journal" ∷ codes "b.csv" ∷ [])
   pub twice : IsRefused (codes "desk" ∷ codes "a.csv" ∷ codes "b.csv" ∷ [])
   pub in_format : IsRefused (codes "desk" ∷ codes "-f" ∷ codes "json" ∷ [])
   pub noted : IsRefused (codes "desk" ∷ codes "--notes" ∷ [])

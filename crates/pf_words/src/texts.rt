@@ -71,6 +71,7 @@ and the time between two jobs at least.
 and why there, and who waits behind whom.
 `desk` answers each line of standard input before it reads the next: a record by its replies, the name of a format by its
 text, and `why SLOT TASK`, `fit`, `undo`, `save FILE`, `help` and `quit`. Where a line has no comma, blanks part its fields.
+With `--journal FILE` each record is in FILE before it is answered, and the session begins with the records that FILE has.
 
 Status: 0 done, 1 a bad record or line, or a script that is too long, or a difference that --exit-code tells of, 2 words that are
 not understood or a range of slots that were not stepped, 3 a fault of reading or writing, 4 out of memory, or no place

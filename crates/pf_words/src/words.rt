@@ -36,7 +36,7 @@ use std::convert::AsStr;
 /// may be standard input; with their sums first by `--summary`, and a status that tells of a difference by `--exit-code`. `drill`
 /// asks for a drill of standard input. `convert` asks for a list of tasks to be converted, in the quanta of `--quantum`, and
 /// `why` asks of a slot. `fit` asks whether the script fits, as text or in the format `--format`. `desk` asks for a session,
-/// behind a script or none, with answers in JSON by `--json`. Answers
+/// behind a script or none, with answers in JSON by `--json` and a journal by `--journal`. Answers
 /// `Refused` where the words are not the program's, `Mistaken` where the text of
 /// `--format` names no format, where that of `--from` or `--to` is no number, where the format has no range, where the text of
 /// `--cell` is no number of 6 to 40, `--wrap` no number of 1 to 4096 or `--style` no style, where the format has none of these,

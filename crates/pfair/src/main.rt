@@ -2,6 +2,7 @@
 //! input is a terminal, `prompt_words` may tell how a script ends there.
 #![tactic(auto)]
 
+use pf_program::host_journals::HostJournals;
 use pf_program::kept_writer::KeptWriter;
 use pf_program::program::{main_words, prompt_words, tell_unread};
 use pf_program::sink::CountedWriter;
@@ -27,6 +28,7 @@ fn main(rt: HostRuntime) -> ExitCode {
         &rt,
         &words,
         is_terminal,
+        HostJournals::new(&rt),
         &mut reader,
         &mut writer,
         &mut faults,

@@ -1,9 +1,15 @@
-use Rattle.std.proofs.Common.{refl}
+use Rattle.std.proofs.Common.{◌≡◌, ◌&&◌, not}
 use Rattle.pf_words.specs.Asked.{desk_named}
-use Rattle.pf_program.proofs.Sittings.{desk_not_held}
+use Rattle.pf_program.proofs.Journals.{asked_there, holds_with, unasked_elsewhere}
 use Rattle.pf_program.proofs.desk.hold_desk.Goals as goal
+use Rattle.pf_program.proofs.desk.hold_desk.Goals.{then-is_terminal, else-is_terminal}
 
-pub returns-in-Err : goal.returns-in-Err
-returns-in-Err g c =
-    desk_not_held (desk_named c.args.words.now) _ _ c.is_closed-closed.result c.end.result _ _ c.in-Err.field-0.fault c.in-Err.field-0.notes
-    c.in-Err.ensures.unbegun c.is_closed-closed.ensures c.end.ensures.status c.end.ensures.told refl refl refl refl
+pub returns-in-Some : goal.returns-in-Some
+returns-in-Some g c =
+    let asked : c.if-is_terminal.prompts ≡ (c.args.is_terminal && not c.args.words.now.quiet) =
+    elim c.if-is_terminal.branch [
+      | then-is_terminal w ↦ asked_there _ _ _ w.if-is_terminal.true w.prompts-is
+      | else-is_terminal w ↦ unasked_elsewhere _ _ _ w.if-is_terminal.false w.prompts-is
+    ] in
+    holds_with _ _ _ _ c.args.words.now.journal c.in-Some.path c.as_str.result.now (desk_named c.args.words.now) c.if-is_terminal.prompts
+    (c.args.is_terminal && not c.args.words.now.quiet) _ c.hold_kept.result _ _ c.in-Some.is c.as_str.ensures.value asked c.hold_kept.ensures

@@ -1,6 +1,6 @@
-use Rattle.std.proofs.Common.{List, ℕ, inr, map, refl, subst, sym}
+use Rattle.std.proofs.Common.{List, ℕ, map, refl, subst, sym}
 use Rattle.pf_words.specs.Asked.{IsShownTo}
-use Rattle.pf_program.proofs.WordsAnswered.{desk_answers, desk_reads, no_memory_at_desk, refusal_answers, text_answers}
+use Rattle.pf_program.proofs.WordsAnswered.{desk_answers, desk_reads, no_memory_at_any_desk, refusal_answers, text_answers}
 use Rattle.pf_program.proofs.program.main_words.Goals as goal
 
 pub returns-in-Ok-Show-clause-streams : goal.returns-in-Ok-Show-clause-streams
@@ -12,7 +12,7 @@ returns-in-Ok-Show-clause-streams g c =
 pub returns-in-Err-clause-streams : goal.returns-in-Err-clause-streams
 returns-in-Err-clause-streams g c =
     refusal_answers (map g.S.AsStr.text c.args.words.now) c.in-Err.fault _ c.refuse.result _ _ _ c.in-Err.ensures.asked c.refuse.ensures.status
-    c.refuse.ensures.told (λ four told desk. inr (no_memory_at_desk _ _ _ c.refuse.result _ _ four told refl refl refl refl))
+    c.refuse.ensures.told (λ four told desk. no_memory_at_any_desk _ _ _ _ desk.journal desk _ _ c.refuse.result _ _ four told refl refl refl refl)
 
 pub returns-in-Ok-Sit-clause-streams : goal.returns-in-Ok-Sit-clause-streams
 returns-in-Ok-Sit-clause-streams g c =
