@@ -1,0 +1,10 @@
+mod Reading
+mod Fields
+mod Records
+mod Sound
+mod Undone
+mod Scripted
+mod Opened
+mod Files
+mod Sat
+mod Begun
