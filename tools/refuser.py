@@ -4,6 +4,7 @@ A library that counts the calls of the C library that give memory (malloc, callo
 memalign and posix_memalign) or make a thread (pthread_create), and refuses one of them, is loaded before the C library. It is
 compiled here, by `cc`.
 """
+import contextlib
 import itertools
 import os
 import subprocess
@@ -11,7 +12,8 @@ import sys
 
 from programs import run_to_end
 
-SOURCE = r"""
+# What counts calls, and refuses one of them: in its place the library gives this fault.
+PRELUDE = r"""
 #define _GNU_SOURCE
 #include <dlfcn.h>
 #include <errno.h>
@@ -19,17 +21,18 @@ SOURCE = r"""
 #include <pthread.h>
 #include <stdatomic.h>
 #include <stdlib.h>
+#include <sys/types.h>
 #include <unistd.h>
 
 static atomic_long calls;
 static _Thread_local int looks_up;
 
-static int is_refused(void) {
+static int is_refused(int fault) {
     const char *nth = getenv("REFUSED");
     long call = atomic_fetch_add(&calls, 1) + 1;
     if (!nth || call != atol(nth)) return 0;
     close(creat(getenv("REFUSED_MARK"), 0600));
-    errno = ENOMEM;
+    errno = fault;
     return 1;
 }
 
@@ -40,22 +43,23 @@ static void *real(const char *name) {
     if (!found) abort();
     return found;
 }
-
+"""
+SOURCE = PRELUDE + r"""
 void *malloc(size_t size) {
     void *(*give)(size_t) = real("malloc");
-    return is_refused() ? NULL : give(size);
+    return is_refused(ENOMEM) ? NULL : give(size);
 }
 
 /* Some C libraries ask calloc in dlsym, and do without what it does not give. */
 void *calloc(size_t count, size_t size) {
     if (looks_up) return NULL;
     void *(*give)(size_t, size_t) = real("calloc");
-    return is_refused() ? NULL : give(count, size);
+    return is_refused(ENOMEM) ? NULL : give(count, size);
 }
 
 void *realloc(void *old, size_t size) {
     void *(*give)(void *, size_t) = real("realloc");
-    return is_refused() ? NULL : give(old, size);
+    return is_refused(ENOMEM) ? NULL : give(old, size);
 }
 
 void *reallocarray(void *old, size_t count, size_t size) {
@@ -67,34 +71,42 @@ void *reallocarray(void *old, size_t count, size_t size) {
 
 void *aligned_alloc(size_t alignment, size_t size) {
     void *(*give)(size_t, size_t) = real("aligned_alloc");
-    return is_refused() ? NULL : give(alignment, size);
+    return is_refused(ENOMEM) ? NULL : give(alignment, size);
 }
 
 void *memalign(size_t alignment, size_t size) {
     void *(*give)(size_t, size_t) = real("memalign");
-    return is_refused() ? NULL : give(alignment, size);
+    return is_refused(ENOMEM) ? NULL : give(alignment, size);
 }
 
 int posix_memalign(void **place, size_t alignment, size_t size) {
     int (*give)(void **, size_t, size_t) = real("posix_memalign");
-    return is_refused() ? ENOMEM : give(place, alignment, size);
+    return is_refused(ENOMEM) ? ENOMEM : give(place, alignment, size);
 }
 
 int pthread_create(pthread_t *thread, const pthread_attr_t *how, void *(*start)(void *), void *given) {
     int (*make)(pthread_t *, const pthread_attr_t *, void *(*)(void *), void *) = real("pthread_create");
-    return is_refused() ? EAGAIN : make(thread, how, start, given);
+    return is_refused(ENOMEM) ? EAGAIN : make(thread, how, start, given);
 }
 """
 
 
-def compile_refuser(folder):
+def compile_refuser(folder, text=SOURCE):
     """The library, compiled into this folder."""
     source, library = folder / "refuser.c", folder / "refuser.so"
-    source.write_text(SOURCE)
+    source.write_text(text)
     done = subprocess.run(["cc", "-shared", "-fPIC", "-o", library, source, "-ldl"])
     if done.returncode != 0:
-        sys.exit("cc does not compile the library that refuses allocations")
+        sys.exit("cc does not compile the library that refuses calls")
     return library
+
+
+@contextlib.contextmanager
+def refused(library, nth):
+    """The environment of a program whose call of this number is refused, and what tells whether one was."""
+    mark = library.with_suffix(".refused")
+    mark.unlink(missing_ok=True)
+    yield {**os.environ, "LD_PRELOAD": str(library), "REFUSED": str(nth), "REFUSED_MARK": str(mark)}, mark.exists
 
 
 def refuse_each(library, words, what, **how):
@@ -102,12 +114,10 @@ def refuse_each(library, words, what, **how):
 
     Gives each run's number, whether an allocation was refused in it (in all but the last), and how it ended.
     """
-    mark = library.with_suffix(".refused")
     for nth in itertools.count(1):
-        mark.unlink(missing_ok=True)
-        env = {**os.environ, "LD_PRELOAD": str(library), "REFUSED": str(nth), "REFUSED_MARK": str(mark)}
-        done = run_to_end(words, f"{what}, allocation {nth}", env=env, **how)
-        was_refused = mark.exists()
+        with refused(library, nth) as (env, marked):
+            done = run_to_end(words, f"{what}, allocation {nth}", env=env, **how)
+            was_refused = marked()
         yield nth, was_refused, done
         if not was_refused:
             return

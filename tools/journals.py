@@ -1,0 +1,247 @@
+"""Trials of `pfair desk --journal`: sessions that are killed and opened again, files whose writes and syncs fail, long sessions.
+
+What is answered has to be in the file: as the file reads up to its first shut gate, `#`, behind which a crash may leave anything.
+"""
+import os
+import shutil
+import subprocess
+import tempfile
+import threading
+import time
+from pathlib import Path
+
+from desks import LONGEST_ANSWER, Plan, Session, begin, change, differs, spelled, turn
+from programs import run_to_end
+from refuser import PRELUDE, compile_refuser, refused
+
+# Writes and syncs of a file, one of which fails; a write that fails has written half of its bytes.
+FILE_CALLS = PRELUDE + r"""
+#define WRITES(name, offset) \
+    ssize_t name(int file, const void *bytes, size_t size, offset at) { \
+        ssize_t (*put)(int, const void *, size_t, offset) = real(#name); \
+        if (!is_refused(EIO)) return put(file, bytes, size, at); \
+        put(file, bytes, size / 2, at); \
+        errno = EIO; \
+        return -1; \
+    }
+#define FAILS(name, given, passed) \
+    int name given { int (*call) given = real(#name); return is_refused(EIO) ? -1 : call passed; }
+WRITES(pwrite, off_t)
+WRITES(pwrite64, off64_t)
+FAILS(fsync, (int file), (file))
+FAILS(fdatasync, (int file), (file))
+FAILS(ftruncate, (int file, off_t size), (file, size))
+FAILS(ftruncate64, (int file, off64_t size), (file, size))
+"""
+LONG_STEPS = 1_000_000
+MOST_TIMES = 2.5
+LONG_FRONT = "settings,2,6\njoin,0,1,1,2\njoin,0,2,1,3\njoin,0,3,2,3\n"
+
+
+def journal_in(path):
+    """The records that a journal stands for, its heading left out, and the bytes from the gate on that ends them."""
+    data = path.read_bytes() if path.exists() else b""
+    found, at = [], 0
+    while data[at:at + 1] == b" " and (end := data.find(b"\n", at)) > 0:
+        found.append(data[at + 1:end].decode())
+        at = end + 1
+    return found[1:], data[at:]
+
+
+def copied(plan):
+    """Another plan that goes on from here."""
+    other = Plan(plan.told, plan.quiet)
+    other.script, other.events, other.made = plan.script, dict(plan.events), list(plan.made)
+    return other
+
+
+def records_of(plan):
+    return plan.script.splitlines()[1:]
+
+
+def opening_note(path, plan, rest):
+    """What is told of a journal that is opened, with these bytes from its last gate on."""
+    records = records_of(plan)
+    events, slots = (plan.told.text(plan.script, "run", "-f", it).count("\n") - 1 if records else 0 for it in ("events", "schedule"))
+    cut = f"; cut {len(rest) - 1} bytes" if len(rest) > 1 and path.stat().st_size > 10 else ""
+    return f"{path}: {len(records)} records, {events} events, {slots} slots{cut}\n"
+
+
+def answered(session, rng, plan, count):
+    """Lines of a session, one after the other; what was wrong with an answer."""
+    for _ in range(count):
+        line, wanted = turn(rng, plan)
+        session.write((line + "\n").encode())
+        given = session.lines(1 if wanted is None else len(wanted.splitlines()))
+        wrong = differs(wanted, given, line) if given else None
+        if wrong:
+            return wrong
+    return None
+
+
+def batch(rng, plan):
+    """Some good lines, in one write, and their answers."""
+    lines, answers = [], ""
+    for _ in range(rng.randrange(1, 30)):
+        fields = ["step"] if rng.random() < 0.4 else change(rng, plan)
+        answers += plan.take(fields)[1] if fields == ["step"] else plan.change(fields)
+        lines.append(spelled(rng, fields))
+    return "".join(f"{it}\n" for it in lines).encode(), answers
+
+
+def killed(session, rng, plan, path):
+    """Kills a session while it has lines before it. Gives the plan that its journal stands for, and what is wrong."""
+    after = copied(plan)
+    data, answers = batch(rng, after) if rng.random() < 0.8 else (b"", "")
+    if data:
+        session.write(data)
+        time.sleep(rng.choice([0, rng.uniform(0, 0.004)]))
+    session.run.kill()
+    told = (session.left + session.run.stdout.read()).decode()
+    session.end()
+    found = journal_in(path)[0]
+    stands = next((it for it in (after, plan) if records_of(it) == found), None)
+    if stands is None:
+        return plan, f"killed behind {data!r}: {found}, neither {records_of(plan)} nor {records_of(after)}"
+    if told and stands is not after or not answers.startswith(told):
+        return plan, f"killed behind {data!r}, which was answered by {told!r}: {found}"
+    return stands, None
+
+
+def torn(rng, path):
+    """Writes bytes behind the last gate, as a write that a crash tore."""
+    if path.exists() and path.stat().st_size > 10 and rng.random() < 0.5:
+        with path.open("ab") as file:
+            file.write(rng.choice([b"step\n#", b"join,0,", b" step\n step\n#", bytes(range(40))]))
+
+
+def live(rng, told, program, path, plan, begun):
+    """One session of a journal. Gives the plan that its journal stands for behind it, and what was wrong."""
+    torn(rng, path)
+    note = opening_note(path, plan, journal_in(path)[1])
+    session = Session(program, ["-q"] * plan.quiet + ["--journal", str(path)], begun)
+    if not plan.quiet and (given := session.run.stderr.readline().decode()) != note:
+        session.run.kill()
+        session.end()
+        return plan, f"told {given!r}, not {note!r}"
+    if not records_of(plan):
+        line = ["settings", "2", "6", "12", "64"]
+        session.write(spelled(rng, line).encode() + b"\n")
+        session.lines(len(plan.take(line)[1].splitlines()))
+    wrong = answered(session, rng, plan, rng.randrange(8))
+    if wrong:
+        session.run.kill()
+        session.end()
+        return plan, wrong
+    plan, wrong = killed(session, rng, plan, path)
+    plan.made = []
+    return plan, wrong
+
+
+def hold_killed(rng, told, program):
+    """Holds the sessions of one journal, each of which is killed; gives how many they were, and what was wrong."""
+    plan = Plan(told, rng.random() < 0.5)
+    begun = begin(rng, plan, ["settings", "2", "12", "24", "64"]) if rng.random() < 0.3 else []
+    plan.made, lives = [], rng.randrange(2, 5)
+    with tempfile.TemporaryDirectory() as room:
+        path = Path(room) / "kept"
+        for life in range(lives):
+            plan, wrong = live(rng, told, program, path, plan, begun if life == 0 else [])
+            if wrong:
+                return life + 1, f"journal, life {life + 1}: {wrong}"
+        run_to_end([program, "desk", "-q", "--journal", str(path)], "desk: a journal is mended", input=b"")
+        run = run_to_end([program, "run", "-f", "replies", str(path)], "desk: a journal is run").stdout.decode()
+        return lives, None if run == plan.replies(plan.script) else f"a journal that is run: {run!r}"
+
+
+def in_use(program):
+    """What is wrong where two sessions name one journal."""
+    with tempfile.TemporaryDirectory() as room:
+        path = f"{room}/kept"
+        first = Session(program, ["-q", "--journal", path], [])
+        first.write(b"settings 1 2\n")
+        ready = first.line()
+        done = run_to_end([program, "desk", "--journal", path], "desk: a journal in use", input=b"step\n")
+        first.write(b"step\n")
+        step, end = first.line(), first.end()
+        given = (ready, done.stdout, done.stderr.decode(), done.returncode, step, end, journal_in(Path(path))[0])
+    wanted = ("ready", b"", f"{path} is in use\n", 3, "slot 0: -", (b"", b"", 0), ["settings,1,2", "step"])
+    return None if given == wanted else f"a journal in use: {given}"
+
+
+TYPED = ("settings 1 2", "join 0 1 1 2", "step", "join 1 2 1 2", "stepp", "limit 1 0", "undo", "step")
+
+
+def failing_file(program, library, nth):
+    """One session of a journal one of whose writes or syncs fails: whether one did, and what is wrong."""
+    with tempfile.TemporaryDirectory() as room:
+        path = Path(room) / "kept"
+        with refused(library, nth) as (env, was_refused):
+            session = Session(program, ["-q", "--journal", str(path)], [], env)
+            answers = 0
+            for line in TYPED:
+                try:
+                    session.write(f"{line}\n".encode())
+                except BrokenPipeError:
+                    break
+                if not session.line():
+                    break
+                answers += line != "stepp"
+            _, faults, status = session.end()
+            failed = was_refused()
+        if not failed:
+            return False, None if (faults, status, answers) == (b"", 1, 7) else f"no call fails: {faults!r}, {status}, {answers} answers"
+        read, written = b"cannot read the journal\n", f"cannot write {path}\n".encode()
+        found = journal_in(path)[0]
+        again = run_to_end([program, "desk", "-q", "--journal", str(path)], "desk: opened again", input=b"")
+        is_front = answers <= len(found) <= answers + 1 and found == journal_in(path)[0]
+        if status != 3 or faults not in (read, written) or not is_front or (again.returncode, again.stderr) != (0, b""):
+            return True, f"call {nth} of the file fails: {faults!r}, {status}, {answers} answers, {found}, opened again {again}"
+        return True, None
+
+
+def failing_files(program):
+    """What is wrong where each write and each sync of the file fails in turn."""
+    if not shutil.which("cc"):
+        print("journals: no cc, so no call of the file fails")
+        return
+    with tempfile.TemporaryDirectory() as room:
+        library, nth, failed = compile_refuser(Path(room), FILE_CALLS), 0, True
+        while failed:
+            nth += 1
+            failed, wrong = failing_file(program, library, nth)
+            yield wrong
+        print(f"journals: {nth - 1} calls of a file failed")
+        yield None if nth > 20 else f"{nth - 1} calls of the file failed, too few"
+
+
+def drained(words, data, cwd):
+    """The seconds of the processor that a program takes by two pipes, and how much it wrote."""
+    run = subprocess.Popen(words, stdin=subprocess.PIPE, stdout=subprocess.PIPE, stderr=subprocess.DEVNULL, cwd=cwd)
+    feeder = threading.Thread(target=lambda: (run.stdin.write(data), run.stdin.close()))
+    feeder.start()
+    written = sum(map(len, iter(lambda: run.stdout.read(65_536), b"")))
+    feeder.join()
+    _, status, used = os.wait4(run.pid, 0)
+    run.returncode = status
+    return used.ru_utime + used.ru_stime, written
+
+
+def long_session(program):
+    """What is wrong with a session of many steps: how much longer it takes than the same script, and what it writes."""
+    data = LONG_FRONT.encode() + b"step\n" * LONG_STEPS
+    with tempfile.TemporaryDirectory() as room:
+        alone, replies = drained([program, "run", "-f", "replies"], b"pfair,3\n" + data, room)
+        kept, answers = drained([program, "desk", "-q", "--journal", "kept"], data, room)
+        records = len(journal_in(Path(room) / "kept")[0])
+    print(f"journals: {LONG_STEPS} steps: {kept:.2f} s of the processor, {kept / alone:.1f} times those of the script ({alone:.2f} s)", flush=True)
+    if (answers, records) != (replies, LONG_STEPS + 4):
+        return f"a long session: {answers} bytes, not {replies}; {records} records"
+    return None if kept <= MOST_TIMES * alone else f"a long session takes {kept / alone:.1f} times as long as its script"
+
+
+def journal_failures(program):
+    """What is wrong with journals that are in use, that fail, and that get long."""
+    yield in_use(program)
+    yield from failing_files(program)
+    yield long_session(program)
