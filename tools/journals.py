@@ -68,15 +68,17 @@ def opening_note(path, plan, rest):
 
 
 def answered(session, rng, plan, count):
-    """Lines of a session, one after the other; what was wrong with an answer."""
+    """Lines of a session, one after the other; what was wrong with an answer, and whether there was one."""
+    was_told = False
     for _ in range(count):
         line, wanted = turn(rng, plan)
         session.write((line + "\n").encode())
         given = session.lines(1 if wanted is None else len(wanted.splitlines()))
+        was_told = was_told or bool(given)
         wrong = differs(wanted, given, line) if given else None
         if wrong:
-            return wrong
-    return None
+            return wrong, was_told
+    return None, was_told
 
 
 def batch(rng, plan):
@@ -89,9 +91,13 @@ def batch(rng, plan):
     return "".join(f"{it}\n" for it in lines).encode(), answers
 
 
-def killed(session, rng, plan, path):
-    """Kills a session while it has lines before it. Gives the plan that its journal stands for, and what is wrong."""
+def killed(session, rng, plan, path, was_told):
+    """Kills a session while it has lines before it. Gives the plan that its journal stands for, and what is wrong.
+
+    A session that has told nothing yet may not have put the script that it began with either.
+    """
     after = copied(plan)
+    fronts = (after, plan) if was_told else (after, plan, Plan(plan.told, plan.quiet))
     data, answers = batch(rng, after) if rng.random() < 0.8 else (b"", "")
     if data:
         session.write(data)
@@ -100,9 +106,9 @@ def killed(session, rng, plan, path):
     told = (session.left + session.run.stdout.read()).decode()
     session.end()
     found = journal_in(path)[0]
-    stands = next((it for it in (after, plan) if records_of(it) == found), None)
+    stands = next((it for it in fronts if records_of(it) == found), None)
     if stands is None:
-        return plan, f"killed behind {data!r}: {found}, neither {records_of(plan)} nor {records_of(after)}"
+        return plan, f"killed behind {data!r}: {found}, none of {[records_of(it) for it in fronts]}"
     if told and stands is not after or not answers.startswith(told):
         return plan, f"killed behind {data!r}, which was answered by {told!r}: {found}"
     return stands, None
@@ -128,12 +134,12 @@ def live(rng, told, program, path, plan, begun):
         line = ["settings", "2", "6", "12", "64"]
         session.write(spelled(rng, line).encode() + b"\n")
         session.lines(len(plan.take(line)[1].splitlines()))
-    wrong = answered(session, rng, plan, rng.randrange(8))
+    wrong, was_told = answered(session, rng, plan, rng.randrange(8))
     if wrong:
         session.run.kill()
         session.end()
         return plan, wrong
-    plan, wrong = killed(session, rng, plan, path)
+    plan, wrong = killed(session, rng, plan, path, was_told or not begun or not plan.quiet)
     plan.made = []
     return plan, wrong
 
