@@ -168,16 +168,6 @@ outside_answered format titles refusals c fault x is = rw (← is) (refl, Append
 
 -- Use: a fault of one call is that of another.
 module _ (A B : Type 0) where
-  pub answers_as : (m : Meaning) (fault : Fault) (old new : Option (List ℕ)) → Answers {A = A} m (Err fault) old new → Answers {A = B} m (Err fault) old new
-  answers_as m why.Read old new h = h
-  answers_as m (why.BadRecord number) old new h = h
-  answers_as m why.Write old new h = h
-  answers_as m why.TooLong old new h = h
-  answers_as m (why.BadRange fault) old new h = h
-  answers_as m why.NoReader old new h = h
-  answers_as m why.GateShut old new h = h
-  answers_as m why.NoMemory old new h = h
-
   pub past_as : (fault : Fault) → IsPastReading {A = A} (Err fault) → IsPastReading {A = B} (Err fault)
   past_as why.Read past = absurd past
   past_as (why.BadRecord number) past = tt

@@ -6,15 +6,19 @@ use Rattle.pf_fault.specs.declared.fault.Fault.{Fault}
 use Rattle.pf_fault.specs.declared.fault.Fault.TheVariants as why
 use Rattle.pf_cli.specs.Meaning.{Meaning, Done, BadRecord, TooLong, Outside}
 
--- the answer is the script's end and the writer took its text; a failing reader leaves the writer as it was, and after
--- a failing writer or want of memory the writer took the front of the text
+-- a fault is the script's end, and the writer took its text; a failing reader leaves the writer as it was, and after a failing
+-- writer or want of memory the writer took the front of the text
+abbrev pub AnswersFault : Meaning → Fault → Option (List ℕ) → Option (List ℕ) → Type 0
+AnswersFault m (why.BadRecord number) old new = (m.end ≡ BadRecord number) × Appends old new m.text
+AnswersFault m why.TooLong old new = (m.end ≡ TooLong) × Appends old new m.text
+AnswersFault m (why.BadRange fault) old new = (m.end ≡ Outside fault) × Appends old new m.text
+AnswersFault m why.Read old new = Keeps old new
+AnswersFault m why.Write old new = TookFront old new m.text
+AnswersFault m why.NoMemory old new = TookFront old new m.text
+AnswersFault m why.NoReader old new = ⊥
+AnswersFault m why.GateShut old new = ⊥
+
+-- whatever is answered where the script ends well
 abbrev pub Answers : {A : Type 0} → Meaning → Result A Fault → Option (List ℕ) → Option (List ℕ) → Type 0
 Answers m (Ok done) old new = (m.end ≡ Done) × Appends old new m.text
-Answers m (Err (why.BadRecord number)) old new = (m.end ≡ BadRecord number) × Appends old new m.text
-Answers m (Err why.TooLong) old new = (m.end ≡ TooLong) × Appends old new m.text
-Answers m (Err (why.BadRange fault)) old new = (m.end ≡ Outside fault) × Appends old new m.text
-Answers m (Err why.Read) old new = Keeps old new
-Answers m (Err why.Write) old new = TookFront old new m.text
-Answers m (Err why.NoMemory) old new = TookFront old new m.text
-Answers m (Err why.NoReader) old new = ⊥
-Answers m (Err why.GateShut) old new = ⊥
+Answers m (Err fault) old new = AnswersFault m fault old new

@@ -1,21 +1,33 @@
 ghost use Rattle.std.specs.Prelude.{◌≡◌, IfOk};
 ghost use Rattle.pf_desk.specs.Views.{lent_reply};
-ghost use Rattle.pf_cli.specs.Ended.{has_denials, has_misses, is_failing};
+ghost use Rattle.pf_cli.specs.Ended.{has_denials, has_misses, is_failing, run_status};
 ghost use Rattle.pf_cli.specs.Meaning.{course_at};
 ghost use Rattle.pf_report.specs.Replies.{is_refusal};
 
 use pf_desk::desk::Desk;
 use pf_desk::reply_view::ReplyView;
+use pf_fault::status::Status;
 use pf_options::fail_on::FailOn;
 use std::alloc::AllocError;
 
-/// Whether a run fails on this that ends with this desk. The missed windows are in memory only where they are asked for, and
-/// nothing else is met.
+/// The status of a run that ended with this desk. The missed windows are in memory only where they are asked for, and nothing else
+/// is met.
 ///
 /// # Errors
 ///
 /// Where memory is refused.
-pub(crate) fn is_failing(desk: &Desk, fail_on: FailOn) -> Result<bool, AllocError>
+pub(crate) fn status_of(desk: &Desk, fail_on: FailOn) -> Result<Status, AllocError>
+    ensures { IfOk result (λ status. status ≡ run_status (is_failing fail_on (course_at desk.now))) }
+{
+    if is_failing(desk, fail_on)? {
+        Ok(Status::FailedOn)
+    } else {
+        Ok(Status::Done)
+    }
+}
+
+/// Whether the run fails.
+fn is_failing(desk: &Desk, fail_on: FailOn) -> Result<bool, AllocError>
     ensures { IfOk result (λ failing. failing ≡ is_failing fail_on (course_at desk.now)) }
 {
     if fail_on.refused && has_refusal(desk) {

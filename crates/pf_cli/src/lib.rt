@@ -9,6 +9,7 @@ pub mod check;
 mod commands;
 mod failing;
 pub mod laws;
+pub mod ran;
 mod refusals;
 pub mod run;
 mod script_replies;

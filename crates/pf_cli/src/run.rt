@@ -11,17 +11,17 @@ ghost use Rattle.pf_script.specs.Told.{told};
 ghost use Rattle.pf_options.specs.FailLists.{on_nothing};
 ghost use Rattle.pf_cli.specs.Answers.{Answers};
 ghost use Rattle.pf_cli.specs.Carried.{CarriesOut};
-ghost use Rattle.pf_cli.specs.Ended.{fails_on, is_failing, run_status, script_course};
+ghost use Rattle.pf_cli.specs.Ended.{fails_on, run_status, script_course};
 ghost use Rattle.pf_cli.specs.Meaning.{course_at, report_meaning, script_meaning};
 ghost use Rattle.pf_cli.specs.Refusals.{refusals_for};
 
-use crate::failing::is_failing;
+use crate::failing::status_of;
+use crate::ran::Ran;
 use crate::refusals::refusals_for;
 use crate::script_replies::ScriptReplies;
 use pf_desk::desk::Desk;
 use pf_fault::ending::Ending;
 use pf_fault::fault::Fault;
-use pf_fault::status::Status;
 use pf_formats::report::report_pieces;
 use pf_names::titles::Titles;
 use pf_options::fail_on::FailOn;
@@ -31,14 +31,14 @@ use pf_stream::output_fault::OutputFault;
 use pf_stream::sink::Sink;
 use pf_stream::writing::write_pieces;
 use pf_text::pieces::Pieces;
-use std::alloc::{AllocError, Global};
+use std::alloc::Global;
 
 /// Carries out a script of these bytes, and writes its replies and its report in the format: what it writes, and how it
-/// ends, is what the script's bytes mean. The titles are those that the report tells of: of a script of version 1 or 2 none. Where
-/// the script belongs to one of version 3, `origins` are the records there that its own come from, and records are told by them.
-/// Plain edits that follow one another, from the first of them that touches a slot that was stepped, are replayed together,
-/// 1,024 at most. The status is `FailedOn` where the run fails on what is listed: a
-/// command that was refused, an event that is denied in the run of the scenario as it stands at the end, a window that is
+/// ends, is what the script's bytes mean. Hands over the desk that carried it out. The titles are those that the report tells
+/// of: of a script of version 1 or 2 none. Where the script belongs to one of version 3, `origins` are the records there that
+/// its own come from, and records are told by them. Plain edits that follow one another, from the first of them that touches a
+/// slot that was stepped, are replayed together, 1,024 at most. The status is `FailedOn` where the run fails on what is listed:
+/// a command that was refused, an event that is denied in the run of the scenario as it stands at the end, a window that is
 /// missed in it; else `Done`. In no format is anything else written. What the missed windows take of memory is taken only
 /// where they are asked for, and nothing else is met. The writer's count of failures must be below `u64::MAX` before the call.
 ///
@@ -56,35 +56,24 @@ pub fn run<W: Sink>(
     titles: &Titles,
     origins: Option<&[Origin]>,
     fail_on: FailOn,
-) -> Result<Ending, Fault>
+) -> Result<Ran, Fault>
     requires short { length script.now ≤ longest_script }
     requires writes { W.failed writer.old < 2 ^ 64 - 1 }
     ensures meaning { Answers (script_meaning format titles.now (option_map (λ o. o.now) origins.entry) script.now) result (W.contents writer.old) (W.contents writer.new) }
-    ensures failing { IfOk result (λ ending. option_map run_status (fails_on fail_on script.now) ≡ Some ending.status) }
-    ensures unasked { fail_on ≡ on_nothing → IfOk result (λ ending. ending.status ≡ Done) }
-    ensures quiet { IfOk result (λ ending. ending.notes.items ≡ []) }
+    ensures failing { IfOk result (λ ran. option_map run_status (fails_on fail_on script.now) ≡ Some ran.ending.status) }
+    ensures unasked { fail_on ≡ on_nothing → IfOk result (λ ran. ran.ending.status ≡ Done) }
+    ensures quiet { IfOk result (λ ran. ran.ending.notes.items ≡ []) }
+    ensures carried { IfOk result (λ ran. IsOf (told script.now) ran.desk) }
     ensures outside { IsOutside result → Keeps (W.contents writer.old) (W.contents writer.new) }
     ensures read { IsPastReading result }
     ensures writes { CountsWrites result (W.failed writer.old) (W.failed writer.new) }
 {
     match carry_out(alloc, script, writer, format, titles, origins) {
-        Ok(desk) => Ok(Ending::quiet(alloc, judge(desk, fail_on)?)),
+        Ok(desk) => {
+            let ending = Ending::quiet(alloc, status_of(&desk, fail_on)?);
+            Ok(Ran { ending, desk })
+        }
         Err(fault) => Err(fault),
-    }
-}
-
-/// The status of a run that ended with this desk, which is let go.
-///
-/// # Errors
-///
-/// Where memory is refused.
-fn judge(desk: Desk, fail_on: FailOn) -> Result<Status, AllocError>
-    ensures { IfOk result (λ status. status ≡ run_status (is_failing fail_on (course_at desk))) }
-{
-    if is_failing(&desk, fail_on)? {
-        Ok(Status::FailedOn)
-    } else {
-        Ok(Status::Done)
     }
 }
 
@@ -101,6 +90,7 @@ fn carry_out<W: Sink>(
     requires writes { W.failed writer.old < 2 ^ 64 - 1 }
     ensures meaning { Answers (script_meaning format titles.now (option_map (λ o. o.now) origins.entry) bytes.now) result (W.contents writer.old) (W.contents writer.new) }
     ensures course { IfOk result (λ desk. script_course bytes.now ≡ Some (course_at desk)) }
+    ensures carried { IfOk result (IsOf (told bytes.now)) }
     ensures read { IsPastReading result }
     ensures writes { CountsWrites result (W.failed writer.old) (W.failed writer.new) }
 {

@@ -8,7 +8,7 @@ ghost use Rattle.pf_cli.specs.Tasks.{AnswersListed, IsUnnamed, RunsTasks, tasks_
 ghost use Rattle.pf_task_words.specs.Finding.{unnamed_in};
 
 use crate::at_end::desk_at_end;
-use crate::failing::is_failing;
+use crate::failing::status_of;
 use crate::run::write_whole;
 use pf_desk::desk::Desk;
 use pf_fault::ending::Ending;
@@ -117,21 +117,6 @@ fn end_tasks<W: Sink>(
     match write_tasks(alloc, desk, writer, format, titles, tasks) {
         Ok(()) => Ok(Ending::quiet(alloc, status_of(desk, fail_on)?)),
         Err(fault) => Err(fault),
-    }
-}
-
-/// The status of a run that ended with this desk.
-///
-/// # Errors
-///
-/// Where memory is refused.
-fn status_of(desk: &Desk, fail_on: FailOn) -> Result<Status, AllocError>
-    ensures { IfOk result (λ status. status ≡ run_status (is_failing fail_on (course_at desk.now))) }
-{
-    if is_failing(desk, fail_on)? {
-        Ok(Status::FailedOn)
-    } else {
-        Ok(Status::Done)
     }
 }
 

@@ -11,6 +11,7 @@ pub use Rattle.pf_why_answer.specs.Meaning
 pub use Rattle.pf_change.specs.Change
 pub mod Compared
 pub mod Desks
+pub mod Ends
 pub mod FaultLines
 pub mod Journals
 pub mod Noted

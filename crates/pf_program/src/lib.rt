@@ -18,6 +18,7 @@ mod pair_notes;
 pub mod program;
 mod sat;
 mod script_source;
+mod task_end;
 mod tasks;
 mod two_scripts;
 mod versions;

@@ -1,17 +1,28 @@
-ghost use Rattle.std.specs.Prelude.{◌≡◌, IfOk};
+ghost use Rattle.std.specs.Prelude.{◌≡◌, ◌&&◌, [], IfOk, option_map};
+ghost use Rattle.pf_carry.specs.Carried.{IsOf};
 ghost use Rattle.pf_fault_notes.specs.FileFaults.{file_fault_of};
-ghost use Rattle.pf_program.specs.Noted.{AreNotesOf, IsUnreadNote};
+ghost use Rattle.pf_plain.specs.Plain.{plain};
+ghost use Rattle.pf_program.specs.Ends.{AreRunNotes, IsTextBy, LeavesDesk, outcome_of};
+ghost use Rattle.pf_program.specs.Noted.{AreNotesOf, IsUnreadNote, OneOf, noting_behind, notes_in};
 ghost use Rattle.pf_program.specs.Source.{told_name};
+ghost use Rattle.pf_script.specs.Told.{told};
 ghost use Rattle.pf_words.specs.Asked.{name_of};
 ghost use Rattle.std.specs.declared.io.ErrorKind.{ErrorKind};
 
+use crate::noted::Noted;
 use crate::noting::Noting;
 use crate::script_source::told_name;
+use crate::task_end::TaskEnd;
+use pf_desk::desk::Desk;
+use pf_fault::ending::Ending;
 use pf_fault::fault::Fault;
 use pf_fault_notes::file_fault::{FileFault, file_fault_line};
+use pf_names::names::Names;
+use pf_plain::origin::Origin;
 use pf_script_notes::behind_fault::fault_note;
-use pf_script_notes::behind_run::script_notes;
-use std::alloc::Global;
+use pf_script_notes::behind_run::{desk_notes, script_notes};
+use pf_why_answer::ran::Ran;
+use std::alloc::{AllocError, Global};
 use std::fs::File;
 use std::io::{ErrorKind, Read};
 use std::rt::Files;
@@ -38,6 +49,72 @@ pub(crate) fn notes_behind<A>(
         Err(fault) => fault_note(alloc, file, script, noting.range, *fault),
         Ok(_) if noting.follows => script_notes(alloc, file, script),
         Ok(_) => Ok(Vec::new(alloc)),
+    }
+}
+
+/// What a task came to with the script of this file, or with its list of tasks, and the notes behind that.
+pub(crate) fn with_notes(
+    alloc: Global,
+    noting: Noting,
+    file: &[u8],
+    script: &[u8],
+    outcome: Result<Ending, Fault>,
+) -> Noted
+    ensures outcome { result.outcome ≡ outcome }
+    ensures notes { AreNotesOf (noting_behind noting outcome) file.now script.now outcome result.notes }
+{
+    let notes = notes_behind(alloc, noting.behind(&outcome), file, script, &outcome);
+    Noted { outcome, notes }
+}
+
+/// The same of a task that ended so. What a script of any version has carried out is this text, of version 1 or 2, with these origins
+/// where it is of version 3, and these names: behind a run the notes are made of the desk that it left.
+#[tactic(auto, using(crate::proofs::RunNotes::run_noted))]
+pub(crate) fn end_with_notes(
+    alloc: Global,
+    noting: Noting,
+    file: &[u8],
+    script: &[u8],
+    text: &[u8],
+    origins: Option<&[Origin]>,
+    names: &Names,
+    end: TaskEnd,
+) -> Noted
+    requires carried { IsTextBy (plain script.now) script.now text.now (option_map (λ o. o.now) origins) names.now }
+    requires desk { LeavesDesk text.now end }
+    ensures outcome { result.outcome ≡ outcome_of end }
+    ensures notes { AreNotesOf (noting_behind noting (outcome_of end)) file.now script.now (outcome_of end) result.notes }
+{
+    match end {
+        TaskEnd::Ran(Ran { ending, desk }) => {
+            let outcome = Ok(ending);
+            let noting = noting.behind(&outcome);
+            let notes = run_notes(alloc, noting, file, text, origins, names, &desk);
+            Noted { outcome, notes }
+        }
+        TaskEnd::Other(outcome) => with_notes(alloc, noting, file, script, outcome),
+    }
+}
+
+/// The notes behind a run of this text, by the desk that carried it out, where they are asked for and follow.
+fn run_notes(
+    alloc: Global,
+    noting: Noting,
+    file: &[u8],
+    text: &[u8],
+    origins: Option<&[Origin]>,
+    names: &Names,
+    desk: &Desk,
+) -> Result<Vec<u8>, Fault>
+    requires { IsOf (told text.now) desk.now }
+    ensures { OneOf (noting.asked && noting.follows) (AreRunNotes file.now (option_map (λ o. o.now) origins.entry) names.now text.now result) (notes_in result ≡ []) }
+{
+    if !noting.asked || !noting.follows {
+        return Ok(Vec::new(alloc));
+    }
+    match desk_notes(alloc, file, text, origins, names, desk) {
+        Ok(text) => Ok(text),
+        Err(AllocError) => Err(Fault::NoMemory),
     }
 }
 

@@ -1,22 +1,18 @@
-ghost use Rattle.std.specs.Prelude.{false, true, not, None, ◌&&◌, ◌≡◌, ◌≢◌, ◌^◌, ◌-◌, ◌<◌, ◌≤◌, ◌+◌, [], length, map, IfOk, IfSome, IsSome};
+ghost use Rattle.std.specs.Prelude.{false, true, not, None, ◌&&◌, ◌≡◌, ◌≢◌, ◌^◌, ◌-◌, ◌<◌, ◌≤◌, ◌+◌, [], map, IfOk, IfSome, IsSome};
 ghost use Rattle.std.specs.IoError.{error_kind};
 ghost use Rattle.std.specs.Io.KnownBytes.{Keeps};
-ghost use Rattle.pf_fault.specs.Faults.{CountsWrites};
-ghost use Rattle.pf_stream.specs.Reading.{longest_script};
 ghost use Rattle.pf_held.specs.Streams.{streams_of};
 ghost use Rattle.pf_program.specs.Journals.{HoldsWith};
 ghost use Rattle.pf_words.specs.Asked.{IsSound, desk_asked, name_of, reads_input, task_asked, telling_asked};
-ghost use Rattle.pf_program.specs.Noted.{AreNotesOf, notes_in, noting_behind, noting_of};
+ghost use Rattle.pf_program.specs.Noted.{notes_in};
 ghost use Rattle.pf_program.specs.Tasks.{IsOfScript, IsQuietIfDone};
 ghost use Rattle.pf_program.specs.Status.{AnswersWords, IsDone, IsPrompted, IsWritten, Tells, seen_streams, status_of_words, told_of};
-ghost use Rattle.pf_program.specs.Versions.{AnswersBytes};
 
 use crate::desk::hold_desk;
 use crate::ending::{end, end_unwritten, tell, tell_fault, tell_text};
 use crate::gone::{gone_diff, gone_of};
 use crate::noted::Noted;
-use crate::notes::{notes_behind, unread_note};
-use crate::noting::Noting;
+use crate::notes::unread_note;
 use crate::script_source::{read_source, told_name};
 use crate::two_scripts::compare_scripts;
 use crate::versions::do_script;
@@ -130,36 +126,12 @@ fn do_asked<H: AllocGlobal + Files + Threads + Wait + Sync, R: Source, W: Sink>(
     ensures unasked { notes ≡ false → notes_in result.notes ≡ [] }
 {
     match read_source(rt, file, reader) {
-        Ok(script) => do_noted(rt, task, told_name(file), notes, &script, writer),
+        Ok(script) => do_script(rt, task, told_name(file), notes, &script, writer),
         Err(fault) => Noted {
             outcome: Err(fault),
             notes: unread_note(rt, notes, file, fault),
         },
     }
-}
-
-/// Does a task with a script of these bytes in the file of this name, and has its notes.
-fn do_noted<H: AllocGlobal + Threads + Wait + Sync, W: Sink>(
-    rt: &H,
-    task: Task,
-    file: &[u8],
-    notes: bool,
-    script: &[u8],
-    writer: &mut W,
-) -> Noted
-    requires short { length script.now ≤ longest_script }
-    requires sound { IsSound task }
-    requires writes { W.failed writer.old < 2 ^ 64 - 1 }
-    ensures answers { AnswersBytes task file.now script.now result.outcome (W.contents writer.old) (W.contents writer.new) }
-    ensures notes { AreNotesOf (noting_behind (noting_of notes task) result.outcome) file.now script.now result.outcome result.notes }
-    ensures quiet { IsOfScript task → IfOk result.outcome IsQuietIfDone }
-    ensures writes { CountsWrites result.outcome (W.failed writer.old) (W.failed writer.new) }
-{
-    let noting = Noting::of(notes, &task);
-    let outcome = do_script(rt, task, file, script, writer);
-    let noting = noting.behind(&outcome);
-    let notes = notes_behind(rt.alloc(), noting, file, script, &outcome);
-    Noted { outcome, notes }
 }
 
 /// Tells a terminal how a script ends that is read from it, where the words have one read and name none, and do not ask for quiet.

@@ -2,11 +2,12 @@ ghost use Rattle.std.specs.Prelude.{◌≡◌, ◌-◌, ◌^◌, ◌<◌, ◌≤
 ghost use Rattle.pf_fault.specs.Faults.{CountsWrites, IsUnwritten};
 ghost use Rattle.pf_stream.specs.Reading.{longest_script};
 ghost use Rattle.pf_convert_words.specs.Reading.{IsConversion};
-ghost use Rattle.pf_words.specs.Asked.{IsSound};
-ghost use Rattle.pf_program.specs.Tasks.{AnswersTask, ListConverted, IsOfScript, IsQuietIfDone};
+ghost use Rattle.pf_program.specs.Ends.{LeavesDesk, outcome_of};
+ghost use Rattle.pf_program.specs.Tasks.{AnswersTask, IsOfScript, IsQuietIfDone, ListConverted, RunsScript};
 
 use crate::answering::write_answer;
 use crate::open_gate::OpenGate;
+use crate::task_end::TaskEnd;
 use pf_change::diff::diff;
 use pf_check_run::check_run::check_run;
 use pf_check_run::fit::fit;
@@ -14,9 +15,10 @@ use pf_conversion::convert::convert;
 use pf_convert_words::conversion::Conversion;
 use pf_drill::drill::drill;
 use pf_fault::answer::Answer;
-use pf_fault::ending::Ending;
 use pf_fault::fault::Fault;
 use pf_names::titles::Titles;
+use pf_options::fail_on::FailOn;
+use pf_options::format::Format;
 use pf_plain::origin::Origin;
 use pf_stream::sink::Sink;
 use pf_why_answer::check::check;
@@ -28,13 +30,10 @@ use std::alloc::Global;
 use std::sync::Wait;
 use std::thread::Threads;
 
-/// Does a task with a script of these bytes, which has these titles, or with a list of tasks, in the file of this name, and writes
-/// what it answers. Where the script belongs to one of version 3, `origins` are the records there that its own come from. Threads
-/// are started for a drill alone, and the call waits for them. The writer's count of failures must be below `u64::MAX` before the call.
-///
-/// # Errors
-///
-/// Those of the task, and `Write` where the writer fails or takes nothing.
+/// Does a task with a script of these bytes, which has these titles, in the file of this name, and writes what it answers. Where the
+/// script belongs to one of version 3, `origins` are the records there that its own come from. Threads are started for a drill alone,
+/// and the call waits for them. Where it was not done, its fault is the outcome: `Write` where the writer fails or takes nothing. The
+/// writer's count of failures must be below `u64::MAX` before the call.
 pub(crate) fn do_task<H: AllocGlobal + Threads + Wait + Sync, W: Sink>(
     rt: &H,
     task: Task,
@@ -43,37 +42,66 @@ pub(crate) fn do_task<H: AllocGlobal + Threads + Wait + Sync, W: Sink>(
     titles: &Titles,
     origins: Option<&[Origin]>,
     writer: &mut W,
-) -> Result<Ending, Fault>
+) -> TaskEnd
     requires short { length script.now ≤ longest_script }
-    requires sound { IsSound task }
+    requires script { IsOfScript task }
     requires writes { W.failed writer.old < 2 ^ 64 - 1 }
-    ensures answers { AnswersTask titles.now (option_map (λ o. o.now) origins.entry) task file.now script.now result (W.contents writer.old) (W.contents writer.new) }
-    ensures quiet { IsOfScript task → IfOk result IsQuietIfDone }
-    ensures writes { CountsWrites result (W.failed writer.old) (W.failed writer.new) }
+    ensures answers { AnswersTask titles.now (option_map (λ o. o.now) origins.entry) task file.now script.now (outcome_of result) (W.contents writer.old) (W.contents writer.new) }
+    ensures desk { LeavesDesk script.now result }
+    ensures quiet { IfOk (outcome_of result) IsQuietIfDone }
+    ensures writes { CountsWrites (outcome_of result) (W.failed writer.old) (W.failed writer.new) }
 {
     let alloc = rt.alloc();
     match task {
         Task::Run(format, fail_on) => {
-            run(alloc, script, writer, format, titles, origins, fail_on)
+            run_script(alloc, script, writer, format, titles, origins, fail_on)
         }
-        Task::RunTasks(format, words, fail_on) => {
-            run_tasks(alloc, script, writer, format, titles, &words, fail_on)
+        Task::RunTasks(format, words, fail_on) => TaskEnd::Other(run_tasks(
+            alloc, script, writer, format, titles, &words, fail_on,
+        )),
+        Task::Check => TaskEnd::Other(check(alloc, script, writer)),
+        Task::CheckRun => TaskEnd::Other(write_answer(check_run(alloc, file, script), writer)),
+        Task::Diff(since, options) => {
+            TaskEnd::Other(write_answer(diff(alloc, script, since, options), writer))
         }
-        Task::Check => check(alloc, script, writer),
-        Task::CheckRun => write_answer(check_run(alloc, file, script), writer),
-        Task::Diff(since, options) => write_answer(diff(alloc, script, since, options), writer),
-        Task::Drill => write_answer(drill(rt, alloc, script, &OpenGate), writer),
-        Task::Convert(asked) => write_answer(convert_list(alloc, script, &asked), writer),
-        Task::Fit(format) => write_answer(
+        Task::Drill => TaskEnd::Other(write_answer(drill(rt, alloc, script, &OpenGate), writer)),
+        Task::Convert(_) => unreachable!(),
+        Task::Fit(format) => TaskEnd::Other(write_answer(
             fit(alloc, format, file, script, origins, titles),
             writer,
-        ),
-        Task::Why(question) => write_answer(why(alloc, script, &titles.names, &question), writer),
+        )),
+        Task::Why(question) => TaskEnd::Other(write_answer(
+            why(alloc, script, &titles.names, &question),
+            writer,
+        )),
+    }
+}
+
+/// Runs a script, and keeps the desk that carried it out.
+fn run_script<W: Sink>(
+    alloc: Global,
+    script: &[u8],
+    writer: &mut W,
+    format: Format,
+    titles: &Titles,
+    origins: Option<&[Origin]>,
+    fail_on: FailOn,
+) -> TaskEnd
+    requires short { length script.now ≤ longest_script }
+    requires writes { W.failed writer.old < 2 ^ 64 - 1 }
+    ensures runs { RunsScript format titles.now (option_map (λ o. o.now) origins.entry) fail_on script.now (outcome_of result) (W.contents writer.old) (W.contents writer.new) }
+    ensures desk { LeavesDesk script.now result }
+    ensures quiet { IfOk (outcome_of result) IsQuietIfDone }
+    ensures writes { CountsWrites (outcome_of result) (W.failed writer.old) (W.failed writer.new) }
+{
+    match run(alloc, script, writer, format, titles, origins, fail_on) {
+        Ok(ran) => TaskEnd::Ran(ran),
+        Err(fault) => TaskEnd::Other(Err(fault)),
     }
 }
 
 /// The answer to a list of tasks that is converted.
-fn convert_list(alloc: Global, list: &[u8], asked: &Conversion) -> Result<Answer, Fault>
+pub(crate) fn convert_list(alloc: Global, list: &[u8], asked: &Conversion) -> Result<Answer, Fault>
     requires { IsConversion asked.now }
     ensures made { ListConverted asked.now list.now result }
     ensures unwritten { IfErr result IsUnwritten }

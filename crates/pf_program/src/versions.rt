@@ -1,18 +1,23 @@
-ghost use Rattle.std.specs.Prelude.{◌≡◌, ◌-◌, ◌^◌, ◌<◌, ◌≤◌, [], length, IfOk, IfErr};
+ghost use Rattle.std.specs.Prelude.{◌≡◌, ◌-◌, ◌^◌, ◌<◌, ◌≤◌, ℕ, List, [], length, IfOk, IfErr};
 ghost use Rattle.pf_fault.specs.Faults.{CountsWrites, IsUnwritten};
 ghost use Rattle.pf_stream.specs.Reading.{longest_script};
 ghost use Rattle.pf_check_run.specs.Answers.{Belongs};
 ghost use Rattle.pf_plain.specs.Plain.{IsPlain, Plain};
 ghost use Rattle.pf_words.specs.Asked.{IsSound};
+ghost use Rattle.pf_program.specs.Ends.{LeavesDesk, outcome_of};
+ghost use Rattle.pf_program.specs.Noted.{AreNotesOf, noting_behind, noting_of};
 ghost use Rattle.pf_program.specs.Tasks.{IsOfScript, IsQuietIfDone};
 ghost use Rattle.pf_program.specs.Versions.{AnswersBytes, AnswersRecords, AnswersShort, AnswersThird, IsChecked, count_below, number_from, numbered, numbered_fault, since_in, task_in};
 
 use crate::answering::write_answer;
-use crate::tasks::do_task;
+use crate::noted::Noted;
+use crate::notes::{end_with_notes, with_notes};
+use crate::noting::Noting;
+use crate::task_end::TaskEnd;
+use crate::tasks::{convert_list, do_task};
 use pf_check_run::check_run::third_check_run;
 use pf_check3::check::third_check;
 use pf_fault::answer::Answer;
-use pf_fault::ending::Ending;
 use pf_fault::fault::Fault;
 use pf_names::titles::Titles;
 use pf_plain::origin::Origin;
@@ -25,66 +30,85 @@ use std::sync::Wait;
 use std::thread::Threads;
 
 /// Does a task with a script of these bytes, of any version: with one of version 3 by the script of version 2 that belongs to
-/// it; or with a list of tasks of these bytes, however it begins. The writer's count of failures must be below `u64::MAX` before the call.
-///
-/// # Errors
-///
-/// Those of the task, and `Write` where the writer fails or takes nothing.
+/// it; or with a list of tasks of these bytes, however it begins. Has its notes, where they are asked for. The outcome is a fault of
+/// the task; `Write` where the writer fails or takes nothing. The writer's count of failures must be below `u64::MAX` before the call.
 pub(crate) fn do_script<H: AllocGlobal + Threads + Wait + Sync, W: Sink>(
     rt: &H,
     task: Task,
     file: &[u8],
+    asked: bool,
     script: &[u8],
     writer: &mut W,
-) -> Result<Ending, Fault>
+) -> Noted
     requires short { length script.now ≤ longest_script }
     requires sound { IsSound task }
     requires writes { W.failed writer.old < 2 ^ 64 - 1 }
-    ensures answers { AnswersBytes task file.now script.now result (W.contents writer.old) (W.contents writer.new) }
-    ensures quiet { IsOfScript task → IfOk result IsQuietIfDone }
-    ensures writes { CountsWrites result (W.failed writer.old) (W.failed writer.new) }
+    ensures answers { AnswersBytes task file.now script.now result.outcome (W.contents writer.old) (W.contents writer.new) }
+    ensures notes { AreNotesOf (noting_behind (noting_of asked task) result.outcome) file.now script.now result.outcome result.notes }
+    ensures quiet { IsOfScript task → IfOk result.outcome IsQuietIfDone }
+    ensures writes { CountsWrites result.outcome (W.failed writer.old) (W.failed writer.new) }
 {
+    let noting = Noting::of(asked, &task);
     match task {
-        Task::Convert(_) => do_task(
-            rt,
-            task,
-            file,
-            script,
-            &Titles::none(rt.alloc()),
-            None,
-            writer,
-        ),
-        _ => do_version(rt, task, file, script, writer),
+        Task::Convert(conversion) => {
+            let made = convert_list(rt.alloc(), script, &conversion);
+            let outcome = write_answer(made, writer);
+            with_notes(rt.alloc(), noting, file, script, outcome)
+        }
+        _ => do_version(rt, task, noting, file, script, writer),
     }
 }
 
 /// The same with a script alone.
+#[tactic(auto, using(crate::proofs::RunNotes::third_text, crate::proofs::RunNotes::own_text))]
 fn do_version<H: AllocGlobal + Threads + Wait + Sync, W: Sink>(
     rt: &H,
     task: Task,
+    noting: Noting,
     file: &[u8],
     script: &[u8],
     writer: &mut W,
-) -> Result<Ending, Fault>
+) -> Noted
     requires short { length script.now ≤ longest_script }
     requires script { IsOfScript task }
     requires writes { W.failed writer.old < 2 ^ 64 - 1 }
-    ensures answers { AnswersBytes task file.now script.now result (W.contents writer.old) (W.contents writer.new) }
-    ensures quiet { IfOk result IsQuietIfDone }
-    ensures writes { CountsWrites result (W.failed writer.old) (W.failed writer.new) }
+    ensures answers { AnswersBytes task file.now script.now result.outcome (W.contents writer.old) (W.contents writer.new) }
+    ensures notes { AreNotesOf (noting_behind noting result.outcome) file.now script.now result.outcome result.notes }
+    ensures quiet { IfOk result.outcome IsQuietIfDone }
+    ensures writes { CountsWrites result.outcome (W.failed writer.old) (W.failed writer.new) }
 {
-    match plain_script(rt.alloc(), script) {
-        Ok(Some(plain)) => do_third(rt, task, file, script, &plain, writer),
-        Ok(None) => do_task(
-            rt,
-            task,
-            file,
-            script,
-            &Titles::none(rt.alloc()),
-            None,
-            writer,
-        ),
-        Err(_) => Err(Fault::NoMemory),
+    let alloc = rt.alloc();
+    match plain_script(alloc, script) {
+        Ok(Some(plain)) => {
+            let end = do_third(rt, task, file, script, &plain, writer);
+            let origins = plain.origins.as_slice();
+            let names = &plain.titles.names;
+            end_with_notes(
+                alloc,
+                noting,
+                file,
+                script,
+                &plain.text,
+                Some(origins),
+                names,
+                end,
+            )
+        }
+        Ok(None) => {
+            let titles = Titles::none(alloc);
+            let end = do_task(rt, task, file, script, &titles, None, writer);
+            end_with_notes(
+                alloc,
+                noting,
+                file,
+                script,
+                script,
+                None,
+                &titles.names,
+                end,
+            )
+        }
+        Err(_) => with_notes(alloc, noting, file, script, Err(Fault::NoMemory)),
     }
 }
 
@@ -96,18 +120,22 @@ fn do_third<H: AllocGlobal + Threads + Wait + Sync, W: Sink>(
     script: &[u8],
     plain: &PlainScript,
     writer: &mut W,
-) -> Result<Ending, Fault>
+) -> TaskEnd
     requires short { length script.now ≤ longest_script }
     requires script { IsOfScript task }
     requires writes { W.failed writer.old < 2 ^ 64 - 1 }
     ensures answers { (p : Plain) → Belongs script.now plain.now p →
-        AnswersThird p task file.now script.now result (W.contents writer.old) (W.contents writer.new) }
-    ensures quiet { IfOk result IsQuietIfDone }
-    ensures writes { CountsWrites result (W.failed writer.old) (W.failed writer.new) }
+        AnswersThird p task file.now script.now (outcome_of result) (W.contents writer.old) (W.contents writer.new) }
+    ensures desk { LeavesDesk plain.now.text.items result }
+    ensures quiet { IfOk (outcome_of result) IsQuietIfDone }
+    ensures writes { CountsWrites (outcome_of result) (W.failed writer.old) (W.failed writer.new) }
 {
     match task {
-        Task::Check => write_answer(check_script(rt.alloc(), script), writer),
-        Task::CheckRun => write_answer(third_check_run(rt.alloc(), file, script, plain), writer),
+        Task::Check => TaskEnd::Other(write_answer(check_script(rt.alloc(), script), writer)),
+        Task::CheckRun => TaskEnd::Other(write_answer(
+            third_check_run(rt.alloc(), file, script, plain),
+            writer,
+        )),
         _ => do_plain(rt, task, file, plain, writer),
     }
 }
@@ -119,18 +147,19 @@ fn do_plain<H: AllocGlobal + Threads + Wait + Sync, W: Sink>(
     file: &[u8],
     plain: &PlainScript,
     writer: &mut W,
-) -> Result<Ending, Fault>
+) -> TaskEnd
     requires script { IsOfScript task }
     requires writes { W.failed writer.old < 2 ^ 64 - 1 }
-    ensures answers { (p : Plain) → IsPlain plain.now p → AnswersShort p task file.now result (W.contents writer.old) (W.contents writer.new) }
-    ensures quiet { IfOk result IsQuietIfDone }
-    ensures writes { CountsWrites result (W.failed writer.old) (W.failed writer.new) }
+    ensures answers { (p : Plain) → IsPlain plain.now p → AnswersShort p task file.now (outcome_of result) (W.contents writer.old) (W.contents writer.new) }
+    ensures desk { LeavesDesk plain.now.text.items result }
+    ensures quiet { IfOk (outcome_of result) IsQuietIfDone }
+    ensures writes { CountsWrites (outcome_of result) (W.failed writer.old) (W.failed writer.new) }
 {
     if plain.text.len() > LONGEST_SCRIPT {
-        return Err(Fault::TooLong);
+        return TaskEnd::Other(Err(Fault::TooLong));
     }
-    let answer = do_records(rt, task, file, plain, writer);
-    numbered(&plain.origins, answer)
+    let end = do_records(rt, task, file, plain, writer);
+    numbered(&plain.origins, end)
 }
 
 /// The same, with bad records by the numbers that they have in this script.
@@ -140,13 +169,14 @@ fn do_records<H: AllocGlobal + Threads + Wait + Sync, W: Sink>(
     file: &[u8],
     plain: &PlainScript,
     writer: &mut W,
-) -> Result<Ending, Fault>
+) -> TaskEnd
     requires short { length plain.now.text.items ≤ longest_script }
     requires script { IsOfScript task }
     requires writes { W.failed writer.old < 2 ^ 64 - 1 }
-    ensures answers { (p : Plain) → IsPlain plain.now p → AnswersRecords p task file.now result (W.contents writer.old) (W.contents writer.new) }
-    ensures quiet { IfOk result IsQuietIfDone }
-    ensures writes { CountsWrites result (W.failed writer.old) (W.failed writer.new) }
+    ensures answers { (p : Plain) → IsPlain plain.now p → AnswersRecords p task file.now (outcome_of result) (W.contents writer.old) (W.contents writer.new) }
+    ensures desk { LeavesDesk plain.now.text.items result }
+    ensures quiet { IfOk (outcome_of result) IsQuietIfDone }
+    ensures writes { CountsWrites (outcome_of result) (W.failed writer.old) (W.failed writer.new) }
 {
     let told = task_in(task, plain);
     let origins = plain.origins.as_slice();
@@ -211,13 +241,15 @@ fn count_below(origins: &[Origin], number: u64) -> u64
     count
 }
 
-/// The same answer, with the number of the record that a bad one comes from.
-fn numbered(origins: &[Origin], answer: Result<Ending, Fault>) -> Result<Ending, Fault>
-    ensures value { result ≡ numbered origins.now answer }
+/// The same end, with the number of the record that a bad one comes from.
+fn numbered(origins: &[Origin], end: TaskEnd) -> TaskEnd
+    ensures outcome { outcome_of result ≡ numbered origins.now (outcome_of end) }
+    ensures desk { (script : List ℕ) → LeavesDesk script end → LeavesDesk script result }
 {
-    match answer {
-        Ok(ending) => Ok(ending),
-        Err(fault) => Err(numbered_fault(origins, fault)),
+    match end {
+        TaskEnd::Ran(ran) => TaskEnd::Ran(ran),
+        TaskEnd::Other(Ok(ending)) => TaskEnd::Other(Ok(ending)),
+        TaskEnd::Other(Err(fault)) => TaskEnd::Other(Err(numbered_fault(origins, fault))),
     }
 }
 

@@ -66,8 +66,13 @@ fn run_notes(
     }
 }
 
-/// The same of the desk on which the script was carried out.
-fn desk_notes(
+/// The notes behind a run of the script of this file, of version 1 or 2, by the desk that carried it out. Where it belongs to a
+/// script of version 3, `origins` are the records there that its own come from, and the names those of its tasks.
+///
+/// # Errors
+///
+/// Where memory is refused.
+pub fn desk_notes(
     alloc: Global,
     file: &[u8],
     script: &[u8],

@@ -57,9 +57,9 @@ fn report(
     let mut text = CountedWriter::new(Vec::new(alloc));
     let fail_on = FailOn::nothing();
     match run(alloc, script, &mut text, format, titles, origins, fail_on) {
-        Ok(ending) => Ok(Answer {
+        Ok(ran) => Ok(Answer {
             text: text.into_inner(),
-            ending,
+            ending: ran.ending,
         }),
         // A vector takes no more only where memory is refused.
         Err(Fault::Write) => Err(Fault::NoMemory),

@@ -5,4 +5,4 @@
 pub mod why;
 
 // For what shows a slot beside a whole run.
-pub use pf_cli::{at_end, check, run, task_run};
+pub use pf_cli::{at_end, check, ran, run, task_run};

@@ -2,6 +2,8 @@ use Rattle.std.specs.Prelude.{option_map}
 use Rattle.std.proofs.Common.{◌≡◌, Some, ap, subst, sym, ◌∙◌}
 use Rattle.std.proofs.lemmas.Result.{IfOk-weaker}
 use Rattle.pf_fault.specs.Faults.{CountsWrites}
+use Rattle.pf_recount.specs.Carried.{IsOf}
+use Rattle.pf_script.specs.Told.{told}
 use Rattle.pf_cli.specs.Ended.{script_course}
 use Rattle.pf_cli.specs.Meaning.{course_at}
 use Rattle.pf_cli.specs.Refusals.{refusals_for}
@@ -17,6 +19,11 @@ returns-in-Ok-clause-course g c =
     let there = course_there c.args.format c.args.titles.now (option_map (λ o. o.now) c.args.origins) c.args.bytes.now c.requires.short c.in-Ok.desk _ _ (c.in-Ok.ensures.replies c.args.titles.now (refusals_for c.args.format (option_map (λ o. o.now) c.args.origins) c.args.bytes.now)) in
     IfOk-weaker c.end.result (λ d. d ≡ c.in-Ok.desk) (λ d. script_course c.args.bytes.now ≡ Some (course_at d))
     (λ d same. there ∙ sym (ap (λ x. Some (course_at x)) same)) c.end.ensures.desk
+
+pub returns-in-Ok-clause-carried : goal.returns-in-Ok-clause-carried
+returns-in-Ok-clause-carried g c =
+    IfOk-weaker c.end.result (λ d. d ≡ c.in-Ok.desk) (IsOf (told c.args.bytes.now))
+    (λ d same. subst (IsOf (told c.args.bytes.now)) (sym same) c.in-Ok.ensures.carried) c.end.ensures.desk
 
 pub returns-in-Ok-clause-writes : goal.returns-in-Ok-clause-writes
 returns-in-Ok-clause-writes g c = subst (λ n. CountsWrites c.end.result n (g.W.Sink.failed c.end.new.writer)) c.in-Ok.ensures.writes c.end.ensures.writes
