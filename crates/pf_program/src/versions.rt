@@ -49,14 +49,12 @@ pub(crate) fn do_script<H: AllocGlobal + Threads + Wait + Sync, W: Sink>(
     ensures writes { CountsWrites result.outcome (W.failed writer.old) (W.failed writer.new) }
 {
     let noting = Noting::of(asked, &task);
-    match task {
-        Task::Convert(conversion) => {
-            let made = convert_list(rt.alloc(), script, &conversion);
-            let outcome = write_answer(made, writer);
-            with_notes(rt.alloc(), noting, file, script, outcome)
-        }
-        _ => do_version(rt, task, noting, file, script, writer),
+    if let Task::Convert(conversion) = &task {
+        let made = convert_list(rt.alloc(), script, conversion);
+        let outcome = write_answer(made, writer);
+        return with_notes(rt.alloc(), noting, file, script, outcome);
     }
+    do_version(rt, task, noting, file, script, writer)
 }
 
 /// The same with a script alone.
