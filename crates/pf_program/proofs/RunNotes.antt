@@ -1,18 +1,25 @@
--- The notes of a run, by the desk that it left.
-use Rattle.std.proofs.Common.{◌≡◌, ℕ, Bool, true, false, List, [], Option, None, Some, Result, Ok, Err, refl, sym, subst, ap}
+-- What a script is answered by the text that is carried out, and the notes of a run by the desk that it left.
+use Rattle.std.proofs.Common.{◌≡◌, ◌⊎◌, ℕ, Bool, true, false, List, [], Option, None, Some, Result, Ok, Err, refl, sym, subst, ap, inl}
 use Rattle.std.specs.Prelude.{◌&&◌, Vec}
 use Rattle.std.specs.declared.alloc.Global.{Global}
+use Rattle.std.specs.Io.KnownBytes.{Keeps}
+use Rattle.pf_fault.specs.declared.ending.Ending.{Ending}
 use Rattle.pf_fault.specs.declared.fault.Fault.{Fault}
+use Rattle.pf_fault.specs.declared.fault.Fault.TheVariants as why
+use Rattle.pf_names.specs.Titled.{untitled}
 use Rattle.pf_names.specs.declared.named.Named.{Named}
 use Rattle.pf_names.specs.declared.titles.Titles.{Titles}
-use Rattle.pf_plain.specs.Plain.{MakesPlain, Plain}
+use Rattle.pf_plain.specs.Plain.{MakesPlain, Plain, plain}
 use Rattle.pf_plain.specs.declared.origin.Origin.{Origin}
 use Rattle.pf_plain.specs.declared.plain.PlainScript.{PlainScript}
 use Rattle.pf_script.specs.Told.{told}
 use Rattle.pf_script_notes.specs.Behind.{NotesBy, RunNotes, names_in, origins_in, text_in}
 use Rattle.pf_carry.specs.Carried.{Stops}
+use Rattle.pf_words.specs.declared.task.Task.{Task}
 use Rattle.pf_program.specs.Ends.{AreRunNotes, IsTextBy}
 use Rattle.pf_program.specs.Noted.{OneOf, notes_in}
+use Rattle.pf_program.specs.Tasks.{AnswersTask}
+use Rattle.pf_program.specs.Versions.{AnswersBytes, AnswersOf}
 
 -- Use: of a script of version 3 the one that belongs to it is carried out, ..
 pub third_text : (q : Option Plain) (s : PlainScript) (script : List ℕ) → MakesPlain (Some s) q
@@ -28,6 +35,18 @@ third_text (Some p) s script made = record {
 pub own_text : (q : Option Plain) (script : List ℕ) → MakesPlain None q → IsTextBy q script script None []
 own_text None script made = record { text_is = refl; origins_are = refl; names_are = refl }
 own_text (Some p) script made = absurd made
+
+-- Use: its answer is that of the script.
+pub own_answered : (task : Task) (file script : List ℕ) (titles : Titles) (outcome answer : Result Ending Fault) (old new : Option (List ℕ))
+    → MakesPlain None (plain script) → titles ≡ untitled → AnswersTask titles None task file script outcome old new → answer ≡ outcome
+    → AnswersBytes task file script answer old new
+own_answered task file script titles outcome answer old new made none answers same = by (plain script) made
+  where
+    by : (q : Option Plain) → MakesPlain None q → AnswersOf q task file script answer old new ⊎ ((answer ≡ Err why.NoMemory) × Keeps old new)
+    by None made =
+        inl (subst (λ (a : Result Ending Fault). AnswersTask untitled None task file script a old new) (sym same)
+        (subst (λ (t : Titles). AnswersTask t None task file script outcome old new) none answers))
+    by (Some p) made = absurd made
 
 -- the notes of its text are those of the script
 notes_by : (q : Option Plain) (file script text : List ℕ) (origins : Option (List Origin)) (names : List Named) (made : Result (Vec ℕ Global) Fault)
