@@ -1,14 +1,12 @@
 -- What the gate said to the workers.
 use Rattle.std.proofs.Common.{◌≡◌, ℕ, zero, suc, ◌<◌, Bool, true, false, Option, None, Some, List, [], ◌∷◌, ◌++◌, length, refl, ap, sym, subst, ◌∙◌, arith, inl, inr}
-use Rattle.std.specs.Prelude.{All, IfSome, Result, Ok, Err, IfErr, option_to_list, slice_index_or, not, ◌||◌, ◌⊎◌}
+use Rattle.std.specs.Prelude.{All, IfSome, slice_index_or, not, ◌||◌, ◌⊎◌}
 use Rattle.std.specs.List.{list_any}
 use Rattle.pf_board.specs.declared.quantum.Quantum.{Quantum}
-use Rattle.pf_fault.specs.declared.fault.Fault.{Fault}
-use Rattle.pf_fault.specs.declared.fault.Fault.TheVariants as why
 use Rattle.pf_drill.specs.declared.worker.Worker.{Worker}
-use Rattle.pf_drill.specs.Drilled.{IsHalt}
-use Rattle.pf_drill.specs.Gates.{Arrived, Arrives, SomeArrived}
-use Rattle.pf_drill.specs.Rounds.{Grabs, got_by}
+use Rattle.pf_drill.specs.declared.shift.Shift.{Shift}
+use Rattle.pf_drill.specs.Gates.{Arrived, Arrives, HasTaken, IsToldOf, SomeArrived}
+use Rattle.pf_drill.specs.Rounds.{Grabs}
 use Rattle.pf_board.specs.Passes.{Passing}
 use Rattle.pf_board.specs.Quanta.{times}
 use Rattle.pf_board.proofs.Weights.{times_own}
@@ -23,15 +21,6 @@ all_append P (x ∷ xs) ys of_xs of_ys zero d lt = of_xs zero d (omega arith)
 all_append P (x ∷ xs) ys of_xs of_ys (suc k) d lt =
     all_append P xs ys (λ n e less. of_xs (suc n) e (omega arith)) of_ys k d (omega arith)
 
-of_option : {X : Type 0} (P : X → Type 0) (o : Option X) → IfSome o P → (k : ℕ) (d : X) → k < length (option_to_list o) → P (slice_index_or (option_to_list o) k d)
-of_option P None h k d lt = absurd (omega arith)
-of_option P (Some x) h zero d lt = h
-of_option P (Some x) h (suc k) d lt = absurd (omega arith)
-
-neither : (a b : Bool) → (a || b) ≡ false → (a ≡ false) × (b ≡ false)
-neither true b e = absurd cc
-neither false b e = (refl, e)
-
 of_not : (a b : Bool) → not a ≡ b → a ≡ not b
 of_not true b e = ap not e
 of_not false b e = ap not e
@@ -40,41 +29,41 @@ either : (a b : Bool) → (a || b) ≡ true → (a ≡ true) ⊎ (b ≡ true)
 either true b e = inl refl
 either false b e = inr e
 
--- Use: where the gate was shut to nobody, each worker was let in with what it took.
-pub got_in : (lets_in shuts_out : Worker → Quantum → Type 0) (ws : List Worker)
-    → ((k : ℕ) (d : Worker) → k < length ws → Arrives lets_in shuts_out (slice_index_or ws k d)) → list_any (λ w. w.is_shut) ws ≡ false
-    → (k : ℕ) (d : Quantum) → k < length (got_by ws) → Arrived lets_in (slice_index_or (got_by ws) k d)
-got_in lets_in shuts_out [] arrives none k d lt = absurd (omega arith)
-got_in lets_in shuts_out (w ∷ ws) arrives none k d lt =
-    let clear = neither w.is_shut (list_any (λ x. x.is_shut) ws) none in
-    all_append (Arrived lets_in) (option_to_list w.got) (got_by ws)
-    (of_option (Arrived lets_in) w.got ((arrives zero w (omega arith)).let_in clear.0))
-    (got_in lets_in shuts_out ws (λ n e less. arrives (suc n) e (omega arith)) clear.1) k d lt
-
--- Use: and else it was shut to one that arrived.
-pub one_shut : (lets_in shuts_out : Worker → Quantum → Type 0) (ws : List Worker)
-    → ((k : ℕ) (d : Worker) → k < length ws → Arrives lets_in shuts_out (slice_index_or ws k d)) → list_any (λ w. w.is_shut) ws ≡ true
+-- Use: where the gate was shut to one of these, it was shut to one that arrived.
+pub one_shut : (lets_in shuts_out : Worker → Quantum → Type 0) (ss : List Shift)
+    → ((k : ℕ) (d : Shift) → k < length ss → IsToldOf lets_in shuts_out (slice_index_or ss k d)) → list_any (λ s. s.is_shut) ss ≡ true
     → SomeArrived shuts_out
-one_shut lets_in shuts_out [] arrives some = absurd cc
-one_shut lets_in shuts_out (w ∷ ws) arrives some = elim (either w.is_shut (list_any (λ x. x.is_shut) ws) some) [
-  | inl here ↦ (arrives zero w (omega arith)).shut_out here
-  | inr there ↦ one_shut lets_in shuts_out ws (λ n e less. arrives (suc n) e (omega arith)) there
+one_shut lets_in shuts_out [] told some = absurd cc
+one_shut lets_in shuts_out (s ∷ ss) told some = elim (either s.is_shut (list_any (λ x. x.is_shut) ss) some) [
+  | inl here ↦ (told zero s (omega arith)).shut_out here
+  | inr there ↦ one_shut lets_in shuts_out ss (λ n e less. told (suc n) e (omega arith)) there
 ]
 
--- Use: a halt that is none of a gate.
-pub any_halt : (shut : Type 0) (fault : Fault) → IsHalt ⊥ fault → IsHalt shut fault
-any_halt shut (why.BadRecord number) halt = absurd halt
-any_halt shut why.Read halt = absurd halt
-any_halt shut why.Write halt = absurd halt
-any_halt shut why.TooLong halt = absurd halt
-any_halt shut (why.BadRange range) halt = absurd halt
-any_halt shut why.GateShut halt = absurd halt
-any_halt shut why.NoReader halt = halt
-any_halt shut why.NoMemory halt = halt
+-- Use: a worker was let in with each quantum that one of these took.
+pub all_arrived : (lets_in shuts_out : Worker → Quantum → Type 0) (ss : List Shift) (qs : List Quantum)
+    → ((k : ℕ) (d : Shift) → k < length ss → IsToldOf lets_in shuts_out (slice_index_or ss k d)) → All (HasTaken ss) qs
+    → (k : ℕ) (d : Quantum) → k < length qs → Arrived lets_in (slice_index_or qs k d)
+all_arrived lets_in shuts_out ss qs told taken k d lt =
+    let by = taken k d lt in
+    let q : Quantum = slice_index_or qs k d in
+    let of : IsToldOf lets_in shuts_out by.shift = subst (λ (s : Shift). IsToldOf lets_in shuts_out s) by.is_shift (told by.worker by.shift by.is_worker) in
+    subst (λ (x : Quantum). Arrived lets_in x) by.quantum (of.let_in by.at q by.is_at)
 
-pub any_halt_if : {V : Type 0} (shut : Type 0) (r : Result V Fault) → IfErr r (IsHalt ⊥) → IfErr r (IsHalt shut)
-any_halt_if shut (Ok v) halt = tt
-any_halt_if shut (Err fault) halt = any_halt shut fault halt
+-- Use: what is told after one quantum more.
+pub told_more : (lets_in shuts_out : Worker → Quantum → Type 0) (w : Worker) (q : Quantum) (old new : Shift) → IsToldOf lets_in shuts_out old
+    → Arrives lets_in shuts_out w → w.is_shut ≡ false → w.got ≡ Some q → new.is_shut ≡ old.is_shut
+    → (new.taken.items ≡ old.taken.items ++ q ∷ []) ⊎ (new.taken.items ≡ old.taken.items) → IsToldOf lets_in shuts_out new
+told_more lets_in shuts_out w q old new told arrives clear got shut (inl more) =
+    let in_with : Arrived lets_in q = subst (λ (o : Option Quantum). IfSome o (Arrived lets_in)) got (arrives.let_in clear) in
+    record {
+      let_in = subst (λ (qs : List Quantum). All (Arrived lets_in) qs) (sym more)
+          (all_append (Arrived lets_in) old.taken.items (q ∷ []) told.let_in (λ k d lt. let none : k ≡ 0 = omega arith in rw none in_with));
+      shut_out = λ is. told.shut_out (sym shut ∙ is);
+    }
+told_more lets_in shuts_out w q old new told arrives clear got shut (inr same) = record {
+  let_in = subst (λ (qs : List Quantum). All (Arrived lets_in) qs) (sym same) told.let_in;
+  shut_out = λ is. told.shut_out (sym shut ∙ is);
+}
 
 -- Use: the worker arrived with what it took.
 pub arrived : (lets_in shuts_out : Worker → Quantum → Type 0) (v pass : Passing Entry System) (got : Option Quantum) (before shut answer : Bool) (q : Quantum)

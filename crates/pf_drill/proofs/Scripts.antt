@@ -58,6 +58,17 @@ pub whole : (settings : System) (rest : LinesTold) (commands : List Command) →
     → lines_asked settings rest ≡ Whole settings commands
 whole settings rest commands none are = rw (none, are) refl
 
+-- Use: what stops it where no gate is shut.
+pub any_stop : (shut : Type 0) (asked : Asked) (fault : Fault) → Stops ⊥ asked fault → Stops shut asked fault
+any_stop shut asked (why.BadRecord number) h = h
+any_stop shut asked why.Read h = absurd h
+any_stop shut asked why.Write h = absurd h
+any_stop shut asked why.TooLong h = absurd h
+any_stop shut asked (why.BadRange range) h = absurd h
+any_stop shut asked why.GateShut h = absurd h
+any_stop shut asked why.NoReader h = h
+any_stop shut asked why.NoMemory h = h
+
 -- Use: a halt stops whatever was asked for.
 pub stopped : (shut : Type 0) (asked : Asked) (fault : Fault) → IsHalt shut fault → Stops shut asked fault
 stopped shut asked (why.BadRecord number) halt = absurd halt

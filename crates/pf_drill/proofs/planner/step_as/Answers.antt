@@ -1,7 +1,7 @@
 use Rattle.std.proofs.Common.{ap}
 use Rattle.pf_share.specs.Entered.{found_empty}
 use Rattle.pf_drill.proofs.Entered.{goes_on}
-use Rattle.pf_drill.proofs.crew.step_as.Goals as goal
+use Rattle.pf_drill.proofs.planner.step_as.Goals as goal
 
 pub returns-in-Ok : goal.returns-in-Ok
 returns-in-Ok g c =

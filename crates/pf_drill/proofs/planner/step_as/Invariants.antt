@@ -1,5 +1,5 @@
 use Rattle.std.proofs.Common.{◌≡◌}
-use Rattle.pf_drill.proofs.crew.step_as.Given as goal
+use Rattle.pf_drill.proofs.planner.step_as.Given as goal
 
 -- nothing was entered
 abbrev pub invariant-loop : goal.invariant-loop
