@@ -21,6 +21,25 @@ all_append P (x ∷ xs) ys of_xs of_ys zero d lt = of_xs zero d (omega arith)
 all_append P (x ∷ xs) ys of_xs of_ys (suc k) d lt =
     all_append P xs ys (λ n e less. of_xs (suc n) e (omega arith)) of_ys k d (omega arith)
 
+-- Use: one more at the end.
+pub all_snoc : {X : Type 0} (P : X → Type 0) (xs ys : List X) (x : X) → ys ≡ xs ++ x ∷ [] → All P xs → P x
+    → (k : ℕ) (d : X) → k < length ys → P (slice_index_or ys k d)
+all_snoc {X} P xs ys x is of_xs of_x k d lt =
+    subst (λ (l : List X). P (slice_index_or l k d)) (sym is)
+    (all_append P xs (x ∷ []) of_xs (λ j e less. let none : j ≡ 0 = omega arith in rw none of_x) k d (omega (arith, lt, ap length is)))
+
+-- Use: the first, and the others.
+pub first_all : {X : Type 0} (P : X → Type 0) (x : X) (xs all : List X) → all ≡ x ∷ xs → All P all → P x × All P xs
+first_all {X} P x xs all is of =
+    let these : All P (x ∷ xs) = subst (λ (l : List X). All P l) is of in
+    (these zero x (omega arith), λ k d lt. these (suc k) d (omega arith))
+
+-- Use: an element of a list, whatever is read past its end.
+pub at_any : {A : Type 0} (xs : List A) (k : ℕ) (d e : A) → k < length xs → slice_index_or xs k d ≡ slice_index_or xs k e
+at_any [] k d e lt = absurd (omega arith)
+at_any (x ∷ xs) zero d e lt = refl
+at_any (x ∷ xs) (suc k) d e lt = at_any xs k d e (omega arith)
+
 of_not : (a b : Bool) → not a ≡ b → a ≡ not b
 of_not true b e = ap not e
 of_not false b e = ap not e
@@ -39,6 +58,19 @@ one_shut lets_in shuts_out (s ∷ ss) told some = elim (either s.is_shut (list_a
   | inr there ↦ one_shut lets_in shuts_out ss (λ n e less. told (suc n) e (omega arith)) there
 ]
 
+-- Use: a quantum that stands in what a worker tells.
+pub has_taken : (shifts : List Shift) (worker at : ℕ) (d : Shift) (taken : List Quantum) (q : Quantum) → worker < length shifts
+    → taken ≡ (slice_index_or shifts worker d).taken.items → (at < length taken) × (slice_index_or taken at q ≡ q) → HasTaken shifts q
+has_taken shifts worker at d taken q is_worker are stands = record {
+  worker = worker;
+  is_worker = is_worker;
+  shift = slice_index_or shifts worker d;
+  is_shift = at_any shifts worker (slice_index_or shifts worker d) d is_worker;
+  at = at;
+  is_at = omega (arith, stands.0, ap length are);
+  quantum = ap (λ (l : List Quantum). slice_index_or l at q) (sym are) ∙ stands.1;
+}
+
 -- Use: a worker was let in with each quantum that one of these took.
 pub all_arrived : (lets_in shuts_out : Worker → Quantum → Type 0) (ss : List Shift) (qs : List Quantum)
     → ((k : ℕ) (d : Shift) → k < length ss → IsToldOf lets_in shuts_out (slice_index_or ss k d)) → All (HasTaken ss) qs
@@ -56,8 +88,7 @@ pub told_more : (lets_in shuts_out : Worker → Quantum → Type 0) (w : Worker)
 told_more lets_in shuts_out w q old new told arrives clear got shut (inl more) =
     let in_with : Arrived lets_in q = subst (λ (o : Option Quantum). IfSome o (Arrived lets_in)) got (arrives.let_in clear) in
     record {
-      let_in = subst (λ (qs : List Quantum). All (Arrived lets_in) qs) (sym more)
-          (all_append (Arrived lets_in) old.taken.items (q ∷ []) told.let_in (λ k d lt. let none : k ≡ 0 = omega arith in rw none in_with));
+      let_in = all_snoc (Arrived lets_in) old.taken.items new.taken.items q more told.let_in in_with;
       shut_out = λ is. told.shut_out (sym shut ∙ is);
     }
 told_more lets_in shuts_out w q old new told arrives clear got shut (inr same) = record {

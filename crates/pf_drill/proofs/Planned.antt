@@ -14,7 +14,7 @@ use Rattle.pf_share.specs.Histories.{IsHistory, entries_of, quanta_of}
 use Rattle.pf_drill.specs.declared.planner.Planner.{Planner}
 use Rattle.pf_drill.specs.Drilled.{IsDrill, drill_text}
 use Rattle.pf_drill.specs.Rounds.{AreOfBoard, IsInStep, ShowsPlan, commands_given}
-use Rattle.pf_drill.proofs.Gated.{all_append}
+use Rattle.pf_drill.proofs.Gated.{all_snoc}
 
 -- the last of a list, taken off
 snoc_same : {A : Type 0} (ys xs : List A) (p a : A) → ys ++ p ∷ [] ≡ xs ++ a ∷ [] → (ys ≡ xs) × (p ≡ a)
@@ -32,8 +32,7 @@ next_pass board settings n = let one : n + 1 ≡ suc n = omega arith in ap (new_
 of_board : (board : TableId) (settings : System) (n : ℕ) → AreOfBoard board (new_passes board settings n)
 of_board board settings zero = λ k d lt. absurd (omega arith)
 of_board board settings (suc n) =
-    all_append (λ p. p.board ≡ board) (new_passes board settings n) (new_pass board settings n ∷ []) (of_board board settings n)
-    (λ k d lt. let none : k ≡ 0 = omega arith in rw none refl)
+    all_snoc (λ p. p.board ≡ board) (new_passes board settings n) (new_passes board settings (suc n)) (new_pass board settings n) refl (of_board board settings n) refl
 
 -- Use: the last pass is the planner's, and the others are of the board.
 pub passes_apart : (board : TableId) (settings : System) (m : ℕ) (all rest : List (Passing Entry System)) (last : Option (Passing Entry System)) (pass : Passing Entry System)

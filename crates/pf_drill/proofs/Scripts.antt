@@ -89,9 +89,9 @@ finished lets_in items asked settings commands taken (Ok v) is arrived drill =
     rw is drilled
 finished lets_in items asked settings commands taken (Err fault) is arrived drill = tt
 
-pub stopped_if : {V : Type 0} (shut : Type 0) (asked : Asked) (r : Result V Fault) → IfErr r (IsHalt shut) → IfErr r (Stops shut asked)
+pub stopped_if : {V : Type 0} (shut : Type 0) (asked : Asked) (r : Result V Fault) → IfErr r (IsHalt ⊥) → IfErr r (Stops shut asked)
 stopped_if shut asked (Ok v) halt = tt
-stopped_if shut asked (Err fault) halt = stopped shut asked fault halt
+stopped_if shut asked (Err fault) halt = any_stop shut asked fault (stopped ⊥ asked fault halt)
 
 pub drills_same : {V F : Type 0} (lets_in : Worker → Quantum → Type 0) (items : V → List ℕ) (a b : Asked) (r : Result V F) → a ≡ b
     → IfOk r (λ v. Drills lets_in a (items v)) → IfOk r (λ v. Drills lets_in b (items v))

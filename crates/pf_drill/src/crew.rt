@@ -22,7 +22,7 @@ use pf_share::naming::Naming;
 use pf_share::shared::Shared;
 use std::alloc::{AllocError, Global};
 use std::sync::Wait;
-use std::thread::{PromisedHandle, Scope, Threads, join_promised};
+use std::thread::{PromisedHandle, Scope, Threads, join_promised, scope, scope_env};
 
 /// A worker's thread.
 type Hired<'s, G> = PromisedHandle<Shift, AtGate<'s, G>>;
@@ -33,7 +33,44 @@ type Hired<'s, G> = PromisedHandle<Shift, AtGate<'s, G>>;
 ///
 /// `BadRecord` at the first record that is none of the script's. `GateShut` where the gate was shut to a worker. `NoReader` where
 /// the history has other entries. `NoMemory` where memory or a thread is refused.
-pub(crate) fn drill_with<
+pub(crate) fn drill_staffed<
+    'a,
+    N: Naming + Send + Sync,
+    H: Wait + Drop + Send,
+    R: Threads + Wait + Sync,
+    G: Gate + Sync,
+>(
+    rt: &'a R,
+    alloc: Global,
+    shared: &'a Shared<N, Locked<N, H>>,
+    gate: &'a G,
+    rounds: &'a Rounds,
+    passes: Vec<DeskPass>,
+    planner: Planner,
+    lines: LineReader<'a>,
+    row: ByteRecord,
+) -> Result<Planner, Fault>
+    requires passes { AreOfBoard N.board.id passes.items }
+    requires step { IsInStep N.board.id N.board.terms planner }
+    requires given { commands_given planner ≡ [] }
+    ensures given { IfOk result (λ planner. HasGiven (G.lets_in gate.now) N.board.id N.board.terms lines.entry planner) }
+    ensures stopped { IfErr result (Stops (SomeArrived (G.shuts_out gate.now)) (lines_asked N.board.terms lines.entry)) }
+{
+    scope(
+        scope_env(),
+        rt,
+        |scope| -> Result<Planner, Fault>
+            requires { AreOfBoard N.board.id passes.items × IsInStep N.board.id N.board.terms planner × (commands_given planner ≡ []) }
+            ensures given { IfOk result (λ planner. HasGiven (G.lets_in gate.entry.now) N.board.id N.board.terms lines.entry planner) }
+            ensures stopped { IfErr result (Stops (SomeArrived (G.shuts_out gate.entry.now)) (lines_asked N.board.terms lines.entry)) }
+        {
+            drill_in(scope, rt, alloc, shared, gate, rounds, passes, planner, lines, row)
+        },
+    )
+}
+
+/// The same, with a scope for the workers' threads.
+fn drill_in<
     's,
     E,
     N: Naming + Send + Sync,
@@ -107,14 +144,40 @@ fn hire<
     let mut hired = Vec::new(alloc);
     hired.reserve(passes.len())?;
     for pass in passes {
-        let worker = Worker::new(pass);
-        let stay = move || -> Shift
-            requires { worker.pass.board ≡ N.board.id }
-            ensures { IsToldOf (G.lets_in gate.entry.now) (G.shuts_out gate.entry.now) result }
-        { worker.stay(rt, alloc, shared, gate, rounds) };
-        hired.push(scope.spawn_with(AtGate { gate }, stay)?)?;
+        hired.push(start(scope, rt, alloc, shared, gate, rounds, pass)?)?;
     }
     Ok(hired)
+}
+
+/// Starts the worker of a pass.
+///
+/// # Errors
+///
+/// Where a thread is refused.
+fn start<
+    's,
+    E,
+    N: Naming + Send + Sync,
+    H: Wait + Drop + Send,
+    R: Threads + Wait + Sync,
+    G: Gate + Sync,
+>(
+    scope: &'s Scope<'s, E>,
+    rt: &'s R,
+    alloc: Global,
+    shared: &'s Shared<N, Locked<N, H>>,
+    gate: &'s G,
+    rounds: &'s Rounds,
+    pass: DeskPass,
+) -> Result<Hired<'s, G>, AllocError>
+    requires { pass.board ≡ N.board.id }
+    ensures { IfOk result (λ hired. hired.promise.gate.now ≡ gate.now) }
+{
+    let stay = move || -> Shift
+        requires { pass.board ≡ N.board.id }
+        ensures { IsToldOf (G.lets_in gate.entry.now) (G.shuts_out gate.entry.now) result }
+    { Worker::new(pass).stay(rt, alloc, shared, gate, rounds) };
+    Ok(scope.spawn_with(AtGate { gate }, stay)?)
 }
 
 /// Whether the gate was shut to one of these workers.

@@ -1,15 +1,15 @@
-ghost use Rattle.std.specs.Prelude.{◌≡◌, ◌+◌, ◌++◌, ◌∷◌, [], None, replicate, IfOk, IfErr, OnOk};
+ghost use Rattle.std.specs.Prelude.{◌≡◌, ◌+◌, ◌++◌, ◌∷◌, None, replicate, IfOk, IfErr, OnOk};
 ghost use Rattle.std.specs.Arc.{arc_value};
 ghost use Rattle.pf_board.specs.Passes.{new_passes};
 ghost use Rattle.pf_desk.specs.declared.command.Command.TheVariants.{Step};
 ghost use Rattle.pf_drill.specs.Drilled.{Drills, IsDrill, IsHalt, Stops, seen_in};
 ghost use Rattle.pf_drill.specs.Gates.{SomeArrived};
-ghost use Rattle.pf_drill.specs.Rounds.{AreOfBoard, HasGiven, IsInStep, ShowsPlan, commands_given};
+ghost use Rattle.pf_drill.specs.Rounds.{IsInStep, ShowsPlan, commands_given};
 ghost use Rattle.pf_script.specs.Asked.{commands_in, commands_of, lines_asked};
 ghost use Rattle.pf_share.specs.Locked.{origin_of};
 ghost use Rattle.pf_share.specs.Opening.{new_viewers};
 
-use crate::crew::drill_with;
+use crate::crew::drill_staffed;
 use crate::gate::Gate;
 use crate::output::drill_text;
 use crate::planner::Planner;
@@ -28,7 +28,7 @@ use pf_share::shared::Shared;
 use pf_share::viewer::Viewer;
 use std::alloc::Global;
 use std::sync::{Arc, Wait};
-use std::thread::{Threads, scope, scope_env};
+use std::thread::Threads;
 
 /// Carries out the records behind the settings on a desk that was just opened, and gives the text of the drill. Each record
 /// is read into `row`.
@@ -64,17 +64,7 @@ pub(crate) fn drill_lines<
     };
     let planner = Planner::new::<N>(alloc, pass);
     let rounds = Rounds::new(passes.len() as u64);
-    let staffed = scope(
-        scope_env(),
-        rt,
-        |scope| -> Result<Planner, Fault>
-            requires { AreOfBoard N.board.id passes.items × IsInStep N.board.id N.board.terms planner × (commands_given planner ≡ []) }
-            ensures given { IfOk result (λ planner. HasGiven (G.lets_in gate.entry.now) N.board.id N.board.terms lines.entry planner) }
-            ensures stopped { IfErr result (Stops (SomeArrived (G.shuts_out gate.entry.now)) (lines_asked N.board.terms lines.entry)) }
-        {
-            drill_with(scope, rt, alloc, &shared, gate, &rounds, passes, planner, lines, row)
-        },
-    );
+    let staffed = drill_staffed(rt, alloc, &shared, gate, &rounds, passes, planner, lines, row);
     match staffed {
         Ok(planner) => finish(rt, alloc, &shared, planner, &mut viewer),
         Err(fault) => Err(fault),

@@ -1,4 +1,4 @@
-use Rattle.std.proofs.Common.{◌≡◌, ◌×◌, ◌<◌, ℕ}
+use Rattle.std.proofs.Common.{◌≡◌, ◌<◌, ℕ}
 use Rattle.std.specs.Prelude.{slice_index_or, vec_len}
 use Rattle.std.specs.Vec.Iter.{into_iter_items}
 use Rattle.pf_drill.specs.Rounds.{AreOfBoard}
