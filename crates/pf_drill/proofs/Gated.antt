@@ -71,31 +71,6 @@ has_taken shifts worker at d taken q is_worker are stands = record {
   quantum = ap (λ (l : List Quantum). slice_index_or l at q) (sym are) ∙ stands.1;
 }
 
--- Use: a worker was let in with each quantum that one of these took.
-pub all_arrived : (lets_in shuts_out : Worker → Quantum → Type 0) (ss : List Shift) (qs : List Quantum)
-    → ((k : ℕ) (d : Shift) → k < length ss → IsToldOf lets_in shuts_out (slice_index_or ss k d)) → All (HasTaken ss) qs
-    → (k : ℕ) (d : Quantum) → k < length qs → Arrived lets_in (slice_index_or qs k d)
-all_arrived lets_in shuts_out ss qs told taken k d lt =
-    let by = taken k d lt in
-    let q : Quantum = slice_index_or qs k d in
-    let of : IsToldOf lets_in shuts_out by.shift = subst (λ (s : Shift). IsToldOf lets_in shuts_out s) by.is_shift (told by.worker by.shift by.is_worker) in
-    subst (λ (x : Quantum). Arrived lets_in x) by.quantum (of.let_in by.at q by.is_at)
-
--- Use: what is told after one quantum more.
-pub told_more : (lets_in shuts_out : Worker → Quantum → Type 0) (w : Worker) (q : Quantum) (old new : Shift) → IsToldOf lets_in shuts_out old
-    → Arrives lets_in shuts_out w → w.is_shut ≡ false → w.got ≡ Some q → new.is_shut ≡ old.is_shut
-    → (new.taken.items ≡ old.taken.items ++ q ∷ []) ⊎ (new.taken.items ≡ old.taken.items) → IsToldOf lets_in shuts_out new
-told_more lets_in shuts_out w q old new told arrives clear got shut (inl more) =
-    let in_with : Arrived lets_in q = subst (λ (o : Option Quantum). IfSome o (Arrived lets_in)) got (arrives.let_in clear) in
-    record {
-      let_in = all_snoc (Arrived lets_in) old.taken.items new.taken.items q more told.let_in in_with;
-      shut_out = λ is. told.shut_out (sym shut ∙ is);
-    }
-told_more lets_in shuts_out w q old new told arrives clear got shut (inr same) = record {
-  let_in = subst (λ (qs : List Quantum). All (Arrived lets_in) qs) (sym same) told.let_in;
-  shut_out = λ is. told.shut_out (sym shut ∙ is);
-}
-
 -- Use: the worker arrived with what it took.
 pub arrived : (lets_in shuts_out : Worker → Quantum → Type 0) (v pass : Passing Entry System) (got : Option Quantum) (before shut answer : Bool) (q : Quantum)
     → got ≡ Some q → IfSome got (λ r. Grabs v r pass) → shut ≡ not answer

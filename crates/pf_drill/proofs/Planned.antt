@@ -7,9 +7,6 @@ use Rattle.pf_desk.specs.declared.entry.Entry.{Entry}
 use Rattle.pf_desk.specs.Desk.{Seen}
 use Rattle.pf_board.specs.Passes.{Passing, new_pass, new_passes}
 use Rattle.pf_board.specs.Quanta.{issues}
-use Rattle.pf_share.specs.Opening.{new_viewers}
-use Rattle.pf_share.specs.Reads.{Viewing, new_viewer}
-use Rattle.pf_share.specs.Stories.{Origin}
 use Rattle.pf_share.specs.Histories.{IsHistory, entries_of, quanta_of}
 use Rattle.pf_drill.specs.declared.planner.Planner.{Planner}
 use Rattle.pf_drill.specs.Drilled.{IsDrill, drill_text}
@@ -75,10 +72,3 @@ drilled board settings planner seen text step shown is = record {
   taken_are = step.issued ∙ ap (issues quanta_of) step.history.callers;
   text_is = is ∙ ap (λ s. drill_text s planner.issued.items) shown.shown;
 }
-
--- Use: the one viewer is of the desk.
-pub viewer_of : (origin : Origin) (all rest : List Viewing) (last : Option Viewing) (viewer : Viewing) → all ≡ new_viewers origin 1
-    → all ≡ rest ++ option_to_list last → last ≡ Some viewer → viewer.origin ≡ origin
-viewer_of origin all rest last viewer is split some =
-    let same : rest ++ viewer ∷ [] ≡ [] ++ new_viewer origin ∷ [] = ap (λ o. rest ++ option_to_list o) (sym some) ∙ (sym split ∙ is) in
-    ap (λ v. v.origin) (snoc_same rest [] viewer (new_viewer origin) same).1
