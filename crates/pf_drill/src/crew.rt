@@ -64,7 +64,9 @@ pub(crate) fn drill_staffed<
             ensures given { IfOk result (λ planner. HasGiven (G.lets_in gate.entry.now) N.board.id N.board.terms lines.entry planner) }
             ensures stopped { IfErr result (Stops (SomeArrived (G.shuts_out gate.entry.now)) (lines_asked N.board.terms lines.entry)) }
         {
-            drill_in(scope, rt, alloc, shared, gate, rounds, passes, planner, lines, row)
+            drill_in(
+                scope, rt, alloc, shared, gate, rounds, passes, planner, lines, row,
+            )
         },
     )
 }

@@ -64,7 +64,9 @@ pub(crate) fn drill_lines<
     };
     let planner = Planner::new::<N>(alloc, pass);
     let rounds = Rounds::new(passes.len() as u64);
-    let staffed = drill_staffed(rt, alloc, &shared, gate, &rounds, passes, planner, lines, row);
+    let staffed = drill_staffed(
+        rt, alloc, &shared, gate, &rounds, passes, planner, lines, row,
+    );
     match staffed {
         Ok(planner) => finish(rt, alloc, &shared, planner, &mut viewer),
         Err(fault) => Err(fault),

@@ -99,10 +99,7 @@ impl Worker {
 }
 
 /// Takes the quantum of the processor of the pass's number, where one lies there.
-fn take_quantum<N: Naming, L: Drop>(
-    shared: &Shared<N, L>,
-    pass: &mut DeskPass,
-) -> Option<Quantum>
+fn take_quantum<N: Naming, L: Drop>(shared: &Shared<N, L>, pass: &mut DeskPass) -> Option<Quantum>
     requires { pass.old.board ≡ N.board.id }
     ensures some { IfSome result (λ quantum. Grabs pass.old quantum pass.new) }
     ensures none { IfNone result (pass.new ≡ record pass.old { loads = pass.new.loads }) }

@@ -11,8 +11,8 @@ returns-then-is_any_shut-clause-stopped g c =
     let ss = c.in-Ok-join_promised.shifts.items in
     let told : (k : ℕ) (d : Shift) → k < length ss → IsToldOf (g.G.Gate.lets_in c.args.gate.now) (g.G.Gate.shuts_out c.args.gate.now) (slice_index_or ss k d) =
     λ k d lt.
-        let at = (c.in-Ok-join_promised.ensures.each k d (omega (arith, lt, c.in-Ok-join_promised.shifts.ok.0, c.in-Ok-join_promised.ensures.len))).1 in
-        let gate = ap (λ h. h.promise.gate.now) at.handle_is ∙ c.in-Ok.ensures k at.handle (omega (arith, lt, c.in-Ok-join_promised.shifts.ok.0, c.in-Ok-join_promised.ensures.len)) in
-        subst (λ x. IsToldOf (g.G.Gate.lets_in x) (g.G.Gate.shuts_out x) (slice_index_or ss k d)) gate at.kept in
+    let at = (c.in-Ok-join_promised.ensures.each k d (omega (arith, lt, c.in-Ok-join_promised.shifts.ok.0, c.in-Ok-join_promised.ensures.len))).1 in
+    let gate = ap (λ h. h.promise.gate.now) at.handle_is ∙ c.in-Ok.ensures k at.handle (omega (arith, lt, c.in-Ok-join_promised.shifts.ok.0, c.in-Ok-join_promised.ensures.len)) in
+    subst (λ x. IsToldOf (g.G.Gate.lets_in x) (g.G.Gate.shuts_out x) (slice_index_or ss k d)) gate at.kept in
     one_shut (g.G.Gate.lets_in c.args.gate.now) (g.G.Gate.shuts_out c.args.gate.now) ss told
     (ap (list_any (λ (s : Shift). s.is_shut)) (sym c.deref.ensures.value) ∙ sym c.is_any_shut.ensures ∙ c.if-is_any_shut.true)
