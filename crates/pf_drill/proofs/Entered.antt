@@ -1,32 +1,23 @@
 -- A planner's command, entered where nobody else enters any.
-use Rattle.std.proofs.Common.{◌≡◌, ℕ, ◌-◌, ◌≤◌, List, [], ◌∷◌, ◌++◌, length, refl, ap, sym, subst, ◌∙◌, arith}
-use Rattle.std.specs.Prelude.{Result, Ok, Err, IfOk, Option}
+use Rattle.std.proofs.Common.{◌≡◌, ℕ, ◌+◌, ◌-◌, ◌≤◌, List, [], ◌∷◌, ◌++◌, length, map, refl, ap, ap₂, sym, subst, ◌∙◌, arith, length-append}
+use Rattle.std.specs.Prelude.{Result, Ok, Err, IfOk}
 use mathlib.Core.List.{IsPrefix}
 use Rattle.atomic_table.specs.Seated.{TableId}
-use Rattle.pf_order.specs.declared.pick.Pick.{Pick}
 use Rattle.pf_scenario.specs.System.{System}
-use Rattle.pf_scenario.specs.Scenario.{opening_plan}
-use Rattle.pf_scenario.specs.Edit.{IsScenario}
 use Rattle.pf_desk.specs.declared.command.Command.{Command}
 use Rattle.pf_desk.specs.declared.entry.Entry.{Entry}
-use Rattle.pf_desk.specs.declared.reply.Reply.{Reply}
-use Rattle.pf_desk.specs.declared.reply.Reply.TheVariants.{Edited, Stepped, Refused}
 use Rattle.pf_desk.specs.Desk.{entry_of}
-use Rattle.pf_desk.specs.History.{IsLegal}
 use Rattle.pf_board.specs.Passes.{Passing}
-use Rattle.pf_board.specs.Quanta.{issues, times}
+use Rattle.pf_board.specs.Quanta.{issues}
 use Rattle.pf_share.specs.declared.done.Done.{Done}
 use Rattle.pf_share.specs.Entered.{Enters}
-use Rattle.pf_share.specs.Histories.{entries_of, quanta_of, quanta_of_reply}
-use Rattle.pf_drill.specs.declared.crew.Crew.{Crew}
-use Rattle.pf_drill.specs.declared.worker.Worker.{Worker}
-use Rattle.pf_drill.specs.Rounds.{AreAbreast, GoesOn, HasEntered, IsInStep}
+use Rattle.pf_share.specs.Histories.{quanta_of, quanta_of_reply}
+use Rattle.pf_drill.specs.declared.planner.Planner.{Planner}
+use Rattle.pf_drill.specs.Rounds.{GoesOn, IsInStep, commands_given}
 use Rattle.pf_drill.proofs.Issued.{issues_push}
-use Rattle.pf_drill.proofs.Legal.{places_of_step}
-use Rattle.std.proofs.lemmas.List.{append-nil}
 
 -- a beginning as long as the whole is the whole
-pub prefix_whole : {A : Type 0} (xs ys : List A) → IsPrefix xs ys → length ys ≤ length xs → xs ≡ ys
+prefix_whole : {A : Type 0} (xs ys : List A) → IsPrefix xs ys → length ys ≤ length xs → xs ≡ ys
 prefix_whole [] [] p le = refl
 prefix_whole [] (y ∷ ys) p le = absurd (omega arith)
 prefix_whole (x ∷ xs) [] p le = absurd (cc (p.1))
@@ -51,44 +42,27 @@ pub goes_on_if : {F : Type 0} (settings : System) (command : Command) (v w : Pas
 goes_on_if settings command v w (Ok done) e = goes_on settings command v v w done refl e
 goes_on_if settings command v w (Err fault) e = tt
 
-entries_append : (xs : List (ℕ × Entry)) (x : ℕ × Entry) → entries_of (xs ++ x ∷ []) ≡ entries_of xs ++ x.1 ∷ []
-entries_append [] x = refl
-entries_append (y ∷ xs) x = ap (λ l. y.1 ∷ l) (entries_append xs x)
+commands_push : (xs : List (ℕ × Entry)) (x : ℕ × Entry) → map (λ e. e.1.command) (xs ++ x ∷ []) ≡ map (λ e. e.1.command) xs ++ x.1.command ∷ []
+commands_push [] x = refl
+commands_push (y ∷ xs) x = ap (λ l. y.1.command ∷ l) (commands_push xs x)
 
--- Use: a row that was answered has a place for each processor.
-pub row_places : (board : TableId) (settings : System) (slot : ℕ) (row : List (Option Pick)) (crew : Crew) → IsScenario (opening_plan settings)
-    → HasEntered board settings (Stepped slot row) crew → length row ≡ settings.processors
-row_places board settings slot row crew scenario e =
-    let log : entries_of crew.planner.seen ≡ entries_of e.before ++ e.entry.1 ∷ [] = ap entries_of e.seen ∙ entries_append e.before e.entry in
-    places_of_step settings (entries_of e.before) e.entry.1 slot row scenario
-    (subst (λ (l : List Entry). IsLegal settings l) log e.history.is_legal) e.reply_is
-
--- an answer that takes no slot issues nothing
-none_issued : (reply : Reply) → ((slot : ℕ) (row : List (Option Pick)) → reply ≡ Stepped slot row → ⊥) → quanta_of_reply reply ≡ []
-none_issued (Edited id) other = refl
-none_issued (Refused fault) other = refl
-none_issued (Stepped slot row) other = absurd (other slot row refl)
-
-still_abreast : (board : TableId) (m : ℕ) (before log : List (ℕ × Entry)) (ws : List Worker) → issues quanta_of log ≡ issues quanta_of before
-    → AreAbreast board m before ws → AreAbreast board m log ws
-still_abreast board m before log ws same was = record {
-  count = was.count;
-  each = λ k d lt.
-      let one = was.each k d lt in
-      record { board_is = one.board_is; number = one.number; taken = λ q of. let t = one.taken q of in let s = ap (times q) same in omega (arith, t, s) };
-}
-
--- Use: where no slot was taken the crew is in step at once.
-pub in_step : (board : TableId) (settings : System) (reply : Reply) (crew : Crew)
-    → ((slot : ℕ) (row : List (Option Pick)) → reply ≡ Stepped slot row → ⊥) → HasEntered board settings reply crew → IsInStep board settings crew
-in_step board settings reply crew other e =
-    let none : quanta_of e.entry.1 ≡ [] = ap quanta_of_reply e.reply_is ∙ none_issued reply other in
-    let same : issues quanta_of crew.planner.seen ≡ issues quanta_of e.before =
-    ap (issues quanta_of) e.seen ∙ (issues_push quanta_of e.before e.entry ∙ (ap (λ qs. issues quanta_of e.before ++ qs) none ∙ append-nil (issues quanta_of e.before))) in
-    record {
-      planner = e.planner;
-      history = e.history;
-      answered = e.answered;
-      taken = e.taken ∙ sym same;
-      workers = still_abreast board settings.processors e.before crew.planner.seen crew.workers.items same e.workers;
-    }
+-- Use: the planner's command was entered, and nobody else's before.
+pub entered : (board : TableId) (settings : System) (command : Command) (old new : Planner) (done : Done) → IsInStep board settings old
+    → GoesOn settings command old.pass done new.pass → done.front - 1 ≡ old.answered → new.answered ≡ done.front
+    → new.issued.items ≡ old.issued.items ++ quanta_of_reply done.reply
+    → IsInStep board settings new × (commands_given new ≡ commands_given old ++ command ∷ [])
+entered board settings command old new done was on alone answered issued =
+    let x : ℕ × Entry = (old.pass.me, entry_of old.pass.me command done.reply) in
+    let long : length new.pass.seen ≡ length on.before + 1 = ap length on.seen ∙ length-append on.before (x ∷ []) in
+    let same : old.pass.seen ≡ on.before = prefix_whole old.pass.seen on.before on.begins (omega (arith, long, on.front, alone, was.answered)) in
+    let seen : new.pass.seen ≡ old.pass.seen ++ x ∷ [] = on.seen ∙ ap (λ l. l ++ x ∷ []) (sym same) in (
+      record {
+        board_is = on.board ∙ was.board_is;
+        history = on.history;
+        answered = sym on.front ∙ sym answered;
+        issued = issued
+            ∙ (ap (λ qs. qs ++ quanta_of_reply done.reply) was.issued
+            ∙ (sym (issues_push quanta_of old.pass.seen x) ∙ ap (issues quanta_of) (sym seen)));
+      },
+      ap (map (λ e. e.1.command)) seen ∙ commands_push old.pass.seen x,
+    )

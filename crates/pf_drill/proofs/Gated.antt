@@ -1,14 +1,12 @@
 -- What the gate said to the workers.
 use Rattle.std.proofs.Common.{◌≡◌, ℕ, zero, suc, ◌<◌, Bool, true, false, Option, None, Some, List, [], ◌∷◌, ◌++◌, length, refl, ap, sym, subst, ◌∙◌, arith, inl, inr}
-use Rattle.std.specs.Prelude.{All, IfSome, Result, Ok, Err, IfErr, option_to_list, slice_index_or, not, ◌||◌, ◌⊎◌}
+use Rattle.std.specs.Prelude.{All, IfSome, slice_index_or, not, ◌||◌, ◌⊎◌}
 use Rattle.std.specs.List.{list_any}
 use Rattle.pf_board.specs.declared.quantum.Quantum.{Quantum}
-use Rattle.pf_fault.specs.declared.fault.Fault.{Fault}
-use Rattle.pf_fault.specs.declared.fault.Fault.TheVariants as why
 use Rattle.pf_drill.specs.declared.worker.Worker.{Worker}
-use Rattle.pf_drill.specs.Drilled.{IsHalt}
-use Rattle.pf_drill.specs.Gates.{Arrived, Arrives, SomeArrived}
-use Rattle.pf_drill.specs.Rounds.{Grabs, got_by}
+use Rattle.pf_drill.specs.declared.shift.Shift.{Shift}
+use Rattle.pf_drill.specs.Gates.{Arrived, Arrives, HasTaken, IsToldOf, SomeArrived}
+use Rattle.pf_drill.specs.Rounds.{Grabs}
 use Rattle.pf_board.specs.Passes.{Passing}
 use Rattle.pf_board.specs.Quanta.{times}
 use Rattle.pf_board.proofs.Weights.{times_own}
@@ -23,14 +21,24 @@ all_append P (x ∷ xs) ys of_xs of_ys zero d lt = of_xs zero d (omega arith)
 all_append P (x ∷ xs) ys of_xs of_ys (suc k) d lt =
     all_append P xs ys (λ n e less. of_xs (suc n) e (omega arith)) of_ys k d (omega arith)
 
-of_option : {X : Type 0} (P : X → Type 0) (o : Option X) → IfSome o P → (k : ℕ) (d : X) → k < length (option_to_list o) → P (slice_index_or (option_to_list o) k d)
-of_option P None h k d lt = absurd (omega arith)
-of_option P (Some x) h zero d lt = h
-of_option P (Some x) h (suc k) d lt = absurd (omega arith)
+-- Use: one more at the end.
+pub all_snoc : {X : Type 0} (P : X → Type 0) (xs ys : List X) (x : X) → ys ≡ xs ++ x ∷ [] → All P xs → P x
+    → (k : ℕ) (d : X) → k < length ys → P (slice_index_or ys k d)
+all_snoc {X} P xs ys x is of_xs of_x k d lt =
+    subst (λ (l : List X). P (slice_index_or l k d)) (sym is)
+    (all_append P xs (x ∷ []) of_xs (λ j e less. let none : j ≡ 0 = omega arith in rw none of_x) k d (omega (arith, lt, ap length is)))
 
-neither : (a b : Bool) → (a || b) ≡ false → (a ≡ false) × (b ≡ false)
-neither true b e = absurd cc
-neither false b e = (refl, e)
+-- Use: the first, and the others.
+pub first_all : {X : Type 0} (P : X → Type 0) (x : X) (xs all : List X) → all ≡ x ∷ xs → All P all → P x × All P xs
+first_all {X} P x xs all is of =
+    let these : All P (x ∷ xs) = subst (λ (l : List X). All P l) is of in
+    (these zero x (omega arith), λ k d lt. these (suc k) d (omega arith))
+
+-- Use: an element of a list, whatever is read past its end.
+pub at_any : {A : Type 0} (xs : List A) (k : ℕ) (d e : A) → k < length xs → slice_index_or xs k d ≡ slice_index_or xs k e
+at_any [] k d e lt = absurd (omega arith)
+at_any (x ∷ xs) zero d e lt = refl
+at_any (x ∷ xs) (suc k) d e lt = at_any xs k d e (omega arith)
 
 of_not : (a b : Bool) → not a ≡ b → a ≡ not b
 of_not true b e = ap not e
@@ -40,41 +48,28 @@ either : (a b : Bool) → (a || b) ≡ true → (a ≡ true) ⊎ (b ≡ true)
 either true b e = inl refl
 either false b e = inr e
 
--- Use: where the gate was shut to nobody, each worker was let in with what it took.
-pub got_in : (lets_in shuts_out : Worker → Quantum → Type 0) (ws : List Worker)
-    → ((k : ℕ) (d : Worker) → k < length ws → Arrives lets_in shuts_out (slice_index_or ws k d)) → list_any (λ w. w.is_shut) ws ≡ false
-    → (k : ℕ) (d : Quantum) → k < length (got_by ws) → Arrived lets_in (slice_index_or (got_by ws) k d)
-got_in lets_in shuts_out [] arrives none k d lt = absurd (omega arith)
-got_in lets_in shuts_out (w ∷ ws) arrives none k d lt =
-    let clear = neither w.is_shut (list_any (λ x. x.is_shut) ws) none in
-    all_append (Arrived lets_in) (option_to_list w.got) (got_by ws)
-    (of_option (Arrived lets_in) w.got ((arrives zero w (omega arith)).let_in clear.0))
-    (got_in lets_in shuts_out ws (λ n e less. arrives (suc n) e (omega arith)) clear.1) k d lt
-
--- Use: and else it was shut to one that arrived.
-pub one_shut : (lets_in shuts_out : Worker → Quantum → Type 0) (ws : List Worker)
-    → ((k : ℕ) (d : Worker) → k < length ws → Arrives lets_in shuts_out (slice_index_or ws k d)) → list_any (λ w. w.is_shut) ws ≡ true
+-- Use: where the gate was shut to one of these, it was shut to one that arrived.
+pub one_shut : (lets_in shuts_out : Worker → Quantum → Type 0) (ss : List Shift)
+    → ((k : ℕ) (d : Shift) → k < length ss → IsToldOf lets_in shuts_out (slice_index_or ss k d)) → list_any (λ s. s.is_shut) ss ≡ true
     → SomeArrived shuts_out
-one_shut lets_in shuts_out [] arrives some = absurd cc
-one_shut lets_in shuts_out (w ∷ ws) arrives some = elim (either w.is_shut (list_any (λ x. x.is_shut) ws) some) [
-  | inl here ↦ (arrives zero w (omega arith)).shut_out here
-  | inr there ↦ one_shut lets_in shuts_out ws (λ n e less. arrives (suc n) e (omega arith)) there
+one_shut lets_in shuts_out [] told some = absurd cc
+one_shut lets_in shuts_out (s ∷ ss) told some = elim (either s.is_shut (list_any (λ x. x.is_shut) ss) some) [
+  | inl here ↦ (told zero s (omega arith)).shut_out here
+  | inr there ↦ one_shut lets_in shuts_out ss (λ n e less. told (suc n) e (omega arith)) there
 ]
 
--- Use: a halt that is none of a gate.
-pub any_halt : (shut : Type 0) (fault : Fault) → IsHalt ⊥ fault → IsHalt shut fault
-any_halt shut (why.BadRecord number) halt = absurd halt
-any_halt shut why.Read halt = absurd halt
-any_halt shut why.Write halt = absurd halt
-any_halt shut why.TooLong halt = absurd halt
-any_halt shut (why.BadRange range) halt = absurd halt
-any_halt shut why.GateShut halt = absurd halt
-any_halt shut why.NoReader halt = halt
-any_halt shut why.NoMemory halt = halt
-
-pub any_halt_if : {V : Type 0} (shut : Type 0) (r : Result V Fault) → IfErr r (IsHalt ⊥) → IfErr r (IsHalt shut)
-any_halt_if shut (Ok v) halt = tt
-any_halt_if shut (Err fault) halt = any_halt shut fault halt
+-- Use: a quantum that stands in what a worker tells.
+pub has_taken : (shifts : List Shift) (worker at : ℕ) (d : Shift) (taken : List Quantum) (q : Quantum) → worker < length shifts
+    → taken ≡ (slice_index_or shifts worker d).taken.items → (at < length taken) × (slice_index_or taken at q ≡ q) → HasTaken shifts q
+has_taken shifts worker at d taken q is_worker are stands = record {
+  worker = worker;
+  is_worker = is_worker;
+  shift = slice_index_or shifts worker d;
+  is_shift = at_any shifts worker (slice_index_or shifts worker d) d is_worker;
+  at = at;
+  is_at = omega (arith, stands.0, ap length are);
+  quantum = ap (λ (l : List Quantum). slice_index_or l at q) (sym are) ∙ stands.1;
+}
 
 -- Use: the worker arrived with what it took.
 pub arrived : (lets_in shuts_out : Worker → Quantum → Type 0) (v pass : Passing Entry System) (got : Option Quantum) (before shut answer : Bool) (q : Quantum)

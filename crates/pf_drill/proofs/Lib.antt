@@ -1,9 +1,6 @@
-mod Crews
 mod Ends
 mod Entered
 mod Gated
 mod Issued
-mod Legal
-mod Rows
+mod Planned
 mod Scripts
-mod Worked

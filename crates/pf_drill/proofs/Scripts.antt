@@ -58,6 +58,17 @@ pub whole : (settings : System) (rest : LinesTold) (commands : List Command) →
     → lines_asked settings rest ≡ Whole settings commands
 whole settings rest commands none are = rw (none, are) refl
 
+-- Use: what stops it where no gate is shut.
+pub any_stop : (shut : Type 0) (asked : Asked) (fault : Fault) → Stops ⊥ asked fault → Stops shut asked fault
+any_stop shut asked (why.BadRecord number) h = h
+any_stop shut asked why.Read h = absurd h
+any_stop shut asked why.Write h = absurd h
+any_stop shut asked why.TooLong h = absurd h
+any_stop shut asked (why.BadRange range) h = absurd h
+any_stop shut asked why.GateShut h = absurd h
+any_stop shut asked why.NoReader h = h
+any_stop shut asked why.NoMemory h = h
+
 -- Use: a halt stops whatever was asked for.
 pub stopped : (shut : Type 0) (asked : Asked) (fault : Fault) → IsHalt shut fault → Stops shut asked fault
 stopped shut asked (why.BadRecord number) halt = absurd halt
@@ -78,9 +89,9 @@ finished lets_in items asked settings commands taken (Ok v) is arrived drill =
     rw is drilled
 finished lets_in items asked settings commands taken (Err fault) is arrived drill = tt
 
-pub stopped_if : {V : Type 0} (shut : Type 0) (asked : Asked) (r : Result V Fault) → IfErr r (IsHalt shut) → IfErr r (Stops shut asked)
+pub stopped_if : {V : Type 0} (shut : Type 0) (asked : Asked) (r : Result V Fault) → IfErr r (IsHalt ⊥) → IfErr r (Stops shut asked)
 stopped_if shut asked (Ok v) halt = tt
-stopped_if shut asked (Err fault) halt = stopped shut asked fault halt
+stopped_if shut asked (Err fault) halt = any_stop shut asked fault (stopped ⊥ asked fault halt)
 
 pub drills_same : {V F : Type 0} (lets_in : Worker → Quantum → Type 0) (items : V → List ℕ) (a b : Asked) (r : Result V F) → a ≡ b
     → IfOk r (λ v. Drills lets_in a (items v)) → IfOk r (λ v. Drills lets_in b (items v))

@@ -1,12 +1,9 @@
--- What the workers of a shared desk do between two commands of its planner.
-use Rattle.std.specs.Prelude.{ℕ, ◌≡◌, ◌≤◌, ◌<◌, Bool, false, Option, None, Some, IfSome, IfNone, List, [], ◌∷◌, ◌++◌, length, map, option_to_list, slice_index_or}
-use Rattle.std.specs.List.{flat_map}
+-- What the planner of a shared desk gives, and its workers take.
+use Rattle.std.specs.Prelude.{ℕ, ◌≡◌, ◌<◌, false, All, Option, None, Some, IfSome, IfNone, List, [], ◌∷◌, ◌++◌, length, map, slice_index_or}
 use mathlib.Core.List.{IsPrefix}
 use Rattle.atomic_table.specs.Seated.{TableId}
-use Rattle.pf_order.specs.declared.pick.Pick.{Pick}
 use Rattle.pf_scenario.specs.System.{System}
 use Rattle.pf_desk.specs.declared.command.Command.{Command}
-use Rattle.pf_desk.specs.declared.reply.Reply.{Reply}
 use Rattle.pf_desk.specs.declared.entry.Entry.{Entry}
 use Rattle.pf_desk.specs.Machine.{reply_to}
 use Rattle.pf_desk.specs.History.{IsLegal, last_state}
@@ -14,11 +11,14 @@ use Rattle.pf_desk.specs.Desk.{Seen, entry_of}
 use Rattle.pf_board.specs.declared.quantum.Quantum.{Quantum}
 use Rattle.pf_board.specs.Quanta.{times, issues}
 use Rattle.pf_board.specs.Passes.{Passing}
+use Rattle.pf_script.specs.Asked.{commands_in}
+use Rattle.pf_script.specs.Told.{LinesTold}
 use Rattle.pf_share.specs.declared.done.Done.{Done}
-use Rattle.pf_share.specs.Histories.{IsHistory, entries_of, quanta_of, quantum_of}
+use Rattle.pf_share.specs.Histories.{IsHistory, entries_of, quanta_of}
 use Rattle.pf_drill.specs.Drilled.{seen_in}
+use Rattle.pf_drill.specs.Gates.{Arrived}
 use Rattle.pf_drill.specs.declared.worker.Worker.{Worker}
-use Rattle.pf_drill.specs.declared.crew.Crew.{Crew}
+use Rattle.pf_drill.specs.declared.planner.Planner.{Planner}
 
 -- a worker that took nothing yet
 abbrev pub new_worker : Passing Entry System → Worker
@@ -32,30 +32,14 @@ pub record Grabs (v : Passing Entry System) (q : Quantum) (w : Passing Entry Sys
   pub fresh : times q v.taken ≡ 0
   pub pass : w ≡ record v { seen = w.seen; taken = v.taken ++ q ∷ []; loads = w.loads }
 
--- the worker took a quantum, or none; where one was wanted it took one
-pub record Works (is_wanted : Bool) (v w : Worker) : Type 0 where
+-- the worker took a quantum, or none
+pub record Works (v w : Worker) : Type 0 where
   pub some : IfSome w.got (λ q. Grabs v.pass q w.pass)
-  pub none : IfNone w.got ((is_wanted ≡ false) × (w.pass ≡ record v.pass { loads = w.pass.loads }))
+  pub none : IfNone w.got (w.pass ≡ record v.pass { loads = w.pass.loads })
 
--- worker k took each quantum of its processor that the history issues
-pub record IsAbreast (board : TableId) (log : List (ℕ × Entry)) (k : ℕ) (w : Worker) : Type 0 where
-  pub board_is : w.pass.board ≡ board
-  pub number : w.pass.me ≡ k
-  pub taken : (q : Quantum) → q.processor ≡ k → times q (issues quanta_of log) ≤ times q w.pass.taken
-
--- each of these workers did, of whom there is one for each of m processors
-pub record AreAbreast (board : TableId) (m : ℕ) (log : List (ℕ × Entry)) (ws : List Worker) : Type 0 where
-  pub count : length ws ≡ m
-  pub each : (k : ℕ) (d : Worker) → k < length ws → IsAbreast board log k (slice_index_or ws k d)
-
--- what these workers took last
-abbrev pub got_by : List Worker → List Quantum
-got_by ws = flat_map (λ w. option_to_list w.got) ws
-
--- the quantum of a processor in a slot, where it has a pick
-abbrev pub placed : ℕ → ℕ → Option Pick → Option Quantum
-placed slot processor None = None
-placed slot processor (Some pick) = Some (quantum_of slot processor pick)
+-- each of these passes is of the board
+abbrev pub AreOfBoard : TableId → List (Passing Entry System) → Type 0
+AreOfBoard board passes = All (λ p. p.board ≡ board) passes
 
 -- the pass's command was answered as the desk machine does after the history `before`, which begins with all that the pass
 -- had seen, and its entry follows that history
@@ -68,31 +52,25 @@ pub record GoesOn (settings : System) (command : Command) (v : Passing Entry Sys
   pub front : done.front ≡ length w.seen
   pub board : w.board ≡ v.board
 
--- the commands that a crew has given
-abbrev pub commands_given : Crew → List Command
-commands_given crew = map (λ x. x.1.command) crew.planner.seen
+-- the commands that a planner has given
+abbrev pub commands_given : Planner → List Command
+commands_given planner = map (λ x. x.1.command) planner.pass.seen
 
--- the history has the planner's entries alone, and the workers took what it issues, all of it
-pub record IsInStep (board : TableId) (settings : System) (crew : Crew) : Type 0 where
-  pub planner : crew.planner.board ≡ board
-  pub history : IsHistory settings crew.planner.seen
-  pub answered : length crew.planner.seen ≡ crew.answered
-  pub taken : crew.taken.items ≡ issues quanta_of crew.planner.seen
-  pub workers : AreAbreast board settings.processors crew.planner.seen crew.workers.items
+-- the history has the planner's entries alone, and the planner knows all that it issues
+pub record IsInStep (board : TableId) (settings : System) (planner : Planner) : Type 0 where
+  pub board_is : planner.pass.board ≡ board
+  pub history : IsHistory settings planner.pass.seen
+  pub answered : length planner.pass.seen ≡ planner.answered
+  pub issued : planner.issued.items ≡ issues quanta_of planner.pass.seen
 
--- the history has one entry more, with this reply of the desk machine; the workers took what it issued before
-pub record HasEntered (board : TableId) (settings : System) (reply : Reply) (crew : Crew) : Type 0 where
-  pub before : List (ℕ × Entry)
-  pub entry : ℕ × Entry
-  pub seen : crew.planner.seen ≡ before ++ entry ∷ []
-  pub reply_is : entry.1.reply ≡ reply
-  pub planner : crew.planner.board ≡ board
-  pub history : IsHistory settings crew.planner.seen
-  pub answered : length crew.planner.seen ≡ crew.answered
-  pub taken : crew.taken.items ≡ issues quanta_of before
-  pub workers : AreAbreast board settings.processors before crew.workers.items
+-- the planner gave what all lines ask for, and a worker was let in with each quantum that was issued
+pub record HasGiven (lets_in : Worker → Quantum → Type 0) (board : TableId) (settings : System) (lines : LinesTold) (planner : Planner) : Type 0 where
+  pub step : IsInStep board settings planner
+  pub whole : lines.fault ≡ None
+  pub commands : commands_given planner ≡ commands_in lines.lines
+  pub arrived : All (Arrived lets_in) planner.issued.items
 
 -- the snapshot shows what the planner's history makes of a desk with these settings
-pub record ShowsPlan (settings : System) (crew : Crew) (seen : Seen) : Type 0 where
-  pub is_legal : IsLegal settings (entries_of crew.planner.seen)
-  pub shown : seen ≡ seen_in (length (entries_of crew.planner.seen)) (last_state settings (entries_of crew.planner.seen))
+pub record ShowsPlan (settings : System) (planner : Planner) (seen : Seen) : Type 0 where
+  pub is_legal : IsLegal settings (entries_of planner.pass.seen)
+  pub shown : seen ≡ seen_in (length (entries_of planner.pass.seen)) (last_state settings (entries_of planner.pass.seen))

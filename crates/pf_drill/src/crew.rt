@@ -1,285 +1,233 @@
-ghost use Rattle.std.specs.Prelude.{◌≡◌, ℕ, ◌+◌, ◌<◌, ◌++◌, ◌∷◌, [], length, map, slice_index_or, is_some, All, IfOk, IfErr, OnOk};
+ghost use Rattle.std.specs.Prelude.{◌≡◌, ◌<◌, ℕ, [], All, IfOk, IfErr, IsTrue, OnOk, length, slice_index_or, vec_len};
 ghost use Rattle.std.specs.List.{list_any};
-ghost use mathlib.Core.List.{IsPrefix};
-ghost use Rattle.pf_board.specs.Passes.{new_passes};
-ghost use Rattle.pf_place.specs.Occupancy.{sitter};
-ghost use Rattle.pf_scenario.specs.Edit.{IsScenario};
-ghost use Rattle.pf_scenario.specs.Scenario.{opening_plan};
-ghost use Rattle.pf_desk.specs.declared.command.Command.TheVariants.{Step};
-ghost use Rattle.pf_desk.specs.declared.reply.Reply.TheVariants.{Stepped};
-ghost use Rattle.pf_drill.specs.Drilled.{IsHalt};
-ghost use Rattle.pf_drill.specs.Gates.{Arrived, Arrives, SomeArrived};
-ghost use Rattle.pf_drill.specs.Rounds.{GoesOn, HasEntered, IsInStep, Works, commands_given, got_by, new_worker};
+ghost use Rattle.pf_drill.specs.Drilled.{IsHalt, Stops};
+ghost use Rattle.pf_drill.specs.Gates.{HasTaken, IsToldOf, SomeArrived};
+ghost use Rattle.pf_drill.specs.Rounds.{AreOfBoard, HasGiven, IsInStep, commands_given};
+ghost use Rattle.pf_script.specs.Asked.{lines_asked};
 
+use crate::at_gate::AtGate;
 use crate::gate::Gate;
+use crate::lines::take_lines;
+use crate::planner::Planner;
+use crate::rounds::Rounds;
+use crate::shift::Shift;
 use crate::worker::Worker;
+use csv::ByteRecord;
 use pf_board::quantum::Quantum;
-use pf_desk::command::Command;
-use pf_desk::reply::Reply;
 use pf_fault::fault::Fault;
-use pf_place::row::Row;
+use pf_script::line_reader::LineReader;
 use pf_share::calls::DeskPass;
-use pf_share::done::Done;
 use pf_share::locked::Locked;
 use pf_share::naming::Naming;
 use pf_share::shared::Shared;
-use pf_share::step_refusal::StepRefusal;
 use std::alloc::{AllocError, Global};
 use std::sync::Wait;
-use std::thread::{Threads, for_each_mut, yield_now};
+use std::thread::{PromisedHandle, Scope, Threads, join_promised, scope, scope_env};
 
-/// The passes of a shared desk: the planner's, and for each processor a worker's, with what the workers took.
-#[derive(Drop)]
-pub struct Crew {
-    pub planner: DeskPass,
-    pub workers: Vec<Worker>,
-    /// How many commands were answered: all entries of the history are the planner's.
-    pub answered: u64,
-    /// What the workers took, by slot, then by processor.
-    pub taken: Vec<Quantum>,
-}
+/// A worker's thread.
+type Hired<'s, G> = PromisedHandle<Shift, AtGate<'s, G>>;
 
-impl Crew {
-    /// Does what a command asks for. After a step each worker takes the quantum of its processor, in a thread of its own.
-    ///
-    /// # Errors
-    ///
-    /// `GateShut` where a gate was shut to a worker, once all are back; `NoMemory` where memory is refused; `NoReader` where
-    /// the history has other entries.
-    pub fn answer<
-        N: Naming + Send + Sync,
-        H: Wait + Drop + Send,
-        R: Threads + Wait + Sync,
-        G: Gate + Sync,
-    >(
-        &mut self,
-        rt: &R,
-        shared: &Shared<N, Locked<N, H>>,
-        gate: &G,
-        command: Command,
-    ) -> Result<(), Fault>
-        requires scenario { IsScenario (opening_plan N.board.terms) }
-        requires crew { IsInStep N.board.id N.board.terms self.old }
-        requires arrived { All (Arrived (G.lets_in gate.now)) self.old.taken.items }
-        ensures crew { OnOk result (IsInStep N.board.id N.board.terms self.new) }
-        ensures commands { OnOk result (commands_given self.new ≡ commands_given self.old ++ command ∷ []) }
-        ensures arrived { OnOk result (All (Arrived (G.lets_in gate.now)) self.new.taken.items) }
-        ensures halt { IfErr result (IsHalt (SomeArrived (G.shuts_out gate.now))) }
-    {
-        let reply = match self.enter(rt, shared, command) {
-            Ok(reply) => reply,
-            Err(fault) => return Err(fault),
-        };
-        match &reply {
-            Reply::Stepped { row, .. } => self.share_out(rt, shared, gate, row),
-            _ => Ok(()),
-        }
-    }
-
-    /// Enters a command as the planner.
-    fn enter<N: Naming, H: Wait + Drop>(
-        &mut self,
-        rt: &impl Wait,
-        shared: &Shared<N, Locked<N, H>>,
-        command: Command,
-    ) -> Result<Reply, Fault>
-        requires { IsInStep N.board.id N.board.terms self.old }
-        ensures entered { IfOk result (λ reply. HasEntered N.board.id N.board.terms reply self.new) }
-        ensures commands { OnOk result (commands_given self.new ≡ commands_given self.old ++ command ∷ []) }
-        ensures taken { self.new.taken ≡ self.old.taken }
-        ensures halt { IfErr result (IsHalt ⊥) }
-    {
-        let Ok(done) = enter_as(rt, shared, &mut self.planner, command) else {
-            return Err(Fault::NoMemory);
-        };
-        if done.front - 1 != self.answered {
-            return Err(Fault::NoReader);
-        }
-        self.answered = done.front;
-        Ok(done.reply)
-    }
-
-    /// Lets the workers take the quanta of the row that was answered.
-    fn share_out<
-        N: Naming + Send + Sync,
-        H: Wait + Drop + Send,
-        R: Threads + Wait + Sync,
-        G: Gate + Sync,
-    >(&mut self, rt: &R, shared: &Shared<N, Locked<N, H>>, gate: &G, row: &Row) -> Result<(), Fault>
-        requires places { length row.now ≡ N.board.terms.processors }
-        requires entered { (slot : ℕ) × HasEntered N.board.id N.board.terms (Stepped slot row.now) self.old }
-        requires arrived { All (Arrived (G.lets_in gate.now)) self.old.taken.items }
-        ensures crew { OnOk result (IsInStep N.board.id N.board.terms self.new) }
-        ensures seen { OnOk result (self.new.planner.seen ≡ self.old.planner.seen) }
-        ensures arrived { OnOk result (All (Arrived (G.lets_in gate.now)) self.new.taken.items) }
-        ensures halt { IfErr result (IsHalt (SomeArrived (G.shuts_out gate.now))) }
-    {
-        work_at_once(rt, shared, gate, &mut self.workers, row);
-        if is_any_shut(&self.workers) {
-            return Err(Fault::GateShut);
-        }
-        meet(shared, &mut self.planner, &mut self.workers);
-        if shared.look(&mut self.planner) != self.answered {
-            return Err(Fault::NoReader);
-        }
-        let Ok(()) = collect(&mut self.taken, &self.workers) else {
-            return Err(Fault::NoMemory);
-        };
-        Ok(())
-    }
-}
-
-/// Enters a command as the planner; a step once no quantum lies untaken.
-fn enter_as<N: Naming, H: Wait + Drop>(
-    rt: &impl Wait,
-    shared: &Shared<N, Locked<N, H>>,
-    planner: &mut DeskPass,
-    command: Command,
-) -> Result<Done, AllocError>
-    requires { planner.old.board ≡ N.board.id }
-    ensures { IfOk result (λ done. GoesOn N.board.terms command planner.old done planner.new) }
-{
-    match command {
-        Command::Edit { change, strict } => shared.edit(rt, planner, change, strict),
-        Command::Step => step_as(rt, shared, planner),
-    }
-}
-
-/// Takes the next slot as the planner, once no quantum lies untaken.
-fn step_as<N: Naming, H: Wait + Drop>(
-    rt: &impl Wait,
-    shared: &Shared<N, Locked<N, H>>,
-    planner: &mut DeskPass,
-) -> Result<Done, AllocError>
-    requires { planner.old.board ≡ N.board.id }
-    ensures { IfOk result (λ done. GoesOn N.board.terms Step planner.old done planner.new) }
-{
-    for _ in rt.forever() {
-        match shared.step(rt, planner) {
-            Ok(done) => return Ok(done),
-            Err(StepRefusal::NoMemory) => return Err(AllocError),
-            Err(StepRefusal::Pending { .. }) => yield_now(),
-        }
-    }
-    unreachable!()
-}
-
-/// Lets each worker work, in a thread of its own: where the row has a pick on its processor, until it has that quantum.
-fn work_at_once<
+/// Does what the lines ask for, while workers with these passes stay, and gives the planner back once none does.
+///
+/// # Errors
+///
+/// `BadRecord` at the first record that is none of the script's. `GateShut` where the gate was shut to a worker. `NoReader` where
+/// the history has other entries. `NoMemory` where memory or a thread is refused.
+pub(crate) fn drill_staffed<
+    'a,
     N: Naming + Send + Sync,
     H: Wait + Drop + Send,
     R: Threads + Wait + Sync,
     G: Gate + Sync,
->(rt: &R, shared: &Shared<N, Locked<N, H>>, gate: &G, workers: &mut [Worker], row: &Row)
-    requires { (k : ℕ) (d : _) → k < length workers.old → (slice_index_or workers.old k d).pass.board ≡ N.board.id }
-    ensures works { (k : ℕ) (d : _) → k < length workers.old
-        → Works (is_some (sitter row.now (slice_index_or workers.old k d).pass.me)) (slice_index_or workers.old k d) (slice_index_or workers.new k d) }
-    ensures arrives { (k : ℕ) (d : _) → k < length workers.old → Arrives (G.lets_in gate.now) (G.shuts_out gate.now) (slice_index_or workers.new k d) }
+>(
+    rt: &'a R,
+    alloc: Global,
+    shared: &'a Shared<N, Locked<N, H>>,
+    gate: &'a G,
+    rounds: &'a Rounds,
+    passes: Vec<DeskPass>,
+    planner: Planner,
+    lines: LineReader<'a>,
+    row: ByteRecord,
+) -> Result<Planner, Fault>
+    requires passes { AreOfBoard N.board.id passes.items }
+    requires step { IsInStep N.board.id N.board.terms planner }
+    requires given { commands_given planner ≡ [] }
+    ensures given { IfOk result (λ planner. HasGiven (G.lets_in gate.now) N.board.id N.board.terms lines.entry planner) }
+    ensures stopped { IfErr result (Stops (SomeArrived (G.shuts_out gate.now)) (lines_asked N.board.terms lines.entry)) }
 {
-    let threads = workers.len().max(1);
-    for_each_mut(
+    scope(
+        scope_env(),
         rt,
-        workers,
-        threads,
-        &|_, worker: &mut Worker|
-            requires { worker.now.pass.board ≡ N.board.id }
-            ensures works { Works (is_some (sitter row.entry.now worker.entry.now.pass.me)) worker.entry.now worker.exit.now }
-            ensures arrives { Arrives (G.lets_in gate.entry.now) (G.shuts_out gate.entry.now) worker.exit.now }
-        { work(rt, shared, gate, worker, row) },
-    );
+        |scope| -> Result<Planner, Fault>
+            requires { AreOfBoard N.board.id passes.items × IsInStep N.board.id N.board.terms planner × (commands_given planner ≡ []) }
+            ensures given { IfOk result (λ planner. HasGiven (G.lets_in gate.entry.now) N.board.id N.board.terms lines.entry planner) }
+            ensures stopped { IfErr result (Stops (SomeArrived (G.shuts_out gate.entry.now)) (lines_asked N.board.terms lines.entry)) }
+        {
+            drill_in(
+                scope, rt, alloc, shared, gate, rounds, passes, planner, lines, row,
+            )
+        },
+    )
 }
 
-/// Lets a worker work: where the row has a pick on its processor, until it has that quantum.
-fn work<N: Naming, H: Wait + Drop, G: Gate>(
-    rt: &impl Wait,
-    shared: &Shared<N, Locked<N, H>>,
-    gate: &G,
-    worker: &mut Worker,
-    row: &Row,
-)
-    requires { worker.old.pass.board ≡ N.board.id }
-    ensures works { Works (is_some (sitter row.now worker.old.pass.me)) worker.old worker.new }
-    ensures arrives { Arrives (G.lets_in gate.now) (G.shuts_out gate.now) worker.new }
+/// The same, with a scope for the workers' threads.
+fn drill_in<
+    's,
+    E,
+    N: Naming + Send + Sync,
+    H: Wait + Drop + Send,
+    R: Threads + Wait + Sync,
+    G: Gate + Sync,
+>(
+    scope: &'s Scope<'s, E>,
+    rt: &'s R,
+    alloc: Global,
+    shared: &'s Shared<N, Locked<N, H>>,
+    gate: &'s G,
+    rounds: &'s Rounds,
+    passes: Vec<DeskPass>,
+    mut planner: Planner,
+    lines: LineReader,
+    row: ByteRecord,
+) -> Result<Planner, Fault>
+    requires passes { AreOfBoard N.board.id passes.items }
+    requires step { IsInStep N.board.id N.board.terms planner }
+    requires given { commands_given planner ≡ [] }
+    ensures given { IfOk result (λ planner. HasGiven (G.lets_in gate.now) N.board.id N.board.terms lines.entry planner) }
+    ensures stopped { IfErr result (Stops (SomeArrived (G.shuts_out gate.now)) (lines_asked N.board.terms lines.entry)) }
 {
-    let is_wanted = row.get(worker.pass.me()).is_some();
-    worker.work(rt, shared, gate, is_wanted);
-}
-
-/// Whether the gate was shut to one of these workers.
-fn is_any_shut(workers: &[Worker]) -> bool
-    ensures { result ≡ list_any (λ w. w.is_shut) workers.now }
-{
-    workers.iter().any(|worker| worker.is_shut)
-}
-
-/// From now on the planner has seen all that a worker has.
-fn meet<N: Naming, L: Drop>(shared: &Shared<N, L>, planner: &mut DeskPass, workers: &mut [Worker])
-    requires planner { planner.old.board ≡ N.board.id }
-    requires workers { (k : ℕ) (d : _) → k < length workers.old → (slice_index_or workers.old k d).pass.board ≡ N.board.id }
-    ensures workers { workers.new ≡ workers.old }
-    ensures planner { planner.new ≡ record planner.old { seen = planner.new.seen } }
-    ensures grew { IsPrefix planner.old.seen planner.new.seen }
-    ensures seen { (k : ℕ) (d : _) → k < length workers.old → IsPrefix (slice_index_or workers.old k d).pass.seen planner.new.seen }
-{
-    for worker in workers.iter_mut() {
-        shared.meet(&mut worker.pass, planner);
+    let Ok(workers) = hire(scope, rt, alloc, shared, gate, rounds, passes) else {
+        rounds.end();
+        return Err(Fault::NoMemory);
+    };
+    let done = take_lines(rt, shared, rounds, &mut planner, lines, row);
+    rounds.end();
+    let Ok(shifts) = join_promised(rt, workers) else {
+        return Err(Fault::NoMemory);
+    };
+    if is_any_shut(&shifts) {
+        return Err(Fault::GateShut);
+    }
+    match done {
+        Ok(()) => (),
+        Err(fault) => return Err(fault),
+    }
+    match check_taken(alloc, &planner.issued, &shifts) {
+        Ok(()) => Ok(planner),
+        Err(fault) => Err(fault),
     }
 }
 
-/// Puts what each worker took last behind what was taken.
+/// Starts a worker for each pass, in a thread of its own.
 ///
 /// # Errors
 ///
-/// Where memory is refused.
-fn collect(taken: &mut Vec<Quantum>, workers: &[Worker]) -> Result<(), AllocError>
-    ensures { OnOk result (taken.new.items ≡ taken.old.items ++ got_by workers.now) }
+/// Where memory or a thread is refused; the workers that were started stay.
+fn hire<
+    's,
+    E,
+    N: Naming + Send + Sync,
+    H: Wait + Drop + Send,
+    R: Threads + Wait + Sync,
+    G: Gate + Sync,
+>(
+    scope: &'s Scope<'s, E>,
+    rt: &'s R,
+    alloc: Global,
+    shared: &'s Shared<N, Locked<N, H>>,
+    gate: &'s G,
+    rounds: &'s Rounds,
+    passes: Vec<DeskPass>,
+) -> Result<Vec<Hired<'s, G>>, AllocError>
+    requires { AreOfBoard N.board.id passes.items }
+    ensures { IfOk result (λ hired. (k : ℕ) (d : _) → k < vec_len hired → (slice_index_or hired.items k d).promise.gate.now ≡ gate.now) }
 {
-    for worker in workers {
-        if let Some(quantum) = worker.got {
-            taken.push(quantum)?;
+    let mut hired = Vec::new(alloc);
+    hired.reserve(passes.len())?;
+    for pass in passes {
+        hired.push(start(scope, rt, alloc, shared, gate, rounds, pass)?)?;
+    }
+    Ok(hired)
+}
+
+/// Starts the worker of a pass.
+///
+/// # Errors
+///
+/// Where a thread is refused.
+fn start<
+    's,
+    E,
+    N: Naming + Send + Sync,
+    H: Wait + Drop + Send,
+    R: Threads + Wait + Sync,
+    G: Gate + Sync,
+>(
+    scope: &'s Scope<'s, E>,
+    rt: &'s R,
+    alloc: Global,
+    shared: &'s Shared<N, Locked<N, H>>,
+    gate: &'s G,
+    rounds: &'s Rounds,
+    pass: DeskPass,
+) -> Result<Hired<'s, G>, AllocError>
+    requires { pass.board ≡ N.board.id }
+    ensures { IfOk result (λ hired. hired.promise.gate.now ≡ gate.now) }
+{
+    let stay = move || -> Shift
+        requires { pass.board ≡ N.board.id }
+        ensures { IsToldOf (G.lets_in gate.entry.now) (G.shuts_out gate.entry.now) result }
+    { Worker::new(pass).stay(rt, alloc, shared, gate, rounds) };
+    Ok(scope.spawn_with(AtGate { gate }, stay)?)
+}
+
+/// Whether the gate was shut to one of these workers.
+fn is_any_shut(shifts: &[Shift]) -> bool
+    ensures { result ≡ list_any (λ s. s.is_shut) shifts.now }
+{
+    shifts.iter().any(|shift| shift.is_shut)
+}
+
+/// Whether the workers took all that was issued, each the quanta of its processor in their order.
+///
+/// # Errors
+///
+/// `NoReader` where one took another quantum, and `NoMemory`.
+fn check_taken(alloc: Global, issued: &[Quantum], shifts: &[Shift]) -> Result<(), Fault>
+    ensures taken { OnOk result (All (HasTaken shifts.now) issued.now) }
+    ensures halt { IfErr result (IsHalt ⊥) }
+{
+    let Ok(mut counts) = Vec::from_elem(alloc, 0usize, shifts.len()) else {
+        return Err(Fault::NoMemory);
+    };
+    for quantum in issued {
+        if !is_next(quantum, shifts, &mut counts) {
+            return Err(Fault::NoReader);
         }
     }
     Ok(())
 }
 
-/// The crew of a desk that was just opened, whose passes these are: a worker for each processor, and last the planner.
-///
-/// # Errors
-///
-/// Where memory is refused.
-pub fn crew_of<N: Naming>(alloc: Global, mut passes: Vec<DeskPass>) -> Result<Crew, AllocError>
-    requires { passes.items ≡ new_passes N.board.id N.board.terms (N.board.terms.processors + 1) }
-    ensures crew { IfOk result (λ crew. IsInStep N.board.id N.board.terms crew) }
-    ensures given { IfOk result (λ crew. commands_given crew ≡ []) }
-    ensures taken { IfOk result (λ crew. crew.taken.items ≡ []) }
+/// Whether the quantum is the next that its processor's worker took, of whose quanta so many were counted.
+fn is_next(quantum: &Quantum, shifts: &[Shift], counts: &mut [usize]) -> bool
+    ensures { IsTrue result → HasTaken shifts.now quantum.now }
 {
-    let Some(planner) = passes.pop() else {
-        return Err(AllocError);
-    };
-    let Ok(workers) = hire(alloc, passes) else {
-        return Err(AllocError);
-    };
-    Ok(Crew {
-        planner,
-        workers,
-        answered: 0,
-        taken: Vec::new(alloc),
-    })
+    let worker = quantum.processor as usize;
+    if worker >= shifts.len() || worker >= counts.len() {
+        return false;
+    }
+    let count = counts[worker];
+    if !stands_at(&shifts[worker].taken, count, quantum) {
+        return false;
+    }
+    counts[worker] = count + 1;
+    true
 }
 
-/// A worker for each pass.
-///
-/// # Errors
-///
-/// Where memory is refused.
-fn hire(alloc: Global, passes: Vec<DeskPass>) -> Result<Vec<Worker>, AllocError>
-    ensures { IfOk result (λ workers. workers.items ≡ map new_worker passes.items) }
+/// Whether the quantum stands at this place.
+fn stands_at(taken: &[Quantum], at: usize, quantum: &Quantum) -> bool
+    ensures { IsTrue result → (at < length taken.now) × (slice_index_or taken.now at quantum.now ≡ quantum.now) }
 {
-    let mut workers = Vec::new(alloc);
-    for pass in passes {
-        let Ok(()) = workers.push(Worker::new(pass)) else {
-            return Err(AllocError);
-        };
-    }
-    Ok(workers)
+    at < taken.len() && taken[at] == *quantum
 }

@@ -2,10 +2,14 @@
 //! writes is the schedule of the script, and the quanta of its steps, each of which the worker of its processor took.
 #![tactic(auto)]
 
-pub mod crew;
+mod at_gate;
+mod crew;
 pub mod drill;
 pub mod gate;
 mod lines;
 mod output;
+pub mod planner;
+mod rounds;
+pub mod shift;
 pub mod taken;
 pub mod worker;

@@ -1,19 +1,19 @@
-ghost use Rattle.std.specs.Prelude.{◌≡◌, ◌+◌, ◌++◌, ◌∷◌, None, replicate, All, IfOk, IfErr, OnOk};
+ghost use Rattle.std.specs.Prelude.{◌≡◌, ◌+◌, ◌++◌, ◌∷◌, None, replicate, IfOk, IfErr, OnOk};
 ghost use Rattle.std.specs.Arc.{arc_value};
 ghost use Rattle.pf_board.specs.Passes.{new_passes};
 ghost use Rattle.pf_desk.specs.declared.command.Command.TheVariants.{Step};
 ghost use Rattle.pf_drill.specs.Drilled.{Drills, IsDrill, IsHalt, Stops, seen_in};
-ghost use Rattle.pf_drill.specs.Gates.{Arrived, SomeArrived};
+ghost use Rattle.pf_drill.specs.Gates.{SomeArrived};
 ghost use Rattle.pf_drill.specs.Rounds.{IsInStep, ShowsPlan, commands_given};
-ghost use Rattle.pf_scenario.specs.Edit.{IsScenario};
-ghost use Rattle.pf_scenario.specs.Scenario.{opening_plan};
 ghost use Rattle.pf_script.specs.Asked.{commands_in, commands_of, lines_asked};
 ghost use Rattle.pf_share.specs.Locked.{origin_of};
 ghost use Rattle.pf_share.specs.Opening.{new_viewers};
 
-use crate::crew::{Crew, crew_of};
+use crate::crew::drill_staffed;
 use crate::gate::Gate;
 use crate::output::drill_text;
+use crate::planner::Planner;
+use crate::rounds::Rounds;
 use csv::ByteRecord;
 use pf_desk::command::Command;
 use pf_desk::snapshot::Snapshot;
@@ -48,26 +48,29 @@ pub(crate) fn drill_lines<
     requires name { (blank.board ≡ N.board) × (blank.book ≡ N.book) }
     requires passes { blank.passes ≡ new_passes N.board.id N.board.terms (N.board.terms.processors + 1) }
     requires viewers { blank.viewers ≡ new_viewers (origin_of N.board N.book) 1 }
-    requires scenario { IsScenario (opening_plan N.board.terms) }
     ensures drilled { IfOk result (λ text. Drills (G.lets_in gate.now) (lines_asked N.board.terms lines.entry) text.items) }
     ensures stopped { IfErr result (Stops (SomeArrived (G.shuts_out gate.now)) (lines_asked N.board.terms lines.entry)) }
 {
     let Opened {
         shared,
-        passes,
+        mut passes,
         mut viewers,
     } = blank.start::<N>();
     let Some(mut viewer) = viewers.pop() else {
         return Err(Fault::NoReader);
     };
-    let Ok(mut crew) = crew_of::<N>(alloc, passes) else {
-        return Err(Fault::NoMemory);
+    let Some(pass) = passes.pop() else {
+        return Err(Fault::NoReader);
     };
-    match take_lines(rt, &shared, gate, &mut crew, lines, row) {
-        Ok(()) => (),
-        Err(fault) => return Err(fault),
+    let planner = Planner::new::<N>(alloc, pass);
+    let rounds = Rounds::new(passes.len() as u64);
+    let staffed = drill_staffed(
+        rt, alloc, &shared, gate, &rounds, passes, planner, lines, row,
+    );
+    match staffed {
+        Ok(planner) => finish(rt, alloc, &shared, planner, &mut viewer),
+        Err(fault) => Err(fault),
     }
-    finish(rt, alloc, &shared, crew, &mut viewer)
 }
 
 /// The text of the drill, once all lines were taken.
@@ -79,49 +82,41 @@ fn finish<N: Naming, H: Wait + Drop>(
     rt: &impl Wait,
     alloc: Global,
     shared: &Shared<N, Locked<N, H>>,
-    mut crew: Crew,
+    mut planner: Planner,
     viewer: &mut Viewer,
 ) -> Result<Vec<u8>, Fault>
-    requires crew { IsInStep N.board.id N.board.terms crew }
+    requires step { IsInStep N.board.id N.board.terms planner }
     requires viewer { viewer.old.origin ≡ origin_of N.board N.book }
-    ensures drilled { IfOk result (λ text. IsDrill N.board.terms (commands_given crew) crew.taken.items text.items) }
+    ensures drilled { IfOk result (λ text. IsDrill N.board.terms (commands_given planner) planner.issued.items text.items) }
     ensures halt { IfErr result (IsHalt ⊥) }
 {
-    let snapshot = match last_snapshot(rt, shared, &mut crew, viewer) {
+    let snapshot = match last_snapshot(rt, shared, &mut planner, viewer) {
         Ok(snapshot) => snapshot,
         Err(fault) => return Err(fault),
     };
-    match drill_text(alloc, &snapshot, crew.taken) {
+    match drill_text(alloc, &snapshot, planner.issued) {
         Ok(text) => Ok(text),
         Err(_) => Err(Fault::NoMemory),
     }
 }
 
 /// Does what the lines ask for, one after another.
-fn take_lines<
-    N: Naming + Send + Sync,
-    H: Wait + Drop + Send,
-    R: Threads + Wait + Sync,
-    G: Gate + Sync,
->(
-    rt: &R,
+pub(crate) fn take_lines<N: Naming, H: Wait + Drop>(
+    rt: &impl Wait,
     shared: &Shared<N, Locked<N, H>>,
-    gate: &G,
-    crew: &mut Crew,
+    rounds: &Rounds,
+    planner: &mut Planner,
     mut lines: LineReader,
     mut row: ByteRecord,
 ) -> Result<(), Fault>
-    requires scenario { IsScenario (opening_plan N.board.terms) }
-    requires crew { IsInStep N.board.id N.board.terms crew.old }
-    requires arrived { All (Arrived (G.lets_in gate.now)) crew.old.taken.items }
-    ensures crew { OnOk result (IsInStep N.board.id N.board.terms crew.new) }
-    ensures arrived { OnOk result (All (Arrived (G.lets_in gate.now)) crew.new.taken.items) }
+    requires step { IsInStep N.board.id N.board.terms planner.old }
+    ensures step { OnOk result (IsInStep N.board.id N.board.terms planner.new) }
     ensures whole { OnOk result (lines.entry.fault ≡ None) }
-    ensures commands { OnOk result (commands_given crew.new ≡ commands_given crew.old ++ commands_in lines.entry.lines) }
-    ensures stopped { IfErr result (Stops (SomeArrived (G.shuts_out gate.now)) (lines_asked N.board.terms lines.entry)) }
+    ensures commands { OnOk result (commands_given planner.new ≡ commands_given planner.old ++ commands_in lines.entry.lines) }
+    ensures stopped { IfErr result (Stops ⊥ (lines_asked N.board.terms lines.entry)) }
 {
     'records: while let Some(line) = lines.next(&mut row)? {
-        match take_line(rt, shared, gate, crew, line.asks) {
+        match take_line(rt, shared, rounds, planner, line.asks) {
             Ok(()) => (),
             Err(fault) => return Err(fault),
         }
@@ -130,57 +125,41 @@ fn take_lines<
 }
 
 /// Does what a line asks for.
-fn take_line<
-    N: Naming + Send + Sync,
-    H: Wait + Drop + Send,
-    R: Threads + Wait + Sync,
-    G: Gate + Sync,
->(
-    rt: &R,
+fn take_line<N: Naming, H: Wait + Drop>(
+    rt: &impl Wait,
     shared: &Shared<N, Locked<N, H>>,
-    gate: &G,
-    crew: &mut Crew,
+    rounds: &Rounds,
+    planner: &mut Planner,
     line: Line,
 ) -> Result<(), Fault>
-    requires scenario { IsScenario (opening_plan N.board.terms) }
-    requires crew { IsInStep N.board.id N.board.terms crew.old }
-    requires arrived { All (Arrived (G.lets_in gate.now)) crew.old.taken.items }
-    ensures crew { OnOk result (IsInStep N.board.id N.board.terms crew.new) }
-    ensures arrived { OnOk result (All (Arrived (G.lets_in gate.now)) crew.new.taken.items) }
-    ensures commands { OnOk result (commands_given crew.new ≡ commands_given crew.old ++ commands_of line) }
-    ensures halt { IfErr result (IsHalt (SomeArrived (G.shuts_out gate.now))) }
+    requires step { IsInStep N.board.id N.board.terms planner.old }
+    ensures step { OnOk result (IsInStep N.board.id N.board.terms planner.new) }
+    ensures commands { OnOk result (commands_given planner.new ≡ commands_given planner.old ++ commands_of line) }
+    ensures halt { IfErr result (IsHalt ⊥) }
 {
     match line {
         Line::Edit { change, strict } => {
-            crew.answer(rt, shared, gate, Command::Edit { change, strict })
+            planner.answer(rt, shared, rounds, Command::Edit { change, strict })
         }
-        Line::Steps(count) => take_steps(rt, shared, gate, crew, count),
+        Line::Steps(count) => take_steps(rt, shared, rounds, planner, count),
     }
 }
 
 /// Takes so many steps.
-fn take_steps<
-    N: Naming + Send + Sync,
-    H: Wait + Drop + Send,
-    R: Threads + Wait + Sync,
-    G: Gate + Sync,
->(
-    rt: &R,
+fn take_steps<N: Naming, H: Wait + Drop>(
+    rt: &impl Wait,
     shared: &Shared<N, Locked<N, H>>,
-    gate: &G,
-    crew: &mut Crew,
+    rounds: &Rounds,
+    planner: &mut Planner,
     count: u64,
 ) -> Result<(), Fault>
-    requires scenario { IsScenario (opening_plan N.board.terms) }
-    requires crew { IsInStep N.board.id N.board.terms crew.old }
-    requires arrived { All (Arrived (G.lets_in gate.now)) crew.old.taken.items }
-    ensures crew { OnOk result (IsInStep N.board.id N.board.terms crew.new) }
-    ensures arrived { OnOk result (All (Arrived (G.lets_in gate.now)) crew.new.taken.items) }
-    ensures commands { OnOk result (commands_given crew.new ≡ commands_given crew.old ++ replicate count Step) }
-    ensures halt { IfErr result (IsHalt (SomeArrived (G.shuts_out gate.now))) }
+    requires step { IsInStep N.board.id N.board.terms planner.old }
+    ensures step { OnOk result (IsInStep N.board.id N.board.terms planner.new) }
+    ensures commands { OnOk result (commands_given planner.new ≡ commands_given planner.old ++ replicate count Step) }
+    ensures halt { IfErr result (IsHalt ⊥) }
 {
     for _turn in 0..count {
-        match crew.answer(rt, shared, gate, Command::Step) {
+        match planner.answer(rt, shared, rounds, Command::Step) {
             Ok(()) => (),
             Err(fault) => return Err(fault),
         }
@@ -188,7 +167,7 @@ fn take_steps<
     Ok(())
 }
 
-/// The snapshot of the history, which is that of the crew's commands alone.
+/// The snapshot of the history, which is that of the planner's commands alone.
 ///
 /// # Errors
 ///
@@ -196,22 +175,22 @@ fn take_steps<
 fn last_snapshot<N: Naming, H: Wait + Drop>(
     rt: &impl Wait,
     shared: &Shared<N, Locked<N, H>>,
-    crew: &mut Crew,
+    planner: &mut Planner,
     viewer: &mut Viewer,
 ) -> Result<Arc<Snapshot>, Fault>
-    requires crew { IsInStep N.board.id N.board.terms crew.old }
+    requires step { IsInStep N.board.id N.board.terms planner.old }
     requires viewer { viewer.old.origin ≡ origin_of N.board N.book }
-    ensures crew { crew.new ≡ crew.old }
-    ensures shown { IfOk result (λ snapshot. ShowsPlan N.board.terms crew.old (arc_value snapshot)) }
+    ensures planner { planner.new ≡ planner.old }
+    ensures shown { IfOk result (λ snapshot. ShowsPlan N.board.terms planner.old (arc_value snapshot)) }
     ensures halt { IfErr result (IsHalt ⊥) }
 {
-    let Ok(()) = shared.tell(rt, &mut crew.planner, viewer) else {
+    let Ok(()) = shared.tell(rt, &mut planner.pass, viewer) else {
         return Err(Fault::NoReader);
     };
     let Ok(snapshot) = shared.read(viewer) else {
         return Err(Fault::NoReader);
     };
-    if snapshot.version() != crew.answered {
+    if snapshot.version() != planner.answered {
         return Err(Fault::NoReader);
     }
     Ok(snapshot)

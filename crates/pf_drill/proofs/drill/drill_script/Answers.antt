@@ -1,7 +1,5 @@
-use Rattle.std.proofs.Common.{◌≡◌, ◌+◌, ap, ap₂, ◌∙◌, sym, subst}
+use Rattle.std.proofs.Common.{◌≡◌, ◌+◌, ap, ap₂, ◌∙◌, sym}
 use Rattle.std.proofs.lemmas.Result.{err_from_is_err_and}
-use Rattle.pf_scenario.specs.Edit.{IsScenario}
-use Rattle.pf_scenario.specs.Scenario.{opening_plan}
 use Rattle.pf_scenario.specs.System.{System}
 use Rattle.pf_board.specs.Passes.{new_passes}
 use Rattle.pf_script.specs.Asked.{lines_asked}
@@ -20,11 +18,6 @@ drill_lines-requires-clause-passes g c κs within =
     let count : c.from-passes.result + 1 ≡ c.in-Ok.blank.board.terms.processors + 1 =
     ap (λ n. n + 1) (c.from-passes.ensures ∙ (c.processors.ensures.value ∙ ap (λ (s : System). s.processors) (sym e.settings))) in
     e.passes ∙ ap₂ (λ (s : System) n. new_passes c.in-Ok.blank.board.id s n) (sym e.settings) count
-
-pub drill_lines-requires-clause-scenario : goal.drill_lines-requires-clause-scenario
-drill_lines-requires-clause-scenario g c κs within =
-    let e = c.in-Ok.ensures in
-    subst (λ (s : System). IsScenario (opening_plan s)) (sym e.settings) (subst IsScenario (ap (λ st. st.plan) e.desk.1) e.desk.0.of_run.scenario)
 
 pub returns-clause-drilled : goal.returns-clause-drilled
 returns-clause-drilled g c =

@@ -1,16 +1,13 @@
 use Rattle.std.proofs.Common.{◌≡◌, ◌++◌, length}
-use Rattle.std.specs.Prelude.{All}
 use Rattle.pf_script.specs.Asked.{commands_in}
-use Rattle.pf_drill.specs.Gates.{Arrived}
 use Rattle.pf_drill.specs.Rounds.{IsInStep, commands_given}
 use Rattle.pf_drill.proofs.lines.take_lines.Given as goal
 
 -- the commands given and those of the lines left are those of all lines, which end as those left do
 abbrev pub invariant-records : goal.invariant-records
 invariant-records g l = record {
-  crew : IsInStep g.N.Naming.board.id g.N.Naming.board.terms l.crew;
-  arrived : All (Arrived (g.G.Gate.lets_in l.fn.gate)) l.crew.taken.items;
-  commands : commands_given l.crew ++ commands_in l.lines.lines ≡ commands_given l.fn.crew ++ commands_in l.fn.lines.lines;
+  step : IsInStep g.N.Naming.board.id g.N.Naming.board.terms l.planner;
+  commands : commands_given l.planner ++ commands_in l.lines.lines ≡ commands_given l.fn.planner ++ commands_in l.fn.lines.lines;
   fault : l.lines.fault ≡ l.fn.lines.fault;
 }
 

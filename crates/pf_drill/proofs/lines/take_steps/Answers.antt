@@ -6,10 +6,9 @@ use Rattle.pf_drill.proofs.lines.take_steps.Goals as goal
 
 pub loop-turn-preserved : goal.loop-turn-preserved
 loop-turn-preserved g c = record {
-  crew = c.in-Ok.ensures.crew;
-  arrived = c.in-Ok.ensures.arrived;
+  step = c.in-Ok.ensures.step;
   commands = c.in-Ok.ensures.commands
       ∙ (ap (λ l. l ++ Step ∷ []) c.loop-turn.invariant.commands
-      ∙ (append_assoc (commands_given c.args.crew.now) (replicate c.loop-turn._turn Step) (Step ∷ [])
-      ∙ ap (λ l. commands_given c.args.crew.now ++ l) (replicate_more c.loop-turn._turn Step)));
+      ∙ (append_assoc (commands_given c.args.planner.now) (replicate c.loop-turn._turn Step) (Step ∷ [])
+      ∙ ap (λ l. commands_given c.args.planner.now ++ l) (replicate_more c.loop-turn._turn Step)));
 }

@@ -1,8 +1,0 @@
-use denote.Param.Send.{sendable, param_sync}
-use Rattle.std.proofs.Crossing.{crosses}
-use Rattle.pf_place.proofs.row.Row.TheSendSync as row
-use Rattle.pf_share.proofs.Crossing.{shared_sync}
-use Rattle.pf_drill.proofs.crew.work_at_once.Goals as goal
-
-pub for_each_mut-requires-sync-F : goal.for_each_mut-requires-sync-F
-for_each_mut-requires-sync-F g c κs within = search (param_sync, sendable, crosses, shared_sync, row.the_sync) depth 20
