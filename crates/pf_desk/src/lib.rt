@@ -20,7 +20,6 @@ mod scenario_run;
 mod settled;
 mod settlements;
 mod small_edit;
-mod small_event;
 pub mod snapshot;
 
 pub use pf_timeline::timeline;

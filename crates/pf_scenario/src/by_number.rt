@@ -1,18 +1,18 @@
-ghost use Rattle.std.specs.Prelude.{◌≡◌, ◌<◌, true, [], ◌∷◌, ◌++◌, length, All, AllPairs, IfOk, OnOk, OnErr};
+ghost use Rattle.std.specs.Prelude.{◌≡◌, ◌<◌, true, [], ◌∷◌, ◌++◌, length, All, AllPairs, OnOk, OnErr};
+ghost use Rattle.std.specs.Option.{option_map};
 ghost use Rattle.pf_scenario.specs.Scenario.{with_number, is_held, events_without};
 ghost use Rattle.pf_scenario.specs.Index.{event_at, with_event};
-ghost use Rattle.pf_scenario.specs.Cards.{AreRising, AreBelow, AreBehind, IsCut, IsPlaceOf, IsSmall, listed};
+ghost use Rattle.pf_scenario.specs.Cards.{AreRising, IsCardAt, IsPlaceOf, IsSmall, listed};
 
 use crate::card::Card;
 use crate::event::{Event, Numbered};
 use crate::events::Events;
-use crate::guide::Guide;
+use crate::found::Found;
 use std::alloc::{AllocError, Global};
 use std::marker::Model;
 
-/// Events by number. It takes the memory of the events held, and of no more that are struck, and eight bytes for each 32 numbers
-/// that were given. A search looks at two cards where its guess is good, as it is while numbers rise, and at the logarithm of
-/// their number where it is not. A change costs as much in the mean.
+/// Events by number. It takes the memory of the events held, and of no more that are struck. A search looks at the logarithm of
+/// their number of cards, and at one where it knows the place. A change costs as much in the mean.
 #[derive(Debug, Drop)]
 pub struct ByNumber {
     /// In rising order of their numbers. No more than half of them are struck.
@@ -20,7 +20,6 @@ pub struct ByNumber {
 
     /// How many cards are not struck.
     held: usize,
-    guide: Guide,
 }
 
 impl Model for ByNumber {
@@ -35,63 +34,24 @@ impl Model for ByNumber {
     ghost invariant = { λ b. IsTable b.cards.items b.held };
 }
 
-/// Where the card of this number is, if there is one. The guess is tried first.
-fn place_of(cards: &[Card], guess: usize, id: u64) -> Option<usize>
+/// Where the card of this number is, if there is one. It is looked for at `first` before it is searched for.
+fn place_of(cards: &[Card], first: usize, id: u64) -> Option<usize>
     requires { AreRising cards.now }
     ensures { IsPlaceOf cards.now id result }
 {
-    if is_cut(cards, guess, id) {
-        return place_at(cards, guess, id);
+    if is_at(cards, first, id) {
+        return Some(first);
     }
     cards.binary_search_by_key(&id, |card| card.id()).ok()
 }
 
-/// Whether the cards before this place are below the number, and those from it on are not.
-fn is_cut(cards: &[Card], at: usize, id: u64) -> bool
-    requires { AreRising cards.now }
-    ensures { result ≡ true → IsCut cards.now id at }
-{
-    if !are_below(cards, at, id) {
-        return false;
-    }
-    are_behind(cards, at, id)
-}
-
-/// Whether the cards before this place are below the number.
-fn are_below(cards: &[Card], at: usize, id: u64) -> bool
-    requires { AreRising cards.now }
-    ensures { result ≡ true → AreBelow cards.now id at }
-{
-    if at == 0 {
-        return true;
-    }
-    match cards.get(at - 1) {
-        Some(card) => card.id() < id,
-        None => false,
-    }
-}
-
-/// Whether the cards from this place on are not below the number.
-fn are_behind(cards: &[Card], at: usize, id: u64) -> bool
-    requires { AreRising cards.now }
-    ensures { result ≡ true → AreBehind cards.now id at }
+/// Whether the card at this place is of this number.
+fn is_at(cards: &[Card], at: usize, id: u64) -> bool
+    ensures { result ≡ true → IsCardAt cards.now id at }
 {
     match cards.get(at) {
-        Some(card) => id <= card.id(),
-        None => true,
-    }
-}
-
-/// The place, where the card there is of this number.
-fn place_at(cards: &[Card], at: usize, id: u64) -> Option<usize>
-    requires rising { AreRising cards.now }
-    requires cut { IsCut cards.now id at }
-    ensures { IsPlaceOf cards.now id result }
-{
-    if cards.get(at)?.id() == id {
-        Some(at)
-    } else {
-        None
+        Some(card) => card.id() == id,
+        None => false,
     }
 }
 
@@ -104,15 +64,26 @@ fn truncate(cards: &mut Vec<Card>, id: u64)
     ensures below { All (λ card. card.id < id) cards.new.items }
 {
     // Numbers rise, so where the last card is below there is none.
-    if are_below(cards, cards.len(), id) {
+    if is_last_below(cards, id) {
         return;
     }
     let count = cards.partition_point(|card| card.id() < id);
     cards.truncate(count);
 }
 
+/// Whether the last card, if there is one, is below the number.
+fn is_last_below(cards: &[Card], id: u64) -> bool
+    requires { AreRising cards.now }
+    ensures { result ≡ true → All (λ card. card.id < id) cards.now }
+{
+    match cards.last() {
+        Some(card) => card.id() < id,
+        None => true,
+    }
+}
+
 /// Drops the struck cards where they are more than half, and gives their memory back.
-fn sweep(cards: &mut Vec<Card>, guide: &mut Guide, held: usize)
+fn sweep(cards: &mut Vec<Card>, held: usize)
     requires { AreRising cards.old.items }
     ensures same { listed cards.new.items ≡ listed cards.old.items }
     ensures rising { AreRising cards.new.items }
@@ -120,7 +91,6 @@ fn sweep(cards: &mut Vec<Card>, guide: &mut Guide, held: usize)
     if cards.len() / 2 > held {
         cards.retain(|card| !card.is_struck());
         cards.shrink_to_fit();
-        guide.renew(cards);
     }
 }
 
@@ -132,7 +102,6 @@ impl ByNumber {
         ByNumber {
             cards: Vec::new(alloc),
             held: 0,
-            guide: Guide::new(alloc),
         }
     }
 
@@ -144,12 +113,14 @@ impl ByNumber {
         self.held
     }
 
-    /// The event of this number, where it is held.
-    pub fn get(&self, id: u64) -> Option<Event>
-        ensures { result ≡ event_at self.now id }
+    /// The event of this number, where it is held, and where its card stands. It is looked for at `first` before it is searched
+    /// for.
+    pub fn find(&self, first: usize, id: u64) -> Option<Found>
+        ensures { option_map (λ f. f.event) result ≡ event_at self.now id }
     {
-        let at = place_of(&self.cards, self.guide.guess(id), id)?;
-        self.cards[at].event()
+        let at = place_of(&self.cards, first, id)?;
+        let event = self.cards[at].event()?;
+        Some(Found { event, at })
     }
 
     /// Holds an event whose number is above all others.
@@ -164,29 +135,28 @@ impl ByNumber {
         ensures err { OnErr result (self.new ≡ self.old) }
     {
         truncate(&mut self.cards, x.id);
-        self.guide.note(x.id, self.cards.len())?;
         self.cards.push(Card::of(x))?;
         self.held += 1;
         Ok(())
     }
 
-    /// Puts the event in place of the one of this number, which is held.
-    pub fn set(&mut self, id: u64, event: Event)
+    /// Puts the event in place of the one of this number, which is held and looked for at `first`.
+    pub fn set(&mut self, first: usize, id: u64, event: Event)
         requires held { is_held self.old id ≡ true }
         requires small { IsSmall (with_number id event) }
         ensures { self.new ≡ with_event id event self.old }
     {
-        let Some(at) = place_of(&self.cards, self.guide.guess(id), id) else {
+        let Some(at) = place_of(&self.cards, first, id) else {
             unreachable!()
         };
         self.cards[at] = Card::of(Numbered { id, event });
     }
 
-    /// Takes the event of this number out. It takes no memory.
-    pub fn take_out(&mut self, id: u64)
+    /// Takes the event of this number out, which is looked for at `first`. It takes no memory.
+    pub fn take_out(&mut self, first: usize, id: u64)
         ensures { self.new ≡ events_without id self.old }
     {
-        let Some(at) = place_of(&self.cards, self.guide.guess(id), id) else {
+        let Some(at) = place_of(&self.cards, first, id) else {
             return;
         };
         if self.cards[at].is_struck() {
@@ -194,7 +164,7 @@ impl ByNumber {
         }
         self.cards[at].strike();
         self.held -= 1;
-        sweep(&mut self.cards, &mut self.guide, self.held);
+        sweep(&mut self.cards, self.held);
     }
 
     /// The events.
@@ -203,21 +173,16 @@ impl ByNumber {
     {
         Events::of(&self.cards)
     }
+}
 
-    /// The same events.
-    ///
-    /// # Errors
-    ///
-    /// Where memory is refused.
-    pub fn copy(&self) -> Result<Self, AllocError>
-        ensures { IfOk result (λ b. b ≡ self.now) }
-    {
-        let cards = Vec::from_slice(*self.cards.allocator(), &self.cards)?;
-        let guide = self.guide.copy()?;
+impl Clone for ByNumber {
+    ghost is_clone = { λ b copy. copy ≡ b };
+
+    fn clone(&self) -> Result<Self, AllocError> {
+        let cards = self.cards.clone()?;
         Ok(ByNumber {
             cards,
             held: self.held,
-            guide,
         })
     }
 }

@@ -1,6 +1,6 @@
 use Rattle.std.proofs.Common.{refl, sym, ap, ◌∙◌, ◌≤◌, ℕ, min, arith}
 use Rattle.std.proofs.lemmas.Result.{IfOk-from_err}
-use Rattle.pf_desk.specs.Gathered.{least_slot}
+use Rattle.pf_scenario.specs.Scenario.{plan_after, number_of_change, slot_touched}
 use Rattle.pf_desk.proofs.Gathering.{batch_judged, judges_refused, judges_edited}
 use Rattle.pf_desk.proofs.batch.Batch.judge.Goals as goal
 
@@ -57,8 +57,10 @@ returns-in_err-push-2-clause-from c = λ _ _. IfOk-from_err _ _ c.from_residual-
 pub returns-clause-batch : goal.returns-clause-batch
 returns-clause-batch c = λ d is.
     batch_judged d _ _ c.args.change _ is
-    (judges_edited _ _ c.args.change c.in_ok-id.id refl c.in_ok-id.ensures.ok.1 c.in_ok-id.ensures.ok.0 (c.least_slot-from.ensures ∙ ap (least_slot c.args.self.now.from) c.first_slot.ensures)
-    c.in_ok-push-2.ensures.items (sym c.in_default.ensures.value) c.in_default.ensures.scenario)
+    (judges_edited _ _ c.args.change c.in_ok-id.id c.in-Ok.checked.first_slot refl (c.in_ok-id.ensures.ok.1 ∙ ap (plan_after c.args.self.now.scenario) c.in-Ok.ensures.ok.0)
+    (c.in_ok-id.ensures.ok.0 ∙ ap (number_of_change c.args.self.now.scenario) c.in-Ok.ensures.ok.0)
+    (ap (slot_touched c.args.self.now.scenario) (sym c.in-Ok.ensures.ok.0) ∙ c.in-Ok.ensures.ok.1.touched) (c.min-from.ensures ∙ ap (λ t. min c.args.self.now.from t) c.first_slot.ensures)
+    c.in_ok-push-2.ensures.items (sym c.in-Ok.ensures.value) c.in-Ok.ensures.scenario)
 
 pub returns-clause-caller : goal.returns-clause-caller
 returns-clause-caller c = refl
