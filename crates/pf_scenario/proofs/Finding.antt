@@ -14,7 +14,7 @@ use Rattle.std.proofs.lemmas.List.{length-take-le, length-drop, get_or-take, get
 use Rattle.std.proofs.lemmas.Bool.Decides.{nat_tests}
 use Rattle.std.proofs.lemmas.List.Sorted.{searchable_from_sorted}
 use Rattle.std.proofs.lemmas.Option.{get_or_from_slice_get, slice_get_within}
-use Rattle.pf_scenario.specs.Cards.{IsPlaceOf, AreRising}
+use Rattle.pf_scenario.specs.Cards.{IsPlaceOf, AreRising, AreBelow, AreBehind, IsCut}
 use Rattle.pf_scenario.specs.declared.card.Card.{Card}
 
 tied : (a b : ℕ) → nat_cmp a b ≡ Equal → a ≡ b
@@ -59,13 +59,37 @@ never_fall cards up i j d le low = elim (cases_lt i j) [
   | inr same ↦ let equal : i ≡ j = omega arith in subst (λ k. (get_or cards i d).id ≤ (get_or cards k d).id) equal (omega arith)
 ]
 
--- where the last of the cards is below a number, so are all
-pub below_last : (cards : List Card) (id : ℕ) (card : Card) → AreRising cards → slice_get cards (length cards - 1) ≡ Some card → card.id < id → All (λ c. c.id < id) cards
-below_last cards id card up here low = λ k d within.
-    let is = get_or_from_slice_get cards (length cards - 1) card d here in
-    let inside = slice_get_within cards (length cards - 1) card here in
-    let last : (get_or cards (length cards - 1) d).id < id = subst (λ c. c.id < id) (sym is) low in
-    elim (cases_lt k (length cards - 1)) [
-      | inl less ↦ let rises = up k (length cards - 1) d less inside in omega arith
-      | inr not ↦ let same : k ≡ length cards - 1 = omega arith in subst (λ n. (get_or cards n d).id < id) (sym same) last
+-- where one of the cards is below a number, so are those before it
+pub below_last : (cards : List Card) (id at : ℕ) (card : Card) → AreRising cards → slice_get cards (at - 1) ≡ Some card → card.id < id → AreBelow cards id at
+below_last cards id at card up here low = λ k d before within.
+    let is = get_or_from_slice_get cards (at - 1) card d here in
+    let inside = slice_get_within cards (at - 1) card here in
+    let last : (get_or cards (at - 1) d).id < id = subst (λ c. c.id < id) (sym is) low in
+    elim (cases_lt k (at - 1)) [
+      | inl less ↦ let rises = up k (at - 1) d less inside in omega arith
+      | inr not ↦ let same : k ≡ at - 1 = omega arith in subst (λ n. (get_or cards n d).id < id) (sym same) last
+    ]
+
+-- where one of the cards is not below a number, nor are those behind it
+pub behind_first : (cards : List Card) (id at : ℕ) (card : Card) → AreRising cards → slice_get cards at ≡ Some card → id ≤ card.id → AreBehind cards id at
+behind_first cards id at card up here high = λ k d from within.
+    let is = get_or_from_slice_get cards at card d here in
+    let first : id ≤ (get_or cards at d).id = subst (λ c. id ≤ c.id) (sym is) high in
+    elim (cases_lt at k) [
+      | inl less ↦ let rises = up at k d less within in omega arith
+      | inr not ↦ let same : k ≡ at = omega arith in subst (λ n. id ≤ (get_or cards n d).id) (sym same) first
+    ]
+
+-- where the cards cease to be below a number and the card is another one's, none is of the number
+pub absent_at_cut : (cards : List Card) (id at : ℕ) (card : Card) → AreRising cards → IsCut cards id at → slice_get cards at ≡ Some card → card.id ≢ id → All (λ c. c.id ≢ id) cards
+absent_at_cut cards id at card up cut here other = λ k d within e.
+    let is = get_or_from_slice_get cards at card d here in
+    let inside = slice_get_within cards at card here in
+    let first : (get_or cards at d).id ≢ id = subst (λ c. c.id ≢ id) (sym is) other in
+    elim (cases_lt k at) [
+      | inl before ↦ let low = cut.below k d before within in absurd (omega arith)
+      | inr from ↦ elim (cases_lt at k) [
+        | inl behind ↦ let rises = up at k d behind within in let high = cut.behind at d (omega arith) inside in absurd (omega arith)
+        | inr not ↦ let same : k ≡ at = omega arith in first (subst (λ n. (get_or cards n d).id ≡ id) same e)
+      ]
     ]

@@ -1,5 +1,5 @@
 -- What a scenario's representation is asked for at each change.
-use Rattle.std.proofs.Common.{◌≡◌, ℕ, ◌<◌, ◌≤◌, ◌%◌, ◌^◌, Option, Some, None, true, not, List, [], ◌∷◌, ◌++◌, find, refl, sym, ap, ◌∙◌, subst, arith, IfSome, inl, inr}
+use Rattle.std.proofs.Common.{◌≡◌, ℕ, ◌<◌, ◌≤◌, ◌%◌, ◌^◌, Option, Some, None, true, not, List, [], ◌∷◌, ◌++◌, refl, sym, ap, ◌∙◌, subst, arith, IfSome, inl, inr}
 use Rattle.std.specs.Prelude.{◌==◌, nat_le}
 use Rattle.std.specs.List.{All, AllPairs}
 use Rattle.std.specs.Option.{option_map, option_map_or}
@@ -19,7 +19,7 @@ use Rattle.pf_scenario.proofs.Scenarios.{or_else_none, unless_none, without_held
 use Rattle.pf_scenario.proofs.Indexing.{around_apart}
 use Rattle.pf_scenario.specs.System.{System, IsSystem, wide_horizon}
 use Rattle.pf_scenario.specs.Event.{slot_of, task_of}
-use Rattle.pf_scenario.specs.Scenario.{Plan, with_number, is_held, events_without, plan_after, held_slot}
+use Rattle.pf_scenario.specs.Scenario.{Plan, with_number, is_held, events_without, plan_after}
 use Rattle.pf_scenario.specs.Edit.{IsScenario, IsEvent, is_within, edit_fault, has_early, has_delay, has_count, bad_weight}
 use Rattle.pf_scenario.specs.Packed.{has_packed}
 use Rattle.pf_scenario.specs.declared.limits.TheConstants.{MOST_EARLY, LONGEST_DELAY}
@@ -187,13 +187,6 @@ held_some events id event h =
       | inl held ↦ held
       | inr none ↦ let nothing = sym (ap (λ o. option_map (λ x. x.event) o) (find_none (λ x. x.id == id) events none)) ∙ h in absurd (cc)
     ]
-
-pub found_slot : (events : List Numbered) (id : ℕ) (event : Event) → event_at events id ≡ Some event → held_slot events id ≡ Some (slot_of event)
-found_slot events id event h = by (find (λ x. x.id == id) events) h
-  where
-    by : (o : Option Numbered) → option_map (λ x. x.event) o ≡ Some event → option_map (λ x. slot_of x.event) o ≡ Some (slot_of event)
-    by (Some x) e = let same : x.event ≡ event = cc in ap (λ e. Some (slot_of e)) same
-    by None e = absurd (cc)
 
 -- without the number that no event has
 pub without_nothing : (events : List Numbered) (next : ℕ) → All (λ x. (1 ≤ x.id) × (x.id < next)) events → events_without 0 events ≡ events

@@ -1,5 +1,5 @@
 -- The cards of a table of events by number.
-use Rattle.std.specs.Prelude.{◌≡◌, ◌≢◌, ℕ, ◌<◌, ◌^◌, true, Option, List, length, filter_map, slice_index_or, All, AllPairs, MatchOption}
+use Rattle.std.specs.Prelude.{◌≡◌, ◌≢◌, ℕ, ◌<◌, ◌≤◌, ◌^◌, true, Option, List, length, filter_map, slice_index_or, All, AllPairs, MatchOption}
 use Rattle.std.specs.Option.{option_map}
 use Rattle.pf_scenario.specs.Scenario.{with_number}
 use Rattle.pf_scenario.specs.Packed.{has_packed, unpacked}
@@ -31,6 +31,19 @@ pub record IsCardAt (cards : List Card) (id at : ℕ) : Type 0 where
 -- where the card of this number is, if there is one
 abbrev pub IsPlaceOf : List Card → ℕ → Option ℕ → Type 0
 IsPlaceOf cards id place = MatchOption place (All (λ card. card.id ≢ id) cards) (λ at. IsCardAt cards id at)
+
+-- the cards before this place are below the number
+abbrev pub AreBelow : List Card → ℕ → ℕ → Type 0
+AreBelow cards id at = (k : ℕ) (d : Card) → k < at → k < length cards → (slice_index_or cards k d).id < id
+
+-- those from it on are not
+abbrev pub AreBehind : List Card → ℕ → ℕ → Type 0
+AreBehind cards id at = (k : ℕ) (d : Card) → at ≤ k → k < length cards → id ≤ (slice_index_or cards k d).id
+
+-- this place is where the cards cease to be below the number
+pub record IsCut (cards : List Card) (id at : ℕ) : Type 0 where
+  pub below : AreBelow cards id at
+  pub behind : AreBehind cards id at
 
 -- cards in rising order, of which so many are not struck
 pub record IsTable (cards : List Card) (held : ℕ) : Type 0 where

@@ -65,7 +65,7 @@ impl Agenda {
     pub fn find(&self, id: u64) -> Option<Found>
         ensures { option_map (λ f. f.event) result ≡ event_at self.now id }
     {
-        self.events.find(0, id)
+        self.events.find(self.events.guess(id), id)
     }
 
     /// Holds an event whose number is above all others.
@@ -172,7 +172,7 @@ impl Agenda {
         let mut events = Vec::new(*self.joins.allocator());
         for place in self.order.range(Place::first_of(from)..Place::first_of(to)) {
             let id = u64::from(place.id);
-            let Some(found) = self.events.find(0, id) else {
+            let Some(found) = self.events.find(self.events.guess(id), id) else {
                 unreachable!()
             };
             events.push(Numbered {

@@ -2,17 +2,19 @@ ghost use Rattle.std.specs.Prelude.{◌≡◌, ◌<◌, true, [], ◌∷◌, ◌
 ghost use Rattle.std.specs.Option.{option_map};
 ghost use Rattle.pf_scenario.specs.Scenario.{with_number, is_held, events_without};
 ghost use Rattle.pf_scenario.specs.Index.{event_at, with_event};
-ghost use Rattle.pf_scenario.specs.Cards.{AreRising, IsCardAt, IsPlaceOf, IsSmall, listed};
+ghost use Rattle.pf_scenario.specs.Cards.{AreRising, AreBelow, AreBehind, IsCut, IsPlaceOf, IsSmall, listed};
 
 use crate::card::Card;
 use crate::event::{Event, Numbered};
 use crate::events::Events;
 use crate::found::Found;
+use crate::guide::Guide;
 use std::alloc::{AllocError, Global};
 use std::marker::Model;
 
-/// Events by number. It takes the memory of the events held, and of no more that are struck. A search looks at the logarithm of
-/// their number of cards, and at one where it knows the place. A change costs as much in the mean.
+/// Events by number. It takes the memory of the events held, and of no more that are struck, and eight bytes for each 32 numbers
+/// that were given. A search looks at two cards where it knows the place, or its guess is good, as it is while numbers rise, and
+/// at the logarithm of their number where it is not. A change costs as much in the mean.
 #[derive(Debug, Drop)]
 pub struct ByNumber {
     /// In rising order of their numbers. No more than half of them are struck.
@@ -20,6 +22,7 @@ pub struct ByNumber {
 
     /// How many cards are not struck.
     held: usize,
+    guide: Guide,
 }
 
 impl Model for ByNumber {
@@ -34,24 +37,63 @@ impl Model for ByNumber {
     ghost invariant = { λ b. IsTable b.cards.items b.held };
 }
 
-/// Where the card of this number is, if there is one. It is looked for at `first` before it is searched for.
-fn place_of(cards: &[Card], first: usize, id: u64) -> Option<usize>
+/// Where the card of this number is, if there is one. The guess is tried first.
+fn place_of(cards: &[Card], guess: usize, id: u64) -> Option<usize>
     requires { AreRising cards.now }
     ensures { IsPlaceOf cards.now id result }
 {
-    if is_at(cards, first, id) {
-        return Some(first);
+    if is_cut(cards, guess, id) {
+        return place_at(cards, guess, id);
     }
     cards.binary_search_by_key(&id, |card| card.id()).ok()
 }
 
-/// Whether the card at this place is of this number.
-fn is_at(cards: &[Card], at: usize, id: u64) -> bool
-    ensures { result ≡ true → IsCardAt cards.now id at }
+/// Whether the cards before this place are below the number, and those from it on are not.
+fn is_cut(cards: &[Card], at: usize, id: u64) -> bool
+    requires { AreRising cards.now }
+    ensures { result ≡ true → IsCut cards.now id at }
+{
+    if !are_below(cards, at, id) {
+        return false;
+    }
+    are_behind(cards, at, id)
+}
+
+/// Whether the cards before this place are below the number.
+fn are_below(cards: &[Card], at: usize, id: u64) -> bool
+    requires { AreRising cards.now }
+    ensures { result ≡ true → AreBelow cards.now id at }
+{
+    if at == 0 {
+        return true;
+    }
+    match cards.get(at - 1) {
+        Some(card) => card.id() < id,
+        None => false,
+    }
+}
+
+/// Whether the cards from this place on are not below the number.
+fn are_behind(cards: &[Card], at: usize, id: u64) -> bool
+    requires { AreRising cards.now }
+    ensures { result ≡ true → AreBehind cards.now id at }
 {
     match cards.get(at) {
-        Some(card) => card.id() == id,
-        None => false,
+        Some(card) => id <= card.id(),
+        None => true,
+    }
+}
+
+/// The place, where the card there is of this number.
+fn place_at(cards: &[Card], at: usize, id: u64) -> Option<usize>
+    requires rising { AreRising cards.now }
+    requires cut { IsCut cards.now id at }
+    ensures { IsPlaceOf cards.now id result }
+{
+    if cards.get(at)?.id() == id {
+        Some(at)
+    } else {
+        None
     }
 }
 
@@ -64,26 +106,15 @@ fn truncate(cards: &mut Vec<Card>, id: u64)
     ensures below { All (λ card. card.id < id) cards.new.items }
 {
     // Numbers rise, so where the last card is below there is none.
-    if is_last_below(cards, id) {
+    if are_below(cards, cards.len(), id) {
         return;
     }
     let count = cards.partition_point(|card| card.id() < id);
     cards.truncate(count);
 }
 
-/// Whether the last card, if there is one, is below the number.
-fn is_last_below(cards: &[Card], id: u64) -> bool
-    requires { AreRising cards.now }
-    ensures { result ≡ true → All (λ card. card.id < id) cards.now }
-{
-    match cards.last() {
-        Some(card) => card.id() < id,
-        None => true,
-    }
-}
-
 /// Drops the struck cards where they are more than half, and gives their memory back.
-fn sweep(cards: &mut Vec<Card>, held: usize)
+fn sweep(cards: &mut Vec<Card>, guide: &mut Guide, held: usize)
     requires { AreRising cards.old.items }
     ensures same { listed cards.new.items ≡ listed cards.old.items }
     ensures rising { AreRising cards.new.items }
@@ -91,6 +122,7 @@ fn sweep(cards: &mut Vec<Card>, held: usize)
     if cards.len() / 2 > held {
         cards.retain(|card| !card.is_struck());
         cards.shrink_to_fit();
+        guide.renew(cards);
     }
 }
 
@@ -102,6 +134,7 @@ impl ByNumber {
         ByNumber {
             cards: Vec::new(alloc),
             held: 0,
+            guide: Guide::new(alloc),
         }
     }
 
@@ -111,6 +144,11 @@ impl ByNumber {
         ensures rising { AllPairs (λ x y. x.id < y.id) self.now }
     {
         self.held
+    }
+
+    /// Where the card of this number may stand. Nothing is promised of it.
+    pub fn guess(&self, id: u64) -> usize {
+        self.guide.guess(id)
     }
 
     /// The event of this number, where it is held, and where its card stands. It is looked for at `first` before it is searched
@@ -135,6 +173,7 @@ impl ByNumber {
         ensures err { OnErr result (self.new ≡ self.old) }
     {
         truncate(&mut self.cards, x.id);
+        self.guide.note(x.id, self.cards.len())?;
         self.cards.push(Card::of(x))?;
         self.held += 1;
         Ok(())
@@ -164,7 +203,7 @@ impl ByNumber {
         }
         self.cards[at].strike();
         self.held -= 1;
-        sweep(&mut self.cards, self.held);
+        sweep(&mut self.cards, &mut self.guide, self.held);
     }
 
     /// The events.
@@ -180,9 +219,11 @@ impl Clone for ByNumber {
 
     fn clone(&self) -> Result<Self, AllocError> {
         let cards = self.cards.clone()?;
+        let guide = self.guide.clone()?;
         Ok(ByNumber {
             cards,
             held: self.held,
+            guide,
         })
     }
 }

@@ -12,6 +12,7 @@ pub mod event;
 pub mod events;
 pub mod fault;
 mod found;
+mod guide;
 pub mod laws;
 pub mod limits;
 pub mod packed_event;
