@@ -1,5 +1,5 @@
 -- Plain edits judged one after another, and made at once.
-use Rattle.std.proofs.Common.{◌≡◌, ◌⊎◌, ℕ, ◌+◌, ◌≤◌, ◌<◌, false, Option, None, Some, IfSome, inl, inr, List, [], ◌∷◌, ◌++◌, length, get_or, Bool, map, take, drop, min, All, refl, sym, ap, ap₂, ◌∙◌, subst, arith, append_assoc}
+use Rattle.std.proofs.Common.{◌≡◌, ◌⊎◌, ℕ, ◌+◌, ◌≤◌, ◌<◌, false, None, Some, IfSome, inl, inr, List, [], ◌∷◌, ◌++◌, length, get_or, Bool, map, take, drop, min, All, refl, sym, ap, ap₂, ◌∙◌, subst, arith, append_assoc}
 use Rattle.std.proofs.lemmas.Bool.Decides.{nat_tests}
 use Rattle.std.proofs.lemmas.List.{map-append, take-append-drop, take-take, drop-take, take_more, take_all, length-take-le, length-drop}
 use Rattle.std.proofs.lemmas.List.Elements.{All-nil, All-cons, All-append, All-get_or, All-take}
