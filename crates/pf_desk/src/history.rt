@@ -103,18 +103,19 @@ impl History {
         self.entry(last)
     }
 
-    /// Makes room for an entry, so that entering it can't fail.
+    /// Makes room for an entry, so that entering it can't fail. Memory has the rows once that the schedule has too, by full
+    /// blocks.
     ///
     /// # Errors
     ///
     /// Where memory is refused.
-    pub(crate) fn reserve(&mut self) -> Result<(), AllocError>
+    pub(crate) fn reserve(&mut self, schedule: &Rows) -> Result<(), AllocError>
         ensures ok { OnOk result (1 ≤ self.new.spare) }
         ensures same { HasNoLessRoom self.old self.new }
     {
         self.briefs.reserve(1)?;
         self.settled.reserve()?;
-        lay_row(&mut self.rows, self.slots, self.processors)?;
+        lay_row(&mut self.rows, self.slots, self.processors, schedule)?;
         self.has_room = true;
         Ok(())
     }
@@ -182,13 +183,18 @@ impl History {
 /// # Errors
 ///
 /// Where memory is refused: the rows are as before.
-fn lay_row(rows: &mut Rows, slots: u64, processors: u32) -> Result<(), AllocError>
+fn lay_row(
+    rows: &mut Rows,
+    slots: u64,
+    processors: u32,
+    schedule: &Rows,
+) -> Result<(), AllocError>
     requires { AreKept processors slots rows.old }
     ensures ok { OnOk result (IsRowLaid processors slots rows.old rows.new) }
     ensures err { OnErr result (rows.new ≡ rows.old) }
 {
     if rows.len() as u64 == slots {
-        rows.push_idle(processors)?;
+        rows.push_idle_beside(processors, schedule)?;
     }
     Ok(())
 }
