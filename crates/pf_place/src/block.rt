@@ -97,7 +97,7 @@ impl Block {
         Ok(block)
     }
 
-    /// Its rows, packed; none where they aren't of one length, or a place has no small form.
+    /// Its rows, packed; none where they aren't of one width, or a place has no small form.
     ///
     /// # Errors
     ///
@@ -105,12 +105,12 @@ impl Block {
     pub(crate) fn pack(&self) -> Result<Option<PackedRows>, AllocError>
         ensures { IfOk result (λ packed. IfSome packed (λ rows. rows ≡ self.now.rows)) }
     {
-        let length = start_of(&self.ends, self.ends.len().min(1));
-        if !end_evenly(&self.ends, length) {
+        let width = start_of(&self.ends, self.ends.len().min(1));
+        if !end_evenly(&self.ends, width) {
             return Ok(None);
         }
         let alloc = *self.places.allocator();
-        PackedRows::of(alloc, self.ends.len(), length, &self.places)
+        PackedRows::of(alloc, self.ends.len(), width, &self.places)
     }
 
     /// Takes over packed rows in place of its own; it takes no memory.
@@ -134,6 +134,7 @@ impl Block {
         ensures rows { self.new.rows ≡ self.old.rows }
         ensures ok { OnOk result (m ≤ self.new.places_room) }
         ensures room { KeepsRoom self.old self.new }
+        ensures fits { HasRoomFor self.new self.new.rows }
     {
         self.places.reserve(m.saturating_sub(self.places.len()))
     }
@@ -277,16 +278,16 @@ fn seat_behind(places: &mut [Place], before: usize, start: usize, count: usize, 
     seat(last, count, RowView::of(&front[before..]), picks);
 }
 
-/// Whether the rows that end there are all of this length.
-fn end_evenly(ends: &[usize], length: usize) -> bool
-    ensures { result ≡ true → ends.now ≡ even_ends 0 length (length ends.now) }
+/// Whether the rows that end there are all of this width.
+fn end_evenly(ends: &[usize], width: usize) -> bool
+    ensures { result ≡ true → ends.now ≡ even_ends 0 width (length ends.now) }
 {
     let mut start = 0;
     for end in ends {
-        if *end - start != length {
-            return false;
+        match end.checked_sub(start) {
+            Some(gap) if gap == width => start = *end,
+            _ => return false,
         }
-        start = *end;
     }
     true
 }

@@ -12,7 +12,7 @@ use std::marker::Model;
 /// How the rows of a closed block are kept.
 #[derive(Debug, Drop)]
 enum Form {
-    /// In small, as rows of one length are in ordinary settings.
+    /// In small, as rows of one width are in ordinary settings.
     Packed(PackedRows),
     /// As they were in the block.
     Plain(Block),

@@ -1,4 +1,4 @@
-ghost use Rattle.std.specs.Prelude.{◌≡◌, ◌+◌, length, vec_len, vec_capacity, ◌≤◌, ◌++◌, true, IfOk, IfSome};
+ghost use Rattle.std.specs.Prelude.{◌≡◌, ◌+◌, ◌*◌, ◌^◌, ◌<◌, length, vec_len, vec_capacity, ◌≤◌, ◌++◌, true, IfOk, IfSome};
 ghost use Rattle.std.specs.List.{slice_get};
 ghost use Rattle.pf_place.specs.Blocks.{AreCutAt, all_rows_of, ends_of, rows_between};
 ghost use Rattle.pf_place.specs.Lent.{places_lent};
@@ -10,11 +10,11 @@ use crate::small_place::SmallPlace;
 use std::alloc::{AllocError, Global};
 use std::marker::Model;
 
-/// Rows of one length, in one piece of memory: their places in small, one behind another.
+/// Rows of one width, in one piece of memory: their places in small, one behind another.
 #[derive(Debug, Drop)]
 pub(crate) struct PackedRows {
     count: usize,
-    length: usize,
+    width: usize,
     places: Vec<SmallPlace>,
 }
 
@@ -26,14 +26,14 @@ impl Model for PackedRows {
 
     ghost Value = { List (List (Option Pick)) };
 
-    ghost view = { λ rows. rows_between 0 (even_ends 0 rows.length rows.count) rows.places.items };
+    ghost view = { λ rows. rows_between 0 (even_ends 0 rows.width rows.count) rows.places.items };
 
-    ghost invariant = { λ rows. AreCutAt (rows_between 0 (even_ends 0 rows.length rows.count) rows.places.items)
-        (even_ends 0 rows.length rows.count) rows.places.items };
+    ghost invariant = { λ rows. AreCutAt (rows_between 0 (even_ends 0 rows.width rows.count) rows.places.items)
+        (even_ends 0 rows.width rows.count) rows.places.items };
 }
 
 impl PackedRows {
-    /// So many rows of these places, each of this length; none where a place has no small form.
+    /// So many rows of these places, each of this width; none where a place has no small form.
     ///
     /// # Errors
     ///
@@ -41,16 +41,16 @@ impl PackedRows {
     pub(crate) fn of(
         alloc: Global,
         count: usize,
-        length: usize,
+        width: usize,
         places: &[Place],
     ) -> Result<Option<Self>, AllocError>
-        requires { AreCutAt (rows_between 0 (even_ends 0 length count) places.now) (even_ends 0 length count) places.now }
-        ensures { IfOk result (λ packed. IfSome packed (λ rows. rows ≡ rows_between 0 (even_ends 0 length count) places.now)) }
+        requires { AreCutAt (rows_between 0 (even_ends 0 width count) places.now) (even_ends 0 width count) places.now }
+        ensures { IfOk result (λ packed. IfSome packed (λ rows. rows ≡ rows_between 0 (even_ends 0 width count) places.now)) }
     {
         match small_places(alloc, places)? {
             Some(places) => Ok(Some(PackedRows {
                 count,
-                length,
+                width,
                 places,
             })),
             None => Ok(None),
@@ -70,9 +70,7 @@ impl PackedRows {
         ensures items { places.new.items ≡ places.old.items ++ all_rows_of self.now }
         ensures room { vec_capacity places.old ≤ vec_capacity places.new }
     {
-        for place in &self.places {
-            places.push_reserved(place.place());
-        }
+        unpack(&self.places, places);
     }
 
     /// Puts where each row ends behind these; it takes no memory.
@@ -81,9 +79,7 @@ impl PackedRows {
         ensures items { ends.new.items ≡ ends.old.items ++ ends_of 0 self.now }
         ensures room { vec_capacity ends.old ≤ vec_capacity ends.new }
     {
-        for k in 0..self.count {
-            ends.push_reserved((k + 1) * self.length);
-        }
+        push_ends(ends, self.width, self.count);
     }
 
     /// The k-th row, where there is one.
@@ -93,9 +89,9 @@ impl PackedRows {
         if k >= self.count {
             return None;
         }
-        let start = k * self.length;
+        let start = k * self.width;
         Some(RowView::of_small(
-            &self.places[start..start + self.length],
+            &self.places[start..start + self.width],
         ))
     }
 
@@ -103,7 +99,7 @@ impl PackedRows {
     pub(crate) fn equals(&self, other: &PackedRows) -> bool
         ensures { result ≡ true → other.now ≡ self.now }
     {
-        self.count == other.count && self.length == other.length && self.places == other.places
+        self.count == other.count && self.width == other.width && self.places == other.places
     }
 }
 
@@ -119,4 +115,29 @@ fn small_places(alloc: Global, places: &[Place]) -> Result<Option<Vec<SmallPlace
         }
     }
     Ok(Some(small))
+}
+
+/// Puts small places behind these; it takes no memory.
+fn unpack(small: &[SmallPlace], places: &mut Vec<Place>)
+    requires { vec_len places.old + length small.now ≤ vec_capacity places.old }
+    ensures items { places.new.items ≡ places.old.items ++ small.now }
+    ensures room { vec_capacity places.old ≤ vec_capacity places.new }
+{
+    for place in small {
+        places.push_reserved(place.place());
+    }
+}
+
+/// Puts behind these where so many rows of one width end, of which the first begins at 0; it takes no memory.
+fn push_ends(ends: &mut Vec<usize>, width: usize, count: usize)
+    requires small { count * width < 2 ^ 64 }
+    requires room { vec_len ends.old + count ≤ vec_capacity ends.old }
+    ensures items { ends.new.items ≡ ends.old.items ++ even_ends 0 width count }
+    ensures room { vec_capacity ends.old ≤ vec_capacity ends.new }
+{
+    let mut end = 0;
+    for _k in 0..count {
+        end += width;
+        ends.push_reserved(end);
+    }
 }

@@ -82,8 +82,8 @@ impl Rows {
         self.append_idle(m as usize)
     }
 
-    /// Does what `push_idle` does, where a copy of these rows with other changes goes on beside them: memory then has the
-    /// rows once that both have, by full blocks.
+    /// Appends the idle row of m processors, as `push_idle` does, to rows that grow beside others. Where both have the same
+    /// full blocks, memory has these once.
     ///
     /// # Errors
     ///

@@ -11,7 +11,7 @@ returns-in-Some g c =
     let q = c.args.k / 128 in
     let r = c.args.k % 128 in
     let at : q * 128 + r ≡ c.args.k = omega arith in
-    c.owner-in-Some.ensures
+    c.owner.ensures
     ∙ sym (got_in_full inside.full inside.last c.in-Some.group.now q r c.self.invariant.groups.whole c.in-Some.ensures (omega arith))
     ∙ ap (slice_get all) at
     ∙ sym (slice_get-take inside.count all c.args.k (omega (arith, c.if-k-self.false)))
