@@ -1,5 +1,5 @@
 -- Places in small: a word gives back its place, and equal words are equal places.
-use Rattle.std.proofs.Common.{◌≡◌, ℕ, zero, suc, ◌+◌, ◌*◌, ◌<◌, ◌≤◌, ◌/◌, ◌%◌, Option, Some, None, List, [], ◌∷◌, Bool, true, false, eqb, ap, ap₂, subst, sym, ◌∙◌, refl, arith}
+use Rattle.std.proofs.Common.{◌≡◌, ℕ, zero, suc, ◌+◌, ◌*◌, ◌<◌, ◌≤◌, ◌/◌, ◌%◌, Option, Some, None, List, [], ◌∷◌, Bool, true, false, eqb, if◌then◌else◌, ap, ap₂, subst, sym, ◌∙◌, refl, arith}
 use Rattle.std.specs.Bool.{Decides}
 use Rattle.std.specs.Cmp.{first_so, second_so}
 use Rattle.std.specs.Cmp.Lexicographic.{pointwise}
@@ -35,9 +35,13 @@ place_same None = refl
 place_same (Some p) = rw ((Decides-eqb p.task p.task).1 refl, (Decides-eqb p.sub p.sub).1 refl) refl
 
 -- a place's word is given back
+word_in : (word : ℕ) (b : Bool) → eqb word 0 ≡ b
+    → word_of (if b then None else Some (record { task = word / 1048576; sub = word % 1048576 })) ≡ word
+word_in word true is = sym (eqb-true word 0 is)
+word_in word false is = (let whole : word / 1048576 * 1048576 + word % 1048576 ≡ word = omega arith in whole)
+
 pub word_back : (word : ℕ) → word_of (pick_in word) ≡ word
-word_back zero = refl
-word_back (suc n) = omega arith
+word_back word = word_in word (eqb word 0) refl
 
 -- words are equal where their places are
 pub words_same : (a b : ℕ) → eqb a b ≡ option_eq same_pick (pick_in a) (pick_in b)

@@ -1,3 +1,0 @@
-use Rattle.std.proofs.Common.{ap, ◌++◌, ◌∙◌, sym, arith, length}
-use Rattle.pf_place.specs.Blocks.{all_rows_of}
-use Rattle.pf_place.proofs.packed_rows.PackedRows.put_places.Goals as goal
