@@ -31,4 +31,3 @@ pub mod Settled
 pub mod Settlements
 pub mod Room
 pub mod Fitting
-pub mod Runs
