@@ -1,4 +1,4 @@
-use Rattle.std.proofs.Common.{◌++◌, Option, None, [], ◌∷◌, length, length-append, ap, sym, ◌∙◌, arith}
+use Rattle.std.proofs.Common.{◌++◌, Option, None, [], ◌∷◌, length, length-append, ap, ◌∙◌, arith}
 use Rattle.std.proofs.lemmas.List.{length-replicate}
 use Rattle.pf_order.specs.declared.pick.Pick.{Pick}
 use Rattle.pf_place.specs.Blocks.{all_rows_of}
