@@ -74,7 +74,7 @@ pub record AreLaid (processors slots : ℕ) (has_room : Bool) (briefs : List Bri
   pub taken : slots ≡ slots_taken (entries_laid settled rows briefs)
   pub kept : AreKept processors slots rows
   pub next : has_room ≡ true → length rows ≡ slots + 1
-  pub for_brief : has_room ≡ true → length briefs < briefs_room
+  pub for_brief : has_room ≡ true → 1 ≤ briefs_room
   pub for_command : has_room ≡ true → 1 ≤ settled_room
 
 -- the history of these parts

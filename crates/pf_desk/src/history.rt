@@ -1,4 +1,4 @@
-ghost use Rattle.std.specs.Prelude.{◌≡◌, ◌==◌, ◌<◌, ◌≤◌, ◌+◌, ◌-◌, ◌^◌, ◌++◌, [], length, map, All, OnOk, OnErr, vec_len, vec_capacity};
+ghost use Rattle.std.specs.Prelude.{◌≡◌, ◌==◌, ◌<◌, ◌≤◌, ◌+◌, ◌-◌, ◌^◌, ◌++◌, [], length, map, All, OnOk, OnErr};
 ghost use Rattle.std.specs.List.{slice_get};
 ghost use Rattle.pf_place.specs.Lent.{lent_row};
 ghost use Rattle.pf_desk.specs.declared.command.Command.TheVariants.{Step};
@@ -10,6 +10,7 @@ ghost use Rattle.pf_desk.specs.Laid.{reply_of_answer, settled_of, briefs_from, A
 ghost use Rattle.pf_desk.specs.Views.{entry_lent};
 
 use crate::brief::Brief;
+use crate::briefs::Briefs;
 use crate::command::Command;
 use crate::entry::Entry;
 use crate::entry_view::EntryView;
@@ -21,13 +22,13 @@ use pf_place::rows::Rows;
 use std::alloc::{AllocError, Global};
 use std::marker::Model;
 
-/// The commands that a desk was given, in the order of the answers, each with who asked and what was answered. An entry
-/// takes 16 bytes beside its row, or beside its command where it took no slot.
+/// The commands that a desk was given, in the order of the answers, each with who asked and what was answered. Beside the
+/// rows of the steps and the commands that took no slot it takes 24 bytes for each run of either by one caller.
 #[derive(Debug, Drop)]
 pub struct History {
     alloc: Global,
     processors: u32,
-    briefs: Vec<Brief>,
+    briefs: Briefs,
     settled: Settlements,
 
     /// The row of each slot that was taken, and behind them at most the one that is laid for the next step.
@@ -38,7 +39,6 @@ pub struct History {
 
 impl Model for History {
     ghost use Rattle.std.specs.Prelude.{min};
-    ghost use Rattle.std.specs.Vec.{vec_capacity};
     ghost use Rattle.pf_desk.specs.Recorded.{Recorded};
 
     ghost Value = { Recorded };
@@ -48,7 +48,7 @@ impl Model for History {
 
     ghost view = { λ h. recorded_by h.processors h.has_room h.briefs.items h.settled.items h.rows };
 
-    ghost invariant = { λ h. AreLaid h.processors h.slots h.has_room h.briefs.items h.settled.items h.rows (vec_capacity h.briefs) (min h.settled.room h.settled.wide_room) };
+    ghost invariant = { λ h. AreLaid h.processors h.slots h.has_room h.briefs.items h.settled.items h.rows h.briefs.room (min h.settled.room h.settled.wide_room) };
 }
 
 impl History {
@@ -59,7 +59,7 @@ impl History {
         History {
             alloc,
             processors,
-            briefs: Vec::new(alloc),
+            briefs: Briefs::new(alloc),
             settled: Settlements::new(alloc),
             rows: Rows::new(alloc),
             slots: 0,
@@ -84,7 +84,7 @@ impl History {
     pub fn is_empty(&self) -> bool
         ensures { result ≡ (length self.now.entries == 0) }
     {
-        self.briefs.is_empty()
+        self.briefs.len() == 0
     }
 
     /// The k-th entry, counted from 0, where there is one.
@@ -200,9 +200,9 @@ fn lay_row(
 }
 
 /// Appends what is kept of entries that took no slot; it takes no memory, since there must be room.
-fn settle(briefs: &mut Vec<Brief>, settled: &mut Settlements, entries: &[Entry])
+fn settle(briefs: &mut Briefs, settled: &mut Settlements, entries: &[Entry])
     requires took_none { All (λ e. slots_of e.reply ≡ 0) entries.now }
-    requires for_briefs { vec_len briefs.old + length entries.now ≤ vec_capacity briefs.old }
+    requires for_briefs { length entries.now ≤ briefs.old.room }
     requires for_commands { HasRoomFor settled.old (map settled_of entries.now) }
     ensures briefs { briefs.new.items ≡ briefs.old.items ++ briefs_from (length settled.old.items) entries.now }
     ensures commands { settled.new.items ≡ settled.old.items ++ map settled_of entries.now }

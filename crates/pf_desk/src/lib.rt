@@ -5,6 +5,7 @@
 mod apply_all;
 mod batch;
 mod brief;
+mod briefs;
 pub mod command;
 pub mod desk;
 pub mod entry;
@@ -16,6 +17,7 @@ mod never_misses;
 pub mod prepared;
 pub mod reply;
 pub mod reply_view;
+mod run;
 mod scenario_run;
 mod settled;
 mod settlements;
