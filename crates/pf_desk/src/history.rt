@@ -183,12 +183,7 @@ impl History {
 /// # Errors
 ///
 /// Where memory is refused: the rows are as before.
-fn lay_row(
-    rows: &mut Rows,
-    slots: u64,
-    processors: u32,
-    schedule: &Rows,
-) -> Result<(), AllocError>
+fn lay_row(rows: &mut Rows, slots: u64, processors: u32, schedule: &Rows) -> Result<(), AllocError>
     requires { AreKept processors slots rows.old }
     ensures ok { OnOk result (IsRowLaid processors slots rows.old rows.new) }
     ensures err { OnErr result (rows.new ≡ rows.old) }

@@ -4,9 +4,8 @@ use Rattle.std.specs.List.{All, slice_get}
 use Rattle.std.proofs.Math.Seq.{take-append-add}
 use Rattle.std.proofs.lemmas.Bool.{cases_lt}
 use Rattle.std.proofs.lemmas.Grind.{flat_map-append}
-use Rattle.std.specs.Option.{option_map}
-use Rattle.std.proofs.lemmas.List.{append-nil, length-map, map-append}
-use Rattle.std.proofs.lemmas.List.Elements.{All-head, All-tail, All-nil, All-cons, All-append}
+use Rattle.std.proofs.lemmas.List.{append-nil}
+use Rattle.std.proofs.lemmas.List.Elements.{All-head, All-tail, All-nil, All-cons}
 use Rattle.std.proofs.lemmas.Option.{slice_get-get_or}
 use Rattle.pf_order.specs.declared.pick.Pick.{Pick}
 use Rattle.pf_place.specs.Blocks.{all_rows_of, Held, KeepsRoom, HasRoomFor}
@@ -103,9 +102,6 @@ pub nothing_left : {X : Type 0} (xs : List X) → length xs ≡ 0 → xs ≡ []
 nothing_left [] e = refl
 nothing_left (x ∷ xs) e = absurd (omega arith)
 
-All-one : {X : Type 0} (P : X → Type 0) (x : X) → P x → All P (x ∷ [])
-All-one P x h = All-cons P x [] h (All-nil P)
-
 All-front : {X : Type 0} (P : X → Type 0) (xs : List X) (x : X) → All P (xs ++ x ∷ []) → All P xs
 All-front P [] x h = All-nil P
 All-front P (y ∷ xs) x h = All-cons P y xs (All-head P y (xs ++ x ∷ []) h) (All-front P xs x (All-tail P y (xs ++ x ∷ []) h))
@@ -121,29 +117,6 @@ All-kept P Q keep (x ∷ xs) h = All-cons Q x xs (keep x (All-head P x xs h)) (A
 -- there is room for the rows of each block still
 pub room_for_each : (old new : Held) (full : List (List (List (Option Pick)))) → KeepsRoom old new → All (HasRoomFor old) full → All (HasRoomFor new) full
 room_for_each old new full room fits = All-kept (HasRoomFor old) (HasRoomFor new) (λ rows h. room_kept old new rows room h) full fits
-
--- more room in the last block
-pub filed_with_room : (full : List (List (List (Option Pick)))) (old new : Held) → AreFiled full old → KeepsRoom old new → new.rows ≡ old.rows → AreFiled full new
-filed_with_room full old new filed room same = record {
-  whole = filed.whole;
-  part = omega (arith, filed.part, ap length same);
-  some = λ l. omega (arith, filed.some l, ap length same);
-  room = room_for_each old new full room filed.room;
-  few = filed.few;
-}
-
--- the last block was closed, and begun anew with one row
-pub filed_closed : (full : List (List (List (Option Pick)))) (old new : Held) → AreFiled full old → length old.rows ≡ 256 → length full < 2 ^ 54
-    → HasRoomFor old old.rows → KeepsRoom old new → length new.rows ≡ 1 → AreFiled (full ++ old.rows ∷ []) new
-filed_closed full old new filed long few fits room one = record {
-  whole = All-append (λ rows. length rows ≡ 256) full (old.rows ∷ []) filed.whole (All-one (λ rows. length rows ≡ 256) old.rows long);
-  part = omega arith;
-  some = λ _. omega arith;
-  room = All-append (HasRoomFor new) full (old.rows ∷ [])
-      (room_for_each old new full room filed.room)
-      (All-one (HasRoomFor new) old.rows (room_kept old new old.rows room fits));
-  few = omega (arith, length-append full (old.rows ∷ []));
-}
 
 -- the last full block was opened again
 pub filed_opened : (full : List (List (List (Option Pick)))) (rows : List (List (Option Pick))) (old new : Held)

@@ -275,7 +275,16 @@ fn seat_behind(places: &mut [Place], before: usize, start: usize, count: usize, 
         ++ row_of (length places.old - start) count (slice_range places.old before start) picks.now }
 {
     let (front, last) = places.split_at_mut(start);
-    seat(last, count, RowView::of(&front[before..]), picks);
+    seat_after(last, count, &front[before..], picks);
+}
+
+/// Makes these places the row that `picks` place behind the row of the places before.
+fn seat_after(places: &mut [Place], count: usize, before: &[Place], picks: &[Pick])
+    requires in_use { count ≤ length places.old }
+    requires numbered { All (λ pick. 1 ≤ pick.task) picks.now }
+    ensures { places.new ≡ row_of (length places.old) count before.now picks.now }
+{
+    seat(places, count, RowView::of(before), picks);
 }
 
 /// Whether the rows that end there are all of this width.

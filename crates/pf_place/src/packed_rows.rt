@@ -90,9 +90,7 @@ impl PackedRows {
             return None;
         }
         let start = k * self.width;
-        Some(RowView::of_small(
-            &self.places[start..start + self.width],
-        ))
+        Some(RowView::of_small(&self.places[start..start + self.width]))
     }
 
     /// Whether the others lie in memory as these do; then they are the same rows.

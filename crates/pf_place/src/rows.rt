@@ -95,7 +95,7 @@ impl Rows {
         if self.last.len() == BLOCK {
             share_last(&mut self.full, &others.full);
         }
-        self.append_idle(m as usize)
+        self.push_idle(m)
     }
 
     /// Appends the idle row of m processors. A block that is full is closed here and not when it gets full, and only once

@@ -1,5 +1,4 @@
 use Rattle.std.proofs.Common.{◌≡◌, ◌-◌, Some, [], length, ap, sym, ◌∙◌, arith}
-use Rattle.std.specs.List.{slice_get}
 use Rattle.pf_place.specs.Blocks.{all_rows_of}
 use Rattle.pf_place.specs.Lent.{lent_row}
 use Rattle.pf_place.specs.RunRows.{last_row}

@@ -1,4 +1,4 @@
-use Rattle.std.proofs.Common.{◌≡◌, ◌++◌, ap, ◌∙◌}
+use Rattle.std.proofs.Common.{◌++◌, ap, ◌∙◌}
 use Rattle.pf_place.specs.Blocks.{AreCutAt, all_rows_of, ends_of}
 use Rattle.pf_place.proofs.Blocks.{cut_from_cut, rows_from_cut}
 use Rattle.pf_place.proofs.block.Block.unpack.Goals as goal

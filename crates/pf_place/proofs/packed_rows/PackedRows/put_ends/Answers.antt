@@ -1,5 +1,4 @@
-use Rattle.std.proofs.Common.{◌++◌, ap, ◌∙◌, length, arith}
-use Rattle.pf_place.specs.Blocks.{ends_of}
+use Rattle.std.proofs.Common.{ap, length, arith}
 use Rattle.pf_place.proofs.Packed.{count_cut, count_times}
 use Rattle.pf_place.proofs.packed_rows.PackedRows.put_ends.Goals as goal
 

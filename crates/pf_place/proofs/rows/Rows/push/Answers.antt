@@ -1,7 +1,8 @@
-use Rattle.std.proofs.Common.{◌++◌, Option, None, [], ◌∷◌, length, length-append, ap, sym, ◌∙◌, arith}
+use Rattle.std.proofs.Common.{◌++◌, Option, None, [], ◌∷◌, length, length-append, ap, ◌∙◌, arith}
 use Rattle.std.proofs.lemmas.List.{length-replicate}
 use Rattle.pf_order.specs.declared.pick.Pick.{Pick}
 use Rattle.pf_place.specs.Blocks.{all_rows_of}
+use Rattle.pf_place.specs.Lent.{lent_row}
 use Rattle.pf_place.specs.Occupancy.{idle_row}
 use Rattle.pf_place.proofs.Filed.{some_in_last, idle_is_last, row_pushed}
 use Rattle.pf_place.proofs.rows.Rows.push.Goals as goal
@@ -13,8 +14,13 @@ assign_last-requires-clause-long c =
     let idle = idle_row c.processors.result in
     let is = c.self.view_is ∙ c.in_ok-append_idle.ensures.ok in
     let some = some_in_last full inside.last c.self.invariant (omega (arith, ap length is, length-append c.args.self.now (idle ∷ []))) in
-    sym (ap length (idle_is_last (all_rows_of full) inside.last.rows c.args.self.now idle some is)
-    ∙ length-replicate (length c.args.row.now) (let none : Option Pick = None in none))
+    omega (
+      arith,
+      ap length c.view.ensures,
+      c.processors.ensures,
+      ap length (idle_is_last (all_rows_of full) inside.last.rows c.args.self.now idle some is),
+      length-replicate c.processors.result (let none : Option Pick = None in none),
+    )
 
 pub returns-clause-ok : goal.returns-clause-ok
 returns-clause-ok c =
@@ -24,5 +30,5 @@ returns-clause-ok c =
     let is = c.self.view_is ∙ c.in_ok-append_idle.ensures.ok in
     let some = some_in_last full inside.last c.self.invariant (omega (arith, ap length is, length-append c.args.self.now (idle ∷ []))) in
     ap (λ rows. all_rows_of full ++ rows) c.assign_last.ensures.rows
-    ∙ row_pushed (all_rows_of full) inside.last.rows c.args.self.now idle c.args.row.now some is
+    ∙ row_pushed (all_rows_of full) inside.last.rows c.args.self.now idle (lent_row c.view.result) some is
     ∙ ap (λ row. c.args.self.now ++ row ∷ []) c.view.ensures
