@@ -1,8 +1,9 @@
 ghost use Rattle.std.specs.Prelude.{◌≡◌, ◌+◌, ◌*◌, ◌^◌, ◌<◌, length, vec_len, vec_capacity, ◌≤◌, ◌++◌, true, IfOk, IfSome};
-ghost use Rattle.std.specs.List.{slice_get};
+ghost use Rattle.std.specs.List.{All, slice_get};
 ghost use Rattle.pf_place.specs.Blocks.{AreCutAt, all_rows_of, ends_of, rows_between};
 ghost use Rattle.pf_place.specs.Lent.{places_lent};
 ghost use Rattle.pf_place.specs.Packed.{even_ends};
+ghost use Rattle.pf_place.specs.Small.{IsSmall};
 
 use crate::place::Place;
 use crate::row_view::RowView;
@@ -107,14 +108,34 @@ impl PackedRows {
 fn small_places(alloc: Global, places: &[Place]) -> Result<Option<Vec<SmallPlace>>, AllocError>
     ensures { IfOk result (λ small. IfSome small (λ small. small.items ≡ places.now)) }
 {
-    let mut small = Vec::with_capacity(alloc, places.len())?;
-    for place in places {
-        match SmallPlace::of(*place) {
-            Some(place) => small.push_reserved(place),
-            None => return Ok(None),
-        }
+    if !all_fit(places) {
+        return Ok(None);
     }
+    let mut small = vec![in alloc; SmallPlace::idle(); places.len()]?;
+    pack(places, &mut small);
     Ok(Some(small))
+}
+
+/// Whether all of these places have small forms. It looks at each, since that is faster than to stop at the first.
+fn all_fit(places: &[Place]) -> bool
+    ensures { result ≡ true → All IsSmall places.now }
+{
+    let mut all = true;
+    for place in places {
+        all = all & SmallPlace::fits(*place);
+    }
+    all
+}
+
+/// Puts the places in small on these, of which there must be as many.
+fn pack(places: &[Place], small: &mut [SmallPlace])
+    requires long { length small.old ≡ length places.now }
+    requires fit { All IsSmall places.now }
+    ensures { small.new ≡ places.now }
+{
+    for k in 0..places.len() {
+        small[k] = SmallPlace::of(places[k]);
+    }
 }
 
 /// Puts small places behind these; it takes no memory.

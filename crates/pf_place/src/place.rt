@@ -5,6 +5,7 @@ ghost use Rattle.std.specs.Cmp.Rules.{comparing};
 ghost use Rattle.std.specs.Option.{is_none, option_eq};
 ghost use Rattle.std.proofs.Common.{rules};
 ghost use Rattle.pf_place.specs.Same.{same_pick};
+ghost use Rattle.pf_place.specs.Small.{task_of, subtask_of};
 
 use pf_order::pick::Pick;
 use std::marker::Model;
@@ -82,6 +83,21 @@ impl Place {
             task: self.task,
             sub: self.sub,
         })
+    }
+
+    /// The number of the task that runs there, from 1 on; 0 where nobody does.
+    pub(crate) fn task(self) -> u32
+        ensures task { result ≡ task_of self }
+        ensures numbered { IfSome self (λ pick. 1 ≤ pick.task) }
+    {
+        self.task
+    }
+
+    /// The number of the subtask that runs there; 0 where nobody does.
+    pub(crate) fn subtask(self) -> u32
+        ensures { result ≡ subtask_of self }
+    {
+        self.sub
     }
 
     /// Whether nobody runs there.

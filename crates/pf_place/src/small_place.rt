@@ -1,11 +1,11 @@
-ghost use Rattle.std.specs.Prelude.{◌≡◌, ◌≤◌, IfSome};
+ghost use Rattle.std.specs.Prelude.{◌≡◌, ◌≤◌, None, true, IfSome};
 ghost use Rattle.std.specs.Cmp.{partial_equiv_from_equiv};
 ghost use Rattle.std.specs.Cmp.Lexicographic.{options_equiv};
 ghost use Rattle.std.specs.Cmp.Rules.{comparing};
 ghost use Rattle.std.specs.Option.{option_eq};
 ghost use Rattle.std.proofs.Common.{rules};
 ghost use Rattle.pf_place.specs.Same.{same_pick};
-ghost use Rattle.pf_place.specs.Small.{small_form};
+ghost use Rattle.pf_place.specs.Small.{IsSmall};
 
 use crate::place::Place;
 use pf_order::pick::Pick;
@@ -51,16 +51,27 @@ impl PartialEq for SmallPlace {
 }
 
 impl SmallPlace {
-    /// The same place in small, where its numbers allow it.
-    pub(crate) fn of(place: Place) -> Option<Self>
-        ensures { result ≡ small_form place }
+    /// The idle place.
+    pub(crate) fn idle() -> Self
+        ensures { result ≡ None }
     {
-        match place.pick() {
-            None => Some(SmallPlace { word: 0 }),
-            Some(pick) if pick.task < TASKS && pick.sub < SUBTASKS => Some(SmallPlace {
-                word: pick.task * SUBTASKS + pick.sub,
-            }),
-            Some(_) => None,
+        SmallPlace { word: 0 }
+    }
+
+    /// Whether the place has a small form.
+    pub(crate) fn fits(place: Place) -> bool
+        ensures { result ≡ true → IsSmall place }
+    {
+        place.task() < TASKS && place.subtask() < SUBTASKS
+    }
+
+    /// The place in small, which it must fit.
+    pub(crate) fn of(place: Place) -> Self
+        requires { IsSmall place }
+        ensures { result ≡ place }
+    {
+        SmallPlace {
+            word: place.task() * SUBTASKS + place.subtask(),
         }
     }
 
