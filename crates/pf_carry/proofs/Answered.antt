@@ -1,5 +1,5 @@
 -- What a desk was asked that answered commands.
-use Rattle.std.proofs.Common.{◌≡◌, ℕ, List, [], ◌++◌, Some, None, Result, Ok, Err, refl, sym, ap, ap₂, subst, ◌∙◌}
+use Rattle.std.proofs.Common.{◌≡◌, ℕ, List, [], ◌∷◌, ◌++◌, Option, Some, None, Result, Ok, Err, refl, sym, ap, ap₂, subst, ◌∙◌, append-nil}
 use Rattle.std.specs.Prelude.{IfOk, IfErr}
 use Rattle.std.proofs.lemmas.List.{map-append}
 use Rattle.pf_desk.specs.declared.command.Command.{Command}
@@ -9,14 +9,31 @@ use Rattle.pf_desk.proofs.Histories.{settings_behind}
 use Rattle.pf_fault.specs.declared.fault.Fault.{Fault}
 use Rattle.pf_script.specs.declared.fault.ScriptFault.{ScriptFault}
 use Rattle.pf_script.specs.declared.fault.ScriptFault.TheVariants as script
+use Rattle.pf_script.specs.declared.record.LineTold.{LineTold}
 use Rattle.pf_script.specs.declared.record.ScriptSettings.{ScriptSettings}
 use Rattle.pf_script.specs.Answers.{ReadsLine}
-use Rattle.pf_script.specs.Asked.{commands_in}
+use Rattle.pf_script.specs.Asked.{commands_in, commands_of}
 use Rattle.pf_script.specs.Faults.{fault_of_script}
 use Rattle.pf_script.specs.Opened.{Opens}
 use Rattle.pf_script.specs.Told.{FaultTold, LinesTold, Told}
-use Rattle.pf_carrying.specs.Carrying.{Carrying, opened, script_caller}
+use Rattle.pf_carrying.specs.Carrying.{Carrying, HasTaken, opened, script_caller}
+use Rattle.pf_carrying.proofs.Answered.{taken_then}
 use Rattle.pf_carry.specs.Carried.{IsOf, Stops, asked_in}
+
+-- Use: of the lines left one was taken.
+pub line_taken : (a b : Carrying) (left behind : LinesTold) (line : LineTold) (after : Shown) → left ≡ record behind { lines = line ∷ behind.lines }
+    → HasTaken (commands_of line.asks) a b → AnswersAll script_caller (b.waiting ++ commands_in behind.lines) b.desk after
+    → AnswersAll script_caller (a.waiting ++ commands_in left.lines) a.desk after
+line_taken a b left behind line after is h rest =
+    subst (λ (told : LinesTold). AnswersAll script_caller (a.waiting ++ commands_in told.lines) a.desk after) (sym is)
+    (taken_then (commands_of line.asks) (commands_in behind.lines) a b after h rest)
+
+-- Use: none is left, and the commands that waited were answered.
+pub none_left : (a : Carrying) (left : LinesTold) (after : Shown) → left ≡ record { lines = []; fault = None } → AnswersAll script_caller a.waiting a.desk after
+    → AnswersAll script_caller (a.waiting ++ commands_in left.lines) a.desk after
+none_left a left after is h =
+    subst (λ cs. AnswersAll script_caller cs a.desk after)
+    (sym (append-nil a.waiting) ∙ ap (λ (told : LinesTold). a.waiting ++ commands_in told.lines) (sym is)) h
 
 -- Use: a line was not read.
 pub line_stops : (all : Option FaultTold) (left behind : LinesTold) (fields : List (List ℕ)) (fault : ScriptFault) → left.fault ≡ all
