@@ -1,6 +1,6 @@
 -- The course of a desk on which lines are carried out.
 use Rattle.std.proofs.Common.{◌≡◌, ◌<◌, ◌≤◌, ℕ, ◌+◌, List, [], ◌∷◌, ◌++◌, length, take, drop, get_or, Option, Result, Ok, Err, refl, sym, ap, ap₂, append_assoc, ◌∙◌}
-use Rattle.std.specs.Prelude.{IfOk}
+use Rattle.std.specs.Prelude.{IfOk, OnOk}
 use Rattle.std.proofs.lemmas.List.{at_drop_all, at_drop_more, take-append-drop}
 use Rattle.pf_desk.specs.declared.command.Command.{Command}
 use Rattle.pf_desk.specs.Desk.{Shown, AnswersAll, Seen, StandsForHistory}
@@ -36,12 +36,14 @@ module _ (a b : Carrying) (lines : List LineTold) (i : ℕ) (whole : ScriptCours
       answered_course script_caller a.waiting a.desk b.desk h
       ∙ sym (at_drop_all (λ xs. course_behind (course_to_be a) (commands_in xs)) lines i none) ∙ left
 
-  pub none_waits : b.waiting ≡ [] → course_to_be b ≡ whole
-  none_waits is = ap (course_behind (course_at b.desk)) is ∙ all_taken
+  pub none_waits : {A E : Type 0} (r : Result A E) → b.waiting ≡ [] → OnOk r (course_to_be b ≡ whole)
+  none_waits (Ok x) is = ap (course_behind (course_at b.desk)) is ∙ all_taken
+  none_waits (Err e) is = tt
 
-  pub all_seen : (seen : Seen) → StandsForHistory b.desk.history seen
-      → seen ≡ record { version = length b.desk.history; state = b.desk.state; rows = b.desk.rows; denials = b.desk.denials } → seen ≡ seen_at whole
-  all_seen seen stands shows = seen_there b.desk seen stands shows ∙ ap seen_at all_taken
+  pub all_seen : {E : Type 0} (r : Result Seen E) (d : Shown) → d ≡ b.desk → IfOk r (λ s. StandsForHistory d.history s)
+      → IfOk r (λ s. s ≡ record { version = length d.history; state = d.state; rows = d.rows; denials = d.denials }) → IfOk r (λ s. s ≡ seen_at whole)
+  all_seen (Ok s) d is stands shows = seen_there d s stands shows ∙ ap (λ d. seen_at (course_at d)) is ∙ ap seen_at all_taken
+  all_seen (Err e) d is stands shows = tt
 
 -- Use: what is equal in its place.
 pub made_at : {V F : Type 0} (told : V → DiffTold) (r : Result V F) (x y : DiffTold) → x ≡ y → IfOk r (λ v. told v ≡ x) → IfOk r (λ v. told v ≡ y)
