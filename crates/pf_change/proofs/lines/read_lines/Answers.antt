@@ -1,5 +1,7 @@
+use Rattle.std.proofs.Common.{ap, ◌∙◌, sym}
 use Rattle.std.proofs.lemmas.Result.{err_from_is_err_and}
-use Rattle.pf_change.proofs.Records.{line_stops}
+use Rattle.pf_script.specs.Told.{LinesTold}
+use Rattle.pf_change.proofs.Records.{line_stops, lines_on, lines_whole}
 use Rattle.pf_change.proofs.lines.read_lines.Goals as goal
 
 pub returns-in_err-line-clause-stopped : goal.returns-in_err-line-clause-stopped
