@@ -1,6 +1,5 @@
 ghost use Rattle.std.specs.Prelude.{◌≡◌, ◌≢◌, ℕ, ◌+◌, ◌-◌, ◌*◌, ◌<◌, ◌≤◌, ◌^◌, length, max, All, IsTrue, IfOk, IfSome, OnOk, OnErr, MatchOption, vec_len};
 ghost use Rattle.std.specs.Vec.{vec_capacity};
-ghost use Rattle.std.specs.Ordering.{nat_cmp};
 ghost use Rattle.std.specs.FinSet as set;
 ghost use Rattle.std.specs.FinMap as map;
 ghost use Rattle.pf_order.specs.Counts.{Compares};
@@ -9,10 +8,8 @@ ghost use Rattle.pf_heap.specs.Keys.{IsFirst};
 ghost use Rattle.pf_heap.specs.Digits.{digits};
 ghost use Rattle.pf_calendar.specs.Queues.{list_at, until, later, due, key_count, IsQueued, TakesOut, EachTaskOnce, NoneEmpty};
 
-use crate::merge::merge_all;
-use crate::names::{add_heaps, open};
-use crate::taking::{discount, remove_waiting};
-use crate::waiting_list::WaitingList;
+use crate::far::{open, place_of};
+use crate::far_list::FarList;
 use pf_heap::arena::{Arena, HeapId};
 use pf_order::key::Key;
 use pf_order::meter::Meter;
@@ -20,13 +17,19 @@ use pf_table::table::Table;
 use std::alloc::{AllocError, Global};
 use std::marker::Model;
 
+/// How many slots have a heap of their own: so many from the next one on.
+const RING: u64 = 1024;
+
 /// Keys that wait for their slots, and keys that are ready. A task is held at most once.
 #[derive(Drop)]
 pub struct Calendar {
+    /// The ready keys in the main heap, and those that wait for a slot of the ring in the heap of its number modulo the
+    /// ring's size. The further heaps are those of the far lists, and unused ones.
     heaps: Arena,
-    ready: HeapId,
-    /// By rising slots.
-    waiting: Vec<WaitingList>,
+    /// The first slot of the ring.
+    next: u64,
+    /// The lists for slots out of the ring, by rising slots.
+    far: Vec<FarList>,
     /// Empty heaps.
     unused: Vec<HeapId>,
     /// The slot that each task's key was put for.
@@ -46,13 +49,12 @@ impl Model for Calendar {
 
     ghost coded = { queues_code };
 
-    ghost use Rattle.pf_heap.specs.Keys.{list_of};
     ghost use Rattle.pf_calendar.specs.Invariant.{waiting_in, IsCalendar, NotesSlots};
 
-    ghost view = { λ c. record { ready = list_of c.heaps c.ready; waiting = waiting_in c.heaps c.waiting.items; spare = c.limit - c.held; tasks = c.heaps.tasks } };
+    ghost view = { λ c. record { ready = c.heaps.main; waiting = waiting_in c.heaps c.next c.far.items; spare = c.limit - c.held; tasks = c.heaps.tasks } };
 
-    ghost invariant = { λ c. IsCalendar c.heaps c.ready c.waiting.items c.unused.items c.held c.limit (vec_capacity c.waiting) (vec_capacity c.unused)
-        × NotesSlots c.slots c.heaps.tasks (waiting_in c.heaps c.waiting.items) };
+    ghost invariant = { λ c. IsCalendar c.heaps c.next c.far.items c.unused.items c.held c.limit (vec_capacity c.far) (vec_capacity c.unused)
+        × NotesSlots c.slots c.heaps.tasks (waiting_in c.heaps c.next c.far.items) };
 }
 
 impl Calendar {
@@ -65,11 +67,11 @@ impl Calendar {
         ensures { IfOk result (λ c. c ≡ record { ready = set.empty; waiting = map.empty; spare = 0; tasks = 0 }) }
     {
         let mut heaps = Arena::new(alloc)?;
-        let ready = heaps.new_heap()?;
+        heaps.add_heaps(RING as usize)?;
         Ok(Self {
             heaps,
-            ready,
-            waiting: Vec::new(alloc),
+            next: 0,
+            far: Vec::new(alloc),
             unused: Vec::new(alloc),
             slots: Table::new(alloc, 0),
             held: 0,
@@ -102,11 +104,16 @@ impl Calendar {
             return Ok(());
         }
         let limit = self.held + n;
-        let more = limit.saturating_sub(self.waiting.len() + self.unused.len());
+        let named = self.far.len() + self.unused.len();
+        let more = limit.saturating_sub(named);
         self.heaps.reserve(n)?;
-        self.waiting.reserve(self.unused.len() + more)?;
-        self.unused.reserve(self.waiting.len() + more)?;
-        add_heaps(&mut self.heaps, &mut self.unused, more)?;
+        self.far.reserve(self.unused.len() + more)?;
+        self.unused.reserve(self.far.len() + more)?;
+        self.heaps.add_heaps(more)?;
+        for i in 0..more {
+            let heap = self.heaps.heap(RING as usize + named + i);
+            self.unused.push_reserved(heap);
+        }
         self.limit = limit;
         Ok(())
     }
@@ -126,6 +133,16 @@ impl Calendar {
         Ok(())
     }
 
+    /// Whether the slot is one of the ring's.
+    fn is_near(&self, slot: u64) -> bool {
+        self.next <= slot && slot - self.next < RING
+    }
+
+    /// The heap of a slot of the ring.
+    fn near(&self, slot: u64) -> HeapId {
+        self.heaps.heap((slot % RING) as usize)
+    }
+
     /// Adds the key to the list that waits for the slot.
     pub fn put(&mut self, meter: &mut Meter, slot: u64, key: Key)
         requires room { 1 ≤ self.old.spare }
@@ -139,11 +156,13 @@ impl Calendar {
         ensures some { NoneEmpty self.new.waiting }
         ensures comparisons { Compares (digits (key_count self.old + 1)) meter.old meter.new }
     {
-        let at = open(&mut self.waiting, &mut self.unused, slot);
-        let entry = self.waiting[at];
+        let heap = if self.is_near(slot) {
+            self.near(slot)
+        } else {
+            open(&mut self.far, &mut self.unused, slot)
+        };
         self.slots.set(key.task(), slot);
-        self.heaps.insert(meter, entry.heap, key);
-        self.waiting[at].count = entry.count + 1;
+        self.heaps.insert(meter, heap, key);
         self.held += 1;
     }
 
@@ -158,15 +177,49 @@ impl Calendar {
         ensures some { NoneEmpty self.new.waiting }
         ensures comparisons { Compares (map.len (until t self.old.waiting) * digits (key_count self.old)) meter.old meter.new }
     {
-        let due = self.waiting.partition_point(|entry| entry.slot <= t);
-        merge_all(
-            &mut self.heaps,
-            meter,
-            self.ready,
-            &self.waiting[..due],
-            &mut self.unused,
-        );
-        drop(self.waiting.drain(..due));
+        self.merge_far(meter, t);
+        if self.next <= t {
+            self.merge_near(meter, t);
+            self.next = t.saturating_add(1);
+            self.draw_near();
+        }
+    }
+
+    /// Merges the far lists for slots up to t into the ready one.
+    fn merge_far(&mut self, meter: &mut Meter, t: u64) {
+        let due = self.far.partition_point(|list| list.slot <= t);
+        if due == 0 {
+            return;
+        }
+        for list in &self.far[..due] {
+            self.heaps.meld_main(meter, list.heap);
+            self.unused.push_reserved(list.heap);
+        }
+        drop(self.far.drain(..due));
+    }
+
+    /// Merges the lists of the ring's slots up to t into the ready one.
+    fn merge_near(&mut self, meter: &mut Meter, t: u64) {
+        let past = (t - self.next).min(RING - 1) + 1;
+        for i in 0..past {
+            let heap = self.near(self.next + i);
+            self.heaps.meld_main(meter, heap);
+        }
+    }
+
+    /// Takes the far lists that the ring reaches into it.
+    fn draw_near(&mut self) {
+        let begin = self.next;
+        let reached = self.far.partition_point(|list| list.slot - begin < RING);
+        if reached == 0 {
+            return;
+        }
+        for list in &self.far[..reached] {
+            let heap = self.near(list.slot);
+            self.heaps.rename(heap, list.heap);
+            self.unused.push_reserved(list.heap);
+        }
+        drop(self.far.drain(..reached));
     }
 
     /// Takes the first ready key out.
@@ -179,7 +232,7 @@ impl Calendar {
         ensures some { NoneEmpty self.new.waiting }
         ensures comparisons { Compares (2 * digits (key_count self.old)) meter.old meter.new }
     {
-        let key = self.heaps.pop(meter, self.ready)?;
+        let key = self.heaps.pop_main(meter)?;
         self.held -= 1;
         Some(key)
     }
@@ -194,14 +247,31 @@ impl Calendar {
         ensures comparisons { Compares (2 * digits (key_count self.old)) meter.old meter.new }
     {
         let slot = self.slots.get(task);
-        if let Some(found) = remove_waiting(&mut self.heaps, meter, &self.waiting, slot, task) {
-            let (at, key) = found;
-            discount(&mut self.waiting, &mut self.unused, at);
+        if let Some(key) = self.take_waiting(meter, slot, task) {
             self.held -= 1;
             return Some(key);
         }
-        let key = self.heaps.remove(meter, self.ready, task)?;
+        let key = self.heaps.remove_main(meter, task)?;
         self.held -= 1;
+        Some(key)
+    }
+
+    /// Takes the task's key out of the list for the slot.
+    fn take_waiting(&mut self, meter: &mut Meter, slot: u64, task: u32) -> Option<Key> {
+        if self.is_near(slot) {
+            let heap = self.near(slot);
+            return self.heaps.remove(meter, heap, task);
+        }
+        let at = place_of(&self.far, slot);
+        if at >= self.far.len() || self.far[at].slot != slot {
+            return None;
+        }
+        let heap = self.far[at].heap;
+        let key = self.heaps.remove(meter, heap, task)?;
+        if self.heaps.is_empty(heap) {
+            let _ = self.far.remove(at);
+            self.unused.push_reserved(heap);
+        }
         Some(key)
     }
 
@@ -213,17 +283,17 @@ impl Calendar {
     pub fn copy(&self) -> Result<Self, AllocError>
         ensures { IfOk result (λ c. c ≡ record self.now { spare = 0 }) }
     {
-        let alloc = *self.waiting.allocator();
+        let alloc = *self.far.allocator();
         let heaps = self.heaps.copy()?;
-        let mut waiting = Vec::from_slice(alloc, &self.waiting)?;
+        let mut far = Vec::from_slice(alloc, &self.far)?;
         let mut unused = Vec::from_slice(alloc, &self.unused)?;
         let slots = self.slots.copy()?;
-        waiting.reserve(self.unused.len())?;
-        unused.reserve(self.waiting.len())?;
+        far.reserve(self.unused.len())?;
+        unused.reserve(self.far.len())?;
         Ok(Self {
             heaps,
-            ready: self.ready,
-            waiting,
+            next: self.next,
+            far,
             unused,
             slots,
             held: self.held,

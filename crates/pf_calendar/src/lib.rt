@@ -3,7 +3,5 @@
 #![tactic(auto)]
 
 pub mod calendar;
-mod merge;
-mod names;
-mod taking;
-mod waiting_list;
+mod far;
+mod far_list;

@@ -8,7 +8,7 @@ use Rattle.std.specs.declared.cmp.Ordering.TheVariants.{Less, Equal, Greater}
 use Rattle.std.specs.Ordering.{is_lt, is_gt, ordering_reverse}
 use Rattle.pf_order.specs.Priority.{Priority, precedes, priority_cmp}
 use Rattle.pf_order.proofs.Order.{priority_cmp_total}
-use Rattle.pf_heap.specs.Forest.{Forest, none, tree, forest_weight, same, size, IsBelow, AllBelow, Falls, Rises, IsTreeOrNone}
+use Rattle.pf_heap.specs.Forest.{Forest, none, tree, forest_weight, same, size, IsBelow, AllBelow, Falls, Rises, IsTreeOrNone, some, roots}
 
 -- ---- numbers
 
@@ -101,3 +101,13 @@ forest_weight-zero w (tree at key rank kids rest) e = omega (arith, e at key, fo
 pub forest_weight-le : (v w : ℕ → Priority → ℕ) (f : Forest) → ((at : ℕ) (key : Priority) → v at key ≤ w at key) → forest_weight v f ≤ forest_weight w f
 forest_weight-le v w none e = omega arith
 forest_weight-le v w (tree at key rank kids rest) e = omega (arith, e at key, forest_weight-le v w kids e, forest_weight-le v w rest e)
+
+-- ---- roots
+
+pub some-le : (f : Forest) → some f ≤ 1
+some-le none = omega arith
+some-le (tree at key rank kids rest) = omega arith
+
+pub rises_less : (r s : ℕ) (f : Forest) → s ≤ r → Rises r f → Rises s f
+rises_less r s none le h = tt
+rises_less r s (tree at key rank kids rest) le h = (omega (arith, h.0), h.1, h.2)

@@ -14,3 +14,7 @@ key_of w shift i task = record {
   task = task;
   sub = i;
 }
+
+-- the key of places that hold none
+abbrev pub filler_key : Priority
+filler_key = record { deadline = 0; bit = 0; group = 0; task = 1; sub = 1 }

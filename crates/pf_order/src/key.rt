@@ -1,7 +1,7 @@
 ghost use Rattle.std.specs.Prelude.{◌≡◌, ◌<◌, ◌≤◌, ◌^◌};
 ghost use Rattle.pf_window.specs.TheConstants.{LARGEST_TASK};
 ghost use Rattle.pf_order.specs.Priority.{IsPriority};
-ghost use Rattle.pf_order.specs.KeyOf.{key_of};
+ghost use Rattle.pf_order.specs.KeyOf.{key_of, filler_key};
 
 use pf_window::weight::Weight;
 use pf_window::{bit, deadline, group};
@@ -61,6 +61,18 @@ impl Key {
             urgency: bit + group,
             task,
             sub: i,
+        }
+    }
+
+    /// A key for places that hold none: that of subtask 1 of task 1, with deadline 0.
+    pub fn filler() -> Self
+        ensures { result ≡ filler_key }
+    {
+        Key {
+            deadline: 0,
+            urgency: 0,
+            task: 1,
+            sub: 1,
         }
     }
 

@@ -1,0 +1,23 @@
+use Rattle.std.proofs.Common.{arith}
+use Rattle.pf_heap.proofs.Takes.{its_root, its_tree, rest_and_halves, taken}
+use Rattle.pf_heap.proofs.taking.take.Goals as goal
+
+pub part-rest-requires : goal.part-rest-requires
+part-rest-requires c = record { can = its_root c.requires.can }
+
+pub split-halves-requires : goal.split-halves-requires
+split-halves-requires c =
+    let can = c.requires.can in
+    record { can = its_tree can (c.part-rest.ensures (its_root can)) (omega (arith, can.small)) }
+
+pub merge-requires : goal.merge-requires
+merge-requires c =
+    let can = c.requires.can in
+    let p = c.part-rest.ensures (its_root can) in
+    record { can = rest_and_halves can p (omega (arith, can.small)) (c.split-halves.ensures (its_tree can p (omega (arith, can.small)))) }
+
+pub returns : goal.returns
+returns c = λ can.
+    let p = c.part-rest.ensures (its_root can) in
+    let s = c.split-halves.ensures (its_tree can p (omega (arith, can.small))) in
+    taken can p (omega (arith, can.small)) s (c.merge.ensures (rest_and_halves can p (omega (arith, can.small)) s))
