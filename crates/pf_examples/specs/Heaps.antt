@@ -17,7 +17,7 @@ ComeOut keys (k ∷ ks) = IsOnlyFirst keys k × ComeOut (set.remove keys k) ks
 
 -- two empty heaps with room for five keys
 abbrev pub two_empty : Heaps
-two_empty = record { lists = set.empty ∷ set.empty ∷ []; spare = 5; tasks = 7 }
+two_empty = record { main = set.empty; lists = set.empty ∷ set.empty ∷ []; spare = 5; tasks = 7 }
 
 -- the heaps after an insert
 abbrev pub inserted : ℕ → Priority → Heaps → Heaps

@@ -9,13 +9,14 @@ use Rattle.pf_order.specs.Priority.{Priority}
 use Rattle.pf_order.specs.Counts.{Counts, Compares}
 use Rattle.pf_heap.specs.declared.node.Node.{Node}
 use Rattle.pf_heap.specs.declared.table.Roots.{Roots}
-use Rattle.pf_heap.specs.Forest.{Forest, none, tree, single, nowhere, idle, head, forest_weight, same, one_each, at_place, of_task, of_key, size, Rises}
+use Rattle.pf_heap.specs.Forest.{Forest, none, tree, single, nowhere, idle, head, forest_weight, same, one_each, at_place, of_task, of_key, size, AllBelow, Rises}
 use Rattle.pf_heap.specs.Memory.{no_node, node_at, Stands, Part, root, all_roots, weigh_all, StandAll, Parts}
 use Rattle.pf_heap.specs.Steps.{HasNodeAndList, IsAddedTo}
+use Rattle.pf_heap.specs.Split.{IsTop}
 use Rattle.pf_heap.specs.Table.{NoneBefore, IsTable, HasListAndTable, IsInTable, HasTable}
 use Rattle.pf_heap.specs.Taking.{HasTwoHeaps, IsMerged, CanTake, IsTaken, CanTakeFrom, IsTakenFrom, IsFirstTaken}
 use Rattle.pf_heap.specs.Keys.{Keys, Heaps, list_of, with_list, all_lists, IsHeld, IsFirst, HasNone, other_keys}
-use Rattle.pf_heap.specs.View.{keys, lists_at, side_by_side, main_at}
+use Rattle.pf_heap.specs.View.{keys, lists_at, with_trees, side_by_side, main_at}
 use Rattle.pf_heap.specs.Digits.{digits}
 use Rattle.pf_heap.specs.Invariant.{IsArena, AllRise, IsIdle, AreIdle, all_parts, misplaced}
 use Rattle.pf_order.proofs.Comparing.{compares_within}
@@ -24,10 +25,12 @@ use Rattle.pf_heap.proofs.Standing.{stands-set, stand_all-set}
 use Rattle.std.specs.Int.Count.{ones}
 use Rattle.pf_heap.proofs.Digits.{paid-le-digits}
 use Rattle.pf_heap.proofs.Counting.{count_by_size, roots_of_list, carried-le-digits}
-use Rattle.pf_heap.proofs.Sets.{keys_union, keys_insert, keys_remove, keys_without}
+use Rattle.pf_heap.proofs.Sets.{keys_union, keys_insert, keys_remove, keys_without, contains_from_weigh, weigh_from_contains, of_key-self, below_in, key-le-task}
+use Rattle.pf_heap.proofs.Seeking.{no_trees as no_trees_there}
 use Rattle.pf_heap.proofs.Tables.{weigh_all-append, weigh_all-put, weigh-le-all, stand_append, stand_front, stand_back, tree_stands, put_stands}
+use Rattle.pf_heap.proofs.Climb.{IsTreeOf}
 use Rattle.pf_heap.proofs.Takes.{empty_table, no_trees, empty_is, none_weigh, none_stand, few_roots, trees_from_rises}
-use Rattle.pf_heap.proofs.Lists.{rises_in, all_rise-set, all_rise-more, weigh_all-more, stand_all-more, side_by_side-weight, own_idle, put_idle, idle_weight}
+use Rattle.pf_heap.proofs.Lists.{rises_in, all_rise-set, all_rise-more, weigh_all-more, stand_all-more, side_by_side-weight, own_task, own_tasks, some_heap, two-le-all, own_idle, put_idle, idle_weight}
 use Rattle.pf_heap.proofs.Whole.{heap_apart, small, trees_stand, heaps_stand, idles_stand, all_weigh, forests_weigh, lists_are, main_is_keys, task_weighs, heap_once, small_lent, parts_lent, now_main, now_lists, now_spare, now_tasks, list_is, len_is, main_len, held_from_weigh, node_low, in_heaps, not_in_heaps, heap_in, link_is}
 
 -- an arena that stands for these heaps, after so many comparisons at most
@@ -201,22 +204,22 @@ idle_elsewhere i t (tree at key rank kids rest) h e =
 
 module _ {nodes : List Node} {heads : List ℕ} {main : Roots} (a : IsArena nodes heads main) {now : Heaps} {room : ℕ}
     (seen : ◌≡◌ {A = Heaps} (record { main = main_at nodes main; lists = lists_at nodes heads; spare = room; tasks = length nodes }) now) where
-  module _ {h index link : ℕ} {key : Priority} (is : index ≡ h) (within : h < length now.lists) (read : link ≡ get_or heads index link)
+  module _ {h index link : ℕ} (key : Priority) (is : index ≡ h) (within : h < length now.lists) (read : link ≡ get_or heads index link)
       (low : key.task < now.tasks) (absent : IsHeld (all_lists now) key.task → ⊥) (some : 1 ≤ now.spare) where
-    task_low : key.task < length nodes
+    pub task_low : key.task < length nodes
     task_low = omega (arith, low, now_tasks a seen)
 
-    unheld : weigh_all (at_place key.task) (all_roots a.trees) + weigh_all (at_place key.task) (all_roots a.heaps) ≡ 0
+    pub unheld : weigh_all (at_place key.task) (all_roots a.trees) + weigh_all (at_place key.task) (all_roots a.heaps) ≡ 0
     unheld = ⊎_elim (λ lt. absurd (absent (held_from_weigh a seen key.task (omega (arith, lt, task_weighs a key.task))))) (λ le. omega (arith, le))
         (cases_lt 0 (weigh_all (at_place key.task) (all_roots a.trees) + weigh_all (at_place key.task) (all_roots a.heaps)))
 
     pub h_in : h < length a.heaps
     h_in = heap_in a seen is within read
 
-    settled : Parts (set nodes key.task (fresh key)) (root (single key.task key) ∷ all_parts a.trees a.heaps (set a.idles key.task none))
+    pub settled : Parts (set nodes key.task (fresh key)) (root (single key.task key) ∷ all_parts a.trees a.heaps (set a.idles key.task none))
     settled = idle_out a.trees a.heaps a.idles key.task key a.idles_are task_low (omega (arith, task_low, a.as_many)) a.parts unheld
 
-    pub insert_heaps : {lent : List Node} {at : ℕ} → lent ≡ set nodes key.task (fresh key) → at ≡ key.task → HasNodeAndList lent at link
+    abbrev pub insert_heaps : {lent : List Node} {at : ℕ} → lent ≡ set nodes key.task (fresh key) → at ≡ key.task → HasNodeAndList lent at link
     insert_heaps {lent} {at} e at_is = record {
       added = single key.task key;
       list = get_or a.heaps h none;
@@ -281,7 +284,7 @@ module _ {nodes : List Node} {heads : List ℕ} {main : Roots} (a : IsArena node
 
       pub inserted : IsArenaAfter new (set heads h result) main (room - 1)
           (record (with_list now h (fin.insert (list_of now h) key)) { spare = now.spare - 1 }) (digits (fin.len (list_of now h) + 1)) before after
-      unfolding inserted_arena
+      unfolding inserted_arena rebuilt
       inserted =
           let u : keys m.heap ≡ fin.insert (list_of now h) key =
           keys_insert m.heap (get_or a.heaps h none) key.task key (λ w. omega (arith, m.kept w))
@@ -304,10 +307,10 @@ module _ {nodes : List Node} {heads : List ℕ} {main : Roots} (a : IsArena node
   -- ---- the main heap takes a list in
 
   module _ {from index link : ℕ} (is : index ≡ from) (within : from < length now.lists) (read : link ≡ get_or heads index link) where
-    from_in : from < length a.heaps
+    pub from_in : from < length a.heaps
     from_in = heap_in a seen is within read
 
-    pub main_and_list : {lent : List Node} → lent ≡ nodes → HasListAndTable lent main link
+    abbrev pub main_and_list : {lent : List Node} → lent ≡ nodes → HasListAndTable lent main link
     main_and_list {lent} e =
         let p = parts_lent a e from from_in in
         record {
@@ -343,7 +346,7 @@ module _ {nodes : List Node} {heads : List ℕ} {main : Roots} (a : IsArena node
 
       pub main_joined : IsArenaAfter new (set heads from nowhere) table room
           (record (with_list now from fin.empty) { main = fin.union now.main (list_of now from) }) (digits (fin.len now.main + fin.len (list_of now from))) before after
-      unfolding joined_arena
+      unfolding joined_arena rebuilt
       main_joined =
           let whole : keys (side_by_side d.now) ≡ fin.union now.main (list_of now from) =
           keys_union (side_by_side d.now) (side_by_side a.trees) (get_or a.heaps from none)
@@ -420,7 +423,7 @@ module _ {nodes : List Node} {heads : List ℕ} {main : Roots} (a : IsArena node
     pub main_without : (left_keys : Keys) → keys (side_by_side left) ≡ left_keys → {made : ℕ} {before after : Counts} → Compares made before after →
         IsArenaAfter (set mid at (record (node_at mid at) { rank = idle })) heads table (room + 1)
         (record now { main = left_keys; spare = now.spare + 1 }) made before after
-    unfolding taken_arena
+    unfolding taken_arena rebuilt
     main_without left_keys is counted =
         let lists : lists_at (set mid at (record (node_at mid at) { rank = idle })) heads ≡ now.lists = lists_are taken_arena ∙ sym (now_lists a seen) in
         record {
@@ -504,7 +507,7 @@ module _ {nodes : List Node} {heads : List ℕ} {main : Roots} (a : IsArena node
     pub list_without : (left_keys : Keys) → keys d.left ≡ left_keys → {made : ℕ} {start : Counts} → Compares made start after →
         IsArenaAfter (set mid at (record (node_at mid at) { rank = idle })) (set heads h link) main (room + 1)
         (record (with_list now h left_keys) { spare = now.spare + 1 }) made start after
-    unfolding out_arena
+    unfolding out_arena rebuilt
     list_without left_keys e counted =
         let lists : lists_at (set mid at (record (node_at mid at) { rank = idle })) (set heads h link) ≡ set now.lists h left_keys =
         lists_are out_arena ∙ map-set keys a.heaps h d.left ∙ (λ i. set (sym (now_lists a seen) i) h (e i)) in
@@ -581,8 +584,234 @@ module _ {nodes : List Node} {heads : List ℕ} {main : Roots} (a : IsArena node
 
   pub heaps_added_view : {now : Heaps} {room : ℕ} → ◌≡◌ {A = Heaps} (record { main = main_at nodes main; lists = lists_at nodes heads; spare = room; tasks = length nodes }) now →
       ◌≡◌ {A = Heaps} (record { main = main_at nodes main; lists = lists_at nodes more; spare = room; tasks = length nodes }) (record now { lists = now.lists ++ replicate n fin.empty })
-  unfolding heaps_added
+  unfolding heaps_added rebuilt
   heaps_added_view {now} seen =
       let l : lists_at nodes more ≡ now.lists ++ replicate n fin.empty =
       lists_are heaps_added ∙ map-append keys a.heaps (replicate n none) ∙ (λ i. sym (now_lists a seen) i ++ map_none keys n i) in
       λ i. record { main = ap (λ (x : Heaps). x.main) seen i; lists = l i; spare = sym (now_spare a seen) i; tasks = sym (now_tasks a seen) i }
+
+-- ---- two lists are merged
+
+module _ {nodes : List Node} {heads : List ℕ} {main : Roots} (a : IsArena nodes heads main) {now : Heaps} {room : ℕ}
+    (seen : ◌≡◌ {A = Heaps} (record { main = main_at nodes main; lists = lists_at nodes heads; spare = room; tasks = length nodes }) now)
+    {into from i j first second : ℕ} (i_is : i ≡ into) (j_is : j ≡ from) (into_in : into < length now.lists) (from_in : from < length now.lists) (differ : into ≢ from)
+    (first_read : first ≡ get_or heads i first) (second_read : second ≡ get_or heads j second) where
+  pub in_rest : into < length (set a.heaps from none)
+  in_rest = omega (arith, heap_in a seen i_is into_in first_read, length-set a.heaps from none)
+
+  pub other_kept : get_or (set a.heaps from none) into none ≡ get_or a.heaps into none
+  other_kept = get_or-set_other a.heaps from into none none differ
+
+  pub both_apart : {lent : List Node} → lent ≡ nodes →
+      Parts lent (root (get_or a.heaps into none) ∷ root (get_or a.heaps from none) ∷ (all_roots a.trees ++ (all_roots (set (set a.heaps from none) into none) ++ all_roots a.idles)))
+  both_apart {lent} e =
+      let p = parts_lent a e from (heap_in a seen j_is from_in second_read) in
+      let q = heap_apart a.trees (set a.heaps from none) a.idles into in_rest (record { stand = p.stand.1; once = λ k. omega (arith, p.once k) }) in
+      record {
+        stand = (subst (λ f. Stands lent nowhere f) other_kept q.stand.0, (p.stand.0, q.stand.1));
+        once = λ k. omega (
+          arith,
+          p.once k,
+          grouped a (at_place k) a.trees (set a.heaps from none) a.idles,
+          grouped a (at_place k) a.trees (set (set a.heaps from none) into none) a.idles,
+          weigh_all-put (at_place k) (set a.heaps from none) into none in_rest,
+          ap (λ f. forest_weight (at_place k) f) other_kept,
+        );
+      }
+
+  abbrev pub meld_heaps : {lent : List Node} → lent ≡ nodes → HasTwoHeaps lent first second
+  meld_heaps {lent} e = record {
+    first = get_or a.heaps into none;
+    second = get_or a.heaps from none;
+    others = all_roots a.trees ++ (all_roots (set (set a.heaps from none) into none) ++ all_roots a.idles);
+    first_is = link_is a seen i_is into_in first_read;
+    second_is = link_is a seen j_is from_in second_read;
+    first_rises = rises_in a.heaps into a.rise;
+    second_rises = rises_in a.heaps from a.rise;
+    small = small_lent a e;
+    parts = both_apart e;
+  }
+
+  -- the heap that both are: heap `into` then, and the other one is empty
+  module _ {new : List Node} {link : ℕ} (heap : Forest) (link_is_head : link ≡ head heap) (rises : Rises 0 heap)
+      (parts : Parts new (root heap ∷ (all_roots a.trees ++ (all_roots (set (set a.heaps from none) into none) ++ all_roots a.idles))))
+      (kept : (w : ℕ → Priority → ℕ) → forest_weight w heap ≡ forest_weight w (get_or a.heaps into none) + forest_weight w (get_or a.heaps from none)) (long : length new ≡ length nodes) where
+    both_weigh : (w : ℕ → Priority → ℕ) → weigh_all w (all_roots (set (set a.heaps from none) into heap)) ≡ weigh_all w (all_roots a.heaps)
+    both_weigh w =
+        omega (
+          arith,
+          kept w,
+          weigh_all-put w a.heaps from none (heap_in a seen j_is from_in second_read),
+          weigh_all-put w (set a.heaps from none) into heap in_rest,
+          ap (λ f. forest_weight w f) other_kept,
+        )
+
+    melded_arena : IsArena new (set (set heads from nowhere) into link) main
+    melded_arena = rebuilt a a.trees (set (set a.heaps from none) into heap) a.idles long a.main_is
+        (ap (λ l. set (set l from nowhere) into link) a.heads_are
+        ∙ ap (λ x. set (set (map head a.heaps) from nowhere) into x) link_is_head
+        ∙ ap (λ l. set l into (head heap)) (sym (map-set head a.heaps from none))
+        ∙ sym (map-set head (set a.heaps from none) into heap))
+        (all_rise-set (set a.heaps from none) into heap (all_rise-set a.heaps from none a.rise tt) rises)
+        a.idles_are refl
+        (heap_back a.trees (set a.heaps from none) a.idles into heap in_rest parts)
+        (λ k. omega (arith, all_weigh a (at_place k), grouped a (at_place k) a.trees (set (set a.heaps from none) into heap) a.idles, both_weigh (at_place k)))
+        (omega (arith, a.placed, both_weigh misplaced))
+
+    pub melded : {made : ℕ} {before after : Counts} (whole : Keys) → keys heap ≡ whole → Compares made before after →
+        IsArenaAfter new (set (set heads from nowhere) into link) main room (with_list (with_list now from fin.empty) into whole) made before after
+    unfolding melded_arena rebuilt
+    melded whole is counted =
+        let lists : lists_at new (set (set heads from nowhere) into link) ≡ set (set now.lists from fin.empty) into whole =
+        lists_are melded_arena
+        ∙ map-set keys (set a.heaps from none) into heap
+        ∙ ap (λ l. set l into (keys heap)) (map-set keys a.heaps from none)
+        ∙ ap (λ l. set (set l from fin.empty) into (keys heap)) (sym (now_lists a seen))
+        ∙ ap (λ k. set (set now.lists from fin.empty) into k) is in
+        record {
+          arena = melded_arena;
+          view = λ k. record { main = (main_is_keys melded_arena ∙ sym (now_main a seen)) k; lists = lists k; spare = sym (now_spare a seen) k; tasks = (long ∙ sym (now_tasks a seen)) k };
+          counted = counted;
+        }
+
+  -- both lists' keys
+  pub both_keys : (heap : Forest) → ((w : ℕ → Priority → ℕ) → forest_weight w heap ≡ forest_weight w (get_or a.heaps into none) + forest_weight w (get_or a.heaps from none)) →
+      keys heap ≡ fin.union (list_of now into) (list_of now from)
+  both_keys heap kept =
+      keys_union heap (get_or a.heaps into none) (get_or a.heaps from none) kept ∙ (λ k. fin.union (sym (list_is a seen into) k) (sym (list_is a seen from) k))
+
+  pub both_digits : digits (size (get_or a.heaps into none) + size (get_or a.heaps from none)) ≡ digits (fin.len (list_of now into) + fin.len (list_of now from))
+  both_digits = λ k. digits (sym (len_is a seen into) k + sym (len_is a seen from) k)
+
+-- ---- what a node that is taken needs
+
+none_side_by_side : (fs : List Forest) → ((k : ℕ) → get_or fs k none ≡ none) → side_by_side fs ≡ none
+none_side_by_side [] h = refl
+none_side_by_side (f ∷ fs) h = (λ i. with_trees (h zero i) (side_by_side fs)) ∙ none_side_by_side fs (λ k. h (suc k))
+
+all_below_with : (p : Priority) (f g : Forest) → AllBelow p f → AllBelow p g → AllBelow p (with_trees f g)
+all_below_with p none g h i = i
+all_below_with p (tree at key rank kids rest) g h i = (h.0, h.1, all_below_with p rest g h.2 i)
+
+all_below_side : (p : Priority) (fs : List Forest) → NoneBefore p fs → AllBelow p (side_by_side fs)
+all_below_side p [] h = tt
+all_below_side p (f ∷ fs) h = all_below_with p f (side_by_side fs) h.0 (all_below_side p fs h.1)
+
+module _ {nodes : List Node} {heads : List ℕ} {main : Roots} (a : IsArena nodes heads main) {now : Heaps} {room : ℕ}
+    (seen : ◌≡◌ {A = Heaps} (record { main = main_at nodes main; lists = lists_at nodes heads; spare = room; tasks = length nodes }) now) where
+  -- the keys of the main heap where it has no rank
+  pub main_empty : main.ranks ≡ 0 → now.main ≡ fin.empty
+  main_empty e =
+      now_main a seen ∙ ap keys (none_side_by_side a.trees (λ k. no_trees_there a.trees k (sym a.main_is.ranks ∙ e)))
+
+  -- the first key of the main heap
+  pub main_first : (key : Priority) (at : ℕ) (left : List Forest) → NoneBefore key a.trees → ((w : ℕ → Priority → ℕ) → w at key + weigh_all w (all_roots left) ≡ weigh_all w (all_roots a.trees)) → IsFirst now.main key
+  main_first key at left first kept =
+      subst (λ s. IsFirst s key) (sym (now_main a seen)) (
+        contains_from_weigh (side_by_side a.trees) key (omega (arith, side_by_side-weight (of_key key) a.trees, kept (of_key key), of_key-self key at)),
+        λ q c. below_in key q (side_by_side a.trees) (all_below_side key a.trees first) (weigh_from_contains (side_by_side a.trees) q c),
+      )
+
+  -- ---- the heap of a node
+
+  -- no key of the task is in a heap that its node isn't in
+  pub none_in_heap : (h t : ℕ) → (1 ≤ forest_weight (at_place t) (get_or a.heaps h none) → ⊥) → HasNone (list_of now h) t
+  none_in_heap h t out q has task =
+      let placed : forest_weight misplaced (get_or a.heaps h none) ≡ 0 = omega (arith, a.placed, weigh-le-all misplaced a.heaps h) in
+      let there = weigh_from_contains (get_or a.heaps h none) q (ap (λ s. fin.contains s q) (sym (list_is a seen h)) ∙ has) in
+      out (omega (
+        arith,
+        there,
+        key-le-task q (get_or a.heaps h none),
+        ap (λ x. forest_weight (of_task x) (get_or a.heaps h none)) task,
+        own_task t (get_or a.heaps h none) placed,
+      ))
+
+  pub none_in_main : (t : ℕ) → (1 ≤ weigh_all (at_place t) (all_roots a.trees) → ⊥) → HasNone now.main t
+  none_in_main t out q has task =
+      let there = weigh_from_contains (side_by_side a.trees) q (ap (λ s. fin.contains s q) (sym (now_main a seen)) ∙ has) in
+      out (omega (
+        arith,
+        there,
+        key-le-task q (side_by_side a.trees),
+        ap (λ x. forest_weight (of_task x) (side_by_side a.trees)) task,
+        side_by_side-weight (of_task t) a.trees,
+        own_tasks t a.trees (omega (arith, a.placed)),
+      ))
+
+  module _ (t top : ℕ) (is_top : IsTop nodes t top) (held : 1 ≤ weigh_all (at_place t) (all_roots a.trees) + weigh_all (at_place t) (all_roots a.heaps)) where
+    -- where the root is in a list the node is
+    pub in_list : (h : ℕ) → h < length a.heaps → 1 ≤ forest_weight (at_place top) (get_or a.heaps h none) → 1 ≤ forest_weight (at_place t) (get_or a.heaps h none)
+    in_list h listed has =
+        ⊎_elim
+        (λ in_main.
+        let k = some_heap (at_place t) a.trees (omega (arith, in_main)) in
+        absurd (omega (
+          arith,
+          is_top.above (get_or a.trees k.0 none) (tree_stands nodes a.trees k.0 (trees_stand a)) k.2,
+          weigh-le-all (at_place top) a.trees k.0,
+          weigh-le-all (at_place top) a.heaps h,
+          a.parts.once top,
+          all_weigh a (at_place top),
+          has,
+        )))
+        (λ not_main.
+        let k = some_heap (at_place t) a.heaps (omega (arith, held, not_main)) in
+        ⊎_elim
+        (λ e. subst (λ x. 1 ≤ forest_weight (at_place t) (get_or a.heaps x none)) e k.2)
+        (λ differ. absurd (omega (
+          arith,
+          is_top.above (get_or a.heaps k.0 none) (tree_stands nodes a.heaps k.0 (heaps_stand a)) k.2,
+          two-le-all (at_place top) a.heaps k.0 h differ listed,
+          a.parts.once top,
+          all_weigh a (at_place top),
+          has,
+        )))
+        (cases_eq k.0 h))
+        (cases_lt 0 (weigh_all (at_place t) (all_roots a.trees)))
+
+    -- where it is the main heap's root of a rank, the node is in the tree of that rank
+    pub in_tree_of : (r : ℕ) → r < length a.trees → 1 ≤ forest_weight (at_place top) (get_or a.trees r none) → 1 ≤ forest_weight (at_place t) (get_or a.trees r none)
+    in_tree_of r place has =
+        ⊎_elim
+        (λ in_main.
+        let k = some_heap (at_place t) a.trees (omega (arith, in_main)) in
+        ⊎_elim
+        (λ e. subst (λ x. 1 ≤ forest_weight (at_place t) (get_or a.trees x none)) e k.2)
+        (λ differ. absurd (omega (
+          arith,
+          is_top.above (get_or a.trees k.0 none) (tree_stands nodes a.trees k.0 (trees_stand a)) k.2,
+          two-le-all (at_place top) a.trees k.0 r differ place,
+          a.parts.once top,
+          all_weigh a (at_place top),
+          has,
+        )))
+        (cases_eq k.0 r))
+        (λ not_main.
+        let k = some_heap (at_place t) a.heaps (omega (arith, held, not_main)) in
+        absurd (omega (
+          arith,
+          is_top.above (get_or a.heaps k.0 none) (tree_stands nodes a.heaps k.0 (heaps_stand a)) k.2,
+          weigh-le-all (at_place top) a.heaps k.0,
+          weigh-le-all (at_place top) a.trees r,
+          a.parts.once top,
+          all_weigh a (at_place top),
+          has,
+        )))
+        (cases_lt 0 (weigh_all (at_place t) (all_roots a.trees)))
+
+  module _ {h index link : ℕ} (is : index ≡ h) (within : h < length now.lists) (read : link ≡ get_or heads index link) {top at : ℕ} (m : IsTreeOf top at (get_or a.heaps h none)) where
+    abbrev pub can_take : {lent : List Node} → lent ≡ nodes → CanTake lent link top at
+    can_take {lent} e = record {
+      heap = get_or a.heaps h none;
+      others = all_roots a.trees ++ (all_roots (set a.heaps h none) ++ all_roots a.idles);
+      key = m.key;
+      rank = m.rank;
+      kids = m.kids;
+      heap_is = link_is a seen is within read;
+      has_root = m.has_root;
+      has = m.has;
+      rises = rises_in a.heaps h a.rise;
+      small = small_lent a e;
+      parts = parts_lent a e h (heap_in a seen is within read);
+    }

@@ -1,27 +1,33 @@
 -- The way to the root, and a list's roots.
-use Rattle.std.proofs.Common.{◌≡◌, ◌≢◌, ℕ, ◌+◌, ◌^◌, ◌<◌, ◌≤◌, List, ◌∷◌, length, refl, sym, ap, ◌∙◌, subst, arith, ⊎_elim}
+use Rattle.std.proofs.Common.{◌≡◌, ◌≢◌, ℕ, ◌+◌, ◌^◌, ◌<◌, ◌≤◌, inl, inr, List, ◌∷◌, length, refl, sym, ap, ◌∙◌, subst, arith, ⊎_elim}
 use Rattle.std.proofs.Math.Pow.{pow_mono}
 use Rattle.std.proofs.lemmas.Bool.{cases_lt}
 use Rattle.pf_order.specs.Priority.{Priority}
 use Rattle.pf_heap.specs.declared.node.Node.{Node}
-use Rattle.pf_heap.specs.Forest.{Forest, none, tree, nowhere, head, forest_weight, same, at_place, size, Rises}
+use Rattle.pf_heap.specs.Forest.{Forest, none, tree, nowhere, head, forest_weight, same, at_place, size, Rises, HasRoot}
 use Rattle.pf_heap.specs.Memory.{node_at, Stands, Part, root, Parts}
 use Rattle.pf_heap.specs.Pops.{HasHeap}
-use Rattle.pf_heap.specs.Split.{IsClimbing, IsLooking}
-use Rattle.pf_heap.proofs.Forests.{same-self, same-other, size_from_rises, rises_less}
+use Rattle.pf_heap.specs.Split.{IsTop, IsClimbing, IsLooking}
+use Rattle.pf_heap.proofs.Forests.{same-self, same-other, equal_from_same, size_from_rises, rises_less}
 use Rattle.pf_heap.proofs.Standing.{none_from_link, head_within}
 use Rattle.pf_heap.proofs.Weights.{sizes-le-length}
-use Rattle.pf_heap.proofs.Parents.{parent_in, parent_stands_in, rank_of_rises, inner_parent}
+use Rattle.pf_heap.proofs.Parents.{is_node, parent_in, parent_stands, parent_stands_in, rank_of_rises, inner_parent}
 
 -- ---- climbing
 
 pub climb_begun : (nodes : List Node) (at : ℕ) → IsClimbing nodes at at 0
-climb_begun nodes at = record { above = λ f s h. h; high = omega arith }
+climb_begun nodes at = record { above = λ f s h. h; in_tree = λ b f p s h. h; high = omega arith }
 
 pub climb_step : (nodes : List Node) (at now steps : ℕ) (heap : Forest) → Rises 0 heap → Stands nodes nowhere heap → 1 ≤ forest_weight (at_place at) heap →
     (node_at nodes now).parent ≢ nowhere → IsClimbing nodes at now steps → IsClimbing nodes at (node_at nodes now).parent (steps + 1)
 climb_step nodes at now steps heap rises s has some t = record {
   above = λ f sf h. parent_stands_in nodes now f sf (t.above f sf h) some;
+  in_tree = λ b f top sf h.
+      let not_top : same now b ≡ 0 = same-other now b (λ e. some (ap (λ x. (node_at nodes x).parent) e ∙ top)) in
+      ⊎_elim
+      (λ e. omega (arith, same-self b, ap (λ x. same x b) e))
+      (λ m. omega (arith, m))
+      (parent_stands nodes b now f sf (omega (arith, t.in_tree b f top sf h, not_top)));
   high = omega (arith, t.high, (parent_in nodes 0 now heap rises s (t.above heap s has) some).1);
 }
 
@@ -93,3 +99,39 @@ module _ {nodes : List Node} {heap : Forest} {at rest_link steps : ℕ} (t : IsL
 
 pub climbed_to : {nodes : List Node} {at steps now : ℕ} (parent : ℕ) → parent ≡ now → IsClimbing nodes at now steps → IsClimbing nodes at parent steps
 climbed_to {nodes} {at} {steps} parent e t = subst (λ x. IsClimbing nodes at x steps) (sym e) t
+
+-- ---- the tree of the root above a node
+
+pub record IsTreeOf (top at : ℕ) (f : Forest) : Type 0 where
+  pub key : Priority
+  pub rank : ℕ
+  pub kids : Forest
+  pub has_root : HasRoot top key rank kids f
+  pub has : 1 ≤ forest_weight (at_place at) (tree top key rank kids none)
+
+pub tree_of : (nodes : List Node) (at top : ℕ) → IsTop nodes at top → length nodes < 2 ^ 16 → (f : Forest) → Stands nodes nowhere f → 1 ≤ forest_weight (at_place at) f → IsTreeOf top at f
+tree_of nodes at top t small none s has = absurd (omega (arith, has))
+tree_of nodes at top t small (tree b key rank kids rest) s has =
+    ⊎_elim
+    (λ here.
+    let up : (node_at nodes b).parent ≡ nowhere = ap (λ (n : Node). n.parent) s.1 in
+    ⊎_elim
+    (λ hit.
+    let e : top ≡ b = equal_from_same top b (omega (arith, hit)) in
+    record {
+      key = key;
+      rank = rank;
+      kids = kids;
+      has_root = inl (sym e, refl, refl, refl);
+      has = omega (arith, here, ap (λ x. same at x) e);
+    })
+    (λ miss. absurd (omega (
+      arith,
+      t.no_parent,
+      inner_parent nodes b top kids small (omega (arith, s.0)) s.2 (omega (arith, t.in_tree b kids up s.2 (omega (arith, here)), miss)),
+    )))
+    (cases_lt 0 (same top b)))
+    (λ later.
+    let m = tree_of nodes at top t small rest s.3 (omega (arith, has, later)) in
+    record { key = m.key; rank = m.rank; kids = m.kids; has_root = inr m.has_root; has = m.has })
+    (cases_lt 0 (same at b + forest_weight (at_place at) kids))

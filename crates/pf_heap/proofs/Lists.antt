@@ -1,6 +1,7 @@
 -- The list of an arena's heaps.
-use Rattle.std.proofs.Common.{◌≡◌, ◌≢◌, ℕ, zero, suc, ◌+◌, ◌-◌, ◌<◌, ◌≤◌, List, [], ◌∷◌, ◌++◌, map, length, get_or, set, take, drop, refl, sym, ap, ◌∙◌, subst, arith, ⊎_elim, get_or-set_other}
-use Rattle.std.specs.Prelude.{replicate}
+use Rattle.std.proofs.Common.{◌≡◌, ◌≢◌, ℕ, zero, suc, ◌+◌, ◌-◌, ◌<◌, ◌≤◌, List, [], ◌∷◌, ◌++◌, map, length, get_or, set, take, drop, refl, sym, ap, ◌∙◌, subst, arith, ⊎_elim, eqb, get_or-set_other}
+use Rattle.std.specs.Prelude.{replicate, IsTrue}
+use Rattle.std.proofs.lemmas.Bool.Decides.{nat_tests}
 use Rattle.std.proofs.lemmas.Bool.{cases_lt}
 use Rattle.std.proofs.Math.Seq.{take-append_seam}
 use Rattle.pf_order.specs.Priority.{Priority}
@@ -35,6 +36,14 @@ pub all_rise-set : (fs : List Forest) (k : ℕ) (g : Forest) → AllRise fs → 
 all_rise-set [] k g r t = tt
 all_rise-set (f ∷ fs) zero g r t = (t, r.1)
 all_rise-set (f ∷ fs) (suc k) g r t = (r.0, all_rise-set fs k g r.1 t)
+
+-- ---- tests
+
+pub same_from_true : (m n : ℕ) → IsTrue (eqb m n) → m ≡ n
+same_from_true m n t = grind (arith, nat_tests)
+
+pub true_from_same : (m n : ℕ) → m ≡ n → IsTrue (eqb m n)
+true_from_same m n e = grind (arith, nat_tests)
 
 -- some heap weighs something where all together do
 pub some_heap : (w : ℕ → Priority → ℕ) (fs : List Forest) → 1 ≤ weigh_all w (all_roots fs) → (k : ℕ) × (k < length fs) × (1 ≤ forest_weight w (get_or fs k none))

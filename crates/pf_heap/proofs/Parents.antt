@@ -62,7 +62,7 @@ parent_in nodes r h (tree at key rank kids rest) rises s has some =
     (cases_lt 0 (same h at))
 
 -- in any forest of roots, whatever the order
-parent_stands : (nodes : List Node) (up h : ℕ) (f : Forest) → Stands nodes up f → 1 ≤ forest_weight (at_place h) f →
+pub parent_stands : (nodes : List Node) (up h : ℕ) (f : Forest) → Stands nodes up f → 1 ≤ forest_weight (at_place h) f →
     ((node_at nodes h).parent ≡ up) ⊎ (1 ≤ forest_weight (at_place (node_at nodes h).parent) f)
 parent_stands nodes up h none s has = absurd (omega (arith, has))
 parent_stands nodes up h (tree at key rank kids rest) s has =

@@ -2,7 +2,7 @@
 use Rattle.std.specs.Prelude.{◌≡◌, ℕ, ◌+◌, ◌<◌, ◌≤◌, ◌^◌, List, ◌∷◌, length}
 use Rattle.pf_order.specs.Priority.{Priority}
 use Rattle.pf_heap.specs.declared.node.Node.{Node}
-use Rattle.pf_heap.specs.Forest.{Forest, none, tree, single, nowhere, head, forest_weight, at_place, size, Falls, Rises}
+use Rattle.pf_heap.specs.Forest.{Forest, none, tree, single, nowhere, head, forest_weight, same, at_place, size, Falls, Rises}
 use Rattle.pf_heap.specs.Memory.{node_at, Stands, Part, root, Parts}
 
 -- the node is in a heap
@@ -14,14 +14,16 @@ pub record HasNode (nodes : List Node) (at : ℕ) : Type 0 where
   pub small : length nodes < 2 ^ 16
   pub parts : Parts nodes (root heap ∷ others)
 
--- a node with no parent, in each forest of roots that has the first one
+-- a node with no parent, in each forest of roots that has the first one, and in the first one's tree
 pub record IsTop (nodes : List Node) (at top : ℕ) : Type 0 where
   pub above : (f : Forest) → Stands nodes nowhere f → 1 ≤ forest_weight (at_place at) f → 1 ≤ forest_weight (at_place top) f
+  pub in_tree : (b : ℕ) (f : Forest) → (node_at nodes b).parent ≡ nowhere → Stands nodes b f → 1 ≤ same at b + forest_weight (at_place at) f → 1 ≤ same top b + forest_weight (at_place top) f
   pub no_parent : (node_at nodes top).parent ≡ nowhere
 
 -- the way up so far, as many steps as the node's rank at most
 pub record IsClimbing (nodes : List Node) (at now steps : ℕ) : Type 0 where
   pub above : (f : Forest) → Stands nodes nowhere f → 1 ≤ forest_weight (at_place at) f → 1 ≤ forest_weight (at_place now) f
+  pub in_tree : (b : ℕ) (f : Forest) → (node_at nodes b).parent ≡ nowhere → Stands nodes b f → 1 ≤ same at b + forest_weight (at_place at) f → 1 ≤ same now b + forest_weight (at_place now) f
   pub high : steps ≤ (node_at nodes now).rank
 
 -- a heap's roots are being looked through for one that has no parent

@@ -27,6 +27,7 @@ returns-then-parent c =
     let within = node_within c.args.nodes.now nowhere c.loop-step.now can.heap can.parts.stand.0 (t.above can.heap can.parts.stand.0 can.has) in
     record {
       above = t.above;
+      in_tree = t.in_tree;
       no_parent = ap (λ (n : Node). n.parent) (sym (get_or_default c.args.nodes.now c.loop-step.now c.index-nodes-now.result no_node within)) ∙ c.if-parent.true;
     }
 
