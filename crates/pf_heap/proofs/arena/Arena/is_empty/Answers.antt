@@ -8,6 +8,6 @@ index-requires c = name_within c.self.invariant c.self.view_is c.h.view_is c.sel
 
 pub returns : goal.returns
 returns c = (
-  λ t. no_keys c.self.invariant c.self.view_is c.h.view_is c.requires c.index.ensures (same_from_true c.index.result nowhere t),
-  λ e. true_from_same c.index.result nowhere (empty_link c.self.invariant c.self.view_is c.h.view_is c.requires c.index.ensures e),
+  λ t. no_keys c.self.invariant c.self.view_is c.h.view_is c.requires c.index.ensures (same_from_true c.index.result.now nowhere t),
+  λ e. true_from_same c.index.result.now nowhere (empty_link c.self.invariant c.self.view_is c.h.view_is c.requires c.index.ensures e),
 )
