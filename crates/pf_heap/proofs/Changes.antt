@@ -29,7 +29,7 @@ use Rattle.pf_heap.proofs.Sets.{keys_union, keys_insert, keys_remove, keys_witho
 use Rattle.pf_heap.proofs.Seeking.{no_trees as no_trees_there}
 use Rattle.pf_heap.proofs.Tables.{weigh_all-append, weigh_all-put, weigh-le-all, stand_append, stand_front, stand_back, tree_stands, put_stands}
 use Rattle.pf_heap.proofs.Climb.{IsTreeOf}
-use Rattle.pf_heap.proofs.Takes.{empty_table, no_trees, empty_is, none_weigh, none_stand, few_roots, trees_from_rises}
+use Rattle.pf_heap.proofs.Takes.{idle_tree, alone_parts, empty_table, no_trees, empty_is, none_weigh, none_stand, few_roots, trees_from_rises}
 use Rattle.pf_heap.proofs.Lists.{rises_in, all_rise-set, all_rise-more, weigh_all-more, stand_all-more, side_by_side-weight, own_task, own_tasks, some_heap, two-le-all, own_idle, put_idle, idle_weight}
 use Rattle.pf_heap.proofs.Whole.{heap_apart, small, trees_stand, heaps_stand, idles_stand, all_weigh, forests_weigh, lists_are, main_is_keys, task_weighs, heap_once, small_lent, parts_lent, now_main, now_lists, now_spare, now_tasks, list_is, len_is, main_len, held_from_weigh, node_low, in_heaps, not_in_heaps, heap_in, link_is}
 
@@ -106,24 +106,6 @@ heap_back {nodes} trees heaps idles h f within parts =
 abbrev pub fresh : Priority → Node
 fresh key = record { key = key; parent = nowhere; child = nowhere; sibling = nowhere; rank = 0 }
 
-abbrev pub idle_tree : ℕ → Priority → Forest
-idle_tree t key = tree t key idle none none
-
--- a write to a node that is alone, or in no part
-alone_parts : (nodes : List Node) (t : ℕ) (n : Node) (key : Priority) (rank : ℕ) (ps : List Part) → t < length nodes → weigh_all (at_place t) ps ≡ 0 →
-    n ≡ record { key = key; parent = nowhere; child = nowhere; sibling = nowhere; rank = rank } → ((i : ℕ) → weigh_all (at_place i) ps ≤ 1) → StandAll nodes ps →
-    Parts (set nodes t n) (root (tree t key rank none none) ∷ ps)
-alone_parts nodes t n key rank ps within unused is once stand = record {
-  stand = (
-    (omega (arith, within, length-set nodes t n), get_or-set_same nodes t n no_node within ∙ is, tt, tt),
-    stand_all-set nodes t n ps unused stand,
-  );
-  once = λ i. ⊎_elim
-      (λ here. omega (arith, same-le i t, unused, ap (λ x. weigh_all (at_place x) ps) (equal_from_same i t (omega (arith, here)))))
-      (λ other. omega (arith, other, once i))
-      (cases_lt 0 (same i t));
-}
-
 -- the idle nodes without one, and with one more
 pub idle_out : {nodes : List Node} (trees heaps idles : List Forest) (t : ℕ) (key : Priority) → AreIdle 0 idles → t < length nodes → t < length idles → Parts nodes (all_parts trees heaps idles) →
     weigh_all (at_place t) (all_roots trees) + weigh_all (at_place t) (all_roots heaps) ≡ 0 → Parts (set nodes t (fresh key)) (root (single t key) ∷ all_parts trees heaps (set idles t none))
@@ -154,13 +136,6 @@ idle_out {nodes} trees heaps idles t key idle_nodes within listed parts unheld =
     (λ j. omega (arith, whole j, parts.once j))
     (stand_append nodes (all_roots trees) (all_roots heaps ++ all_roots (set idles t none)) f
     (stand_append nodes (all_roots heaps) (all_roots (set idles t none)) h (put_stands nodes idles t none i tt)))
-
--- a node that stands alone becomes idle
-pub made_idle : (nodes : List Node) (t : ℕ) (key : Priority) (ps : List Part) → Parts nodes (root (single t key) ∷ ps) →
-    Parts (set nodes t (record (node_at nodes t) { rank = idle })) (root (idle_tree t key) ∷ ps)
-made_idle nodes t key ps parts =
-    alone_parts nodes t (record (node_at nodes t) { rank = idle }) key idle ps parts.stand.0.0 (omega (arith, parts.once t, same-self t))
-    (ap (λ (n : Node). record n { rank = idle }) parts.stand.0.1) (λ i. omega (arith, parts.once i)) parts.stand.1
 
 pub idle_in : {nodes : List Node} (trees heaps idles : List Forest) (t : ℕ) (key : Priority) → t < length idles → get_or idles t none ≡ none →
     Parts nodes (root (idle_tree t key) ∷ all_parts trees heaps idles) → Parts nodes (all_parts trees heaps (set idles t (idle_tree t key)))
@@ -390,7 +365,7 @@ module _ {nodes : List Node} {heads : List ℕ} {main : Roots} (a : IsArena node
   }
 
   module _ {mid : List Node} {table : Roots} {at : ℕ} {key : Priority} (left : List Forest) (table_is : IsTable table left)
-      (parts : Parts mid (root (single at key) ∷ (all_roots left ++ (all_roots a.heaps ++ all_roots a.idles))))
+      (parts : Parts mid (root (idle_tree at key) ∷ (all_roots left ++ (all_roots a.heaps ++ all_roots a.idles))))
       (kept : (w : ℕ → Priority → ℕ) → w at key + weigh_all w (all_roots left) ≡ weigh_all w (all_roots a.trees)) (long : length mid ≡ length nodes) where
     taken_here : 1 ≤ weigh_all (at_place at) (all_roots a.trees)
     taken_here = omega (arith, kept (at_place at), same-self at)
@@ -405,11 +380,11 @@ module _ {nodes : List Node} {heads : List ℕ} {main : Roots} (a : IsArena node
     none_idle = not_idle at (get_or a.idles at none) (own_idle at a.idles a.idles_are)
         (omega (arith, idle_weight at a.idles a.idles_are, a.parts.once at, all_weigh a (at_place at), taken_here))
 
-    taken_arena : IsArena (set mid at (record (node_at mid at) { rank = idle })) heads table
-    taken_arena = rebuilt a left a.heaps (set a.idles at (idle_tree at key)) (length-set mid at (record (node_at mid at) { rank = idle }) ∙ long) table_is a.heads_are a.rise
+    taken_arena : IsArena (mid) heads table
+    taken_arena = rebuilt a left a.heaps (set a.idles at (idle_tree at key)) (long) table_is a.heads_are a.rise
         (put_idle at a.idles (idle_tree at key) a.idles_are (refl, refl, refl, refl))
         (length-set a.idles at (idle_tree at key))
-        (idle_in left a.heaps a.idles at key (omega (arith, taken_low, a.as_many)) none_idle (made_idle mid at key (all_parts left a.heaps a.idles) parts))
+        (idle_in left a.heaps a.idles at key (omega (arith, taken_low, a.as_many)) none_idle parts)
         (λ i. omega (
           arith,
           all_weigh a (at_place i),
@@ -421,18 +396,18 @@ module _ {nodes : List Node} {heads : List ℕ} {main : Roots} (a : IsArena node
         (omega (arith, a.placed, kept misplaced))
 
     pub main_without : (left_keys : Keys) → keys (side_by_side left) ≡ left_keys → {made : ℕ} {before after : Counts} → Compares made before after →
-        IsArenaAfter (set mid at (record (node_at mid at) { rank = idle })) heads table (room + 1)
+        IsArenaAfter (mid) heads table (room + 1)
         (record now { main = left_keys; spare = now.spare + 1 }) made before after
     unfolding taken_arena rebuilt
     main_without left_keys is counted =
-        let lists : lists_at (set mid at (record (node_at mid at) { rank = idle })) heads ≡ now.lists = lists_are taken_arena ∙ sym (now_lists a seen) in
+        let lists : lists_at (mid) heads ≡ now.lists = lists_are taken_arena ∙ sym (now_lists a seen) in
         record {
           arena = taken_arena;
           view = λ i. record {
             main = (main_is_keys taken_arena ∙ is) i;
             lists = lists i;
             spare = sym (now_spare a seen) i + 1;
-            tasks = (length-set mid at (record (node_at mid at) { rank = idle }) ∙ long ∙ sym (now_tasks a seen)) i;
+            tasks = (long ∙ sym (now_tasks a seen)) i;
           };
           counted = counted;
         }
@@ -469,7 +444,7 @@ module _ {nodes : List Node} {heads : List ℕ} {main : Roots} (a : IsArena node
     out_idle = not_idle at (get_or a.idles at none) (own_idle at a.idles a.idles_are)
         (omega (arith, idle_weight at a.idles a.idles_are, a.parts.once at, all_weigh a (at_place at), in_lists))
 
-    out_parts : Parts mid (root (single at d.key) ∷ all_parts a.trees (set a.heaps h d.left) a.idles)
+    out_parts : Parts mid (root (idle_tree at d.key) ∷ all_parts a.trees (set a.heaps h d.left) a.idles)
     out_parts =
         let p : Parts mid (root d.left ∷ (all_roots a.trees ++ (all_roots (set a.heaps h none) ++ all_roots a.idles))) =
         record { stand = d.parts.stand.1; once = λ i. omega (arith, d.parts.once i) } in
@@ -486,14 +461,13 @@ module _ {nodes : List Node} {heads : List ℕ} {main : Roots} (a : IsArena node
           );
         }
 
-    out_arena : IsArena (set mid at (record (node_at mid at) { rank = idle })) (set heads h link) main
-    out_arena = rebuilt a a.trees (set a.heaps h d.left) (set a.idles at (idle_tree at d.key)) (length-set mid at (record (node_at mid at) { rank = idle }) ∙ long) a.main_is
+    out_arena : IsArena (mid) (set heads h link) main
+    out_arena = rebuilt a a.trees (set a.heaps h d.left) (set a.idles at (idle_tree at d.key)) (long) a.main_is
         ((λ i. set (a.heads_are i) h (d.link_is i)) ∙ sym (map-set head a.heaps h d.left))
         (all_rise-set a.heaps h d.left a.rise d.rises)
         (put_idle at a.idles (idle_tree at d.key) a.idles_are (refl, refl, refl, refl))
         (length-set a.idles at (idle_tree at d.key))
-        (idle_in a.trees (set a.heaps h d.left) a.idles at d.key (omega (arith, out_low, a.as_many)) out_idle
-          (made_idle mid at d.key (all_parts a.trees (set a.heaps h d.left) a.idles) out_parts))
+        (idle_in a.trees (set a.heaps h d.left) a.idles at d.key (omega (arith, out_low, a.as_many)) out_idle out_parts)
         (λ i. omega (
           arith,
           all_weigh a (at_place i),
@@ -505,11 +479,11 @@ module _ {nodes : List Node} {heads : List ℕ} {main : Roots} (a : IsArena node
         (omega (arith, a.placed, left_weighs misplaced))
 
     pub list_without : (left_keys : Keys) → keys d.left ≡ left_keys → {made : ℕ} {start : Counts} → Compares made start after →
-        IsArenaAfter (set mid at (record (node_at mid at) { rank = idle })) (set heads h link) main (room + 1)
+        IsArenaAfter (mid) (set heads h link) main (room + 1)
         (record (with_list now h left_keys) { spare = now.spare + 1 }) made start after
     unfolding out_arena rebuilt
     list_without left_keys e counted =
-        let lists : lists_at (set mid at (record (node_at mid at) { rank = idle })) (set heads h link) ≡ set now.lists h left_keys =
+        let lists : lists_at (mid) (set heads h link) ≡ set now.lists h left_keys =
         lists_are out_arena ∙ map-set keys a.heaps h d.left ∙ (λ i. set (sym (now_lists a seen) i) h (e i)) in
         record {
           arena = out_arena;
@@ -517,7 +491,7 @@ module _ {nodes : List Node} {heads : List ℕ} {main : Roots} (a : IsArena node
             main = (main_is_keys out_arena ∙ sym (now_main a seen)) i;
             lists = lists i;
             spare = sym (now_spare a seen) i + 1;
-            tasks = (length-set mid at (record (node_at mid at) { rank = idle }) ∙ long ∙ sym (now_tasks a seen)) i;
+            tasks = (long ∙ sym (now_tasks a seen)) i;
           };
           counted = counted;
         }

@@ -11,20 +11,47 @@ use Rattle.pf_order.specs.Counts.{Counts, Compares}
 use Rattle.pf_heap.specs.declared.node.Node.{Node}
 use Rattle.pf_heap.specs.declared.table.Roots.{Roots}
 use Rattle.pf_heap.specs.Digits.{digits}
-use Rattle.pf_heap.specs.Forest.{Forest, none, tree, single, nowhere, head, forest_weight, at_place, one_each, size, roots, some, Falls, Rises, IsTreeOrNone, AreTrees, HasRoot}
-use Rattle.pf_heap.specs.Memory.{no_node, node_at, Stands, Part, root, all_roots, weigh_all, StandAll, Parts, nodes_alone}
+use Rattle.pf_heap.specs.Forest.{Forest, none, tree, single, nowhere, idle, head, forest_weight, same, at_place, one_each, size, roots, some, Falls, Rises, IsTreeOrNone, AreTrees, HasRoot}
+use Rattle.pf_heap.specs.Memory.{no_node, node_at, Stands, Part, root, all_roots, weigh_all, StandAll, Parts, nodes_alone, nodes_idle}
 use Rattle.pf_heap.specs.Pops.{HasHeapAndRoot, IsParted}
 use Rattle.pf_heap.specs.Split.{HasTreeOf, IsSplit}
 use Rattle.pf_heap.specs.Table.{mask_of, tree_count, AreByRank, IsTable, HasListAndTable, IsInTable, HasTable, IsFirstRoot, IsListed}
 use Rattle.pf_heap.specs.Taking.{HasTwoHeaps, IsMerged, CanTake, IsTaken, CanTakeFrom, IsTakenFrom, IsFirstTaken}
 use Rattle.pf_order.proofs.Comparing.{compares_within, compares_both}
-use Rattle.pf_heap.proofs.Forests.{same-self, size_from_falls}
+use Rattle.pf_heap.proofs.Forests.{same-self, same-le, equal_from_same, size_from_falls}
 use Rattle.pf_heap.proofs.Standing.{stands-set, stand_all-set}
 use Rattle.pf_heap.proofs.Weights.{sizes-le-length}
 use Rattle.pf_heap.proofs.Digits.{digits-mono, below-digits}
 use Rattle.pf_heap.proofs.Pops.{roots_paid, root_falls}
 use Rattle.pf_heap.proofs.Counting.{count_by_size, roots_of_list, roots_of_kids, carried-le-digits}
 use Rattle.pf_heap.proofs.Tables.{weigh_all-append, weigh_all-put, stand_append, tree_out, tree_at, trees_put, behind, in_front, count-put, mask-put, some_from_tree, mask_is_size}
+
+-- ---- a node that is alone
+
+abbrev pub idle_tree : ℕ → Priority → Forest
+idle_tree t key = tree t key idle none none
+
+-- a write to a node that is alone, or in no part
+pub alone_parts : (nodes : List Node) (t : ℕ) (n : Node) (key : Priority) (rank : ℕ) (ps : List Part) → t < length nodes → weigh_all (at_place t) ps ≡ 0 →
+    n ≡ record { key = key; parent = nowhere; child = nowhere; sibling = nowhere; rank = rank } → ((i : ℕ) → weigh_all (at_place i) ps ≤ 1) → StandAll nodes ps →
+    Parts (set nodes t n) (root (tree t key rank none none) ∷ ps)
+alone_parts nodes t n key rank ps within unused is once stand = record {
+  stand = (
+    (omega (arith, within, length-set nodes t n), get_or-set_same nodes t n no_node within ∙ is, tt, tt),
+    stand_all-set nodes t n ps unused stand,
+  );
+  once = λ i. ⊎_elim
+      (λ here. omega (arith, same-le i t, unused, ap (λ x. weigh_all (at_place x) ps) (equal_from_same i t (omega (arith, here)))))
+      (λ other. omega (arith, other, once i))
+      (cases_lt 0 (same i t));
+}
+
+-- a node that stands alone becomes idle
+pub made_idle : (nodes : List Node) (t : ℕ) (key : Priority) (ps : List Part) → Parts nodes (root (single t key) ∷ ps) →
+    Parts (set nodes t (record (node_at nodes t) { rank = idle })) (root (idle_tree t key) ∷ ps)
+made_idle nodes t key ps parts =
+    alone_parts nodes t (record (node_at nodes t) { rank = idle }) key idle ps parts.stand.0.0 (omega (arith, parts.once t, same-self t))
+    (ap (λ (n : Node). record n { rank = idle }) parts.stand.0.1) (λ i. omega (arith, parts.once i)) parts.stand.1
 
 -- ---- an empty table
 
@@ -195,14 +222,19 @@ module _ {nodes : List Node} {link top at : ℕ} (can : CanTake nodes link top a
         parts = record { stand = (s.parts.stand.1.1.0, (s.parts.stand.1.0, (s.parts.stand.0, s.parts.stand.1.1.1))); once = λ i. omega (arith, s.parts.once i) };
       }
 
-      pub taken : {new : List Node} {result : ℕ} {before after : Counts} →
-          IsMerged new p.stay s.halves (root (single at s.key) ∷ can.others) result before after → IsTaken new can.heap can.others at result before after
-      taken {new} {result} m = record {
+      pub taken_within : {new : List Node} {result : ℕ} {before after : Counts} → IsMerged new p.stay s.halves (root (single at s.key) ∷ can.others) result before after → at < length new
+      taken_within m = m.parts.stand.1.0.0
+
+      pub taken : {new end : List Node} {result : ℕ} {before after : Counts} →
+          IsMerged new p.stay s.halves (root (single at s.key) ∷ can.others) result before after → end ≡ nodes_idle new at → IsTaken end can.heap can.others at result before after
+      taken {new} {end} {result} m written = record {
         key = s.key;
         left = m.heap;
         link_is = m.heap_is;
         rises = m.rises;
-        parts = record { stand = (m.parts.stand.1.0, (m.parts.stand.0, m.parts.stand.1.1)); once = λ i. omega (arith, m.parts.once i) };
+        parts = subst (λ ns. Parts ns (root (idle_tree at s.key) ∷ root m.heap ∷ can.others)) (sym written)
+            (made_idle new at s.key (root m.heap ∷ can.others)
+              (record { stand = (m.parts.stand.1.0, (m.parts.stand.0, m.parts.stand.1.1)); once = λ i. omega (arith, m.parts.once i) }));
         kept = λ w. omega (arith, m.kept w, s.kept w, p.kept w);
         counted = compares_within (digits-mono (size p.stay + size s.halves) (size can.heap) (omega (arith, s.kept one_each, p.kept one_each))) m.counted;
       }
@@ -286,9 +318,12 @@ module _ {nodes : List Node} {table : Roots} {rank top at : ℕ} (low : rank < 1
           parts = p;
         }
 
-    pub taken_from : {new : List Node} {full : Roots} {before after : Counts} →
-        IsInTable new full s.halves (set can.trees rank none) (root (single at s.key) ∷ can.others) before after → IsTakenFrom new full can.trees can.others at before after
-    taken_from {new} {full} d =
+    pub from_within : {new : List Node} {full : Roots} {before after : Counts} → IsInTable new full s.halves (set can.trees rank none) (root (single at s.key) ∷ can.others) before after → at < length new
+    from_within {new} d = (in_front new (root (single at s.key)) (all_roots d.now) can.others d.parts).stand.0.0
+
+    pub taken_from : {new end : List Node} {full : Roots} {before after : Counts} →
+        IsInTable new full s.halves (set can.trees rank none) (root (single at s.key) ∷ can.others) before after → end ≡ nodes_idle new at → IsTakenFrom end full can.trees can.others at before after
+    taken_from {new} {end} {full} d written =
         let out : (w : ℕ → Priority → ℕ) → weigh_all w (all_roots (set can.trees rank none)) + forest_weight w (tree top can.key rank can.kids none) ≡ weigh_all w (all_roots can.trees) =
         λ w. omega (arith, weigh_all-put w can.trees rank none can.place, ap (λ f. forest_weight w f) can.tree_is) in
         let a : ℕ = weigh_all one_each (all_roots (set can.trees rank none)) in
@@ -297,7 +332,8 @@ module _ {nodes : List Node} {table : Roots} {rank top at : ℕ} (low : rank < 1
           key = s.key;
           left = d.now;
           table_is = d.table_is;
-          parts = in_front new (root (single at s.key)) (all_roots d.now) can.others d.parts;
+          parts = subst (λ ns. Parts ns (root (idle_tree at s.key) ∷ (all_roots d.now ++ can.others))) (sym written)
+              (made_idle new at s.key (all_roots d.now ++ can.others) (in_front new (root (single at s.key)) (all_roots d.now) can.others d.parts));
           kept = λ w. omega (arith, d.kept w, s.kept w, out w);
           counted = compares_within
               (carried-le-digits d.made (weigh_all one_each (all_roots (set can.trees rank none))) (size s.halves) (weigh_all one_each (all_roots can.trees))
@@ -400,9 +436,12 @@ module _ {nodes : List Node} {table : Roots} {at : ℕ} {before between : Counts
           parts = behind mid (at, f.kids) (root (single at f.key)) (all_roots (set can.trees f.rank none)) can.others p;
         }
 
-    pub first_taken : {new : List Node} {full : Roots} {after : Counts} →
-        IsInTable new full f.kids (set can.trees f.rank none) (root (single at f.key) ∷ can.others) between after → IsFirstTaken new full can.trees can.others at before after
-    first_taken {new} {full} d =
+    pub kids_within : {new : List Node} {full : Roots} {after : Counts} → IsInTable new full f.kids (set can.trees f.rank none) (root (single at f.key) ∷ can.others) between after → at < length new
+    kids_within {new} d = (in_front new (root (single at f.key)) (all_roots d.now) can.others d.parts).stand.0.0
+
+    pub first_taken : {new end : List Node} {full : Roots} {after : Counts} →
+        IsInTable new full f.kids (set can.trees f.rank none) (root (single at f.key) ∷ can.others) between after → end ≡ nodes_idle new at → IsFirstTaken end full can.trees can.others at before after
+    first_taken {new} {end} {full} d written =
         let out : (w : ℕ → Priority → ℕ) → weigh_all w (all_roots (set can.trees f.rank none)) + forest_weight w (tree at f.key f.rank f.kids none) ≡ weigh_all w (all_roots can.trees) =
         λ w. omega (arith, weigh_all-put w can.trees f.rank none f.place, ap (λ g. forest_weight w g) f.tree_is) in
         let a : ℕ = weigh_all one_each (all_roots (set can.trees f.rank none)) in
@@ -426,7 +465,8 @@ module _ {nodes : List Node} {table : Roots} {at : ℕ} {before between : Counts
           key = f.key;
           left = d.now;
           table_is = d.table_is;
-          parts = in_front new (root (single at f.key)) (all_roots d.now) can.others d.parts;
+          parts = subst (λ ns. Parts ns (root (idle_tree at f.key) ∷ (all_roots d.now ++ can.others))) (sym written)
+              (made_idle new at f.key (all_roots d.now ++ can.others) (in_front new (root (single at f.key)) (all_roots d.now) can.others d.parts));
           kept = λ w. omega (arith, d.kept w, out w);
           first = f.first;
           counted = compares_within

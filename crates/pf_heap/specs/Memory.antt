@@ -2,7 +2,7 @@
 use Rattle.std.specs.Prelude.{◌≡◌, ℕ, ◌+◌, ◌-◌, ◌<◌, ◌≤◌, ◌⊎◌, true, false, List, [], ◌∷◌, map, length, slice_index_or, slice_set}
 use Rattle.pf_order.specs.Priority.{Priority, precedes}
 use Rattle.pf_heap.specs.declared.node.Node.{Node}
-use Rattle.pf_heap.specs.Forest.{Forest, none, tree, nowhere, head, forest_weight, at_place}
+use Rattle.pf_heap.specs.Forest.{Forest, none, tree, nowhere, idle, head, forest_weight, at_place}
 
 -- a node that no list has
 abbrev pub no_node : Node
@@ -72,6 +72,10 @@ nodes_without_child nodes above below =
 abbrev pub nodes_alone : List Node → ℕ → List Node
 nodes_alone nodes at =
     slice_set nodes at (record (node_at nodes at) { parent = nowhere; sibling = nowhere; child = nowhere; rank = 0 })
+
+-- the node is in no heap
+abbrev pub nodes_idle : List Node → ℕ → List Node
+nodes_idle nodes at = slice_set nodes at (record (node_at nodes at) { rank = idle })
 
 -- the root with the first of the two keys has the other as its first child; in a tie x stays above
 abbrev pub AreJoined : List Node → List Node → ℕ → ℕ → ℕ → Type 0

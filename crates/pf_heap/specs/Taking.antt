@@ -5,7 +5,7 @@ use Rattle.pf_order.specs.Counts.{Counts, Compares}
 use Rattle.pf_heap.specs.declared.node.Node.{Node}
 use Rattle.pf_heap.specs.declared.table.Roots.{Roots}
 use Rattle.pf_heap.specs.Digits.{digits}
-use Rattle.pf_heap.specs.Forest.{Forest, none, tree, single, head, forest_weight, at_place, one_each, size, AllBelow, Rises, HasRoot}
+use Rattle.pf_heap.specs.Forest.{Forest, none, tree, idle, head, forest_weight, at_place, one_each, size, AllBelow, Rises, HasRoot}
 use Rattle.pf_heap.specs.Memory.{Part, root, all_roots, weigh_all, Parts}
 use Rattle.pf_heap.specs.Table.{IsTable, NoneBefore}
 
@@ -44,13 +44,13 @@ pub record CanTake (nodes : List Node) (link top at : ℕ) : Type 0 where
   pub small : length nodes < 2 ^ 16
   pub parts : Parts nodes (root heap ∷ others)
 
--- the node stands alone, beside the list that is left
+-- the node is in no heap, beside the list that is left
 pub record IsTaken (nodes : List Node) (heap : Forest) (others : List Part) (at link : ℕ) (before after : Counts) : Type 0 where
   pub key : Priority
   pub left : Forest
   pub link_is : link ≡ head left
   pub rises : Rises 0 left
-  pub parts : Parts nodes (root (single at key) ∷ root left ∷ others)
+  pub parts : Parts nodes (root (tree at key idle none none) ∷ root left ∷ others)
   pub kept : (w : ℕ → Priority → ℕ) → w at key + forest_weight w left ≡ forest_weight w heap
   pub counted : Compares (digits (size heap)) before after
 
@@ -67,22 +67,21 @@ pub record CanTakeFrom (nodes : List Node) (table : Roots) (rank top at : ℕ) :
   pub small : length nodes < 2 ^ 16
   pub parts : Parts nodes (all_roots trees ++ others)
 
--- the node stands alone, beside the table's trees that are left
+-- the node is in no heap, beside the table's trees that are left
 pub record IsTakenFrom (nodes : List Node) (table : Roots) (trees : List Forest) (others : List Part) (at : ℕ) (before after : Counts) : Type 0 where
   pub key : Priority
   pub left : List Forest
   pub table_is : IsTable table left
-  pub parts : Parts nodes (root (single at key) ∷ (all_roots left ++ others))
+  pub parts : Parts nodes (root (tree at key idle none none) ∷ (all_roots left ++ others))
   pub kept : (w : ℕ → Priority → ℕ) → w at key + weigh_all w (all_roots left) ≡ weigh_all w (all_roots trees)
   pub counted : Compares (digits (weigh_all one_each (all_roots trees))) before after
 
--- the table's root with the first key is out of it, and its children are added: only its key, its rank and its child are
--- left to be read
+-- the table's root with the first key is in no heap, beside the table's trees that are left
 pub record IsFirstTaken (nodes : List Node) (table : Roots) (trees : List Forest) (others : List Part) (at : ℕ) (before after : Counts) : Type 0 where
   pub key : Priority
   pub left : List Forest
   pub table_is : IsTable table left
-  pub parts : Parts nodes (root (single at key) ∷ (all_roots left ++ others))
+  pub parts : Parts nodes (root (tree at key idle none none) ∷ (all_roots left ++ others))
   pub kept : (w : ℕ → Priority → ℕ) → w at key + weigh_all w (all_roots left) ≡ weigh_all w (all_roots trees)
   pub first : NoneBefore key trees
   pub counted : Compares (2 * digits (weigh_all one_each (all_roots trees))) before after

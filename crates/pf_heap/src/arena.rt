@@ -285,12 +285,11 @@ impl Arena {
             return None;
         }
         let at = least_root(&self.nodes, meter, head);
+        let key = self.nodes[at as usize].key;
         let heap = take(&mut self.nodes, meter, head, at, at);
         self.heads[index] = heap;
         self.room += 1;
-        let node = &mut self.nodes[at as usize];
-        node.rank = IDLE;
-        Some(node.key)
+        Some(key)
     }
 
     /// Takes the first key out of the main heap.
@@ -305,9 +304,7 @@ impl Arena {
         }
         let at = take_first(&mut self.nodes, meter, &mut self.main);
         self.room += 1;
-        let node = &mut self.nodes[at as usize];
-        node.rank = IDLE;
-        Some(node.key)
+        Some(self.nodes[at as usize].key)
     }
 
     /// Takes the key of this task out of heap h. Where it isn't there no keys are compared.
@@ -329,12 +326,11 @@ impl Arena {
         if !has_root(&self.nodes, head, root) {
             return None;
         }
+        let key = self.nodes[task as usize].key;
         let heap = take(&mut self.nodes, meter, head, root, task as u16);
         self.heads[index] = heap;
         self.room += 1;
-        let node = &mut self.nodes[task as usize];
-        node.rank = IDLE;
-        Some(node.key)
+        Some(key)
     }
 
     /// Takes the key of this task out of the main heap. Where it isn't there no keys are compared.
@@ -354,10 +350,9 @@ impl Arena {
         if !self.main.has_root(rank, root) {
             return None;
         }
+        let key = self.nodes[task as usize].key;
         take_from(&mut self.nodes, meter, &mut self.main, rank, root, task as u16);
         self.room += 1;
-        let node = &mut self.nodes[task as usize];
-        node.rank = IDLE;
-        Some(node.key)
+        Some(key)
     }
 }

@@ -1,9 +1,9 @@
 ghost use Rattle.std.specs.Prelude.{◌≡◌, ◌≢◌, ◌-◌, ◌<◌, ◌≤◌, ◌^◌, length};
 ghost use Rattle.pf_order.specs.Counts.{Compares};
-ghost use Rattle.pf_heap.specs.Memory.{node_at, nodes_with_sibling, nodes_with_child, nodes_without_child, nodes_alone, AreJoined};
+ghost use Rattle.pf_heap.specs.Memory.{node_at, nodes_with_sibling, nodes_with_child, nodes_without_child, nodes_alone, nodes_idle, AreJoined};
 ghost use Rattle.pf_heap.specs.Pops.{IsEarlier};
 
-use crate::node::{NOWHERE, Node};
+use crate::node::{IDLE, NOWHERE, Node};
 use pf_order::meter::Meter;
 
 /// Makes the node a root with this sibling.
@@ -90,4 +90,12 @@ pub(crate) fn strip(nodes: &mut [Node], at: u16)
     node.sibling = NOWHERE;
     node.child = NOWHERE;
     node.rank = 0;
+}
+
+/// Marks a node that stands alone as one of no heap.
+pub(crate) fn release(nodes: &mut [Node], at: u16)
+    requires { at < length nodes.old }
+    ensures { nodes.new ≡ nodes_idle nodes.old at }
+{
+    nodes[at as usize].rank = IDLE;
 }

@@ -2,7 +2,7 @@ ghost use Rattle.std.specs.Prelude.{◌≢◌, ◌<◌};
 ghost use Rattle.pf_heap.specs.Table.{HasTable};
 ghost use Rattle.pf_heap.specs.Taking.{HasTwoHeaps, IsMerged, CanTake, IsTaken, CanTakeFrom, IsTakenFrom, IsFirstTaken};
 
-use crate::links::strip;
+use crate::links::{release, strip};
 use crate::node::Node;
 use crate::popping::part;
 use crate::splitting::split;
@@ -29,7 +29,9 @@ pub(crate) fn take(nodes: &mut [Node], meter: &mut Meter, link: u16, root: u16, 
 {
     let rest = part(nodes, link, root);
     let halves = split(nodes, root, at);
-    merge(nodes, meter, rest, halves)
+    let left = merge(nodes, meter, rest, halves);
+    release(nodes, at);
+    left
 }
 
 /// Takes a node of the tree of this root and rank out of a table.
@@ -42,6 +44,7 @@ pub(crate) fn take_from(nodes: &mut [Node], meter: &mut Meter, roots: &mut Roots
     let halves = split(nodes, root, at);
     roots.remove(rank);
     roots.add_all(nodes, meter, halves);
+    release(nodes, at);
 }
 
 /// Takes the root with the first key out of a table that has one: that root.
@@ -56,5 +59,6 @@ pub(crate) fn take_first(nodes: &mut [Node], meter: &mut Meter, roots: &mut Root
     strip(nodes, at);
     roots.remove(node.rank as u32);
     roots.add_all(nodes, meter, node.child);
+    release(nodes, at);
     at
 }

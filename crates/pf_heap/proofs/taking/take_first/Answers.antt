@@ -3,7 +3,7 @@ use Rattle.std.proofs.lemmas.List.{get_or_read}
 use Rattle.pf_heap.specs.declared.node.Node.{Node}
 use Rattle.pf_heap.specs.declared.table.Roots.{Roots}
 use Rattle.pf_heap.specs.Memory.{no_node}
-use Rattle.pf_heap.proofs.Takes.{first_low, first_within, first_node, first_bits, kids_list, first_taken, without_rank}
+use Rattle.pf_heap.proofs.Takes.{first_low, first_within, first_node, first_bits, kids_list, kids_within, first_taken, without_rank}
 use Rattle.pf_heap.proofs.taking.take_first.Goals as goal
 
 pub first-at-requires-clause-can : goal.first-at-requires-clause-can
@@ -41,6 +41,16 @@ add_all-requires c =
       can = kids_list can f c.strip.ensures (omega (arith, can.small)) (without_rank c.args.roots.now rank_is c.remove.ensures) (ap (λ (n : Node). n.child) read);
     }
 
+pub release-requires : goal.release-requires
+release-requires c =
+    let can = c.requires.can in
+    let f = c.first-at.ensures can in
+    let read = get_or_read c.args.nodes.now c.first-at.result c.index-nodes-at.result (first_within can f) c.index-nodes-at.is no_node ∙ first_node can f in
+    let rank_is = ap (λ (n : Node). n.rank) read in
+    let less = without_rank c.args.roots.now rank_is c.remove.ensures in
+    kids_within can f c.strip.ensures (omega (arith, can.small)) less (ap (λ (n : Node). n.child) read)
+    (c.add_all.ensures (kids_list can f c.strip.ensures (omega (arith, can.small)) less (ap (λ (n : Node). n.child) read)))
+
 pub returns : goal.returns
 returns c = λ can.
     let f = c.first-at.ensures can in
@@ -48,4 +58,4 @@ returns c = λ can.
     let rank_is = ap (λ (n : Node). n.rank) read in
     let less = without_rank c.args.roots.now rank_is c.remove.ensures in
     first_taken can f c.strip.ensures (omega (arith, can.small)) less (ap (λ (n : Node). n.child) read)
-    (c.add_all.ensures (kids_list can f c.strip.ensures (omega (arith, can.small)) less (ap (λ (n : Node). n.child) read)))
+    (c.add_all.ensures (kids_list can f c.strip.ensures (omega (arith, can.small)) less (ap (λ (n : Node). n.child) read))) c.release.ensures
