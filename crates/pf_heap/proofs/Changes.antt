@@ -789,3 +789,23 @@ module _ {nodes : List Node} {heads : List ℕ} {main : Roots} (a : IsArena node
       small = small_lent a e;
       parts = parts_lent a e h (heap_in a seen is within read);
     }
+
+-- ---- the first key is taken out of the main heap
+
+module _ {nodes : List Node} {heads : List ℕ} {main : Roots} (a : IsArena nodes heads main) {now : Heaps} {room : ℕ}
+    (seen : ◌≡◌ {A = Heaps} (record { main = main_at nodes main; lists = lists_at nodes heads; spare = room; tasks = length nodes }) now)
+    {mid : List Node} {table : Roots} {at : ℕ} {before after : Counts}
+    (d : IsFirstTaken mid table a.trees (all_roots a.heaps ++ all_roots a.idles) at before after) (long : length mid ≡ length nodes) where
+  pub main_popped : IsArenaAfter mid heads table (room + 1) (record now { main = fin.remove now.main d.key; spare = now.spare + 1 }) (2 * digits (fin.len now.main)) before after
+  main_popped =
+      main_without a seen d.left d.table_is d.parts d.kept long (fin.remove now.main d.key) (main_removed a seen d.left d.table_is d.parts d.kept long)
+      (compares_within (omega (arith, ap digits (main_len a seen))) d.counted)
+
+  pub popped_first : IsFirst now.main d.key
+  popped_first = main_first a seen d.key at d.left d.first d.kept
+
+  pub popped_low : at < length mid
+  popped_low = d.parts.stand.0.0
+
+  pub popped_key : (node_at mid at).key ≡ d.key
+  popped_key = ap (λ (n : Node). n.key) d.parts.stand.0.1
