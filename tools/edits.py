@@ -162,13 +162,18 @@ def read_clause(file):
     return named and named.groups()
 
 
+def texts_and_changes(folder):
+    """The texts of the crate in this folder, and each file of an edit, those in more/ too, with the changes that it lists."""
+    texts = {str(it.relative_to(folder)): it.read_text() for part in ("src", "specs", "proofs")
+             for it in sorted((folder / part).rglob("*.*")) if it.suffix in (".rt", ".antt")}
+    return texts, [(it, read_changes(it)) for it in sorted(pathlib.Path(folder, "wrong-bodies").rglob("*.edit"))]
+
+
 def read_edits(folder):
     """The texts of the crate in this folder, its edits, those in more/ too, and a text for each that can't be applied."""
     edits, bad = [], []
-    texts = {str(it.relative_to(folder)): it.read_text() for part in ("src", "specs", "proofs")
-             for it in sorted((folder / part).rglob("*.*")) if it.suffix in (".rt", ".antt")}
-    for file in sorted(pathlib.Path(folder, "wrong-bodies").rglob("*.edit")):
-        changes = read_changes(file)
+    texts, listed = texts_and_changes(folder)
+    for file, changes in listed:
         after = changed(texts, changes)
         if not changes or after is None:
             bad.append(f"{folder.name}/{file.stem}: an old text does not stand in its file exactly once")

@@ -94,7 +94,7 @@ def settings_of(fields):
     if fields[0] != "settings" or not 3 <= len(fields) <= 5:
         raise BadRecord
     _, processors, base, cap, every = [*fields, "full", "64"][:5] if len(fields) == 3 else [*fields, "64"][:5]
-    cap = str(int(processors) * int(base)) if cap == "full" and (processors + base).isdecimal() else cap
+    cap = str(int(processors) * int(base)) if cap == "full" and processors.isdecimal() and base.isdecimal() else cap
     return model.settings_of(["settings", processors, base, cap, every], 2)
 
 

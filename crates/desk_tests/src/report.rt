@@ -3,19 +3,20 @@
 use crate::asked::snapshot_again;
 use crate::plan::{apply_again, overload};
 use crate::refused::say;
-use pf_chart::chart::chart_text;
+use pf_chart::chart::chart_pieces;
 use pf_desk::command::Command::Step;
 use pf_desk::snapshot::Snapshot;
 use pf_diff::diff::diff_text;
 use pf_look::look::Look;
 use pf_names::titles::Titles;
-use pf_picture::picture::picture_text;
+use pf_picture::picture::picture_pieces;
 use pf_report::denials::denials_csv;
 use pf_report::json::report_json;
 use pf_report::lags::lags_csv;
 use pf_report::misses::misses_csv;
 use pf_report::schedule::schedule_csv;
 use pf_report::script::script_text;
+use pf_text::pieces::gathered;
 use std::alloc::{AllocError, Global};
 use std::process::Abort;
 
@@ -68,10 +69,10 @@ const CALLS: [(Call, &str, &str); 9] = [
     ),
     (
         Call::Chart,
-        "chart_text",
+        "chart_pieces",
         "slots 0 to 4 of 4; processors 1; base 1; cap 2\n",
     ),
-    (Call::Picture, "picture_text", "<svg "),
+    (Call::Picture, "picture_pieces", "<svg "),
 ];
 
 /// What differs. A caller that needs no clause of `diff_text` calls this; and so on.
@@ -81,13 +82,19 @@ fn diff(alloc: Global, before: &Snapshot, after: &Snapshot) -> Result<Vec<u8>, A
 
 /// The chart of all slots.
 fn chart(alloc: Global, snapshot: &Snapshot, titles: &Titles) -> Result<Vec<u8>, AllocError> {
-    chart_text(alloc, snapshot, titles, 0, snapshot.now())
+    gathered(
+        alloc,
+        chart_pieces(alloc, snapshot, titles, 0, snapshot.now())?,
+    )
 }
 
 /// The picture of the first slots.
 fn picture(alloc: Global, snapshot: &Snapshot, titles: &Titles) -> Result<Vec<u8>, AllocError> {
     let to = snapshot.now().min(4096);
-    picture_text(alloc, snapshot, titles, 0, to, &Look::usual())
+    gathered(
+        alloc,
+        picture_pieces(alloc, snapshot, titles, 0, to, &Look::usual())?,
+    )
 }
 
 /// What the call gives of the later snapshot, or of both.

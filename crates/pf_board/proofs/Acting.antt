@@ -1,6 +1,7 @@
 -- The shared machine goes along with the board's steps.
 use Rattle.std.proofs.Common.{◌≡◌, ℕ, zero, suc, ◌+◌, ◌<◌, Bool, true, List, [], ◌∷◌, ◌++◌, length, refl, sym, ap, subst, ◌∙◌, arith, append_assoc}
 use Rattle.std.specs.Prelude.{slice_index, slice_set, replicate}
+use Rattle.std.proofs.lemmas.List.{append-nil}
 use mathlib.Core.Option.{some}
 use lib.ListN.{get_elem?}
 use Rattle.pf_board.specs.declared.quantum.Quantum.{Quantum}
@@ -9,7 +10,6 @@ use Rattle.pf_board.specs.Words.{quantum_at, on_word, on_words, on_each_word}
 use Rattle.pf_board.specs.Machine.{Machine, Action, publish, enter, issue, take, times_in, opening, issued_by, IsIdle, Acts, Reaches, IsReached, IsConserved}
 use Rattle.pf_board.specs.Kept.{Core, machine_of}
 use Rattle.pf_board.proofs.Conserving.{first_then, quanta_conserved}
-use Rattle.pf_board.proofs.Sums.{append_none}
 use Rattle.pf_board.proofs.Weights.{weigh-append, clear_words, full_word}
 
 -- how often a quantum lies on the words
@@ -59,7 +59,7 @@ module _ {E : Type 0} (quanta : E → List Quantum) (steps : E → Bool) (legal 
 
   -- one that issues nothing
   acts_still : (m n : ℕ) (s t : Machine E) (issued : List Quantum) (a : Action E) → issued_by (a ∷ []) ≡ [] → IsReached quanta steps legal m n s issued → Acts quanta steps legal s a t → IsReached quanta steps legal m n t issued
-  acts_still m n s t issued a none r d = subst (λ l. IsReached quanta steps legal m n t l) (ap (λ l. issued ++ l) none ∙ append_none issued) (acts m n s t issued a r d)
+  acts_still m n s t issued a none r d = subst (λ l. IsReached quanta steps legal m n t l) (ap (λ l. issued ++ l) none ∙ append-nil issued) (acts m n s t issued a r d)
 
   -- the quanta of a state that is reached are conserved
   pub conserved : (m n : ℕ) (s : Machine E) (issued : List Quantum) → IsReached quanta steps legal m n s issued → IsConserved quanta steps legal issued s

@@ -1,13 +1,14 @@
 -- Quanta are conserved.
 use Rattle.std.proofs.Common.{◌≡◌, ℕ, zero, suc, ◌+◌, ◌<◌, ◌≤◌, Bool, true, false, List, [], ◌∷◌, ◌++◌, length, refl, sym, ap, subst, ◌∙◌, inl, inr, arith, append_assoc, length-append}
 use Rattle.std.specs.Prelude.{if◌then◌else◌, slice_set, replicate}
+use Rattle.std.proofs.lemmas.List.{append-nil}
 use mathlib.Core.List.{IsPrefix}
 use mathlib.Core.Option.{some}
 use lib.ListN.{get_elem?}
 use Rattle.pf_board.specs.declared.quantum.Quantum.{Quantum}
 use Rattle.pf_board.specs.Quanta.{one_if, is_same, weigh, times, issues, is_step, last_issues, IsOnceEach}
 use Rattle.pf_board.specs.Machine.{Machine, Action, publish, enter, issue, take, times_in, opening, issued_by, issues_until, issues_before, IsIdle, Acts, Reaches, IsConserved, QuantaAreConserved}
-use Rattle.pf_board.proofs.Sums.{total_set, append_none}
+use Rattle.pf_board.proofs.Sums.{total_set}
 use Rattle.pf_board.proofs.Weights.{weigh-append, weigh_snoc, times_own, once_snoc, weigh_push, last_push, no_quanta}
 
 none_in : (q : Quantum) (n : ℕ) → times_in q (replicate n []) ≡ 0
@@ -26,7 +27,7 @@ module _ {E : Type 0} where
 
 module _ {E : Type 0} (quanta : E → List Quantum) (steps : E → Bool) where
   until_push : (all old : List Quantum) (xs : List (ℕ × E)) (x : ℕ × E) → issues_until quanta steps all old (xs ++ x ∷ []) ≡ (if is_step quanta steps x.1 then all ++ issues quanta xs else issues_until quanta steps all old xs)
-  until_push all old [] x = ap (λ (a : List Quantum). if is_step quanta steps x.1 then a else old) (sym (append_none all))
+  until_push all old [] x = ap (λ (a : List Quantum). if is_step quanta steps x.1 then a else old) (sym (append-nil all))
   until_push all old (y ∷ xs) x =
       until_push (all ++ quanta y.1) (if is_step quanta steps y.1 then all else old) xs x
       ∙ ap (λ (a : List Quantum). if is_step quanta steps x.1 then a else issues_until quanta steps (all ++ quanta y.1) (if is_step quanta steps y.1 then all else old) xs) (append_assoc all (quanta y.1) (issues quanta xs))
@@ -126,15 +127,15 @@ module _ {E : Type 0} (quanta : E → List Quantum) (steps : E → Bool) where
         }
 
     acts : (issued : List Quantum) (s : Machine E) (a : Action E) (t : Machine E) → Inv issued s → Acts quanta steps legal s a t → Inv (issued ++ issued_by (a ∷ [])) t
-    acts issued s (publish x) t i d = subst (λ (u : Machine E). Inv (issued ++ []) u) (sym d.3) (subst (λ l. Inv l (record s { published = s.history ++ x ∷ [] })) (sym (append_none issued)) (published_one issued s x i d.0 d.2))
-    acts issued s enter t i d = subst (λ (u : Machine E). Inv (issued ++ []) u) (sym d.2) (subst (λ l. Inv l (record s { history = s.history ++ d.0 ∷ [] })) (sym (append_none issued)) (entered issued s d.0 i d.1))
+    acts issued s (publish x) t i d = subst (λ (u : Machine E). Inv (issued ++ []) u) (sym d.3) (subst (λ l. Inv l (record s { published = s.history ++ x ∷ [] })) (sym (append-nil issued)) (published_one issued s x i d.0 d.2))
+    acts issued s enter t i d = subst (λ (u : Machine E). Inv (issued ++ []) u) (sym d.2) (subst (λ l. Inv l (record s { history = s.history ++ d.0 ∷ [] })) (sym (append-nil issued)) (entered issued s d.0 i d.1))
     acts issued s (issue q) t i d = subst (λ (u : Machine E). Inv (issued ++ q ∷ []) u) (sym d.3) (issued_one issued s q i d.0 d.1 d.2)
     acts issued s (take p pass) t i d =
         subst (λ (u : Machine E). Inv (issued ++ []) u) (sym d.4)
-        (subst (λ l. Inv l (record s { words = slice_set s.words p []; taken = slice_set s.taken pass (d.1 ++ d.0 ∷ []) })) (sym (append_none issued)) (took_one issued s p pass d.0 d.1 i d.2 d.3))
+        (subst (λ l. Inv l (record s { words = slice_set s.words p []; taken = slice_set s.taken pass (d.1 ++ d.0 ∷ []) })) (sym (append-nil issued)) (took_one issued s p pass d.0 d.1 i d.2 d.3))
 
     reach : (issued : List Quantum) (s : Machine E) (actions : List (Action E)) (t : Machine E) → Inv issued s → Reaches quanta steps legal s actions t → Inv (issued ++ issued_by actions) t
-    reach issued s [] t i e = subst (λ (u : Machine E). Inv (issued ++ []) u) e (subst (λ l. Inv l s) (sym (append_none issued)) i)
+    reach issued s [] t i e = subst (λ (u : Machine E). Inv (issued ++ []) u) e (subst (λ l. Inv l s) (sym (append-nil issued)) i)
     reach issued s (a ∷ actions) t i r =
         subst (λ l. Inv l t) (append_assoc issued (issued_by (a ∷ [])) (issued_by actions) ∙ ap (λ l. issued ++ l) (first_then a actions))
         (reach (issued ++ issued_by (a ∷ [])) r.0 actions t (acts issued s a r.0 i r.1) r.2)
@@ -147,9 +148,9 @@ module _ {E : Type 0} (quanta : E → List Quantum) (steps : E → Bool) where
 
     longer : (s : Machine E) (a : Action E) (t : Machine E) → Acts quanta steps legal s a t → IsPrefix s.published t.published
     longer s (publish x) t d = (x ∷ [], ap (λ l. l ++ x ∷ []) d.0 ∙ sym (ap (λ (u : Machine E). u.published) d.3))
-    longer s enter t d = ([], append_none s.published ∙ sym (ap (λ (u : Machine E). u.published) d.2))
-    longer s (issue q) t d = ([], append_none s.published ∙ sym (ap (λ (u : Machine E). u.published) d.3))
-    longer s (take p pass) t d = ([], append_none s.published ∙ sym (ap (λ (u : Machine E). u.published) d.4))
+    longer s enter t d = ([], append-nil s.published ∙ sym (ap (λ (u : Machine E). u.published) d.2))
+    longer s (issue q) t d = ([], append-nil s.published ∙ sym (ap (λ (u : Machine E). u.published) d.3))
+    longer s (take p pass) t d = ([], append-nil s.published ∙ sym (ap (λ (u : Machine E). u.published) d.4))
 
     pub quanta_conserved : QuantaAreConserved quanta steps legal
     quanta_conserved = record {

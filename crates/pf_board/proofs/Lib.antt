@@ -8,7 +8,6 @@ mod Gathering
 mod Hands
 pub mod Known
 mod Looks
-mod Prefixes
 mod Reading
 mod Seats
 mod Showing

@@ -6,6 +6,7 @@ use mathlib.Core.List.{IsPrefix}
 use mathlib.Core.Option.{some}
 use lib.ListN.{get_elem?}
 use Rattle.atomic_table.specs.Table.{State, keeps, Allows}
+use Rattle.pf_facts.proofs.Prefixes.{prefix_self, prefix_trans}
 use Rattle.pf_board.specs.declared.quantum.Quantum.{Quantum}
 use Rattle.pf_board.specs.declared.hand.Hand.{Hand}
 use Rattle.pf_board.specs.declared.view.View.{View}
@@ -15,7 +16,6 @@ use Rattle.pf_board.specs.Words.{on_words}
 use Rattle.pf_board.specs.Passes.{calls_by, IsIn}
 use Rattle.pf_board.specs.Kept.{held, Core, Fits, Balances, Kept}
 use Rattle.pf_board.specs.Told.{Learns, Looked, Settled, Noted}
-use Rattle.pf_board.proofs.Prefixes.{prefix_self, prefix_trans}
 use Rattle.pf_board.proofs.Sums.{set_all, total_at}
 use Rattle.pf_board.proofs.Weights.{weigh-append, weigh_push, last_push, no_quanta, clear_words}
 use Rattle.pf_board.proofs.Acting.{enters}

@@ -1,12 +1,12 @@
 -- Quanta are read off the words one after another.
 use Rattle.std.proofs.Common.{◌≡◌, ◌≢◌, ℕ, suc, ◌+◌, List, [], ◌∷◌, ◌++◌, drop, sym, ap, ◌∙◌, arith, append_assoc}
 use Rattle.std.proofs.lemmas.Grind.{common_steps}
+use Rattle.std.proofs.lemmas.List.{append-nil}
 use mathlib.Core.Option.{some}
 use lib.ListN.{get_elem?}
 use Rattle.atomic_table.proofs.Lists.{drop_at}
 use Rattle.pf_board.specs.declared.quantum.Quantum.{Quantum}
 use Rattle.pf_board.specs.Words.{on_word, on_words, quantum_at}
-use Rattle.pf_board.proofs.Sums.{append_none}
 
 -- the quanta from word p + 1 on are that word's and those of the words after it
 words_from : (words : List ℕ) (p n : ℕ) → get_elem? words (p + 1) ≡ some n → on_words p (drop (p + 1) words) ≡ on_word p n ++ on_words (p + 1) (drop (p + 1 + 1) words)
@@ -31,4 +31,4 @@ pub read_some : (words : List ℕ) (p n : ℕ) (q : Quantum) (qs qs' sum : List 
 read_some words p n q qs qs' sum at some_word is e before = read_one words p n qs qs' sum at (e ∙ (ap (λ r. qs ++ r ∷ []) is ∙ ap (λ l. qs ++ l) (sym (full p n some_word)))) before
 
 pub read_none : (words : List ℕ) (p n : ℕ) (qs sum : List Quantum) → get_elem? words (p + 1) ≡ some n → n ≡ 0 → qs ++ on_words p (drop (p + 1) words) ≡ sum → qs ++ on_words (p + 1) (drop (p + 1 + 1) words) ≡ sum
-read_none words p n qs sum at e before = read_one words p n qs qs sum at (sym (append_none qs) ∙ ap (λ l. qs ++ l) (sym (none p n e))) before
+read_none words p n qs sum at e before = read_one words p n qs qs sum at (sym (append-nil qs) ∙ ap (λ l. qs ++ l) (sym (none p n e))) before

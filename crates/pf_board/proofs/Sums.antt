@@ -87,7 +87,3 @@ one_as a b e = grind (arith, common_steps, nat_tests)
 
 pub none_below : (m : ℕ) → one_below 0 m ≡ 0
 none_below m = grind (arith, common_steps, nat_tests)
-
-pub append_none : {A : Type 0} (xs : List A) → xs ++ [] ≡ xs
-append_none [] = refl
-append_none (x ∷ xs) = ap (λ l. x ∷ l) (append_none xs)

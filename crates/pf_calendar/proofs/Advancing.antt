@@ -1,9 +1,9 @@
 -- The due lists are merged into the ready one.
-use Rattle.std.proofs.Common.{◌≡◌, ◌≢◌, ℕ, ◌+◌, ◌-◌, ◌*◌, ◌<◌, ◌≤◌, true, cond, eqb, ltb, leb, List, [], ◌∷◌, ◌++◌, map, length, get_or, take, drop, refl, sym, ap, ◌∙◌, subst, arith, ⊎_elim}
+use Rattle.std.proofs.Common.{◌≡◌, ℕ, zero, suc, ◌+◌, ◌-◌, ◌*◌, ◌<◌, ◌≤◌, true, cond, eqb, ltb, leb, List, [], ◌∷◌, ◌++◌, map, length, get_or, take, drop, refl, sym, ap, ◌∙◌, subst, arith, ⊎_elim}
 use Rattle.std.specs.Prelude.{sum_by, All}
 use Rattle.std.proofs.Math.Nat.{mul-le-mul_left}
-use Rattle.std.proofs.lemmas.Bool.{cases_lt, cases_eq, le-leb, lt-leb, lt-ltb, le-ltb, ne_eqb, eq-eqb}
-use Rattle.std.proofs.lemmas.List.{take-map, drop-map, length-take-le, length-drop, length-append, get_or-take, get_or-drop, get_or_default, get_or-map, length-map}
+use Rattle.std.proofs.lemmas.Bool.{cases_lt, le-leb, lt-leb, lt-ltb, le-ltb, ne_eqb, eq-eqb}
+use Rattle.std.proofs.lemmas.List.{take-map, drop-map, length-take-le, length-drop, length-append, get_or-take, get_or_default, get_or-map, length-map}
 use Rattle.std.proofs.lemmas.List.Elements.{All-append, All-drop, All-take}
 use Rattle.std.proofs.lemmas.List.Sums.{sum_by-cons, sum_by-take-drop}
 use Rattle.std.specs.Ordering.{nat_cmp}
@@ -12,7 +12,7 @@ use Rattle.std.specs.FinSet.{len-empty}
 use Rattle.std.specs.FinMap as finmap
 use Rattle.std.specs.FinMap.Entries.{is_sorted}
 use Rattle.pf_order.specs.Priority.{Priority, key_cmp}
-use Rattle.pf_heap.specs.Keys.{Heaps, list_of, EachTaskOnce}
+use Rattle.pf_heap.specs.Keys.{Heaps, list_of, all_lists, EachTaskOnce}
 use Rattle.pf_heap.specs.Digits.{digits}
 use Rattle.pf_heap.proofs.Digits.{digits-mono}
 use Rattle.pf_calendar.specs.declared.waiting_list.WaitingList.{WaitingList}
@@ -25,7 +25,7 @@ use Rattle.pf_calendar.proofs.Apart.{Has, apart_by}
 use Rattle.pf_calendar.proofs.Slots.{where_front, where_back}
 use Rattle.pf_calendar.proofs.Maps.{in_order, retained_in, entries_in}
 use Rattle.pf_calendar.proofs.Merging.{CanMergeAll}
-use Rattle.pf_calendar.proofs.Arranged.{ready_listed, entry_listed, entry_apart, once, split_names, unused_apart}
+use Rattle.pf_calendar.proofs.Arranged.{entry_listed, once, split_names}
 use Rattle.pf_calendar.proofs.Whole.{seen, waiting_is, count_is, sum_counts, IsCalendarAfter, entries_as}
 
 -- the first n entries are due at slot t, and no other
@@ -41,7 +41,7 @@ names-drop : (n : ℕ) (es : List WaitingList) → names_of (drop n es) ≡ drop
 names-drop n es = sym (drop-map (λ e. e.heap) n es)
 
 -- lists that are named once share no key
-len-all_named : (heaps : Heaps) (names : List ℕ) → EachTaskOnce heaps.lists → ((h : ℕ) → name_count h names ≤ 1) →
+len-all_named : (heaps : Heaps) (names : List ℕ) → EachTaskOnce (all_lists heaps) → ((h : ℕ) → name_count h names ≤ 1) →
     fin.len (all_of (map (list_of heaps) names)) ≡ sum_by fin.len (map (list_of heaps) names)
 len-all_named heaps [] apart once = len-empty key_cmp
 len-all_named heaps (n ∷ names) apart once =
@@ -49,8 +49,8 @@ len-all_named heaps (n ∷ names) apart once =
     let m = some_list (map (list_of heaps) names) q there in
     let lk : m.0 < length names = omega (arith, m.1, length-map names (list_of heaps)) in
     let also : fin.contains (list_of heaps (get_or names m.0 0)) q ≡ true = sym (ap (λ l. fin.contains l q) (get_or-map (list_of heaps) names m.0 0 fin.empty lk)) ∙ m.2 in
-    let same : n ≡ get_or names m.0 0 = (apart n (get_or names m.0 0) q q here also refl).0 in
-    absurd (omega (arith, once n, name_count-cons n n names, one_of n n refl, at_named n names m.0 lk (sym same))) in
+    let same : suc n ≡ suc (get_or names m.0 0) = (apart (suc n) (suc (get_or names m.0 0)) q q here also refl).0 in
+    absurd (omega (arith, once n, name_count-cons n n names, one_of n n refl, at_named n names m.0 lk (omega (arith, same)))) in
     omega (
       arith,
       len-union_apart (list_of heaps n) (all_of (map (list_of heaps) names)) shared,
@@ -63,7 +63,7 @@ sum-named heaps [] = refl
 sum-named heaps (e ∷ es) =
     omega (arith, sum_by-cons fin.len (list_of heaps e.heap) (map (list_of heaps) (names_of es)), sum_by-cons (λ (x : WaitingList). fin.len (list_of heaps x.heap)) e es, sum-named heaps es)
 
-module _ {heaps : Heaps} {ready : ℕ} {es : List WaitingList} {unused : List ℕ} {held limit room unused_room : ℕ} (laid : IsLaidOut heaps ready es unused held limit room unused_room)
+module _ {heaps : Heaps} {es : List WaitingList} {unused : List ℕ} {held limit room unused_room : ℕ} (laid : IsLaidOut heaps es unused held limit room unused_room)
     {t n : ℕ} (are_due : AreDue es t n) where
   abbrev front : List WaitingList
   front = take n es
@@ -80,24 +80,15 @@ module _ {heaps : Heaps} {ready : ℕ} {es : List WaitingList} {unused : List �
   split_times : (h : ℕ) → name_count h (names_of front) + name_count h (names_of back) ≡ name_count h (names_of es)
   split_times h = omega (arith, ap (name_count h) (names-take n es), ap (name_count h) (names-drop n es), name_count-take-drop h (names_of es) n)
 
-  pub can_merge : CanMergeAll heaps ready front
+  pub can_merge : CanMergeAll heaps front
   can_merge = (
-    ready_listed laid,
-    (λ k d lt.
+    λ k d lt.
         let short : k < n = omega (arith, lt, long_front) in
         let within : k < length es = omega (arith, short, are_due.within) in
-        let is : get_or front k d ≡ get_or es k no_entry = get_or-take n es k d short ∙ get_or_default es k d no_entry within in (
-          subst (λ (e : WaitingList). e.heap < length heaps.lists) (sym is) (entry_listed laid k within),
-          λ e. entry_apart laid k within (sym (ap (λ (x : WaitingList). x.heap) is) ∙ e),
-        )),
+        let is : get_or front k d ≡ get_or es k no_entry = get_or-take n es k d short ∙ get_or_default es k d no_entry within in
+        subst (λ (e : WaitingList). e.heap < length heaps.lists) (sym is) (entry_listed laid k within),
     λ h. omega (arith, once laid h, split_times h),
   )
-
-  ready_unmerged : name_count ready (names_of front) ≡ 0
-  ready_unmerged = omega (arith, once laid ready, split_times ready, one_of ready ready refl)
-
-  back_at : (k : ℕ) → k < length back → get_or back k no_entry ≡ get_or es (n + k) no_entry
-  back_at k lt = get_or-drop n es k no_entry
 
   back_unmerged : (k : ℕ) → k < length back → name_count (get_or back k no_entry).heap (names_of front) ≡ 0
   back_unmerged k lt =
@@ -107,9 +98,6 @@ module _ {heaps : Heaps} {ready : ℕ} {es : List WaitingList} {unused : List �
         split_times (get_or back k no_entry).heap,
         at_named (get_or back k no_entry).heap (names_of back) k (omega (arith, lt, length-names back)) (name_at back k),
       )
-
-  back_apart : (k : ℕ) → k < length back → (get_or back k no_entry).heap ≢ ready
-  back_apart k lt e = entry_apart laid (n + k) (omega (arith, lt, long_back)) (sym (ap (λ (x : WaitingList). x.heap) (back_at k lt)) ∙ e)
 
   -- ---- the lists by slot
 
@@ -156,15 +144,15 @@ module _ {heaps : Heaps} {ready : ℕ} {es : List WaitingList} {unused : List �
   merged_count : finmap.len (until t (waiting_in heaps es)) ≡ n
   merged_count = finmap.len-entries (until t (waiting_in heaps es)) ∙ ap length entries_until ∙ length-lists heaps front ∙ long_front
 
-  merged_size : (m : ℕ) → fin.len (list_of heaps ready) + sum_by (λ (e : WaitingList). fin.len (list_of heaps e.heap)) front ≤ key_count (seen heaps ready es m)
+  merged_size : (m : ℕ) → fin.len heaps.main + sum_by (λ (e : WaitingList). fin.len (list_of heaps e.heap)) front ≤ key_count (seen heaps es m)
   merged_size m =
       omega (arith, count_is laid m, sum_counts laid es laid.counted, sum_by-take-drop (λ (e : WaitingList). fin.len (list_of heaps e.heap)) es n)
 
   -- what the merges cost, on what contracts see
-  pub merges_cost : {m : ℕ} {now : Queues} → seen heaps ready es m ≡ now →
-      length front * digits (fin.len (list_of heaps ready) + sum_by (λ (e : WaitingList). fin.len (list_of heaps e.heap)) front) ≤ finmap.len (until t now.waiting) * digits (key_count now)
+  pub merges_cost : {m : ℕ} {now : Queues} → seen heaps es m ≡ now →
+      length front * digits (fin.len heaps.main + sum_by (λ (e : WaitingList). fin.len (list_of heaps e.heap)) front) ≤ finmap.len (until t now.waiting) * digits (key_count now)
   merges_cost {m} {now} view =
-      let size = fin.len (list_of heaps ready) + sum_by (λ (e : WaitingList). fin.len (list_of heaps e.heap)) front in
+      let size = fin.len heaps.main + sum_by (λ (e : WaitingList). fin.len (list_of heaps e.heap)) front in
       let more : n * digits size ≤ n * digits (key_count now) =
       mul-le-mul_left n (digits-mono size (key_count now) (omega (arith, merged_size m, ap key_count view))) in
       let counted : finmap.len (until t now.waiting) ≡ n = ap (λ (q : Queues). finmap.len (until t q.waiting)) (sym view) ∙ merged_count in
@@ -172,62 +160,69 @@ module _ {heaps : Heaps} {ready : ℕ} {es : List WaitingList} {unused : List �
 
   -- ---- after the merges
 
-  module _ (heaps' : Heaps) (merges : MergesAll heaps heaps' ready (names_of front)) where
+  module _ (heaps' : Heaps) (merges : MergesAll heaps heaps' (names_of front)) where
     back_same : lists_in heaps' back ≡ lists_in heaps back
-    back_same = lists_same heaps heaps' back (λ k lt. merges.others (get_or back k no_entry).heap (back_apart k lt) (back_unmerged k lt))
+    back_same = lists_same heaps heaps' back (λ k lt. merges.others (get_or back k no_entry).heap (back_unmerged k lt))
 
-    advanced_seen : (m : ℕ) → seen heaps' ready back m ≡ record (seen heaps ready es m) {
-      ready = fin.union (list_of heaps ready) (due t (waiting_in heaps es));
+    advanced_seen : (m : ℕ) → seen heaps' back m ≡ record (seen heaps es m) {
+      ready = fin.union heaps.main (due t (waiting_in heaps es));
       waiting = later t (waiting_in heaps es);
     }
     advanced_seen m =
-        let here : list_of heaps' ready ≡ fin.union (list_of heaps ready) (due t (waiting_in heaps es)) =
-        merges.merged ∙ ap (fin.union (list_of heaps ready)) (sym due_is) in
+        let here : heaps'.main ≡ fin.union heaps.main (due t (waiting_in heaps es)) = merges.merged ∙ ap (fin.union heaps.main) (sym due_is) in
         let waits : waiting_in heaps' back ≡ later t (waiting_in heaps es) =
         waiting_is heaps' back ∙ ap finmap.from_sorted back_same ∙ is_later.1 ∙ ap (later t) (sym (waiting_is heaps es)) in
         λ i. record { ready = here i; waiting = waits i; spare = m; tasks = merges.tasks i }
 
+    -- where the keys of a list go
     abbrev goes : ℕ → ℕ
-    goes j = cond (eqb (name_count j (names_of front)) 0) j ready
+    goes zero = zero
+    goes (suc j) = cond (eqb (name_count j (names_of front)) 0) (suc j) zero
 
-    goes_front : (j : ℕ) → 1 ≤ name_count j (names_of front) → goes j ≡ ready
-    goes_front j le = ap (λ b. cond b j ready) (ne_eqb (name_count j (names_of front)) 0 (λ e. omega (arith, le, e)))
+    goes_front : (j : ℕ) → 1 ≤ name_count j (names_of front) → goes (suc j) ≡ zero
+    goes_front j le = ap (λ b. cond b (suc j) zero) (ne_eqb (name_count j (names_of front)) 0 (λ e. omega (arith, le, e)))
 
-    goes_other : (j : ℕ) → name_count j (names_of front) ≡ 0 → goes j ≡ j
-    goes_other j e = ap (λ b. cond b j ready) (eq-eqb (name_count j (names_of front)) 0 e)
+    goes_other : (j : ℕ) → name_count j (names_of front) ≡ 0 → goes (suc j) ≡ suc j
+    goes_other j e = ap (λ b. cond b (suc j) zero) (eq-eqb (name_count j (names_of front)) 0 e)
 
-    comes_from : (i : ℕ) (p : Priority) → Has heaps'.lists i p → (j : ℕ) × (Has heaps.lists j p) × (goes j ≡ i)
-    comes_from i p h =
+    comes_from : (i : ℕ) (p : Priority) → Has (all_lists heaps') i p → (j : ℕ) × (Has (all_lists heaps) j p) × (goes j ≡ i)
+    comes_from zero p h =
         ⊎_elim
-        (λ at_ready. ⊎_elim
-        (λ was. (ready, was, goes_other ready ready_unmerged ∙ sym at_ready))
+        (λ was. (zero, was, refl))
         (λ came.
         let m = some_list (map (list_of heaps) (names_of front)) p came in
         let lk : m.0 < length (names_of front) = omega (arith, m.1, length-map (names_of front) (list_of heaps)) in (
-          get_or (names_of front) m.0 0,
+          suc (get_or (names_of front) m.0 0),
           sym (ap (λ l. fin.contains l p) (get_or-map (list_of heaps) (names_of front) m.0 0 fin.empty lk)) ∙ m.2,
-          goes_front (get_or (names_of front) m.0 0) (at_named (get_or (names_of front) m.0 0) (names_of front) m.0 lk refl) ∙ sym at_ready,
+          goes_front (get_or (names_of front) m.0 0) (at_named (get_or (names_of front) m.0 0) (names_of front) m.0 lk refl),
         ))
-        (union_cases (list_of heaps ready) (all_of (map (list_of heaps) (names_of front))) p
-        (sym (ap (λ j. fin.contains (list_of heaps' j) p) at_ready ∙ ap (λ l. fin.contains l p) merges.merged) ∙ h)))
-        (λ ne. ⊎_elim
+        (union_cases heaps.main (all_of (map (list_of heaps) (names_of front))) p (sym (ap (λ l. fin.contains l p) merges.merged) ∙ h))
+    comes_from (suc i) p h =
+        ⊎_elim
         (λ none.
         let zero_times : name_count i (names_of front) ≡ 0 = omega (arith, none) in
-        (i, sym (ap (λ l. fin.contains l p) (merges.others i ne zero_times)) ∙ h, goes_other i zero_times))
+        (suc i, sym (ap (λ l. fin.contains l p) (merges.others i zero_times)) ∙ h, goes_other i zero_times))
         (λ le.
         let m = named_at i (names_of front) (omega (arith, le)) in
         absurd (has_none p (sym (ap (λ l. fin.contains l p) (sym (ap (list_of heaps') m.2) ∙ merges.emptied m.0 0 m.1)) ∙ h)))
-        (cases_lt (name_count i (names_of front)) 1))
-        (cases_eq i ready)
+        (cases_lt (name_count i (names_of front)) 1)
 
-    advanced_laid : (unused' : List ℕ) → unused' ≡ unused ++ names_of front → IsLaidOut heaps' ready back unused' held limit room unused_room
+    -- the main list shares no key with those that are merged into it
+    main_shares_none : (q : Priority) → fin.contains heaps.main q ≡ true → fin.contains (all_of (map (list_of heaps) (names_of front))) q ≡ true → ⊥
+    main_shares_none q here there =
+        let m = some_list (map (list_of heaps) (names_of front)) q there in
+        let lk : m.0 < length (names_of front) = omega (arith, m.1, length-map (names_of front) (list_of heaps)) in
+        let also : fin.contains (list_of heaps (get_or (names_of front) m.0 0)) q ≡ true =
+        sym (ap (λ l. fin.contains l q) (get_or-map (list_of heaps) (names_of front) m.0 0 fin.empty lk)) ∙ m.2 in
+        absurd (omega (arith, (laid.apart zero (suc (get_or (names_of front) m.0 0)) q q here also refl).0))
+
+    advanced_laid : (unused' : List ℕ) → unused' ≡ unused ++ names_of front → IsLaidOut heaps' back unused' held limit room unused_room
     advanced_laid unused' names =
         let long_names : length unused' ≡ length unused + n = omega (arith, ap length names, length-append unused (names_of front), length-names front, long_front) in
         let emptied : All (λ h. list_of heaps' h ≡ fin.empty) (unused ++ names_of front) =
         All-append (λ h. list_of heaps' h ≡ fin.empty) unused (names_of front)
         (λ k d lt. let is : get_or unused k d ≡ get_or unused k 0 = get_or_default unused k d 0 lt in
         merges.others (get_or unused k d)
-        (λ e. unused_apart laid k ready lt (omega (arith, one_of ready ready refl)) (sym is ∙ e))
         (omega (arith, once laid (get_or unused k d), split_times (get_or unused k d), at_named (get_or unused k d) unused k lt (sym is)))
         ∙ laid.empty k d lt)
         merges.emptied in
@@ -235,8 +230,7 @@ module _ {heaps : Heaps} {ready : ℕ} {es : List WaitingList} {unused : List �
           rise = ap (is_sorted nat_cmp) back_same ∙ is_later.0;
           named = λ h. omega (
             arith,
-            ap (λ l. name_count h (ready ∷ (names_of back ++ l))) names,
-            name_count-cons h ready (names_of back ++ (unused ++ names_of front)),
+            ap (λ l. name_count h (names_of back ++ l)) names,
             name_count-append h (names_of back) (unused ++ names_of front),
             name_count-append h unused (names_of front),
             split_times h,
@@ -250,15 +244,14 @@ module _ {heaps : Heaps} {ready : ℕ} {es : List WaitingList} {unused : List �
               let is : get_or back k d ≡ get_or back k no_entry = get_or_default back k d no_entry lt in
               subst (λ (e : WaitingList). e.count ≡ fin.len (list_of heaps' e.heap)) (sym is)
               (All-drop (λ (e : WaitingList). e.count ≡ fin.len (list_of heaps e.heap)) n es laid.counted k no_entry lt
-              ∙ ap fin.len (sym (merges.others (get_or back k no_entry).heap (back_apart k lt) (back_unmerged k lt))));
-          apart = apart_by heaps.lists heaps'.lists goes comes_from laid.apart;
+              ∙ ap fin.len (sym (merges.others (get_or back k no_entry).heap (back_unmerged k lt))));
+          apart = apart_by (all_lists heaps) (all_lists heaps') goes comes_from laid.apart;
           held_is = omega (
             arith,
             laid.held_is,
             ap fin.len merges.merged,
-            len-all_named heaps (ready ∷ names_of front) laid.apart
-                (λ h. omega (arith, once laid h, split_times h, name_count-cons h ready (names_of front))),
-            sum_by-cons fin.len (list_of heaps ready) (map (list_of heaps) (names_of front)),
+            len-union_apart heaps.main (all_of (map (list_of heaps) (names_of front))) main_shares_none,
+            len-all_named heaps (names_of front) laid.apart (λ h. omega (arith, once laid h, split_times h)),
             sum-named heaps front,
             sum_counts laid front (All-take (λ (e : WaitingList). e.count ≡ fin.len (list_of heaps e.heap)) n es laid.counted),
             sum_by-take-drop (λ (e : WaitingList). e.count) es n,
@@ -271,8 +264,8 @@ module _ {heaps : Heaps} {ready : ℕ} {es : List WaitingList} {unused : List �
         }
 
     -- the calendar after the merges, as the code has its lists
-    pub advanced : {now : Queues} → seen heaps ready es (limit - held) ≡ now → {es' : List WaitingList} {unused' : List ℕ} → es' ≡ back → unused' ≡ unused ++ names_of front → All (λ e. 1 ≤ e.count) es →
-        IsCalendarAfter heaps' ready es' unused' held limit room unused_room (record now { ready = fin.union now.ready (due t now.waiting); waiting = later t now.waiting })
+    pub advanced : {now : Queues} → seen heaps es (limit - held) ≡ now → {es' : List WaitingList} {unused' : List ℕ} → es' ≡ back → unused' ≡ unused ++ names_of front → All (λ e. 1 ≤ e.count) es →
+        IsCalendarAfter heaps' es' unused' held limit room unused_room (record now { ready = fin.union now.ready (due t now.waiting); waiting = later t now.waiting })
     advanced view {es'} {unused'} left names some =
         entries_as left (record {
           calendar = record { laid = advanced_laid unused' names; some = All-drop (λ (e : WaitingList). 1 ≤ e.count) n es some };

@@ -1,5 +1,5 @@
 -- The heaps of a calendar and their names.
-use Rattle.std.proofs.Common.{◌≡◌, ◌≢◌, ℕ, ◌+◌, ◌<◌, ◌≤◌, true, cond, eqb, ltb, ◌⊎◌, inl, inr, List, [], ◌∷◌, ◌++◌, length, get_or, set, take, drop, refl, sym, ap, ◌∙◌, subst, arith, ⊎_elim}
+use Rattle.std.proofs.Common.{◌≡◌, ◌≢◌, ℕ, ◌+◌, ◌<◌, ◌≤◌, true, cond, ltb, ◌⊎◌, inl, inr, List, [], ◌∷◌, ◌++◌, length, get_or, set, take, drop, refl, sym, ap, ◌∙◌, subst, arith, ⊎_elim}
 use Rattle.std.specs.Prelude.{insert, sum_by}
 use Rattle.std.proofs.lemmas.Bool.{cases_lt, cases_eq, lt-ltb}
 use Rattle.std.proofs.lemmas.Bool.Decides.{nat_tests}
@@ -13,14 +13,14 @@ use Rattle.std.specs.FinMap as finmap
 use Rattle.std.specs.FinSet.{len-empty}
 use Rattle.std.specs.FinMap.Entries.{is_sorted}
 use Rattle.pf_order.specs.Priority.{key_cmp}
-use Rattle.pf_heap.specs.Keys.{Keys, Heaps, list_of, EachTaskOnce}
+use Rattle.pf_heap.specs.Keys.{Keys, Heaps, list_of, all_lists, EachTaskOnce}
 use Rattle.pf_calendar.specs.declared.waiting_list.WaitingList.{WaitingList}
 use Rattle.pf_calendar.specs.Invariant.{lists_in, names_of, name_count, IsLaidOut}
 use Rattle.pf_calendar.specs.Steps.{IsSlotPlace, HasEntry}
-use Rattle.pf_calendar.proofs.Naming.{no_entry, name_count-cons, name_count-append, name_count-nil, one_of, none_of, named_at, at_named, one_place, name_at, length-names, names-set, name_count-insert, lists_same, lists_set, lists-insert, length-lists, slot_at}
+use Rattle.pf_calendar.proofs.Naming.{no_entry, name_count-cons, name_count-append, name_count-nil, named_at, at_named, one_place, name_at, length-names, names-set, name_count-insert, lists_same, lists_set, lists-insert, length-lists, slot_at}
 use Rattle.pf_calendar.proofs.Maps.{in_order, set_in, insert_in}
 
-module _ {heaps : Heaps} {ready : ℕ} {es : List WaitingList} {unused : List ℕ} {held limit room unused_room : ℕ} (laid : IsLaidOut heaps ready es unused held limit room unused_room) where
+module _ {heaps : Heaps} {es : List WaitingList} {unused : List ℕ} {held limit room unused_room : ℕ} (laid : IsLaidOut heaps es unused held limit room unused_room) where
   one_or_none : (h n : ℕ) → cond {A = ℕ} (ltb h n) 1 0 ≤ 1
   one_or_none h n = grind (arith, nat_tests)
 
@@ -30,17 +30,14 @@ module _ {heaps : Heaps} {ready : ℕ} {es : List WaitingList} {unused : List �
   one_from : (h n : ℕ) → h < n → cond {A = ℕ} (ltb h n) 1 0 ≡ 1
   one_from h n lt = ap (λ b. cond {A = ℕ} b 1 0) (lt-ltb h n lt)
 
-  pub split_names : (h : ℕ) → cond {A = ℕ} (eqb ready h) 1 0 + (name_count h (names_of es) + name_count h unused) ≡ cond {A = ℕ} (ltb h (length heaps.lists)) 1 0
-  split_names h = omega (arith, laid.named h, name_count-cons h ready (names_of es ++ unused), name_count-append h (names_of es) unused)
+  pub split_names : (h : ℕ) → name_count h (names_of es) + name_count h unused ≡ cond {A = ℕ} (ltb h (length heaps.lists)) 1 0
+  split_names h = omega (arith, laid.named h, name_count-append h (names_of es) unused)
 
-  pub once : (h : ℕ) → cond {A = ℕ} (eqb ready h) 1 0 + (name_count h (names_of es) + name_count h unused) ≤ 1
+  pub once : (h : ℕ) → name_count h (names_of es) + name_count h unused ≤ 1
   once h = omega (arith, split_names h, one_or_none h (length heaps.lists))
 
-  pub listed : (h : ℕ) → 1 ≤ cond {A = ℕ} (eqb ready h) 1 0 + (name_count h (names_of es) + name_count h unused) → h < length heaps.lists
+  listed : (h : ℕ) → 1 ≤ name_count h (names_of es) + name_count h unused → h < length heaps.lists
   listed h le = below_from h (length heaps.lists) (omega (arith, split_names h, le))
-
-  pub ready_listed : ready < length heaps.lists
-  ready_listed = listed ready (omega (arith, one_of ready ready refl))
 
   named_in : (k : ℕ) → k < length es → 1 ≤ name_count (get_or es k no_entry).heap (names_of es)
   named_in k lt = at_named (get_or es k no_entry).heap (names_of es) k (omega (arith, lt, length-names es)) (name_at es k)
@@ -48,38 +45,33 @@ module _ {heaps : Heaps} {ready : ℕ} {es : List WaitingList} {unused : List �
   pub entry_listed : (k : ℕ) → k < length es → (get_or es k no_entry).heap < length heaps.lists
   entry_listed k lt = listed (get_or es k no_entry).heap (omega (arith, named_in k lt))
 
-  pub entry_apart : (k : ℕ) → k < length es → (get_or es k no_entry).heap ≢ ready
-  entry_apart k lt e = absurd (omega (arith, once (get_or es k no_entry).heap, named_in k lt, one_of (get_or es k no_entry).heap ready (sym e)))
-
   pub entries_apart : (j k : ℕ) → j < length es → k < length es → k ≢ j → (get_or es k no_entry).heap ≢ (get_or es j no_entry).heap
   entries_apart j k lj lk ne e =
       ne (one_place (get_or es j no_entry).heap (names_of es) k j (omega (arith, once (get_or es j no_entry).heap))
       (omega (arith, lk, length-names es)) (omega (arith, lj, length-names es)) (name_at es k ∙ e) (name_at es j))
 
-  pub unused_apart : (k h : ℕ) → k < length unused → 1 ≤ cond {A = ℕ} (eqb ready h) 1 0 + name_count h (names_of es) → get_or unused k 0 ≢ h
+  pub unused_apart : (k h : ℕ) → k < length unused → 1 ≤ name_count h (names_of es) → get_or unused k 0 ≢ h
   unused_apart k h lt le e = absurd (omega (arith, once h, le, at_named h unused k lt e))
 
   -- whose list it is
-  pub list_cases : (i : ℕ) → i < length heaps.lists → (ready ≡ i) ⊎ (((k : ℕ) × (k < length es) × ((get_or es k no_entry).heap ≡ i)) ⊎ (list_of heaps i ≡ fin.empty))
+  pub list_cases : (i : ℕ) → i < length heaps.lists → ((k : ℕ) × (k < length es) × ((get_or es k no_entry).heap ≡ i)) ⊎ (list_of heaps i ≡ fin.empty)
   list_cases i lt =
-      ⊎_elim inl
-      (λ nr. inr (⊎_elim
-      (λ none. let m = named_at i unused (omega (arith, split_names i, one_from i (length heaps.lists) lt, none_of i ready nr, none)) in
+      ⊎_elim
+      (λ none. let m = named_at i unused (omega (arith, split_names i, one_from i (length heaps.lists) lt, none)) in
       inr (ap (list_of heaps) (sym m.2) ∙ laid.empty m.0 0 m.1))
       (λ le. let m = named_at i (names_of es) (omega (arith, le)) in
       inl (m.0, omega (arith, m.1, length-names es), sym (name_at es m.0) ∙ m.2))
-      (cases_lt (name_count i (names_of es)) 1)))
-      (cases_eq ready i)
+      (cases_lt (name_count i (names_of es)) 1)
 
   counted_of : (heaps' : Heaps) (x y : WaitingList) → x ≡ y → y.count ≡ fin.len (list_of heaps' y.heap) → x.count ≡ fin.len (list_of heaps' x.heap)
   counted_of heaps' x y e h = subst (λ (z : WaitingList). z.count ≡ fin.len (list_of heaps' z.heap)) (sym e) h
 
   -- list h becomes these keys, and `count` of them are counted at its entry
-  pub entry_changed : (heaps' : Heaps) (at : ℕ) (keys : Keys) (count held' : ℕ) → at < length es →
-      heaps'.lists ≡ set heaps.lists (get_or es at no_entry).heap keys → count ≡ fin.len keys → EachTaskOnce heaps'.lists →
+  pub entry_changed : (heaps' : Heaps) (at : ℕ) (keys : Keys) (count held' : ℕ) → at < length es → heaps'.main ≡ heaps.main →
+      heaps'.lists ≡ set heaps.lists (get_or es at no_entry).heap keys → count ≡ fin.len keys → EachTaskOnce (all_lists heaps') →
       count + held ≡ held' + (get_or es at no_entry).count → held' ≤ limit → limit ≤ held' + heaps'.spare →
-      IsLaidOut heaps' ready (set es at (record (get_or es at no_entry) { count = count })) unused held' limit room unused_room
-  entry_changed heaps' at keys count held' lt is counts apart sum within spare =
+      IsLaidOut heaps' (set es at (record (get_or es at no_entry) { count = count })) unused held' limit room unused_room
+  entry_changed heaps' at keys count held' lt main is counts apart sum within spare =
       let e = get_or es at no_entry in
       let e' : WaitingList = record e { count = count } in
       let h_in : e.heap < length heaps.lists = entry_listed at lt in
@@ -90,10 +82,9 @@ module _ {heaps : Heaps} {ready : ℕ} {es : List WaitingList} {unused : List �
       let lists : lists_in heaps' (set es at e') ≡ set (lists_in heaps es) at (e.slot, keys) =
       lists_set heaps heaps' es at e' keys lt (λ k lk ne. other (get_or es k no_entry).heap (entries_apart at k lt lk ne)) here in
       let long_es : length (set es at e') ≡ length es = length-set es at e' in
-      let ready_other : list_of heaps' ready ≡ list_of heaps ready = other ready (λ i. entry_apart at lt (sym i)) in
       record {
         rise = ap (is_sorted nat_cmp) lists ∙ (set_in (lists_in heaps es) at e.slot keys laid.rise (omega (arith, lt, length-lists heaps es)) (slot_at heaps es at fin.empty lt)).0;
-        named = λ h. ap (λ ns. name_count h (ready ∷ (ns ++ unused))) (names-set es at e' refl) ∙ laid.named h ∙ ap (λ n. cond {A = ℕ} (ltb h n) 1 0) (sym long);
+        named = λ h. ap (λ ns. name_count h (ns ++ unused)) (names-set es at e' refl) ∙ laid.named h ∙ ap (λ n. cond {A = ℕ} (ltb h n) 1 0) (sym long);
         many = omega (arith, laid.many, long, long_es);
         small = omega (arith, laid.small, long_es);
         empty = λ k d lk. other (get_or unused k d) (λ i. unused_apart k e.heap lk (omega (arith, named_in at lt)) (get_or_default unused k 0 d lk ∙ i)) ∙ laid.empty k d lk;
@@ -105,7 +96,7 @@ module _ {heaps : Heaps} {ready : ℕ} {es : List WaitingList} {unused : List �
             entries_apart at k lt (omega (arith, lk, long_es)) ne (ap (λ (x : WaitingList). x.heap) (get_or_default es k no_entry d (omega (arith, lk, long_es))) ∙ i))))))
             (cases_eq k at);
         apart = apart;
-        held_is = omega (arith, laid.held_is, sum, sum_by-set (λ (x : WaitingList). x.count) es at e' no_entry lt, ap fin.len ready_other);
+        held_is = omega (arith, laid.held_is, sum, sum_by-set (λ (x : WaitingList). x.count) es at e' no_entry lt, ap fin.len main);
         within = within;
         enough = omega (arith, laid.enough, long_es);
         spare = spare;
@@ -113,26 +104,22 @@ module _ {heaps : Heaps} {ready : ℕ} {es : List WaitingList} {unused : List �
         unused_room_is = omega (arith, laid.unused_room_is, long_es);
       }
 
-  -- the ready list becomes these keys
-  pub ready_changed : (heaps' : Heaps) (keys : Keys) (held' : ℕ) → heaps'.lists ≡ set heaps.lists ready keys → EachTaskOnce heaps'.lists →
-      fin.len keys + held ≡ held' + fin.len (list_of heaps ready) → held' ≤ limit → limit ≤ held' + heaps'.spare →
-      IsLaidOut heaps' ready es unused held' limit room unused_room
-  ready_changed heaps' keys held' is apart sum within spare =
-      let here : list_of heaps' ready ≡ keys = ap (λ l. get_or l ready fin.empty) is ∙ get_or-set_same heaps.lists ready keys fin.empty ready_listed in
-      let other : (i : ℕ) → i ≢ ready → list_of heaps' i ≡ list_of heaps i = λ i ne.
-      ap (λ l. get_or l i fin.empty) is ∙ get_or-set_other heaps.lists ready i keys fin.empty ne in
-      let long : length heaps'.lists ≡ length heaps.lists = ap length is ∙ length-set heaps.lists ready keys in
-      let lists : lists_in heaps' es ≡ lists_in heaps es = lists_same heaps heaps' es (λ k lk. other (get_or es k no_entry).heap (entry_apart k lk)) in
+  -- the main heap changes
+  pub main_changed : (heaps' : Heaps) (held' : ℕ) → heaps'.lists ≡ heaps.lists → EachTaskOnce (all_lists heaps') →
+      fin.len heaps'.main + held ≡ held' + fin.len heaps.main → held' ≤ limit → limit ≤ held' + heaps'.spare →
+      IsLaidOut heaps' es unused held' limit room unused_room
+  main_changed heaps' held' is apart sum within spare =
+      let same : (i : ℕ) → list_of heaps' i ≡ list_of heaps i = λ i. ap (λ l. get_or l i fin.empty) is in
+      let long : length heaps'.lists ≡ length heaps.lists = ap length is in
       record {
-        rise = ap (is_sorted nat_cmp) lists ∙ laid.rise;
+        rise = ap (is_sorted nat_cmp) (lists_same heaps heaps' es (λ k lk. same (get_or es k no_entry).heap)) ∙ laid.rise;
         named = λ h. laid.named h ∙ ap (λ n. cond {A = ℕ} (ltb h n) 1 0) (sym long);
         many = omega (arith, laid.many, long);
         small = laid.small;
-        empty = λ k d lk. other (get_or unused k d) (λ i. unused_apart k ready lk (omega (arith, one_of ready ready refl)) (get_or_default unused k 0 d lk ∙ i)) ∙ laid.empty k d lk;
-        counted = λ k d lk. laid.counted k d lk ∙ ap fin.len (sym (other (get_or es k d).heap (λ i.
-            entry_apart k lk (ap (λ (x : WaitingList). x.heap) (get_or_default es k no_entry d lk) ∙ i))));
+        empty = λ k d lk. same (get_or unused k d) ∙ laid.empty k d lk;
+        counted = λ k d lk. laid.counted k d lk ∙ ap fin.len (sym (same (get_or es k d).heap));
         apart = apart;
-        held_is = omega (arith, laid.held_is, sum, ap fin.len here);
+        held_is = omega (arith, laid.held_is, sum);
         within = within;
         enough = laid.enough;
         spare = spare;
@@ -159,7 +146,7 @@ module _ {heaps : Heaps} {ready : ℕ} {es : List WaitingList} {unused : List �
 
   -- an entry that names an unused heap
   pub entry_opened : (left : List ℕ) (h slot at : ℕ) → unused ≡ left ++ h ∷ [] → IsSlotPlace es slot at → ¬ (HasEntry es slot at) →
-      IsLaidOut heaps ready (insert es at (record { slot = slot; heap = h; count = 0 })) left held limit room unused_room
+      IsLaidOut heaps (insert es at (record { slot = slot; heap = h; count = 0 })) left held limit room unused_room
   entry_opened left h slot at is place fresh =
       let e : WaitingList = record { slot = slot; heap = h; count = 0 } in
       let long : length (insert es at e) ≡ length es + 1 = length-insert es at e place.within in
@@ -172,13 +159,11 @@ module _ {heaps : Heaps} {ready : ℕ} {es : List WaitingList} {unused : List �
         named = λ i. omega (
           arith,
           laid.named i,
-          name_count-cons i ready (names_of es ++ unused),
           name_count-append i (names_of es) unused,
           ap (name_count i) is,
           name_count-append i left (h ∷ []),
           name_count-cons i h [],
           name_count-nil i,
-          name_count-cons i ready (names_of (insert es at e) ++ left),
           name_count-append i (names_of (insert es at e)) left,
           name_count-insert i es at e,
         );

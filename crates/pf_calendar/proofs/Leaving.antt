@@ -18,7 +18,7 @@ use Rattle.std.specs.FinMap.Entries.{is_sorted, find, where_key, find-where_key}
 use Rattle.pf_order.specs.Priority.{Priority, key_cmp}
 use Rattle.pf_order.proofs.Order.{key_cmp_total, only_equal_keys_tie}
 use Rattle.pf_heap.specs.Keys as keys
-use Rattle.pf_heap.specs.Keys.{Keys, Heaps, list_of, other_keys, HasNone, EachTaskOnce}
+use Rattle.pf_heap.specs.Keys.{Keys, Heaps, list_of, other_keys, all_lists, HasNone, EachTaskOnce}
 use Rattle.pf_calendar.specs.declared.waiting_list.WaitingList.{WaitingList}
 use Rattle.pf_calendar.specs.Queues.{list_at, with_waiting_list, IsQueued, TakesOut}
 use Rattle.pf_calendar.specs.Invariant.{lists_in, waiting_in, names_of, IsLaidOut, IsCalendar}
@@ -29,26 +29,26 @@ use Rattle.pf_calendar.proofs.Sets.{some_has, remove_in, len-remove_one}
 use Rattle.pf_calendar.proofs.Apart.{Has}
 use Rattle.pf_calendar.proofs.Slots.{eq_by-same, eq_by-other, rises, find_at, where_but}
 use Rattle.pf_calendar.proofs.Maps.{in_order, set_in, get_in, list_found, retained_in}
-use Rattle.pf_calendar.proofs.Arranged.{entry_listed, entry_apart, entries_apart, entry_changed}
+use Rattle.pf_calendar.proofs.Arranged.{entry_listed, entries_apart, entry_changed}
 use Rattle.pf_calendar.proofs.Whole.{seen, waiting_is, apart_part}
 
 -- ---- a copy
 
-pub copied_seen : (heaps heaps' : Heaps) (ready : ℕ) (es es' : List WaitingList) (m n : ℕ) → heaps' ≡ record heaps { spare = 0 } → es' ≡ es → n ≡ 0 →
-    seen heaps' ready es' n ≡ record (seen heaps ready es m) { spare = 0 }
-copied_seen heaps heaps' ready es es' m n is same none =
+pub copied_seen : (heaps heaps' : Heaps) (es es' : List WaitingList) (m n : ℕ) → heaps' ≡ record heaps { spare = 0 } → es' ≡ es → n ≡ 0 →
+    seen heaps' es' n ≡ record (seen heaps es m) { spare = 0 }
+copied_seen heaps heaps' es es' m n is same none =
     let waits : waiting_in heaps' es' ≡ waiting_in heaps es =
     ap (waiting_in heaps') same ∙ ap (λ h. waiting_in h es) is ∙ waiting_is (record heaps { spare = 0 }) es ∙ sym (waiting_is heaps es) in
-    λ i. record { ready = list_of (is i) ready; waiting = waits i; spare = none i; tasks = (is i).tasks }
+    λ i. record { ready = (is i).main; waiting = waits i; spare = none i; tasks = (is i).tasks }
 
-pub copied : {heaps : Heaps} {ready : ℕ} {es : List WaitingList} {unused : List ℕ} {held limit room unused_room : ℕ} → IsCalendar heaps ready es unused held limit room unused_room →
+pub copied : {heaps : Heaps} {es : List WaitingList} {unused : List ℕ} {held limit room unused_room : ℕ} → IsCalendar heaps es unused held limit room unused_room →
     (heaps' : Heaps) (es' : List WaitingList) (unused' : List ℕ) (room' unused_room' : ℕ) → heaps' ≡ record heaps { spare = 0 } → es' ≡ es → unused' ≡ unused →
-    length es + length unused ≤ room' → length es + length unused ≤ unused_room' → IsCalendar heaps' ready es' unused' held held room' unused_room'
-copied {heaps} {ready} {es} {unused} {held} cal heaps' es' unused' room' unused_room' is same same_unused in_room in_unused =
+    length es + length unused ≤ room' → length es + length unused ≤ unused_room' → IsCalendar heaps' es' unused' held held room' unused_room'
+copied {heaps} {es} {unused} {held} cal heaps' es' unused' room' unused_room' is same same_unused in_room in_unused =
     let laid = cal.laid in
-    subst (λ (h : Heaps). IsCalendar h ready es' unused' held held room' unused_room') (sym is)
-    (subst (λ (l : List WaitingList). IsCalendar (record heaps { spare = 0 }) ready l unused' held held room' unused_room') (sym same)
-    (subst (λ (l : List ℕ). IsCalendar (record heaps { spare = 0 }) ready es l held held room' unused_room') (sym same_unused)
+    subst (λ (h : Heaps). IsCalendar h es' unused' held held room' unused_room') (sym is)
+    (subst (λ (l : List WaitingList). IsCalendar (record heaps { spare = 0 }) l unused' held held room' unused_room') (sym same)
+    (subst (λ (l : List ℕ). IsCalendar (record heaps { spare = 0 }) es l held held room' unused_room') (sym same_unused)
     (record {
       laid = record {
         rise = laid.rise;
@@ -119,10 +119,10 @@ remove_in_map es at s ok lt is =
 remove-set : (es : List WaitingList) (at : ℕ) (e : WaitingList) → remove (set es at e) at ≡ remove es at
 remove-set es at e = λ i. take-set es at e i ++ drop-set-lt (suc at) es at e (omega arith) i
 
-module _ {heaps : Heaps} {ready : ℕ} {es : List WaitingList} {unused : List ℕ} {held limit room unused_room : ℕ} (laid : IsLaidOut heaps ready es unused held limit room unused_room) where
+module _ {heaps : Heaps} {es : List WaitingList} {unused : List ℕ} {held limit room unused_room : ℕ} (laid : IsLaidOut heaps es unused held limit room unused_room) where
   -- an entry that counts no key goes
   pub entry_closed : (at : ℕ) → at < length es → (get_or es at no_entry).count ≡ 0 →
-      IsLaidOut heaps ready (remove es at) (unused ++ (get_or es at no_entry).heap ∷ []) held limit room unused_room
+      IsLaidOut heaps (remove es at) (unused ++ (get_or es at no_entry).heap ∷ []) held limit room unused_room
   entry_closed at lt none =
       let e = get_or es at no_entry in
       let long : length (remove es at) + 1 ≡ length es = length-remove es at lt in
@@ -134,9 +134,7 @@ module _ {heaps : Heaps} {ready : ℕ} {es : List WaitingList} {unused : List �
         named = λ h. omega (
           arith,
           laid.named h,
-          name_count-cons h ready (names_of es ++ unused),
           name_count-append h (names_of es) unused,
-          name_count-cons h ready (names_of (remove es at) ++ (unused ++ e.heap ∷ [])),
           name_count-append h (names_of (remove es at)) (unused ++ e.heap ∷ []),
           name_count-append h unused (e.heap ∷ []),
           name_count-cons h e.heap [],
@@ -158,22 +156,22 @@ module _ {heaps : Heaps} {ready : ℕ} {es : List WaitingList} {unused : List �
         unused_room_is = omega (arith, laid.unused_room_is, long, long_unused);
       }
 
-module _ {heaps : Heaps} {ready : ℕ} {es : List WaitingList} {unused : List ℕ} {held limit room unused_room : ℕ} (laid : IsLaidOut heaps ready es unused held limit room unused_room) where
-  only_key : (i : ℕ) (task : ℕ) (k : Priority) → k.task ≡ task → Has heaps.lists i k → (q : Priority) → fin.contains (list_of heaps i) q ≡ true → q.task ≡ task → q ≡ k
+module _ {heaps : Heaps} {es : List WaitingList} {unused : List ℕ} {held limit room unused_room : ℕ} (laid : IsLaidOut heaps es unused held limit room unused_room) where
+  only_key : (i : ℕ) (task : ℕ) (k : Priority) → k.task ≡ task → Has (all_lists heaps) i k → (q : Priority) → Has (all_lists heaps) i q → q.task ≡ task → q ≡ k
   only_key i task k of_task has q h same = (laid.apart i i q k h has (same ∙ sym of_task)).1
 
   -- a task that no list has isn't held
-  pub not_held : (n task : ℕ) → HasNone (list_of heaps ready) task →
-      ((s : ℕ) (q : Priority) → fin.contains (list_at (waiting_in heaps es) s) q ≡ true → q.task ≢ task) → ¬ (IsQueued (seen heaps ready es n) task)
+  pub not_held : (n task : ℕ) → HasNone heaps.main task →
+      ((s : ℕ) (q : Priority) → fin.contains (list_at (waiting_in heaps es) s) q ≡ true → q.task ≢ task) → ¬ (IsQueued (seen heaps es n) task)
   not_held n task none_ready none_waiting w =
       ⊎_elim (λ h. none_ready w.key h w.of_task) (λ m. none_waiting m.0 w.key m.1 w.of_task) w.has
 
   -- from the ready list
-  pub ready_removed : (heaps' : Heaps) (task : ℕ) (k : Priority) → k.task ≡ task → fin.contains (list_of heaps ready) k ≡ true →
-      heaps' ≡ record (keys.with_list heaps ready (other_keys (list_of heaps ready) task)) { spare = heaps.spare + 1 } →
-      heaps' ≡ record (keys.with_list heaps ready (fin.remove (list_of heaps ready) k)) { spare = heaps.spare + 1 }
+  pub ready_removed : (heaps' : Heaps) (task : ℕ) (k : Priority) → k.task ≡ task → fin.contains heaps.main k ≡ true →
+      heaps' ≡ record heaps { main = other_keys heaps.main task; spare = heaps.spare + 1 } →
+      heaps' ≡ record heaps { main = fin.remove heaps.main k; spare = heaps.spare + 1 }
   ready_removed heaps' task k of_task has is =
-      is ∙ ap (λ l. record (keys.with_list heaps ready l) { spare = heaps.spare + 1 }) (without_is (list_of heaps ready) task k of_task (only_key ready task k of_task has))
+      is ∙ ap (λ l. record heaps { main = l; spare = heaps.spare + 1 }) (without_is heaps.main task k of_task (only_key 0 task k of_task has))
 
   -- ---- from the list of an entry
 
@@ -191,7 +189,7 @@ module _ {heaps : Heaps} {ready : ℕ} {es : List WaitingList} {unused : List �
     left_is =
         removes.removed no_entry
         ∙ ap (λ l. record (keys.with_list heaps e.heap l) { spare = heaps.spare + 1 })
-        (without_is (list_of heaps e.heap) task k removes.of_task (only_key e.heap task k removes.of_task (removes.has no_entry)))
+        (without_is (list_of heaps e.heap) task k removes.of_task (only_key (suc e.heap) task k removes.of_task (removes.has no_entry)))
 
     pub some_there : 1 ≤ e.count
     some_there = omega (arith, some_has (list_of heaps e.heap) k (removes.has no_entry), laid.counted at no_entry removes.within)
@@ -202,31 +200,31 @@ module _ {heaps : Heaps} {ready : ℕ} {es : List WaitingList} {unused : List �
     pub some_held : 1 ≤ held
     some_held = omega (arith, some_there, get_or-le-sum_by (λ (x : WaitingList). x.count) es at no_entry removes.within, laid.held_is)
 
-    taken_laid : IsLaidOut heaps' ready (set es at less) unused (held - 1) limit room unused_room
+    taken_laid : IsLaidOut heaps' (set es at less) unused (held - 1) limit room unused_room
     taken_laid =
-        entry_changed laid heaps' at left (e.count - 1) (held - 1) removes.within (ap (λ h. h.lists) left_is) size_left
-        (subst EachTaskOnce (sym (ap (λ h. h.lists) left_is)) (apart_part heaps.lists e.heap left (λ p h. remove_in (list_of heaps e.heap) k p h) laid.apart))
+        entry_changed laid heaps' at left (e.count - 1) (held - 1) removes.within (ap (λ h. h.main) left_is) (ap (λ h. h.lists) left_is) size_left
+        (subst EachTaskOnce (sym (ap (λ h. all_lists h) left_is)) (apart_part (all_lists heaps) (suc e.heap) left (λ p h. remove_in (list_of heaps e.heap) k p h) laid.apart))
         (omega (arith, some_there, some_held)) (omega (arith, laid.within)) (omega (arith, some_held, laid.spare, ap (λ h. h.spare) left_is))
 
     pub discounted_calendar : (es' : List WaitingList) (unused' : List ℕ) → All (λ x. 1 ≤ x.count) es → Discounts es es' unused unused' at →
-        IsCalendar heaps' ready es' unused' (held - 1) limit room unused_room
+        IsCalendar heaps' es' unused' (held - 1) limit room unused_room
     discounted_calendar es' unused' some ways =
         ⊎_elim
         (λ w.
         let less_at : get_or (set es at less) at no_entry ≡ less = get_or-set_same es at less no_entry removes.within in
-        let closed : IsLaidOut heaps' ready (remove es at) (unused ++ e.heap ∷ []) (held - 1) limit room unused_room =
-        subst (λ (l : List WaitingList). IsLaidOut heaps' ready l (unused ++ e.heap ∷ []) (held - 1) limit room unused_room) (remove-set es at less)
-        (subst (λ (x : WaitingList). IsLaidOut heaps' ready (remove (set es at less) at) (unused ++ x.heap ∷ []) (held - 1) limit room unused_room) less_at
+        let closed : IsLaidOut heaps' (remove es at) (unused ++ e.heap ∷ []) (held - 1) limit room unused_room =
+        subst (λ (l : List WaitingList). IsLaidOut heaps' l (unused ++ e.heap ∷ []) (held - 1) limit room unused_room) (remove-set es at less)
+        (subst (λ (x : WaitingList). IsLaidOut heaps' (remove (set es at less) at) (unused ++ x.heap ∷ []) (held - 1) limit room unused_room) less_at
         (entry_closed taken_laid at (omega (arith, removes.within, length-set es at less)) (ap (λ (x : WaitingList). x.count) less_at ∙ omega (arith, w.0)))) in
-        subst (λ (l : List WaitingList). IsCalendar heaps' ready l unused' (held - 1) limit room unused_room) (sym w.1)
-        (subst (λ (l : List ℕ). IsCalendar heaps' ready (remove es at) l (held - 1) limit room unused_room) (sym w.2)
+        subst (λ (l : List WaitingList). IsCalendar heaps' l unused' (held - 1) limit room unused_room) (sym w.1)
+        (subst (λ (l : List ℕ). IsCalendar heaps' (remove es at) l (held - 1) limit room unused_room) (sym w.2)
         (record {
           laid = closed;
           some = All-append (λ (x : WaitingList). 1 ≤ x.count) (take at es) (drop (suc at) es) (All-take (λ (x : WaitingList). 1 ≤ x.count) at es some) (All-drop (λ (x : WaitingList). 1 ≤ x.count) (suc at) es some);
         })))
         (λ w.
-        subst (λ (l : List WaitingList). IsCalendar heaps' ready l unused' (held - 1) limit room unused_room) (sym w.1)
-        (subst (λ (l : List ℕ). IsCalendar heaps' ready (set es at less) l (held - 1) limit room unused_room) (sym w.2)
+        subst (λ (l : List WaitingList). IsCalendar heaps' l unused' (held - 1) limit room unused_room) (sym w.1)
+        (subst (λ (l : List ℕ). IsCalendar heaps' (set es at less) l (held - 1) limit room unused_room) (sym w.2)
         (record {
           laid = taken_laid;
           some = All-set (λ (x : WaitingList). 1 ≤ x.count) es at less (omega (arith, some_there, w.0)) some;
@@ -279,11 +277,9 @@ module _ {heaps : Heaps} {ready : ℕ} {es : List WaitingList} {unused : List �
         ⊎_elim (λ w. ap (waiting_in heaps') w.1 ∙ waits_gone w.0) (λ w. ap (waiting_in heaps') w.1 ∙ waits_less w.0) (ways no_entry)
 
     pub takes_out : (es' : List WaitingList) (unused' : List ℕ) → Discounts es es' unused unused' at →
-        TakesOut (seen heaps ready es (limit - held)) (seen heaps' ready es' (limit - (held - 1))) k
+        TakesOut (seen heaps es (limit - held)) (seen heaps' es' (limit - (held - 1))) k
     takes_out es' unused' ways =
-        let here : list_of heaps' ready ≡ list_of heaps ready =
-        ap (λ h. list_of h ready) left_is ∙ get_or-set_other heaps.lists e.heap ready left fin.empty (λ i. entry_apart laid at removes.within (sym i)) in
         let waits : waiting_in heaps' es' ≡ with_waiting_list (waiting_in heaps es) e.slot (fin.remove (list_at (waiting_in heaps es) e.slot) k) =
         discounted_waits es' unused' ways ∙ ap (λ l. with_waiting_list (waiting_in heaps es) e.slot (fin.remove l k)) (sym slot_list) in
         let places : limit - (held - 1) ≡ (limit - held) + 1 = omega (arith, some_held, laid.within) in
-        inr (e.slot, ap (λ l. fin.contains l k) slot_list ∙ removes.has no_entry, λ i. record { ready = here i; waiting = waits i; spare = places i; tasks = (left_is i).tasks })
+        inr (e.slot, ap (λ l. fin.contains l k) slot_list ∙ removes.has no_entry, λ i. record { ready = (left_is i).main; waiting = waits i; spare = places i; tasks = (left_is i).tasks })

@@ -127,7 +127,7 @@ module _ {slots slots' : Grown ℕ} {tasks : ℕ} (old : Queues) (slot : ℕ) (k
 
 -- ---- a task with no key in the entry for its slot doesn't wait
 
-module _ {heaps : Heaps} {ready : ℕ} {es : List WaitingList} {unused : List ℕ} {held limit room unused_room : ℕ} (laid : IsLaidOut heaps ready es unused held limit room unused_room)
+module _ {heaps : Heaps} {es : List WaitingList} {unused : List ℕ} {held limit room unused_room : ℕ} (laid : IsLaidOut heaps es unused held limit room unused_room)
     {slots : Grown ℕ} (n : NotesSlots slots heaps.tasks (waiting_in heaps es)) where
   pub none_waits : (task : ℕ) → HasNoneFor heaps es (value_of slots task) task → (s : ℕ) (q : Priority) → fin.contains (list_at (waiting_in heaps es) s) q ≡ true → q.task ≢ task
   none_waits task none s q h e =

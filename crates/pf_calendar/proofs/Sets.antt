@@ -3,7 +3,7 @@ use Rattle.std.proofs.Common.{◌≡◌, ℕ, zero, suc, ◌+◌, ◌-◌, ◌<�
 use Rattle.std.specs.Prelude.{◌||◌, ◌&&◌, not}
 use Rattle.std.specs.List.{list_any}
 use Rattle.std.proofs.Math.Bool.{or-false, or_assoc}
-use Rattle.std.proofs.lemmas.Bool.{or_cases, false_from_ne_true}
+use Rattle.std.proofs.lemmas.Bool.{or_cases, false_from_ne_true, and_parts}
 use Rattle.std.specs.Ordering.{eq_by_cmp}
 use Rattle.std.specs.FinSet as fin
 use Rattle.std.specs.FinSet.{contains-empty, contains-union, contains-insert, contains-remove, contains-items, len-empty, len-insert, len-remove, same_set, empty_of_len}
@@ -24,12 +24,8 @@ insert_cases s k q h =
     ⊎_elim (λ e. inl (tied_keys q k e)) (λ e. inr e)
     (or_cases (eq_by_cmp key_cmp q k) (fin.contains s q) (sym (contains-insert key_cmp_total s k q) ∙ h))
 
-and_second : (a b : Bool) → (a && b) ≡ true → b ≡ true
-and_second true b h = h
-and_second false b h = cc
-
 pub remove_in : (s : Keys) (k q : Priority) → fin.contains (fin.remove s k) q ≡ true → fin.contains s q ≡ true
-remove_in s k q h = and_second (not (eq_by_cmp key_cmp q k)) (fin.contains s q) (sym (contains-remove key_cmp_total s k q) ∙ h)
+remove_in s k q h = (and_parts (not (eq_by_cmp key_cmp q k)) (fin.contains s q) (sym (contains-remove key_cmp_total s k q) ∙ h)).1
 
 pub union_assoc : (s t u : Keys) → fin.union (fin.union s t) u ≡ fin.union s (fin.union t u)
 union_assoc s t u =

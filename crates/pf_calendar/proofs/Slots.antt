@@ -1,38 +1,29 @@
 -- Lists of values by rising slots.
 use Rattle.std.proofs.Common.{◌≡◌, ◌≢◌, ℕ, zero, suc, ◌<◌, ◌≤◌, Bool, true, false, cond, eqb, List, [], ◌∷◌, length, get_or, set, take, drop, Some, refl, sym, ap, ◌∙◌, arith, ⊎_elim}
 use Rattle.std.specs.Prelude.{insert, remove}
-use Rattle.std.proofs.lemmas.Bool.{cases_lt, and_parts, lt-ltb, le-ltb, ne_eqb, eq-eqb}
+use Rattle.std.proofs.lemmas.Bool.{cases_lt, and_parts, lt-ltb}
 use Rattle.std.specs.Ordering.{nat_cmp, is_lt, is_eq, eq_by_cmp}
 use Rattle.std.specs.declared.cmp.Ordering.TheVariants.{Less, Equal, Greater}
 use Rattle.std.specs.FinMap.Entries.{put, where_key, find, is_sorted, below_all, by_order}
+use Rattle.pf_facts.proofs.Orders.{cmp_equal, cmp_greater}
 
 cmp-less : (x y : ℕ) → x < y → nat_cmp x y ≡ Less
 cmp-less x y h = ap (λ b. cond b Less (cond (eqb x y) Equal Greater)) (lt-ltb x y h)
 
-cmp-equal : (x y : ℕ) → x ≡ y → nat_cmp x y ≡ Equal
-cmp-equal x y h =
-    ap (λ b. cond b Less (cond (eqb x y) Equal Greater)) (le-ltb x y (omega arith))
-    ∙ ap (λ b. cond b Equal Greater) (eq-eqb x y h)
-
-cmp-greater : (x y : ℕ) → y < x → nat_cmp x y ≡ Greater
-cmp-greater x y h =
-    ap (λ b. cond b Less (cond (eqb x y) Equal Greater)) (le-ltb x y (omega arith))
-    ∙ ap (λ b. cond b Equal Greater) (ne_eqb x y (λ e. omega arith))
-
 pub eq_by-same : (x y : ℕ) → x ≡ y → eq_by_cmp nat_cmp x y ≡ true
-eq_by-same x y h = ap is_eq (cmp-equal x y h)
+eq_by-same x y h = ap is_eq (cmp_equal x y h)
 
 pub eq_by-other : (x y : ℕ) → x ≢ y → eq_by_cmp nat_cmp x y ≡ false
 eq_by-other x y h =
     ⊎_elim (λ lt. ap is_eq (cmp-less x y lt))
-    (λ ge. ap is_eq (cmp-greater x y (let ne : x ≢ y = h in omega arith)))
+    (λ ge. ap is_eq (cmp_greater x y (let ne : x ≢ y = h in omega arith)))
     (cases_lt x y)
 
 is_lt_lt : (x y : ℕ) → is_lt (nat_cmp x y) ≡ true → x < y
 is_lt_lt x y h =
     ⊎_elim (λ lt. lt)
-    (λ ge. ⊎_elim (λ lt. absurd (let e : false ≡ true = sym (ap is_lt (cmp-greater x y lt)) ∙ h in cc))
-    (λ le. absurd (let e : false ≡ true = sym (ap is_lt (cmp-equal x y (omega arith))) ∙ h in cc)) (cases_lt y x))
+    (λ ge. ⊎_elim (λ lt. absurd (let e : false ≡ true = sym (ap is_lt (cmp_greater x y lt)) ∙ h in cc))
+    (λ le. absurd (let e : false ≡ true = sym (ap is_lt (cmp_equal x y (omega arith))) ∙ h in cc)) (cases_lt y x))
     (cases_lt x y)
 
 module _ {X : Type 0} where
@@ -84,10 +75,10 @@ module _ {X : Type 0} where
       ((k : ℕ) → k < at → (get_or es k d).0 < s) → (get_or es at d).0 ≡ s → put nat_cmp s v es ≡ set es at (s, v)
   put-at s v [] at d h before is = absurd (omega arith)
   put-at s v (e ∷ es) zero d h before is =
-      ap (λ o. by_order o ((s, v) ∷ e ∷ es) ((e.0, v) ∷ es) (e ∷ put nat_cmp s v es)) (cmp-equal s e.0 (sym is))
+      ap (λ o. by_order o ((s, v) ∷ e ∷ es) ((e.0, v) ∷ es) (e ∷ put nat_cmp s v es)) (cmp_equal s e.0 (sym is))
       ∙ ap (λ x. (x, v) ∷ es) is
   put-at s v (e ∷ es) (suc at) d h before is =
-      ap (λ o. by_order o ((s, v) ∷ e ∷ es) ((e.0, v) ∷ es) (e ∷ put nat_cmp s v es)) (cmp-greater s e.0 (before 0 (omega arith)))
+      ap (λ o. by_order o ((s, v) ∷ e ∷ es) ((e.0, v) ∷ es) (e ∷ put nat_cmp s v es)) (cmp_greater s e.0 (before 0 (omega arith)))
       ∙ ap (λ l. e ∷ l) (put-at s v es at d (omega arith) (λ k lt. before (suc k) (omega arith)) is)
 
   pub put-between : (s : ℕ) (v : X) (es : List (ℕ × X)) (at : ℕ) (d : ℕ × X) → at ≤ length es →
@@ -97,7 +88,7 @@ module _ {X : Type 0} where
   put-between s v (e ∷ es) zero d h before after =
       ap (λ o. by_order o ((s, v) ∷ e ∷ es) ((e.0, v) ∷ es) (e ∷ put nat_cmp s v es)) (cmp-less s e.0 (after (omega arith)))
   put-between s v (e ∷ es) (suc at) d h before after =
-      ap (λ o. by_order o ((s, v) ∷ e ∷ es) ((e.0, v) ∷ es) (e ∷ put nat_cmp s v es)) (cmp-greater s e.0 (before 0 (omega arith)))
+      ap (λ o. by_order o ((s, v) ∷ e ∷ es) ((e.0, v) ∷ es) (e ∷ put nat_cmp s v es)) (cmp_greater s e.0 (before 0 (omega arith)))
       ∙ ap (λ l. e ∷ l) (put-between s v es at d (omega arith) (λ k lt. before (suc k) (omega arith)) (λ lt. after (omega arith)))
 
   where_all : (p : ℕ → Bool) (es : List (ℕ × X)) (d : ℕ × X) → ((k : ℕ) → k < length es → p (get_or es k d).0 ≡ true) → where_key nat_cmp p es ≡ es

@@ -11,19 +11,20 @@ use Rattle.pf_calendar.specs.Invariant.{name_count}
 
 -- n empty heaps were added, and their names noted
 pub record AddsHeaps (old new : Heaps) (names longer : List ℕ) (n : ℕ) : Type 0 where
+  pub main : new.main ≡ old.main
   pub lists : new.lists ≡ old.lists ++ replicate n set.empty
   pub spare : new.spare ≡ old.spare
   pub tasks : new.tasks ≡ old.tasks
   pub noted : longer ≡ names ++ range_with_len (length old.lists) n
 
--- the lists of these heaps were merged into heap `into`, and are empty
-pub record MergesAll (old new : Heaps) (into : ℕ) (names : List ℕ) : Type 0 where
+-- the lists of these heaps were merged into the main one, and are empty
+pub record MergesAll (old new : Heaps) (names : List ℕ) : Type 0 where
   pub spare : new.spare ≡ old.spare
   pub tasks : new.tasks ≡ old.tasks
   pub long : length new.lists ≡ length old.lists
-  pub merged : list_of new into ≡ set.union (list_of old into) (all_of (map (list_of old) names))
+  pub merged : new.main ≡ set.union old.main (all_of (map (list_of old) names))
   pub emptied : All (λ h. list_of new h ≡ set.empty) names
-  pub others : (h : ℕ) → h ≢ into → name_count h names ≡ 0 → list_of new h ≡ list_of old h
+  pub others : (h : ℕ) → name_count h names ≡ 0 → list_of new h ≡ list_of old h
 
 -- the entries are for rising slots, no two for one
 abbrev pub SlotsRise : List WaitingList → Type 0

@@ -23,8 +23,8 @@ use std::marker::Model;
 /// Keys that wait for their slots, and keys that are ready. A task is held at most once.
 #[derive(Drop)]
 pub struct Calendar {
+    /// The ready keys in the main heap, and those that wait in the heap of their slot's list.
     heaps: Arena,
-    ready: HeapId,
     /// By rising slots.
     waiting: Vec<WaitingList>,
     /// Empty heaps.
@@ -46,12 +46,11 @@ impl Model for Calendar {
 
     ghost coded = { queues_code };
 
-    ghost use Rattle.pf_heap.specs.Keys.{list_of};
     ghost use Rattle.pf_calendar.specs.Invariant.{waiting_in, IsCalendar, NotesSlots};
 
-    ghost view = { λ c. record { ready = list_of c.heaps c.ready; waiting = waiting_in c.heaps c.waiting.items; spare = c.limit - c.held; tasks = c.heaps.tasks } };
+    ghost view = { λ c. record { ready = c.heaps.main; waiting = waiting_in c.heaps c.waiting.items; spare = c.limit - c.held; tasks = c.heaps.tasks } };
 
-    ghost invariant = { λ c. IsCalendar c.heaps c.ready c.waiting.items c.unused.items c.held c.limit (vec_capacity c.waiting) (vec_capacity c.unused)
+    ghost invariant = { λ c. IsCalendar c.heaps c.waiting.items c.unused.items c.held c.limit (vec_capacity c.waiting) (vec_capacity c.unused)
         × NotesSlots c.slots c.heaps.tasks (waiting_in c.heaps c.waiting.items) };
 }
 
@@ -64,11 +63,8 @@ impl Calendar {
     pub fn new(alloc: Global) -> Result<Self, AllocError>
         ensures { IfOk result (λ c. c ≡ record { ready = set.empty; waiting = map.empty; spare = 0; tasks = 0 }) }
     {
-        let mut heaps = Arena::new(alloc)?;
-        let ready = heaps.new_heap()?;
         Ok(Self {
-            heaps,
-            ready,
+            heaps: Arena::new(alloc)?,
             waiting: Vec::new(alloc),
             unused: Vec::new(alloc),
             slots: Table::new(alloc, 0),
@@ -162,7 +158,6 @@ impl Calendar {
         merge_all(
             &mut self.heaps,
             meter,
-            self.ready,
             &self.waiting[..due],
             &mut self.unused,
         );
@@ -179,7 +174,7 @@ impl Calendar {
         ensures some { NoneEmpty self.new.waiting }
         ensures comparisons { Compares (2 * digits (key_count self.old)) meter.old meter.new }
     {
-        let key = self.heaps.pop(meter, self.ready)?;
+        let key = self.heaps.pop_main(meter)?;
         self.held -= 1;
         Some(key)
     }
@@ -200,7 +195,7 @@ impl Calendar {
             self.held -= 1;
             return Some(key);
         }
-        let key = self.heaps.remove(meter, self.ready, task)?;
+        let key = self.heaps.remove_main(meter, task)?;
         self.held -= 1;
         Some(key)
     }
@@ -222,7 +217,6 @@ impl Calendar {
         unused.reserve(self.waiting.len())?;
         Ok(Self {
             heaps,
-            ready: self.ready,
             waiting,
             unused,
             slots,

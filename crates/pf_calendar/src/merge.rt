@@ -1,4 +1,4 @@
-ghost use Rattle.std.specs.Prelude.{◌≡◌, ◌≢◌, ℕ, ◌+◌, ◌*◌, ◌<◌, ◌≤◌, All, ◌++◌, length, sum_by, vec_len};
+ghost use Rattle.std.specs.Prelude.{◌≡◌, ℕ, ◌+◌, ◌*◌, ◌<◌, ◌≤◌, All, ◌++◌, length, sum_by, vec_len};
 ghost use Rattle.std.specs.Vec.{vec_capacity};
 ghost use Rattle.std.specs.FinSet as set;
 ghost use Rattle.pf_order.specs.Counts.{Compares};
@@ -11,27 +11,25 @@ use crate::waiting_list::WaitingList;
 use pf_heap::arena::{Arena, HeapId};
 use pf_order::meter::Meter;
 
-/// Merges the list of each entry into heap `into`, and puts the names of the emptied heaps aside.
+/// Merges the list of each entry into the main heap, and puts the names of the emptied heaps aside.
 pub(crate) fn merge_all(
     heaps: &mut Arena,
     meter: &mut Meter,
-    into: HeapId,
     entries: &[WaitingList],
     aside: &mut Vec<HeapId>,
 )
-    requires into { into < length heaps.old.lists }
-    requires heaps { All (λ e. (e.heap < length heaps.old.lists) × (e.heap ≢ into)) entries.now }
+    requires heaps { All (λ e. e.heap < length heaps.old.lists) entries.now }
     requires once { (h : ℕ) → name_count h (names_of entries.now) ≤ 1 }
     requires room { vec_len aside.old + length entries.now ≤ vec_capacity aside.old }
-    ensures merged { MergesAll heaps.old heaps.new into (names_of entries.now) }
+    ensures merged { MergesAll heaps.old heaps.new (names_of entries.now) }
     ensures aside { aside.new.items ≡ aside.old.items ++ names_of entries.now }
     ensures capacity { vec_capacity aside.new ≡ vec_capacity aside.old }
     ensures comparisons { Compares
-        (length entries.now * digits (set.len (list_of heaps.old into) + sum_by (λ e. set.len (list_of heaps.old e.heap)) entries.now))
+        (length entries.now * digits (set.len heaps.old.main + sum_by (λ e. set.len (list_of heaps.old e.heap)) entries.now))
         meter.old meter.new }
 {
     for entry in entries {
-        heaps.meld(meter, into, entry.heap);
+        heaps.meld_main(meter, entry.heap);
         aside.push_reserved(entry.heap);
     }
 }

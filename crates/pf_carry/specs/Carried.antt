@@ -1,5 +1,5 @@
 -- A script that was carried out on a desk.
-use Rattle.std.specs.Prelude.{⊤, ℕ, ◌≡◌, Option, None, Some, List, [], ◌++◌, map}
+use Rattle.std.specs.Prelude.{⊤, ℕ, ◌≡◌, Option, None, Some, List, map}
 use Rattle.pf_desk.specs.Desk.{Shown}
 use Rattle.pf_desk.specs.declared.command.Command.{Command}
 use Rattle.pf_desk.specs.declared.entry.Entry.{Entry}
@@ -12,21 +12,6 @@ use Rattle.pf_script.specs.declared.record.ScriptSettings.{ScriptSettings}
 -- the commands of these entries
 abbrev pub asked_in : List Entry → List Command
 asked_in entries = map (λ e. e.command) entries
-
--- the desk was asked these commands, one after another
-pub record HasAnswered (commands : List Command) (before after : Shown) : Type 0 where
-  pub asked : asked_in after.history ≡ asked_in before.history ++ commands
-  pub settings : after.state.plan.settings ≡ before.state.plan.settings
-
--- a desk was opened with these settings, and was asked nothing yet
-pub record IsOpened (opening : ScriptSettings) (desk : Shown) : Type 0 where
-  pub settings : desk.state.plan.settings ≡ opening.settings
-  pub asked : asked_in desk.history ≡ []
-
--- a desk took some commands while others waited before them: those that wait now are not answered yet
-pub record HasTaken (waited commands waiting : List Command) (before after : Shown) : Type 0 where
-  pub asked : asked_in after.history ++ waiting ≡ asked_in before.history ++ waited ++ commands
-  pub settings : after.state.plan.settings ≡ before.state.plan.settings
 
 -- a desk that carried out a script that tells this: it has its settings, and was asked its commands, one after another
 pub record IsOf (t : Told) (desk : Shown) : Type 0 where

@@ -1,66 +1,49 @@
 -- The course of a desk on which lines are carried out.
-use Rattle.std.proofs.Common.{◌≡◌, ◌<◌, ◌≤◌, ℕ, ◌+◌, List, [], ◌∷◌, ◌++◌, length, take, drop, get_or, Option, Result, Ok, Err, refl, sym, ap, ap₂, append_assoc, ◌∙◌, replicate}
+use Rattle.std.proofs.Common.{◌≡◌, ◌<◌, ◌≤◌, ℕ, ◌+◌, List, [], ◌∷◌, ◌++◌, length, take, drop, get_or, Option, Result, Ok, Err, refl, sym, ap, ap₂, append_assoc, ◌∙◌}
 use Rattle.std.specs.Prelude.{IfOk, OnOk}
-use Rattle.std.proofs.lemmas.List.{at_drop_all, at_drop_more, replicate_more, take-append-drop}
+use Rattle.std.proofs.lemmas.List.{at_drop_all, at_drop_more, take-append-drop}
 use Rattle.pf_desk.specs.declared.command.Command.{Command}
-use Rattle.pf_desk.specs.declared.command.Command.TheVariants.{Step}
-use Rattle.pf_desk.specs.declared.reply.Reply.{Reply}
-use Rattle.pf_desk.specs.Desk.{Shown, AnswersAll, AnswersCaller, Seen}
-use Rattle.pf_script.specs.declared.line.Line.{Line}
-use Rattle.pf_script.specs.declared.line.Line.TheVariants.{Steps}
-use Rattle.pf_cli.specs.Meaning.{ScriptCourse, course_behind, seen_at}
+use Rattle.pf_desk.specs.Desk.{Shown, AnswersAll, Seen, StandsForHistory}
 use Rattle.pf_script.specs.declared.record.LineTold.{LineTold}
 use Rattle.pf_script.specs.Asked.{commands_in, commands_of}
-use Rattle.pf_cli.specs.Meaning.{course_at}
-use Rattle.pf_cli.proofs.Courses.{answered_course, course_behind-append, one_answered}
+use Rattle.pf_carrying.specs.Carrying.{Carrying, HasTaken, script_caller}
+use Rattle.pf_cli.specs.Meaning.{ScriptCourse, course_at, course_behind, seen_at}
+use Rattle.pf_cli.proofs.Courses.{answered_course, course_behind-append, seen_there}
 use Rattle.pf_options.specs.declared.diff_options.DiffOptions.{DiffOptions}
-use Rattle.pf_change.specs.Change.{change_behind, lines_before, seen_behind}
+use Rattle.pf_change.specs.Change.{change_behind, course_to_be, lines_before, seen_behind}
 use Rattle.pf_change.specs.Difference.{DiffTold, difference}
 
--- what follows from what a call did
-pub on_ok : {A E : Type 0} (r : Result A E) (P Q : Type 0) → (P → Q) → OnOk r P → OnOk r Q
-on_ok (Ok x) P Q then h = then h
-on_ok (Err e) P Q then h = tt
-
--- Use: one step more was taken.
-pub step_more : (caller turn : ℕ) (c : ScriptCourse) (before after : Shown) (reply : Reply) → AnswersCaller caller Step before reply after
-    → course_at before ≡ course_behind c (replicate turn Step) → course_at after ≡ course_behind c (replicate (turn + 1) Step)
-step_more caller turn c before after reply h is =
-    answered_course caller (Step ∷ []) before after (one_answered caller Step before after reply h)
-    ∙ ap (λ d. course_behind d (Step ∷ [])) is
-    ∙ sym (course_behind-append c (replicate turn Step) (Step ∷ []))
-    ∙ ap (course_behind c) (replicate_more turn Step)
-
--- Use: one edit more waits.
-pub edit_more : (c : ScriptCourse) (edits more : List Command) (edit : Command) (line : Line) → more ≡ edits ++ edit ∷ [] → commands_of line ≡ edit ∷ []
-    → course_behind c more ≡ course_behind (course_behind c edits) (commands_of line)
-edit_more c edits more edit line is of_line =
-    ap (course_behind c) is ∙ course_behind-append c edits (edit ∷ []) ∙ ap (course_behind (course_behind c edits)) (sym of_line)
-
--- Use: the edits that wait were answered, and then steps were taken.
-pub steps_behind : {A E : Type 0} (r : Result A E) (caller count : ℕ) (given edits none : List Command) (a b d : Shown) → AnswersAll caller given a b
-    → given ≡ edits → none ≡ [] → OnOk r (course_at d ≡ course_behind (course_at b) (replicate count Step))
-    → OnOk r (course_behind (course_at d) none ≡ course_behind (course_behind (course_at a) edits) (commands_of (Steps count)))
-steps_behind r caller count given edits none a b d h same is taken =
-    on_ok r _ _ (λ t. ap (course_behind (course_at d)) is ∙ t
-    ∙ ap (λ c. course_behind c (replicate count Step)) (answered_course caller given a b h ∙ ap (course_behind (course_at a)) same)) taken
-
 -- Use: of the lines left the first was taken.
-pub next_line : (c d : ScriptCourse) (lines : List LineTold) (i : ℕ) (z : LineTold) → i < length lines → d ≡ course_behind c (commands_of (get_or lines i z).asks)
-    → course_behind d (commands_in (drop (i + 1) lines)) ≡ course_behind c (commands_in (drop i lines))
-next_line c d lines i z within taken =
+pub next_line : (a b : Carrying) (lines : List LineTold) (i : ℕ) (z : LineTold) → i < length lines → HasTaken (commands_of (get_or lines i z).asks) a b
+    → course_behind (course_to_be b) (commands_in (drop (i + 1) lines)) ≡ course_behind (course_to_be a) (commands_in (drop i lines))
+next_line a b lines i z within h =
+    let line = commands_of (get_or lines i z).asks in
     let rest = commands_in (drop (i + 1) lines) in
-    ap (λ x. course_behind x rest) taken
-    ∙ sym (course_behind-append c (commands_of (get_or lines i z).asks) rest)
-    ∙ sym (at_drop_more (λ xs. course_behind c (commands_in xs)) lines i z within)
+    let taken : course_to_be b ≡ course_behind (course_to_be a) line =
+    ap (λ c. course_behind c b.waiting) (answered_course script_caller h.answered a.desk b.desk h.answers)
+    ∙ sym (course_behind-append (course_at a.desk) h.answered b.waiting)
+    ∙ ap (course_behind (course_at a.desk)) h.in_order
+    ∙ course_behind-append (course_at a.desk) a.waiting line in
+    ap (λ c. course_behind c rest) taken
+    ∙ sym (course_behind-append (course_to_be a) line rest)
+    ∙ sym (at_drop_more (λ xs. course_behind (course_to_be a) (commands_in xs)) lines i z within)
 
--- Use: no line is left, and the edits that wait were answered.
-pub all_taken : {A E : Type 0} (r : Result A E) (caller : ℕ) (given edits : List Command) (a b : Shown) (lines : List LineTold) (i : ℕ) (whole : ScriptCourse)
-    → given ≡ edits → length lines ≤ i → course_behind (course_behind (course_at a) edits) (commands_in (drop i lines)) ≡ whole
-    → OnOk r (AnswersAll caller given a b) → OnOk r (course_at b ≡ whole)
-all_taken r caller given edits a b lines i whole same none left answered =
-    on_ok r _ _ (λ h. answered_course caller given a b h ∙ ap (course_behind (course_at a)) same
-    ∙ sym (at_drop_all (λ xs. course_behind (course_behind (course_at a) edits) (commands_in xs)) lines i none) ∙ left) answered
+-- Use: no line is left, and the commands that wait were answered.
+module _ (a b : Carrying) (lines : List LineTold) (i : ℕ) (whole : ScriptCourse) (none : length lines ≤ i)
+    (left : course_behind (course_to_be a) (commands_in (drop i lines)) ≡ whole) (h : AnswersAll script_caller a.waiting a.desk b.desk) where
+  all_taken : course_at b.desk ≡ whole
+  all_taken =
+      answered_course script_caller a.waiting a.desk b.desk h
+      ∙ sym (at_drop_all (λ xs. course_behind (course_to_be a) (commands_in xs)) lines i none) ∙ left
+
+  pub none_waits : {A E : Type 0} (r : Result A E) → b.waiting ≡ [] → OnOk r (course_to_be b ≡ whole)
+  none_waits (Ok x) is = ap (course_behind (course_at b.desk)) is ∙ all_taken
+  none_waits (Err e) is = tt
+
+  pub all_seen : {E : Type 0} (r : Result Seen E) (d : Shown) → d ≡ b.desk → IfOk r (λ s. StandsForHistory d.history s)
+      → IfOk r (λ s. s ≡ record { version = length d.history; state = d.state; rows = d.rows; denials = d.denials }) → IfOk r (λ s. s ≡ seen_at whole)
+  all_seen (Ok s) d is stands shows = seen_there d s stands shows ∙ ap (λ d. seen_at (course_at d)) is ∙ ap seen_at all_taken
+  all_seen (Err e) d is stands shows = tt
 
 -- Use: what is equal in its place.
 pub made_at : {V F : Type 0} (told : V → DiffTold) (r : Result V F) (x y : DiffTold) → x ≡ y → IfOk r (λ v. told v ≡ x) → IfOk r (λ v. told v ≡ y)

@@ -5,9 +5,14 @@ use Rattle.pf_script.specs.declared.record.LineTold.{LineTold}
 use Rattle.pf_script.specs.declared.record.ScriptSettings.{ScriptSettings}
 use Rattle.pf_script.specs.Asked.{commands_in}
 use Rattle.pf_script.specs.Told.{FaultTold, Told, told}
+use Rattle.pf_carrying.specs.Carrying.{Carrying}
 use Rattle.pf_options.specs.declared.diff_options.DiffOptions.{DiffOptions}
-use Rattle.pf_cli.specs.Meaning.{ScriptCourse, course_behind, opening_course, seen_at}
+use Rattle.pf_cli.specs.Meaning.{ScriptCourse, course_at, course_behind, opening_course, seen_at}
 use Rattle.pf_change.specs.Difference.{DiffTold, difference}
+
+-- how far a desk is once the commands that wait are answered
+abbrev pub course_to_be : Carrying → ScriptCourse
+course_to_be c = course_behind (course_at c.desk) c.waiting
 
 -- what a desk at this course shows once these lines are carried out
 abbrev pub seen_behind : ScriptCourse → List LineTold → Seen

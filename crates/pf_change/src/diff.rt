@@ -1,8 +1,7 @@
 ghost use Rattle.std.specs.Prelude.{◌≡◌, ◌≤◌, [], length, take, Ok, IfOk, IfErr};
 ghost use Rattle.pf_fault.specs.Faults.{IsUnwritten};
-ghost use Rattle.pf_timeline.specs.Checkpoints.{largest_distance};
 ghost use Rattle.pf_script.specs.Opened.{IsOpening};
-ghost use Rattle.pf_cli.specs.Meaning.{course_at, opening_course};
+ghost use Rattle.pf_cli.specs.Meaning.{opening_course};
 ghost use Rattle.pf_change.specs.Change.{change_behind, change_meaning, lines_before};
 ghost use Rattle.pf_change.specs.Difference.{told_by};
 ghost use Rattle.pf_change.specs.Made.{Stops};
@@ -11,12 +10,10 @@ use crate::compare::compare;
 use crate::lines::read_lines;
 use crate::taking::show_behind;
 use csv::ByteRecord;
-use pf_desk::desk::Desk;
-use pf_desk::fault::OpenFault;
+use pf_carrying::carrying_desk::CarryingDesk;
 use pf_fault::answer::Answer;
 use pf_fault::fault::Fault;
 use pf_options::diff_options::DiffOptions;
-use pf_scenario::settings::Settings;
 use pf_script::opened::OpenedScript;
 use pf_script::record::{LineTold, ScriptSettings};
 use std::alloc::{AllocError, Global};
@@ -83,24 +80,11 @@ fn diff_lines(
         told_by answer ≡ change_behind options since (opening_course opening.every opening.settings) lines.now) }
     ensures quiet { IfOk result (λ answer. answer.ending.notes.items ≡ []) }
 {
-    let mut desk = open_desk(alloc, opening.settings, opening.every)?;
+    let mut desk = CarryingDesk::open(alloc, opening.settings, opening.every)?;
     let (first, rest) = lines.split_at(count_before(lines, since));
-    let before = show_behind(alloc, &mut desk, first)?;
-    let after = show_behind(alloc, &mut desk, rest)?;
+    let before = show_behind(&mut desk, first)?;
+    let after = show_behind(&mut desk, rest)?;
     compare(alloc, &before, &after, options)
-}
-
-/// A desk that has answered no command.
-fn open_desk(alloc: Global, settings: Settings, every: u64) -> Result<Desk, AllocError>
-    requires some { 1 ≤ every }
-    requires within { every ≤ largest_distance }
-    ensures { IfOk result (λ desk. course_at desk ≡ opening_course every settings) }
-{
-    match Desk::open(alloc, settings, every) {
-        Ok(desk) => Ok(desk),
-        Err(OpenFault::BadSettings) => unreachable!(),
-        Err(OpenFault::NoMemory) => Err(AllocError),
-    }
 }
 
 /// How many lines come before the record that is asked for, or else before the last one.

@@ -1,13 +1,12 @@
 -- The blocks of a chart, one after another.
-use Rattle.std.proofs.Common.{◌≡◌, ℕ, zero, suc, ◌+◌, ◌-◌, ◌*◌, ◌<◌, ◌≤◌, min, nat_le, Bool, true, false, Option, Some, List, [], ◌∷◌, ◌++◌, length, get_or, refl, sym, ap, ap₂, ◌∙◌, arith}
+use Rattle.std.proofs.Common.{◌≡◌, ℕ, zero, suc, ◌+◌, ◌-◌, ◌*◌, ◌<◌, ◌≤◌, min, nat_le, Bool, true, false, Option, Some, List, [], ◌++◌, length, get_or, refl, sym, ap, ap₂, ◌∙◌, arith}
 use Rattle.std.specs.Prelude.{if◌then◌else◌}
 use Rattle.std.specs.Int.{div_ceil}
 use Rattle.std.specs.List.{flat_map, range_with_len, slice_get}
-use Rattle.std.proofs.lemmas.List.{flat_map_more, get_or_default}
+use Rattle.std.proofs.lemmas.List.{get_or_default}
 use Rattle.std.proofs.lemmas.List.Concat.{flat_map-cons}
 use Rattle.std.proofs.lemmas.List.FromFn.{get_or-map-range_with_len}
 use Rattle.pf_order.specs.declared.pick.Pick.{Pick}
-use Rattle.pf_tally.proofs.Chains.{range_more}
 use Rattle.pf_tally.proofs.Noting.{got_at}
 use Rattle.pf_report.specs.Desk.{Seen}
 use Rattle.pf_chart.specs.Listing.{Listing, count_in, counts_of}
@@ -71,13 +70,6 @@ module _ (seen : Seen) (labels : Labels) (listed : List Listing) (from to : ℕ)
 pub block_some : (seen : Seen) (labels : Labels) (listed : List Listing) (a : ℕ) (slots text : List ℕ) → text ≡ block_of seen labels listed a slots
     → 1 ≤ length text
 block_some seen labels listed a slots text is = omega (arith, ap length is)
-
--- one processor further
-pub processors_next : (f : ℕ → List ℕ) (p : ℕ) (old before after : List ℕ) → after ≡ before ++ f p → before ≡ old ++ flat_map f (range_with_len 0 p) →
-    after ≡ old ++ flat_map f (range_with_len 0 (p + 1))
-processors_next f p old before after push so_far =
-    push ∙ ap (λ t. t ++ f p) so_far ∙ flat_map_more f old (range_with_len 0 p) p
-    ∙ ap (λ q. old ++ flat_map f (range_with_len 0 p ++ q ∷ [])) (let z : p ≡ 0 + p = omega arith in z) ∙ ap (λ ps. old ++ flat_map f ps) (sym (range_more 0 p))
 
 -- a cell of a processor, by the counts and the row of its slot
 pub cell_is : (seen : Seen) (listed : List Listing) (counts : List ℕ) (p t count cell d : ℕ) (row : List (Option Pick)) → t < length seen.rows → counts ≡ counts_of seen → count ≡ get_or counts t d →

@@ -3,7 +3,7 @@ use Rattle.std.proofs.Common.{◌≡◌, ℕ, zero, suc, ◌-◌, ◌<◌, ◌�
 use Rattle.std.specs.Prelude.{not, max, slice_range}
 use Rattle.std.specs.List.{list_any, slice_get}
 use Rattle.std.specs.List.Sorted.{IsPartitionPoint, IsPartitionedBy}
-use Rattle.std.proofs.lemmas.Bool.{cases_lt, cases_Bool, lt-ltb, le-ltb}
+use Rattle.std.proofs.lemmas.Bool.{cases_lt, cases_Bool, lt-ltb, le-ltb, or_right}
 use Rattle.std.proofs.lemmas.Bool.Decides.{nat_tests}
 use Rattle.pf_chart.specs.Cut.{IsCut}
 
@@ -35,14 +35,10 @@ module _ {X : Type 0} where
     within = omega (arith, first.within, second.within);
     before = λ i d below. ⊎_elim
         (λ e. ap (λ v. v || q (get_or xs i d)) (first.before i d e))
-        (λ f. either_right (p (get_or xs i d)) (q (get_or xs i d)) (second.before i d (omega arith)))
+        (λ f. or_right (p (get_or xs i d)) (q (get_or xs i d)) (second.before i d (omega arith)))
         (cases_lt i a);
     behind = λ i d above below. ap₂ (λ v w. v || w) (first.behind i d (omega arith) below) (second.behind i d (omega arith) below);
   }
-    where
-      either_right : (v w : Bool) → w ≡ true → (v || w) ≡ true
-      either_right true w e = refl
-      either_right false w e = e
 
   -- the elements that pass the first test and not the second lie between the cuts
   pub any_between : (p q : X → Bool) (xs : List X) (a b : ℕ) → IsCut p a xs → IsCut q b xs → list_any (λ x. p x && not (q x)) xs ≡ nat_lt b a

@@ -1,12 +1,8 @@
 -- A line without the blanks at its end.
 use Rattle.std.proofs.Common.{◌≡◌, ◌≢◌, ℕ, zero, suc, ◌-◌, ◌<◌, ◌≤◌, ◌==◌, List, [], ◌∷◌, ◌++◌, length, take, get_or, refl, sym, ap, ◌∙◌, append_assoc, arith}
 use Rattle.std.proofs.lemmas.Bool.{cond-false, ne_eqb}
+use Rattle.pf_facts.proofs.Lists.{take_last}
 use Rattle.pf_chart.specs.Chart.{with_first, trimmed}
-
-take_next : (k : ℕ) (xs : List ℕ) → k < length xs → take (suc k) xs ≡ take k xs ++ get_or xs k 0 ∷ []
-take_next k [] within = absurd (omega arith)
-take_next zero (x ∷ xs) within = refl
-take_next (suc k) (x ∷ xs) within = ap (λ ys. x ∷ ys) (take_next k xs (omega arith))
 
 blank_behind : (xs : List ℕ) → trimmed (xs ++ 32 ∷ []) ≡ trimmed xs
 blank_behind [] = refl
@@ -20,18 +16,14 @@ kept_behind (x ∷ xs) y differ = ap (with_first x) (kept_behind xs y differ) �
     some [] = refl
     some (z ∷ zs) = refl
 
-last_at : (xs : List ℕ) (end : ℕ) → 0 < end → end ≤ length xs → take end xs ≡ take (end - 1) xs ++ get_or xs (end - 1) 0 ∷ []
-last_at xs end some within =
-    ap (λ k. take k xs) (let z : end ≡ suc (end - 1) = omega arith in z) ∙ take_next (end - 1) xs (omega arith)
-
 -- Use: a blank at the end is left out, and nothing where another one stands there.
 pub blank_left_out : (xs : List ℕ) (end : ℕ) → 0 < end → end ≤ length xs → get_or xs (end - 1) 0 ≡ 32 → trimmed (take end xs) ≡ trimmed xs → trimmed (take (end - 1) xs) ≡ trimmed xs
 blank_left_out xs end some within is same =
-    sym (ap trimmed (last_at xs end some within ∙ ap (λ y. take (end - 1) xs ++ y ∷ []) is) ∙ blank_behind (take (end - 1) xs)) ∙ same
+    sym (ap trimmed (take_last xs end some within ∙ ap (λ y. take (end - 1) xs ++ y ∷ []) is) ∙ blank_behind (take (end - 1) xs)) ∙ same
 
 pub none_left_out : (xs : List ℕ) (end : ℕ) → 0 < end → end ≤ length xs → get_or xs (end - 1) 0 ≢ 32 → trimmed (take end xs) ≡ trimmed xs → take end xs ≡ trimmed xs
 none_left_out xs end some within differ same =
-    last_at xs end some within ∙ sym (kept_behind (take (end - 1) xs) (get_or xs (end - 1) 0) differ) ∙ sym (ap trimmed (last_at xs end some within)) ∙ same
+    take_last xs end some within ∙ sym (kept_behind (take (end - 1) xs) (get_or xs (end - 1) 0) differ) ∙ sym (ap trimmed (take_last xs end some within)) ∙ same
 
 pub all_left_out : (xs : List ℕ) (end : ℕ) → end ≤ 0 → trimmed (take end xs) ≡ trimmed xs → take end xs ≡ trimmed xs
 all_left_out xs end none same =

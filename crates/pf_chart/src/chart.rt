@@ -12,7 +12,7 @@ use crate::listings::listings;
 use pf_names::titles::Titles;
 use pf_report::snapshot::Snapshot;
 use pf_tasks::task_list::TaskList;
-use pf_text::pieces::{Chain, Pieces, Whole, gathered};
+use pf_text::pieces::{Chain, Pieces, Whole};
 use std::alloc::{AllocError, Global};
 use std::marker::Model;
 
@@ -112,8 +112,7 @@ fn pieces_between<'a>(
 }
 
 /// The chart of the slots from `from` on, below `to`, in pieces, each of which is a block at most. A task is told by its name,
-/// where it has one, and else by its number. `is_range` tells
-/// whether the snapshot has these slots.
+/// where it has one, and else by its number.
 ///
 /// # Errors
 ///
@@ -170,22 +169,4 @@ pub fn task_chart_pieces<'a>(
     let head = task_head(alloc, settings, titles.slot, many, count, now, from, to)?;
     let legend = task_legend(alloc)?;
     pieces_between(alloc, snapshot, titles, head, legend, shown, from, to)
-}
-
-/// The chart of the slots from `from` on, below `to`, in whole.
-///
-/// # Errors
-///
-/// Where memory is refused.
-pub fn chart_text(
-    alloc: Global,
-    snapshot: &Snapshot,
-    titles: &Titles,
-    from: u64,
-    to: u64,
-) -> Result<Vec<u8>, AllocError>
-    requires { to ≤ snapshot.now.state.now }
-    ensures { IfOk result (λ text. text.items ≡ chart_text_of snapshot.now titles.now from to) }
-{
-    gathered(alloc, chart_pieces(alloc, snapshot, titles, from, to)?)
 }

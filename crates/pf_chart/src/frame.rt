@@ -1,4 +1,4 @@
-ghost use Rattle.std.specs.Prelude.{◌≡◌, ◌++◌, ◌&&◌, codes, nat_le, IfOk, OnOk};
+ghost use Rattle.std.specs.Prelude.{◌≡◌, ◌++◌, codes, IfOk, OnOk};
 ghost use Rattle.std.specs.Fmt.{decimal};
 ghost use Rattle.pf_chart.specs.Chart.{count_text, head_with, legend_text, length_text, range_text, settings_text, settings_with, signs_text, task_head_with, task_legend_text};
 
@@ -19,13 +19,6 @@ windows: [ first slot, ] last, X last and next first, I only slot
 lag: = none, + - owed or ahead by less than one quantum, 1-9 * owed, a-z ~ ahead
 marks: > joins, < left, ~ clock stopped, ^ runs late, x denied
 ";
-
-/// Whether a chart of `now` slots can show those from `from` on, below `to`.
-pub fn is_range(from: u64, to: u64, now: u64) -> bool
-    ensures { result ≡ (nat_le from to && nat_le to now) }
-{
-    from <= to && to <= now
-}
 
 /// The legend that begins with this line.
 fn legend_behind(alloc: Global, line: &[u8]) -> Result<Vec<u8>, AllocError>

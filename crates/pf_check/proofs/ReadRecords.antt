@@ -4,6 +4,7 @@ use Rattle.std.specs.Prelude.{⊤, ◌&&◌, ◌||◌, ◌==◌, is_some, min, o
 use Rattle.std.proofs.Math.Bool.{and-true}
 use Rattle.std.specs.Option.{option_map_or}
 use Rattle.std.specs.Result.{is_ok, result_ok}
+use Rattle.std.proofs.lemmas.Bool.{and_right}
 use Rattle.pf_weight.specs.declared.base.TheConstants.{LARGEST_BASE}
 use Rattle.pf_scenario.specs.declared.settings.TheConstants.{MOST_PROCESSORS, LARGEST_CAP}
 use Rattle.pf_timeline.specs.declared.timeline.TheConstants.{LARGEST_DISTANCE}
@@ -97,12 +98,8 @@ opening_from a b c d =
     option_and_then (λ m. option_and_then (λ h. option_and_then (λ k. option_and_then (λ every.
     Some (record { processors = m; base = h; cap = k; every = every })) d) c) b) a
 
-fails : (a : Bool) → (a && false) ≡ false
-fails true = refl
-fails false = refl
-
 fails_later : (a b : Bool) → (a && (b && false)) ≡ false
-fails_later true b = fails b
+fails_later true b = and_right b false refl
 fails_later false b = refl
 
 all_four : (a b c d : Bool) → (a && (b && (c && d))) ≡ (a && b && c && d)
@@ -115,10 +112,10 @@ numbers_read : (a b c d : Option ℕ)
     → (passes MOST_PROCESSORS a && (passes LARGEST_BASE b && (passes LARGEST_CAP c && passes LARGEST_DISTANCE d)))
     ≡ option_map_or is_in_limits (opening_from a b c d) false
 numbers_read None b c d = refl
-numbers_read (Some m) None c d = fails (is_one_to MOST_PROCESSORS m)
+numbers_read (Some m) None c d = and_right (is_one_to MOST_PROCESSORS m) false refl
 numbers_read (Some m) (Some h) None d = fails_later (is_one_to MOST_PROCESSORS m) (is_one_to LARGEST_BASE h)
 numbers_read (Some m) (Some h) (Some k) None =
-    ap (λ b. is_one_to MOST_PROCESSORS m && b) (fails_later (is_one_to LARGEST_BASE h) (is_one_to LARGEST_CAP k)) ∙ fails (is_one_to MOST_PROCESSORS m)
+    ap (λ b. is_one_to MOST_PROCESSORS m && b) (fails_later (is_one_to LARGEST_BASE h) (is_one_to LARGEST_CAP k)) ∙ and_right (is_one_to MOST_PROCESSORS m) false refl
 numbers_read (Some m) (Some h) (Some k) (Some every) =
     all_four (is_one_to MOST_PROCESSORS m) (is_one_to LARGEST_BASE h) (is_one_to LARGEST_CAP k) (is_one_to LARGEST_DISTANCE every)
 

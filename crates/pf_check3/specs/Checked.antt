@@ -1,5 +1,5 @@
 -- The faults of a script of version 3. Nothing is carried out: a label stands for no number.
-use Rattle.std.specs.Prelude.{ℕ, ◌+◌, ◌-◌, ◌==◌, ◌≡◌, if◌then◌else◌, Option, None, Some, Result, Ok, Err, List, [], ◌∷◌, ◌++◌, length}
+use Rattle.std.specs.Prelude.{ℕ, ◌+◌, ◌≡◌, Bool, Option, None, Some, Result, Ok, Err, List, [], ◌∷◌, ◌++◌, length}
 use Rattle.std.specs.List.{flat_map}
 use Rattle.pf_check.specs.Reports.{totals_text}
 use Rattle.pf_fault.specs.declared.answer.Answer.{Answer}
@@ -7,20 +7,17 @@ use Rattle.pf_fault.specs.declared.status.Status.{Status}
 use Rattle.pf_fault.specs.declared.status.Status.TheVariants.{BadScript, Done}
 use Rattle.pf_fault.specs.Answers.{IsQuiet}
 use Rattle.pf_rows.specs.Rows.{Row, Table, rows}
-use Rattle.pf_check.specs.Fields.{field}
 use Rattle.pf_version3.specs.declared.fault.RecordFault.{RecordFault}
 use Rattle.pf_version3.specs.declared.said.Said.{Said}
 use Rattle.pf_version3.specs.declared.state.Progress.{Progress}
+use Rattle.pf_version3.specs.Heading.{is_third_heading}
 use Rattle.pf_version3.specs.Parsing.{end_fault, said_at}
 use Rattle.pf_version3.specs.Progress.{at_heading, progress_after}
-use Rattle.pf_check3.specs.Reports.{FaultShown, third_report_text}
+use Rattle.pf_check3.specs.Reports.{FaultShown, shown, third_report_text}
 
 -- a fault of the record of this number
 abbrev pub fault_shown : ℕ → Row → RecordFault → FaultShown
-fault_shown number row fault = record {
-  bad = record { number = number; line = row.line; fault = fault };
-  at = field row.fields (fault.field - 1);
-}
+fault_shown number row fault = shown (record { number = number; line = row.line; fault = fault }) row.fields
 
 -- a record with a fault is as though it had not been there
 abbrev pub faults_next : (Progress → List FaultShown) → Progress → ℕ → Row → Result Said RecordFault → List FaultShown
@@ -45,6 +42,15 @@ faults_of end (heading ∷ rows) = faults_from at_heading 2 end rows
 abbrev pub faults : Table → List FaultShown
 faults t = faults_of t.end t.rows
 
+-- the fields of the first row, none where there is no row
+abbrev pub first_fields : List Row → List (List ℕ)
+first_fields [] = []
+first_fields (row ∷ rows) = row.fields
+
+-- whether these are the rows of a script of version 3
+abbrev pub is_third : Table → Bool
+is_third t = is_third_heading (first_fields t.rows)
+
 -- what a check of these rows tells
 abbrev pub text_of : Table → List ℕ
 text_of t = flat_map third_report_text (faults t) ++ totals_text (length t.rows) (length (faults t))
@@ -52,13 +58,6 @@ text_of t = flat_map third_report_text (faults t) ++ totals_text (length t.rows)
 abbrev pub status_of_faults : List FaultShown → Status
 status_of_faults [] = Done
 status_of_faults (fault ∷ faults) = BadScript
-
--- the answer to a check of these rows behind the heading, in a text that ends on this line
-pub record AnswersRows (end : ℕ) (rows : List Row) (answer : Answer) : Type 0 where
-  pub text : answer.text.items
-      ≡ flat_map third_report_text (faults_from at_heading 2 end rows)
-      ++ totals_text (length rows + 1) (length (faults_from at_heading 2 end rows))
-  pub ending : IsQuiet (status_of_faults (faults_from at_heading 2 end rows)) answer.ending
 
 -- the answer to a check of a script of version 3
 pub record ChecksThird (script : List ℕ) (answer : Answer) : Type 0 where

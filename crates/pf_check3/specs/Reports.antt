@@ -1,6 +1,7 @@
 -- What a check tells of a bad record of a script of version 3.
-use Rattle.std.specs.Prelude.{ℕ, ◌==◌, if◌then◌else◌, List, ◌++◌, codes}
+use Rattle.std.specs.Prelude.{ℕ, ◌-◌, ◌==◌, if◌then◌else◌, List, ◌++◌, codes}
 use Rattle.std.specs.Fmt.{decimal}
+use Rattle.pf_check.specs.Fields.{field}
 use Rattle.pf_check.specs.Reports.{field_text, quoted}
 use Rattle.pf_version3.specs.declared.fault.BadRecord.{BadRecord}
 use Rattle.pf_version3.specs.declared.fault.Reason.{Reason}
@@ -40,6 +41,10 @@ third_reason_text at LabelUnknown = quoted at ++ codes " labels no event so far"
 pub record FaultShown : Type 0 where
   pub bad : BadRecord
   pub at : List ℕ
+
+-- a bad record with these fields
+abbrev pub shown : BadRecord → List (List ℕ) → FaultShown
+shown bad fields = record { bad = bad; at = field fields (bad.fault.field - 1) }
 
 -- where it is, and why
 unfoldable pub third_report_text : FaultShown → List ℕ

@@ -1,13 +1,15 @@
-ghost use Rattle.std.specs.Prelude.{◌≡◌, ◌+◌, ◌-◌, ◌<◌, ◌^◌, length, IfOk};
-ghost use Rattle.pf_check3.specs.Checked.{AnswersRows, ChecksThird};
-ghost use Rattle.pf_check3.specs.Found.{EndsAt};
+ghost use Rattle.std.specs.Prelude.{◌≡◌, ◌==◌, if◌then◌else◌, IfOk};
+ghost use Rattle.pf_fault.specs.declared.status.Status.TheVariants.{BadScript, Done};
+ghost use Rattle.pf_check3.specs.Checked.{ChecksThird};
 
-use crate::found::Found;
+use crate::report::push_report;
+use crate::third_faults::ThirdFaults;
 use csv::ByteRecord;
 use pf_check::fields::Fields;
+use pf_check::report::push_totals;
 use pf_fault::answer::Answer;
-use pf_rows::rows::{NextRow, Rows};
-use pf_version3::fault::BadRecord;
+use pf_fault::ending::Ending;
+use pf_fault::status::Status;
 use std::alloc::{AllocError, Global};
 
 /// What a check of a script of version 3 finds: a line for each record that the format does not allow, taking those before it
@@ -20,55 +22,28 @@ use std::alloc::{AllocError, Global};
 pub fn third_check(alloc: Global, script: &[u8]) -> Result<Answer, AllocError>
     ensures { IfOk result (ChecksThird script.now) }
 {
-    let mut rows = Rows::new(alloc, script);
     let mut row = ByteRecord::new(alloc);
-    match rows.next(&mut row)? {
-        NextRow::Found(_) => check_rows(alloc, rows, row),
-        NextRow::End(_) => Found::new(alloc).finish(alloc, 0),
+    let mut faults = ThirdFaults::new(alloc, script, &mut row)?;
+    let mut text = String::new(alloc);
+    let mut count = 0;
+    'faults: while let Some(bad) = faults.next(&mut row)? {
+        push_report(&mut text, &Fields::new(&row), bad)?;
+        count += 1;
     }
+    push_totals(&mut text, faults.records(), count)?;
+    Ok(Answer {
+        text: text.into_bytes(),
+        ending: Ending::quiet(alloc, status_of(count)),
+    })
 }
 
-/// Of the rows behind the heading. Each is read into `row`.
-fn check_rows(alloc: Global, mut rows: Rows, mut row: ByteRecord) -> Result<Answer, AllocError>
-    requires { length rows.rows < 2 ^ 64 - 3 }
-    ensures { IfOk result (AnswersRows rows.entry.end rows.entry.rows) }
+/// The status behind so many faults.
+fn status_of(faults: u64) -> Status
+    ensures { result ≡ (if faults == 0 then Done else BadScript) }
 {
-    let mut found = Found::new(alloc);
-    let mut records = 1;
-    'rows: loop {
-        match rows.next(&mut row)? {
-            NextRow::Found(line) => {
-                records += 1;
-                found.read(&Fields::new(&row), records, line)?;
-            }
-            NextRow::End(line) => return answer_end(alloc, found, row, records, line),
-        }
+    if faults == 0 {
+        Status::Done
+    } else {
+        Status::BadScript
     }
-}
-
-/// At the end of the text, which lies on this line.
-fn answer_end(
-    alloc: Global,
-    mut found: Found,
-    mut row: ByteRecord,
-    records: u64,
-    line: u64,
-) -> Result<Answer, AllocError>
-    requires records { records < 2 ^ 64 - 1 }
-    requires faults { found.faults < 2 ^ 64 - 1 }
-    ensures { IfOk result (EndsAt records line found) }
-{
-    if let Some(fault) = found.progress.end_fault() {
-        row.clear();
-        let number = records + 1;
-        found.add(
-            &Fields::new(&row),
-            BadRecord {
-                number,
-                line,
-                fault,
-            },
-        )?;
-    }
-    found.finish(alloc, records)
 }

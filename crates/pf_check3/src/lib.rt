@@ -3,5 +3,5 @@
 #![tactic(auto)]
 
 pub mod check;
-mod found;
 pub mod report;
+pub mod third_faults;

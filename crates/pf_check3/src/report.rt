@@ -2,8 +2,9 @@ ghost use Rattle.std.specs.Prelude.{◌≡◌, ◌++◌, OnOk, codes};
 ghost use Rattle.std.specs.Fmt.{decimal};
 ghost use Rattle.std.specs.String.{string_bytes};
 ghost use Rattle.pf_check.specs.Reports.{quoted};
-ghost use Rattle.pf_check3.specs.Reports.{join_fields, third_reason_text, third_report_text};
+ghost use Rattle.pf_check3.specs.Reports.{join_fields, shown, third_reason_text, third_report_text};
 
+use pf_check::fields::Fields;
 use pf_check::report::{push_field, push_quoted};
 use pf_version3::fault::{BadRecord, Reason};
 use std::alloc::AllocError;
@@ -15,11 +16,12 @@ const NO_RECORD: &str =
 /// What is said of a word that names no change.
 const NO_CHANGE: &str = " is no change: join, leave, delay, limit, label, alter, strike";
 
-/// Adds the line that tells of a bad record, with what is shown of its field that is at fault.
+/// Adds the line that tells of a bad record with these fields, with what is shown of the one that is at fault.
 #[tactic(auto, unfolding(crate::specs::Reports::third_report_text))]
-pub fn push_report(text: &mut String, at: &[u8], bad: BadRecord) -> Result<(), AllocError>
-    ensures { OnOk result (string_bytes text.new ≡ string_bytes text.old ++ third_report_text (record { bad = bad; at = at.now })) }
+pub fn push_report(text: &mut String, fields: &Fields, bad: BadRecord) -> Result<(), AllocError>
+    ensures { OnOk result (string_bytes text.new ≡ string_bytes text.old ++ third_report_text (shown bad fields.now)) }
 {
+    let at = fields.field(bad.fault.field.saturating_sub(1));
     let (line, number) = (bad.line, bad.number);
     write!(text, "line {line}, record {number}")?;
     push_field(text, bad.fault.field)?;

@@ -1,10 +1,9 @@
 -- The lines of faults, told one after another.
-use Rattle.std.proofs.Common.{◌≡◌, ◌≢◌, ◌<◌, ◌≤◌, ◌+◌, ◌-◌, ◌==◌, ℕ, zero, suc, Bool, true, false, cond, List, [], ◌∷◌, ◌++◌, ◌∙◌, fold, codes, refl, sym, ap, ap₂, arith, append_assoc, append-nil}
+use Rattle.std.proofs.Common.{◌≡◌, ◌<◌, ◌+◌, ◌-◌, ◌==◌, ℕ, Bool, true, false, cond, List, [], ◌∷◌, ◌++◌, ◌∙◌, fold, codes, refl, sym, ap, ap₂, arith, append_assoc, append-nil}
 use Rattle.std.specs.Prelude.{min, not, count_by, if◌then◌else◌}
-use Rattle.std.specs.List.{flat_map}
 use Rattle.std.proofs.lemmas.Bool.{ne_eqb}
 use Rattle.pf_run.proofs.Counting.{count_by-cons}
-use Rattle.pf_check_run.specs.Faults.{FaultLine, count_lacking, count_lines, fault_lines, lacking_text, others_text, own_lines}
+use Rattle.pf_check_run.specs.Faults.{FaultLine, count_lacking, fault_lines, lacking_text, others_text, own_lines}
 use Rattle.pf_check_run.specs.Lines.{Lines, behind, behind_lacking, behind_own, count_of, text_of}
 
 -- no number above 0 is 0

@@ -1,5 +1,5 @@
 -- The lines of a script's faults, where the script is to be carried out: that settings are lacking is told once.
-use Rattle.std.specs.Prelude.{ℕ, ◌+◌, ◌-◌, ◌==◌, min, nat_le, not, Bool, true, false, if◌then◌else◌, List, [], ◌∷◌, ◌++◌, codes, count_by, filter}
+use Rattle.std.specs.Prelude.{ℕ, ◌+◌, ◌==◌, min, nat_le, not, Bool, true, false, if◌then◌else◌, List, [], ◌∷◌, ◌++◌, codes, count_by, filter}
 use Rattle.std.specs.List.{flat_map}
 use Rattle.std.specs.Fmt.{decimal}
 use Rattle.pf_check3.specs.Reports.{FaultShown}

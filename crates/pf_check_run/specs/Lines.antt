@@ -1,5 +1,5 @@
 -- The lines of faults that were told so far.
-use Rattle.std.specs.Prelude.{ℕ, ◌+◌, ◌-◌, ◌==◌, min, if◌then◌else◌, List, [], ◌++◌, codes, Option, None, Some}
+use Rattle.std.specs.Prelude.{ℕ, ◌+◌, ◌-◌, ◌==◌, min, nat_le, if◌then◌else◌, List, [], ◌++◌, codes}
 use Rattle.pf_check_run.specs.Faults.{FaultLine, lacking_text, others_text}
 use Rattle.pf_run_notes.specs.declared.place.Place.{Place}
 
@@ -29,13 +29,17 @@ behind_own text s = record s {
 abbrev pub behind : List ℕ → Lines → FaultLine → Lines
 behind file s f = if f.lacks then behind_lacking file f.place s else behind_own f.text s
 
--- behind the end of a script, which lacks settings there
+-- how many they are
 abbrev pub count_of : Lines → ℕ
 count_of s = s.others + min s.lacking 1
 
-abbrev pub behind_end : List ℕ → Option Place → Lines → Lines
-behind_end file None s = s
-behind_end file (Some place) s = if count_of s == 0 then behind_lacking file place s else s
+-- behind the end of a script, which lacks settings there
+abbrev pub behind_end : List ℕ → Place → Lines → Lines
+behind_end file place s = if count_of s == 0 then behind_lacking file place s else s
+
+-- behind a fault of a script with so many records, or of its end
+abbrev pub behind_fault : List ℕ → ℕ → Lines → FaultLine → Lines
+behind_fault file records s f = if nat_le f.place.record records then behind file s f else behind_end file f.place s
 
 -- all lines
 abbrev pub text_of : Lines → List ℕ

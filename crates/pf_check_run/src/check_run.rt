@@ -32,7 +32,7 @@ pub fn check_run(alloc: Global, file: &[u8], script: &[u8]) -> Result<Answer, Fa
     if found.is_clean() {
         return carried(alloc, file, script, None, &Names::new(alloc), found.records);
     }
-    Ok(found.into_answer(alloc, file)?)
+    Ok(found.into_answer(alloc)?)
 }
 
 /// The same of one of version 3, to which this script of version 2 belongs.
@@ -54,7 +54,7 @@ pub fn third_check_run(
 {
     let found = third_faults(alloc, file, script)?;
     if !found.is_clean() {
-        return Ok(found.into_answer(alloc, file)?);
+        return Ok(found.into_answer(alloc)?);
     }
     if plain.text.len() > LONGEST_SCRIPT {
         return Err(Fault::TooLong);

@@ -100,16 +100,16 @@ impl FaultLines {
         self.others + self.lacking.min(1)
     }
 
-    /// The script ends, and lacks settings where a place is given: it is told where there is no line.
-    pub(crate) fn end(&mut self, file: &[u8], place: Option<Place>) -> Result<(), AllocError>
+    /// The script ends here, and lacks settings: that is told where there is no line.
+    pub(crate) fn end(&mut self, file: &[u8], place: Place) -> Result<(), AllocError>
         requires lacking { self.old.lacking < 2 ^ 64 - 1 }
         requires others { self.old.others < 2 ^ 64 - 1 }
         ensures { OnOk result (self.new ≡ behind_end file.now place self.old) }
     {
-        match place {
-            Some(place) if self.count() == 0 => self.note_lacking(file, place),
-            _ => Ok(()),
+        if self.count() > 0 {
+            return Ok(());
         }
+        self.note_lacking(file, place)
     }
 
     /// Their text.

@@ -1,32 +1,29 @@
 ghost use Rattle.std.specs.Prelude.{◌≡◌, ◌++◌, OnOk};
 ghost use Rattle.pf_check_run.specs.Faults.{not_run_line};
 
-use crate::bad::{is_lacking, is_third_lacking};
+use crate::bad::is_lacking;
 use crate::fault_lines::FaultLines;
 use pf_fault::answer::Answer;
 use pf_fault::ending::Ending;
 use pf_fault::status::Status;
-use pf_fault_notes::bad_record::{push_fault, push_third_fault};
+use pf_fault_notes::bad_record::push_fault;
 use pf_run_notes::place::Place;
 use pf_script::fault::BadRecord;
 use pf_script::fields::Fields;
 use pf_text::numbers::push_number;
-use pf_version3::fault::BadRecord as ThirdBadRecord;
 use std::alloc::{AllocError, Global};
 
 /// What a check found so far.
 #[derive(Drop)]
 pub(crate) struct Found {
-    /// The lines of the records that are bad.
+    /// The lines of the faults.
     pub(crate) lines: FaultLines,
-    /// Where the script ends, if it lacks settings there.
-    pub(crate) end: Option<Place>,
     /// How many records there were.
     pub(crate) records: u64,
 }
 
 /// The place of a record.
-fn place_of(number: u64, line: u64) -> Place
+pub(crate) fn place_of(number: u64, line: u64) -> Place
     ensures { result ≡ record { «record» = number; line = line } }
 {
     Place {
@@ -47,11 +44,11 @@ fn push_not_run(text: &mut Vec<u8>, records: u64, lines: u64) -> Result<(), Allo
 }
 
 impl Found {
-    ghost use Rattle.std.specs.Prelude.{◌≡◌, ◌+◌, ◌<◌, ◌-◌, ◌^◌, IfOk, OnOk, None};
+    ghost use Rattle.std.specs.Prelude.{◌≡◌, ◌+◌, ◌<◌, ◌-◌, ◌^◌, IfOk, OnOk};
     ghost use Rattle.pf_check.specs.Reports.{fault_shown};
     ghost use Rattle.pf_fault.specs.Answers.{IsQuiet};
     ghost use Rattle.pf_fault.specs.declared.status.Status.TheVariants.{BadScript};
-    ghost use Rattle.pf_check_run.specs.Faults.{shown, third_shown};
+    ghost use Rattle.pf_check_run.specs.Faults.{shown};
     ghost use Rattle.pf_check_run.specs.Found.{IsFresh, NotRunBy, Takes, is_clean};
 
     /// Nothing yet.
@@ -60,7 +57,6 @@ impl Found {
     {
         Found {
             lines: FaultLines::new(alloc),
-            end: None,
             records: 0,
         }
     }
@@ -89,51 +85,21 @@ impl Found {
         self.lines.note_own(&line)
     }
 
-    /// A record of version 3 is bad, which has these bytes in the field that is at fault.
-    pub(crate) fn take_third(
-        &mut self,
-        alloc: Global,
-        file: &[u8],
-        at: &[u8],
-        bad: ThirdBadRecord,
-    ) -> Result<(), AllocError>
-        requires lacking { self.old.lines.lacking < 2 ^ 64 - 1 }
-        requires others { self.old.lines.others < 2 ^ 64 - 1 }
-        requires records { self.old.records < 2 ^ 64 - 1 }
-        ensures { OnOk result (Takes file.now (third_shown file.now (record { bad = bad; at = at.now })) self.old self.new) }
-    {
-        self.records += 1;
-        if is_third_lacking(bad.fault.reason) {
-            return self
-                .lines
-                .note_lacking(file, place_of(bad.number, bad.line));
-        }
-        let mut line = Vec::new(alloc);
-        push_third_fault(alloc, &mut line, file, at, bad)?;
-        self.lines.note_own(&line)
-    }
-
     /// Whether there is no fault.
     pub(crate) fn is_clean(&self) -> bool
         requires { self.now.lines.others < 2 ^ 64 - 1 }
         ensures { result ≡ is_clean self.now }
     {
-        self.lines.count() == 0 && self.end.is_none()
+        self.lines.count() == 0
     }
 
     /// The answer where there are faults: the script is not carried out.
-    pub(crate) fn into_answer(self, alloc: Global, file: &[u8]) -> Result<Answer, AllocError>
-        requires lacking { self.lines.lacking < 2 ^ 64 - 1 }
-        requires others { self.lines.others < 2 ^ 64 - 1 }
-        ensures text { IfOk result (NotRunBy file.now self) }
+    pub(crate) fn into_answer(self, alloc: Global) -> Result<Answer, AllocError>
+        requires { self.lines.others < 2 ^ 64 - 1 }
+        ensures text { IfOk result (NotRunBy self) }
         ensures ends { IfOk result (λ answer. IsQuiet BadScript answer.ending) }
     {
-        let Found {
-            mut lines,
-            end,
-            records,
-        } = self;
-        lines.end(file, end)?;
+        let Found { lines, records } = self;
         let count = lines.count();
         let mut text = lines.into_text()?;
         push_not_run(&mut text, records, count)?;

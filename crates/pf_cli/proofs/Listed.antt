@@ -1,7 +1,7 @@
 -- The answers to scripts of which some tasks alone are shown.
 use Rattle.std.proofs.Common.{◌≡◌, ◌∙◌, ℕ, List, length, Option, None, Some, Result, Ok, Err, refl, sym, ap, subst, inl, inr}
-use Rattle.std.specs.Io.KnownBytes.{Appends, Keeps}
-use Rattle.std.proofs.KnownBytes.{Appends-nil}
+use Rattle.std.specs.Io.KnownBytes.{Appends}
+use Rattle.std.proofs.KnownBytes.{Appends-nil, Keeps-refl}
 use Rattle.pf_desk.specs.Desk.{Seen, Shown, StandsForHistory}
 use Rattle.pf_fault.specs.Faults.{CountsWrites}
 use Rattle.pf_fault.specs.declared.ending.Ending.{Ending}
@@ -34,10 +34,6 @@ pub ended_listed : (format : Format) (titles : Titles) (words : List TaskWord) (
     → RunsTasks format titles words on script answer old new
 ended_listed format titles words on script desk answer old new ends h = inl (course_at desk, ends, h)
 
-keeps_same : (x : Option (List ℕ)) → Keeps x x
-keeps_same None = tt
-keeps_same (Some bytes) = refl
-
 -- Use: memory was refused for the list.
 pub unlisted : (format : Format) (titles : Titles) (words : List TaskWord) (on : FailOn) (c : ScriptCourse) (unnamed : Option (List ℕ)) (x : Option (List ℕ))
     → None ≡ unnamed → AnswersListed format titles words on c unnamed (Err why.NoMemory) x x
@@ -47,7 +43,7 @@ unlisted format titles words on c unnamed x none =
 -- Use: it was not.
 pub stopped_unwritten : (format : Format) (titles : Titles) (words : List TaskWord) (on : FailOn) (script : List ℕ) (fault : Fault) (x : Option (List ℕ))
     → EndsBy (outcome_told (told script)) (Err fault) → RunsTasks format titles words on script (Err fault) x x
-stopped_unwritten format titles words on script fault x h = inr (fault, refl, h, keeps_same x)
+stopped_unwritten format titles words on script fault x h = inr (fault, refl, h, Keeps-refl x)
 
 pub stopped_counts : (outcome : Result ScriptCourse ℕ) (fault : Fault) (n : ℕ) → EndsBy outcome (Err fault) → CountsWrites {A = Ending} (Err fault) n n
 stopped_counts outcome (why.BadRecord number) n h = refl

@@ -1,15 +1,12 @@
 -- An array's text, by its parts.
-use Rattle.std.proofs.Common.{◌≡◌, ◌∙◌, ℕ, ◌+◌, ◌<◌, cond, Option, Some, Result, Ok, Err, List, [], ◌∷◌, ◌++◌, codes, length, drop, refl, sym, ap, append_assoc, arith}
-use Rattle.std.specs.Prelude.{OnOk}
-use Rattle.std.specs.Result.{is_ok}
+use Rattle.std.proofs.Common.{◌≡◌, ◌∙◌, ℕ, ◌+◌, ◌<◌, cond, Option, Some, List, [], ◌∷◌, ◌++◌, codes, length, drop, refl, sym, ap, append_assoc, arith}
 use Rattle.std.specs.List.{flat_map, range_with_len, slice_get}
 use Rattle.std.proofs.lemmas.Bool.{eq-eqb, ne_eqb}
-use Rattle.std.proofs.lemmas.List.{append-nil, at_drop_more, flat_map_more, length-append}
+use Rattle.std.proofs.lemmas.List.{append-nil, at_drop_more, length-append}
 use Rattle.std.proofs.lemmas.List.Concat.{flat_map-cons}
 use Rattle.pf_names.specs.declared.named.Named.{Named}
 use Rattle.pf_order.specs.declared.pick.Pick.{Pick}
 use Rattle.pf_place.specs.Occupancy.{sitter}
-use Rattle.pf_tally.proofs.Chains.{range_more}
 use Rattle.pf_tally.proofs.Noting.{got_at}
 use Rattle.pf_code.specs.Array.{array_text, constants_text, declaration_text, front_text, head_text, row_text, seat_with}
 
@@ -45,20 +42,6 @@ pub row_some : (m : ℕ) (row : List (Option Pick)) (old new : List ℕ) → new
 row_some m row old new is =
     let seats = flat_map (λ p. seat_with p (sitter row p)) (range_with_len 0 m) in
     omega (arith, ap length is, length-append old (row_text m row), length-append seats (codes "},\n"))
-
--- one number further
-pub number_next : (f : ℕ → List ℕ) (p : ℕ) (old before after : List ℕ) → after ≡ before ++ f p → before ≡ old ++ flat_map f (range_with_len 0 p) →
-    after ≡ old ++ flat_map f (range_with_len 0 (p + 1))
-number_next f p old before after push so_far =
-    push ∙ ap (λ t. t ++ f p) so_far ∙ flat_map_more f old (range_with_len 0 p) p
-    ∙ ap (λ q. old ++ flat_map f (range_with_len 0 p ++ q ∷ [])) (let z : p ≡ 0 + p = omega arith in z)
-    ∙ ap (λ ps. old ++ flat_map f ps) (sym (range_more 0 p))
-
--- what stood there before, and what was appended last
-pub appended : {A E : Type 0} (r : Result A E) (new old text whole : List ℕ) → new ≡ cond (is_ok r) (old ++ text) old → old ++ text ≡ whole →
-    OnOk r (new ≡ whole)
-appended (Ok x) new old text whole last before = last ∙ before
-appended (Err e) new old text whole last before = tt
 
 -- words, each with a number, one behind another
 pub two_words : (old a p b q end : List ℕ) → ((old ++ (a ++ p)) ++ (b ++ q)) ++ end ≡ old ++ (a ++ p ++ b ++ q ++ end)

@@ -1,7 +1,8 @@
 -- Blanks at the end of a text.
-use Rattle.std.proofs.Common.{◌≡◌, ◌≢◌, ℕ, zero, suc, ◌+◌, ◌-◌, ◌<◌, ◌≤◌, ◌∙◌, List, [], ◌∷◌, ◌++◌, take, length, replicate, get_or, append_assoc, codes, refl, sym, ap, subst, arith}
+use Rattle.std.proofs.Common.{◌≡◌, ◌≢◌, ℕ, zero, suc, ◌+◌, ◌-◌, ◌<◌, ◌≤◌, ◌∙◌, List, [], ◌∷◌, ◌++◌, take, length, replicate, get_or, append_assoc, codes, refl, sym, ap, arith}
 use Rattle.std.proofs.lemmas.Bool.{ne_eqb}
-use Rattle.std.proofs.lemmas.List.{take_more, replicate_more}
+use Rattle.std.proofs.lemmas.List.{replicate_more}
+use Rattle.pf_facts.proofs.Lists.{take_last}
 use Rattle.pf_columns.specs.Columns.{padded, without_blank, without_end_blanks}
 
 blank_left_out : (xs : List ℕ) → without_end_blanks (xs ++ 32 ∷ []) ≡ without_end_blanks xs
@@ -15,21 +16,16 @@ other_kept [] b other = rw (ne_eqb b 32 other) refl
 other_kept (x ∷ []) b other = ap (without_blank x) (other_kept [] b other)
 other_kept (x ∷ y ∷ xs) b other = ap (without_blank x) (other_kept (y ∷ xs) b other)
 
--- the first end bytes, the last of which is at end - 1
-one_apart : (text : List ℕ) (end : ℕ) → 0 < end → end ≤ length text → take end text ≡ take (end - 1) text ++ get_or text (end - 1) 0 ∷ []
-one_apart text end some within =
-    subst (λ v. take v text ≡ take (end - 1) text ++ get_or text (end - 1) 0 ∷ []) (omega (arith, some)) (take_more text (end - 1) 0 (omega (arith, some, within)))
-
 pub one_less : (text : List ℕ) (end : ℕ) → 0 < end → end ≤ length text → get_or text (end - 1) 0 ≡ 32
     → without_end_blanks (take end text) ≡ without_end_blanks (take (end - 1) text)
 one_less text end some within blank =
-    ap without_end_blanks (one_apart text end some within ∙ ap (λ b. take (end - 1) text ++ b ∷ []) blank) ∙ blank_left_out (take (end - 1) text)
+    ap without_end_blanks (take_last text end some within ∙ ap (λ b. take (end - 1) text ++ b ∷ []) blank) ∙ blank_left_out (take (end - 1) text)
 
 pub at_end : (text : List ℕ) (end : ℕ) → 0 < end → end ≤ length text → get_or text (end - 1) 0 ≢ 32
     → without_end_blanks (take end text) ≡ take end text
 at_end text end some within other =
-    ap without_end_blanks (one_apart text end some within) ∙ other_kept (take (end - 1) text) (get_or text (end - 1) 0) other
-    ∙ sym (one_apart text end some within)
+    ap without_end_blanks (take_last text end some within) ∙ other_kept (take (end - 1) text) (get_or text (end - 1) 0) other
+    ∙ sym (take_last text end some within)
 
 pub nothing_left : (text : List ℕ) (end : ℕ) → end ≡ 0 → take end text ≡ without_end_blanks (take end text)
 unfolding without_end_blanks

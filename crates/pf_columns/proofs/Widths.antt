@@ -1,15 +1,9 @@
 -- Columns of a table, row by row and cell by cell.
 use Rattle.std.proofs.Common.{◌≡◌, ℕ, ◌+◌, ◌<◌, ◌≤◌, ◌∙◌, List, [], ◌∷◌, ◌++◌, drop, length, get_or, sym, ap, arith, append_assoc, append-nil}
 use Rattle.std.specs.Prelude.{max}
-use Rattle.std.specs.Ordering.{ord_max}
-use Rattle.std.proofs.Common.{nat_cmp}
-use Rattle.std.proofs.lemmas.Grind.{common_steps}
-use Rattle.std.proofs.lemmas.Bool.Decides.{nat_tests}
 use Rattle.std.proofs.lemmas.List.{at_drop_more, at_drop_all}
+use Rattle.pf_facts.proofs.Orders.{max_grouped}
 use Rattle.pf_columns.specs.Columns.{cell_at, width_of, padded, padded_from, row_line, without_end_blanks}
-
-max_grouped : (a b c : ℕ) → max (max a b) c ≡ max a (max b c)
-max_grouped a b c = omega arith
 
 pub row_looked_at : (rows : List (List (List ℕ))) (i column width : ℕ) (row : List (List ℕ)) → i < length rows → row ≡ get_or rows i row
     → max width (width_of (drop i rows) column) ≡ width_of rows column
@@ -55,7 +49,3 @@ unfolding row_line
 line_of rows row text line shown longer ended a b e f =
     f ∙ ap (λ v. v ++ 10 ∷ []) (e ∙ ap (λ v. text ++ v) (b ∙ ap without_end_blanks a))
     ∙ append_assoc text (without_end_blanks (padded_from rows 0 row)) (10 ∷ [])
-
--- the greater one, as the order of numbers tells it
-pub greater_of : (a b : ℕ) → ord_max nat_cmp a b ≡ max a b
-greater_of a b = grind (arith, common_steps, nat_tests)

@@ -3,16 +3,9 @@ use Rattle.std.proofs.Common.{◌≡◌, ℕ, ◌+◌, ◌<◌, ◌≤◌, ◌�
 use Rattle.std.specs.Prelude.{max}
 use Rattle.std.specs.Ordering.{ord_max}
 use Rattle.std.proofs.lemmas.List.{at_drop_more, at_drop_all}
-use Rattle.std.proofs.lemmas.Grind.{common_steps}
-use Rattle.std.proofs.lemmas.Bool.Decides.{nat_tests}
+use Rattle.pf_facts.proofs.Orders.{max_grouped, greater_of}
 use Rattle.pf_convert.specs.declared.slotted.Slotted.{Slotted}
 use Rattle.pf_conversion.specs.Script.{last_join}
-
-greater_of : (a b : ℕ) → ord_max nat_cmp a b ≡ max a b
-greater_of a b = grind (arith, common_steps, nat_tests)
-
-max_grouped : (a b c : ℕ) → max (max a b) c ≡ max a (max b c)
-max_grouped a b c = omega arith
 
 pub join_looked_at : (tasks : List Slotted) (i last : ℕ) (d : Slotted) → i < length tasks → max last (last_join (drop i tasks)) ≡ last_join tasks
     → max (ord_max nat_cmp last (get_or tasks i d).join) (last_join (drop (i + 1) tasks)) ≡ last_join tasks

@@ -25,9 +25,3 @@ pub one_more : {X A : Type 0} (f : X → List A) (xs : List X) (i : ℕ) (x : X)
     → flat_map f (take i xs) ++ f x ≡ flat_map f (take (i + 1) xs)
 one_more f xs i x lt is =
     flat_map_more f [] (take i xs) x ∙ ap (flat_map f) (sym (take_more xs i x lt ∙ ap (λ y. take i xs ++ y ∷ []) (sym is)))
-
-pub two_written : (xs a b ys zs : List ℕ) → ys ≡ xs ++ a → zs ≡ ys ++ b → zs ≡ xs ++ (a ++ b)
-two_written xs a b ys zs p q = q ∙ ap (λ v. v ++ b) p ∙ append_assoc xs a b
-
-pub three_written : (xs a b c ys zs ws : List ℕ) → ys ≡ xs ++ a → zs ≡ ys ++ b → ws ≡ zs ++ c → ws ≡ xs ++ (a ++ b ++ c)
-three_written xs a b c ys zs ws p q r = two_written xs (a ++ b) c zs ws (two_written xs a b ys zs p q) r

@@ -1,9 +1,10 @@
 -- Quanta that commas join, byte by byte.
-use Rattle.std.proofs.Common.{◌≡◌, ℕ, ◌+◌, ◌-◌, ◌<◌, ◌≤◌, ◌∙◌, List, [], ◌∷◌, ◌++◌, take, drop, length, get_or, Result, Ok, Err, refl, sym, ap, arith, length-drop}
+use Rattle.std.proofs.Common.{◌≡◌, ℕ, ◌+◌, ◌-◌, ◌<◌, ◌≤◌, ◌∙◌, List, [], ◌∷◌, ◌++◌, drop, length, get_or, Result, Ok, Err, refl, sym, ap, arith, length-drop}
 use Rattle.std.specs.Prelude.{if◌then◌else◌, All}
 use Rattle.std.specs.List.{slice_range}
 use Rattle.std.proofs.lemmas.Bool.{eq-eqb, ne_eqb}
-use Rattle.std.proofs.lemmas.List.{at_drop_more, at_drop_all, get_or-drop, take_more, take_all}
+use Rattle.std.proofs.lemmas.List.{at_drop_more, at_drop_all, take_all}
+use Rattle.pf_facts.proofs.Lists.{nothing_between, longer}
 use Rattle.pf_convert.specs.declared.quantum.TheConstants.{LONGEST_QUANTUM}
 use Rattle.pf_names.specs.declared.unit.Unit.{Unit}
 use Rattle.pf_task_list.specs.Times.{◌>>=◌}
@@ -15,9 +16,6 @@ pub record IsReadTo (unit : Unit) (text quanta : List ℕ) (start end : ℕ) : T
   pub begun : start ≤ end
   pub left : quanta_from unit quanta (words_from (slice_range text start end) (drop end text)) ≡ quanta_given unit text
   pub short : All (λ q. q ≤ LONGEST_QUANTUM) quanta
-
-nothing_between : (text : List ℕ) (n : ℕ) → slice_range text n n ≡ []
-nothing_between text n = let none : n - n ≡ 0 = omega arith in ap (λ k. take k (drop n text)) none
 
 at_comma : (word text : List ℕ) (end : ℕ) → end < length text → get_or text end 0 ≡ 44
     → words_from word (drop end text) ≡ word ∷ words_from [] (drop (end + 1) text)
@@ -51,16 +49,6 @@ last_word unit quanta word = same (quantum_added unit quanta word)
     same : (r : Result (List ℕ) ConvertMistake) → (r >>= λ more. quanta_from unit more []) ≡ r
     same (Ok more) = refl
     same (Err mistake) = refl
-
-longer : (text : List ℕ) (start end : ℕ) → start ≤ end → end < length text → slice_range text start end ++ get_or text end 0 ∷ [] ≡ slice_range text start (end + 1)
-longer text start end begun lt =
-    let rest = drop start text in
-    let n = end - start in
-    let within : n < length rest = omega (arith, length-drop start text, begun, lt) in
-    let there : start + n ≡ end = omega (arith, begun) in
-    let grown : n + 1 ≡ end + 1 - start = omega (arith, begun) in
-    ap (λ b. take n rest ++ b ∷ []) (ap (λ k. get_or text k 0) (sym there) ∙ sym (get_or-drop start text n 0))
-    ∙ sym (take_more rest n 0 within) ∙ ap (λ k. take k rest) grown
 
 pub comma_read : (unit : Unit) (text quanta more : List ℕ) (start end : ℕ) → IsReadTo unit text quanta start end → end < length text
     → get_or text end 0 ≡ 44 → Ok more ≡ quantum_added unit quanta (slice_range text start end) → All (λ q. q ≤ LONGEST_QUANTUM) more

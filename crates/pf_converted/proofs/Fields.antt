@@ -1,10 +1,10 @@
 -- The records of a plan's script, one by one.
-use Rattle.std.proofs.Common.{◌≡◌, ◌∙◌, ◌^◌, ◌<◌, ◌≤◌, ◌*◌, ℕ, Bool, true, false, None, Some, Ok, List, [], ◌∷◌, codes, length, ap, arith, refl, inl, inr, subst}
+use Rattle.std.proofs.Common.{◌≡◌, ◌∙◌, ◌^◌, ◌<◌, ◌≤◌, ◌*◌, ℕ, true, false, None, Some, Ok, List, [], ◌∷◌, codes, length, ap, arith, refl, inl, inr, subst}
 use Rattle.std.specs.Fmt.{decimal}
-use Rattle.std.specs.Prelude.{nat_le, ◌&&◌}
+use Rattle.std.specs.Prelude.{nat_le}
 use Rattle.std.specs.Char.{is_ascii_digit}
 use Rattle.std.specs.Str.{all_ascii_digits, bytes_eq}
-use Rattle.std.proofs.lemmas.Bool.{cases_Bool}
+use Rattle.std.proofs.lemmas.Bool.{cases_Bool, and_parts}
 use Rattle.std.proofs.lemmas.Bool.Decides.{nat_tests}
 use Rattle.std.proofs.lemmas.Fmt.{digits_decimal}
 use Rattle.std.proofs.lemmas.Nat.{mul-le}
@@ -36,13 +36,9 @@ unfolding join_at
 join_told names fields a b c d e six slot task cost period early = rw (six, slot, task, cost, period, early) refl
 
 -- a digit is no letter
-and_left : (a b : Bool) → (a && b) ≡ true → a ≡ true
-and_left true b e = refl
-and_left false b e = e
-
 digit_first : (bytes : List ℕ) → all_ascii_digits bytes ≡ true → is_letter_first bytes ≡ false
 digit_first [] e = refl
-digit_first (c ∷ cs) e = let digit : is_ascii_digit c ≡ true = and_left (is_ascii_digit c) (all_ascii_digits cs) e in grind (arith, nat_tests, digit)
+digit_first (c ∷ cs) e = let digit : is_ascii_digit c ≡ true = (and_parts (is_ascii_digit c) (all_ascii_digits cs) e).0 in grind (arith, nat_tests, digit)
 
 no_letter : (n : ℕ) → n < 10 ^ 15 → is_letter_first (decimal n) ≡ false
 no_letter n small =

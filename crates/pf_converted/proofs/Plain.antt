@@ -5,7 +5,7 @@ use Rattle.std.specs.Char.{is_ascii_alphabetic, is_ascii_digit, is_ascii_whitesp
 use Rattle.std.specs.Fmt.{decimal}
 use Rattle.std.specs.List.{ends_with, list_all, list_any}
 use Rattle.std.specs.Str.{all_ascii_digits}
-use Rattle.std.proofs.lemmas.Bool.{cases_Bool, ne_eqb}
+use Rattle.std.proofs.lemmas.Bool.{cases_Bool, ne_eqb, and_parts, and_right}
 use Rattle.std.proofs.lemmas.Bool.Decides.{nat_tests}
 use Rattle.std.proofs.lemmas.Fmt.{digits_decimal}
 use Rattle.std.proofs.lemmas.List.{at_drop_all, at_drop_more, take_all, take_more}
@@ -13,21 +13,10 @@ use Rattle.std.proofs.lemmas.List.Folds.{list_all_at}
 use Rattle.std.proofs.lemmas.Str.Parse.{numerals_by_value, tells_all_ascii_digits}
 use lib.Pointwise.{pointwise}
 use Rattle.csv.proofs.RecordFacts.{end-plain}
+use Rattle.pf_facts.proofs.Digits.{digit_dark}
 use Rattle.pf_names.specs.Text.{is_letter_first, is_text, is_text_byte}
 use Rattle.csv.specs.Records.{trim_end, trim_start, trimmed}
 use Rattle.csv.specs.Writing.{default_writer, needs_byte}
-
-pub both_left : (a b : Bool) → (a && b) ≡ true → a ≡ true
-both_left true b e = refl
-both_left false b e = e
-
-pub both_right : (a b : Bool) → (a && b) ≡ true → b ≡ true
-both_right true b e = e
-both_right false b e = let bad : false ≡ true = e in cc
-
-and_false : (a : Bool) → (a && false) ≡ false
-and_false true = refl
-and_false false = refl
 
 -- a byte that is no mark
 pub plain_byte : (b : ℕ) → b ≢ 44 → b ≢ 34 → b ≢ 13 → b ≢ 10 → needs_byte default_writer b ≡ false
@@ -39,25 +28,22 @@ digit_low b digit = grind (arith, nat_tests, digit)
 pub plain_digits : (bs : List ℕ) → all_ascii_digits bs ≡ true → list_any (needs_byte default_writer) bs ≡ false
 plain_digits [] all = refl
 plain_digits (b ∷ bs) all =
-    let low = digit_low b (both_left (is_ascii_digit b) (all_ascii_digits bs) all) in
+    let low = digit_low b (and_parts (is_ascii_digit b) (all_ascii_digits bs) all).0 in
     rw (plain_byte b (λ e. omega (arith, e, low)) (λ e. omega (arith, e, low)) (λ e. omega (arith, e, low)) (λ e. omega (arith, e, low)))
-    (plain_digits bs (both_right (is_ascii_digit b) (all_ascii_digits bs) all))
-
-digit_dark : (b : ℕ) → is_ascii_digit b ≡ true → is_ascii_whitespace b ≡ false
-digit_dark b digit = grind (arith, nat_tests, digit)
+    (plain_digits bs (and_parts (is_ascii_digit b) (all_ascii_digits bs) all).1)
 
 end_digits : (bs : List ℕ) → all_ascii_digits bs ≡ true → trim_end bs ≡ length bs
 unfolding trim_end
 end_digits [] all = refl
 end_digits (b ∷ bs) all =
-    let dark = digit_dark b (both_left (is_ascii_digit b) (all_ascii_digits bs) all) in
-    let more : trim_end bs ≡ length bs = end_digits bs (both_right (is_ascii_digit b) (all_ascii_digits bs) all) in
-    rw (dark, and_false (trim_end bs == 0)) (omega (arith, more))
+    let dark = digit_dark b (and_parts (is_ascii_digit b) (all_ascii_digits bs) all).0 in
+    let more : trim_end bs ≡ length bs = end_digits bs (and_parts (is_ascii_digit b) (all_ascii_digits bs) all).1 in
+    rw (dark, and_right (trim_end bs == 0) false refl) (omega (arith, more))
 
 start_digits : (bs : List ℕ) → all_ascii_digits bs ≡ true → trim_start bs ≡ bs
 unfolding trim_start
 start_digits [] all = refl
-start_digits (b ∷ bs) all = rw (digit_dark b (both_left (is_ascii_digit b) (all_ascii_digits bs) all)) refl
+start_digits (b ∷ bs) all = rw (digit_dark b (and_parts (is_ascii_digit b) (all_ascii_digits bs) all).0) refl
 
 digits_trimmed : (bs : List ℕ) → all_ascii_digits bs ≡ true → trimmed bs ≡ bs
 digits_trimmed bs all = rw (start_digits bs all, end_digits bs all) (take_all (length bs) bs (omega arith))
@@ -83,7 +69,7 @@ text_needs_none b text =
 text_plain : (bs : List ℕ) → list_all is_text_byte bs ≡ true → list_any (needs_byte default_writer) bs ≡ false
 text_plain [] all = refl
 text_plain (b ∷ bs) all =
-    rw (text_needs_none b (both_left (is_text_byte b) (list_all is_text_byte bs) all)) (text_plain bs (both_right (is_text_byte b) (list_all is_text_byte bs) all))
+    rw (text_needs_none b (and_parts (is_text_byte b) (list_all is_text_byte bs) all).0) (text_plain bs (and_parts (is_text_byte b) (list_all is_text_byte bs) all).1)
 
 letter_dark : (b : ℕ) → is_ascii_alphabetic b ≡ true → is_ascii_whitespace b ≡ false
 letter_dark b letter = grind (arith, nat_tests, letter)
@@ -137,10 +123,10 @@ name_plain bs text =
     let first = is_letter_first bs in
     let all = list_all is_text_byte bs in
     let end = not (ends_with eqb bs (codes " ")) in
-    let three = both_left (short && first && all) end text in
-    let is_all = both_right (short && first) all three in
-    let is_first = both_right short first (both_left (short && first) all three) in
-    let is_end = not_true (ends_with eqb bs (codes " ")) (both_right (short && first && all) end text) in (
+    let three = (and_parts (short && first && all) end text).0 in
+    let is_all = (and_parts (short && first) all three).1 in
+    let is_first = (and_parts short first (and_parts (short && first) all three).0).1 in
+    let is_end = not_true (ends_with eqb bs (codes " ")) (and_parts (short && first && all) end text).1 in (
       text_plain bs is_all,
       rw (start_letter bs is_first, end_text bs (some_byte bs is_first) is_all is_end) (take_all (length bs) bs (omega arith)),
     )

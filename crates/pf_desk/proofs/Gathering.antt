@@ -1,5 +1,5 @@
 -- Plain edits judged one after another, and made at once.
-use Rattle.std.proofs.Common.{◌≡◌, ◌⊎◌, ℕ, ◌+◌, ◌≤◌, ◌<◌, false, Option, None, Some, IfSome, inl, inr, List, [], ◌∷◌, ◌++◌, length, get_or, Bool, map, take, drop, min, All, refl, sym, ap, ap₂, ◌∙◌, subst, arith, append_assoc}
+use Rattle.std.proofs.Common.{◌≡◌, ◌⊎◌, ℕ, ◌+◌, ◌≤◌, ◌<◌, false, None, Some, IfSome, inl, inr, List, [], ◌∷◌, ◌++◌, length, get_or, Bool, map, take, drop, min, All, refl, sym, ap, ap₂, ◌∙◌, subst, arith, append_assoc}
 use Rattle.std.proofs.lemmas.Bool.Decides.{nat_tests}
 use Rattle.std.proofs.lemmas.List.{map-append, take-append-drop, take-take, drop-take, take_more, take_all, length-take-le, length-drop}
 use Rattle.std.proofs.lemmas.List.Elements.{All-nil, All-cons, All-append, All-get_or, All-take}
@@ -25,7 +25,7 @@ use Rattle.pf_desk.specs.Desk.{Shown, AnswersAll, most_replayed, entry_of}
 use Rattle.pf_desk.specs.Recorded.{Recorded, slots_of, Gains}
 use Rattle.pf_desk.specs.Kept.{state_of, shown_by, IsKeptDesk, ArePartsOfDesk}
 use Rattle.pf_desk.specs.Plain.{IsPlain, IsPlainFrom, ArePlainFrom}
-use Rattle.pf_desk.specs.Gathered.{IsBatch, least_slot, AnswersFirst}
+use Rattle.pf_desk.specs.Gathered.{IsBatch, AnswersFirst}
 use Rattle.pf_desk.proofs.Changes.{past_rest}
 use Rattle.pf_desk.proofs.Histories.{legal_append, behind_append, settings_behind}
 use Rattle.pf_desk.proofs.Slots.{took_none}
@@ -74,33 +74,23 @@ judges_refused b c change fault caller same from entries faulty scenario = recor
   within = omega (arith, from);
 }
 
-least_within : (from : ℕ) (touched : Option ℕ) → least_slot from touched ≤ from
-least_within from None = omega arith
-least_within from (Some t) = omega arith
-
-least_touched : (from : ℕ) (touched : Option ℕ) → IfSome touched (λ t. least_slot from touched ≤ t)
-least_touched from None = tt
-least_touched from (Some t) = omega arith
-
--- Use: an edit without a fault.
-pub judges_edited : (b c : Batch) (change : Change) (id : ℕ) → c.caller ≡ b.caller → c.scenario ≡ plan_after b.scenario change →
-    id ≡ number_of_change b.scenario change → c.from ≡ least_slot b.from (slot_touched b.scenario change) →
+-- Use: an edit without a fault, which touches slot t first.
+pub judges_edited : (b c : Batch) (change : Change) (id t : ℕ) → c.caller ≡ b.caller → c.scenario ≡ plan_after b.scenario change →
+    id ≡ number_of_change b.scenario change → slot_touched b.scenario change ≡ Some t → c.from ≡ min b.from t →
     c.entries.items ≡ b.entries.items ++ entry_of b.caller (Edit change false) (Edited id) ∷ [] →
     edit_fault b.scenario change ≡ None → IsScenario b.scenario → Judges b c change (Edited id)
-judges_edited b c change id caller same number from entries faultless scenario =
-    let touched = slot_touched b.scenario change in
-    record {
-      caller = caller;
-      entries = entries;
-      answer = λ n.
-          ap (λ k. Edited k) number ∙ sym (ap (edit_reply (record { plan = b.scenario; now = n }) change false) faultless);
-      state = λ n. ap (λ s. record { plan = s; now = n }) (sym same);
-      scenario = subst IsScenario (sym same) (changes_keep_scenarios b.scenario change scenario faultless);
-      past = past_rest b.scenario change c.from scenario faultless
-          (subst (λ k. IfSome touched (λ t. k ≤ t)) (sym from) (least_touched b.from touched))
-          ∙ ap (past_below c.from) (sym same);
-      within = omega (arith, from, least_within b.from touched);
-    }
+judges_edited b c change id t caller same number touched from entries faultless scenario = record {
+  caller = caller;
+  entries = entries;
+  answer = λ n.
+      ap (λ k. Edited k) number ∙ sym (ap (edit_reply (record { plan = b.scenario; now = n }) change false) faultless);
+  state = λ n. ap (λ s. record { plan = s; now = n }) (sym same);
+  scenario = subst IsScenario (sym same) (changes_keep_scenarios b.scenario change scenario faultless);
+  past = past_rest b.scenario change c.from scenario faultless
+      (subst (λ o. IfSome o (λ k. c.from ≤ k)) (sym touched) (omega (arith, from)))
+      ∙ ap (past_below c.from) (sym same);
+  within = omega (arith, from);
+}
 
 -- a desk that makes a batch: the kept run of its scenario over as many slots, and all its entries
 pub record Makes (plan : Plan) (kept kept' : KeptRun) (es : List Entry) (spare : ℕ) (b : Batch) : Type 0 where

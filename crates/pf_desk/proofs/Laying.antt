@@ -150,7 +150,7 @@ idle_row_laid processors slots rows rows' is long =
 module _ (processors slots : ℕ) (has_room : Bool) (briefs : List Brief) (settled : List Settled) (rows : List (List (Option Pick))) (for_briefs for_commands : ℕ) (are : AreLaid processors slots has_room briefs settled rows for_briefs for_commands) where
   -- Use: there is room for an entry.
   pub laid_with_room : (rows' : List (List (Option Pick))) (for_briefs' for_commands' : ℕ) → IsRowLaid processors slots rows rows' →
-      length briefs < for_briefs' → 1 ≤ for_commands' →
+      1 ≤ for_briefs' → 1 ≤ for_commands' →
       AreLaid processors slots true briefs settled rows' for_briefs' for_commands'
   laid_with_room rows' for_briefs' for_commands' lays more_briefs more_commands = record {
     laid = are.laid;

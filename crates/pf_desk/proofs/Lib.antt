@@ -10,6 +10,7 @@ pub mod Horizons
 pub mod Gathering
 pub mod Settling
 pub mod Laying
+pub mod Runs
 mod Uncounted
 pub mod Rooms
 mod Fits

@@ -1,5 +1,5 @@
 -- Plain edits that a desk is to make at once.
-use Rattle.std.specs.Prelude.{◌≡◌, ◌≤◌, ℕ, Option, None, Some, List, length, take, min, All}
+use Rattle.std.specs.Prelude.{◌≡◌, ◌≤◌, ℕ, List, length, take, All}
 use Rattle.pf_scenario.specs.Edit.{IsScenario}
 use Rattle.pf_timeline.specs.Timeline.{past_below}
 use Rattle.pf_desk.specs.declared.batch.Batch.{Batch}
@@ -16,11 +16,6 @@ pub record IsBatch (d : Shown) (b : Batch) : Type 0 where
   pub scenario : IsScenario b.scenario
   pub past : past_below b.from d.state.plan ≡ past_below b.from b.scenario
   pub within : b.from ≤ d.state.now
-
--- the lower of two slots, where there is a second
-abbrev pub least_slot : ℕ → Option ℕ → ℕ
-least_slot from None = from
-least_slot from (Some t) = min from t
 
 -- the desk answered the first k of a caller's commands
 pub record AnswersFirst (k caller : ℕ) (commands : List Command) (before after : Shown) : Type 0 where

@@ -1,5 +1,5 @@
--- How a history lies in memory: a brief for each entry, the commands that took no slot apart, and the rows of the slots
--- that were taken one behind another.
+-- How a history lies in memory: a brief for each entry, kept by runs (Runs), the commands that took no slot apart, and the
+-- rows of the slots that were taken one behind another.
 use Rattle.std.specs.Prelude.{◌≡◌, ◌⊎◌, ℕ, ◌<◌, ◌≤◌, ◌+◌, Bool, true, if◌then◌else◌, Option, List, [], ◌∷◌, length, map, All}
 use Rattle.std.specs.List.{slice_index_or}
 use Rattle.pf_order.specs.declared.pick.Pick.{Pick}
@@ -74,7 +74,7 @@ pub record AreLaid (processors slots : ℕ) (has_room : Bool) (briefs : List Bri
   pub taken : slots ≡ slots_taken (entries_laid settled rows briefs)
   pub kept : AreKept processors slots rows
   pub next : has_room ≡ true → length rows ≡ slots + 1
-  pub for_brief : has_room ≡ true → length briefs < briefs_room
+  pub for_brief : has_room ≡ true → 1 ≤ briefs_room
   pub for_command : has_room ≡ true → 1 ≤ settled_room
 
 -- the history of these parts

@@ -31,3 +31,4 @@ pub mod Settled
 pub mod Settlements
 pub mod Room
 pub mod Fitting
+pub mod Runs

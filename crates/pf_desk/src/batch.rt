@@ -2,7 +2,7 @@ ghost use Rattle.std.specs.Prelude.{ℕ, ◌≡◌, ◌≤◌, [], ◌∷◌, �
 ghost use Rattle.pf_desk.specs.declared.command.Command.TheVariants.{Edit};
 ghost use Rattle.pf_desk.specs.Desk.{Shown};
 ghost use Rattle.pf_desk.specs.Plain.{IsPlainFrom};
-ghost use Rattle.pf_desk.specs.Gathered.{IsBatch, least_slot};
+ghost use Rattle.pf_desk.specs.Gathered.{IsBatch};
 
 use crate::command::Command;
 use crate::entry::Entry;
@@ -56,17 +56,20 @@ impl Batch {
             change,
             strict: false,
         };
-        if let Err(fault) = self.scenario.check(&change) {
-            let reply = Reply::Refused(Fault::BadEdit(fault));
-            self.entries.push(Entry {
-                caller,
-                command,
-                reply,
-            })?;
-            return Ok(());
-        }
-        let from = least_slot(self.from, self.scenario.first_slot(&change));
-        let id = self.scenario.make(change)?;
+        let checked = match self.scenario.checked(change) {
+            Ok(checked) => checked,
+            Err(fault) => {
+                let reply = Reply::Refused(Fault::BadEdit(fault));
+                self.entries.push(Entry {
+                    caller,
+                    command,
+                    reply,
+                })?;
+                return Ok(());
+            }
+        };
+        let from = self.from.min(checked.first_slot());
+        let id = self.scenario.make(checked)?;
         self.from = from;
         self.entries.push(Entry {
             caller,
@@ -74,15 +77,5 @@ impl Batch {
             reply: Reply::Edited { id },
         })?;
         Ok(())
-    }
-}
-
-/// The lower of two slots, where there is a second.
-fn least_slot(from: u64, touched: Option<u64>) -> u64
-    ensures { result ≡ least_slot from touched }
-{
-    match touched {
-        Some(slot) => from.min(slot),
-        None => from,
     }
 }

@@ -2,6 +2,7 @@ ghost use Rattle.std.specs.Prelude.{◌≡◌, ◌<◌, [], length};
 ghost use Rattle.std.specs.List.{slice_index_or};
 ghost use Rattle.pf_desk.specs.declared.reply.Reply.TheVariants.{Stepped};
 ghost use Rattle.pf_desk.specs.Laid.{IsLaid, entry_of_brief};
+ghost use Rattle.pf_desk.specs.Runs.{brief_behind};
 ghost use Rattle.pf_desk.specs.Views.{lent_reply, lent_entry};
 
 use crate::command::Command;
@@ -11,7 +12,7 @@ use crate::settlements::Settlements;
 use pf_place::rows::Rows;
 
 /// What a history keeps of an entry beside the rows and the commands that took no slot.
-#[derive(Clone, Copy, Debug)]
+#[derive(Clone, Copy, Debug, PartialEq, Eq)]
 pub(crate) enum Brief {
     /// A step that took a slot.
     OfSlot {
@@ -32,6 +33,25 @@ pub(crate) enum Brief {
 const _: () = prove!(size_of::<Brief>() == 16);
 
 impl Brief {
+    /// The brief of the slot, or the command, so many behind this one's.
+    pub(crate) fn behind(self, by: u64) -> Self
+        ensures { result ≡ brief_behind self by }
+    {
+        if by == 0 {
+            return self;
+        }
+        match self {
+            Brief::OfSlot { caller, slot } => Brief::OfSlot {
+                caller,
+                slot: slot.wrapping_add(by),
+            },
+            Brief::OfCommand { caller, index } => Brief::OfCommand {
+                caller,
+                index: index.wrapping_add(by as usize),
+            },
+        }
+    }
+
     /// The entry, where these are the commands that took no slot and the rows of the slots that were taken.
     pub(crate) fn entry<'a>(&self, settled: &Settlements, rows: &'a Rows) -> EntryView<'a>
         requires { IsLaid settled.now.items (length rows.now) self.now }

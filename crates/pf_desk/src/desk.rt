@@ -104,7 +104,7 @@ impl Desk {
         ensures compared { meter.old.compared ≤ meter.new.compared }
         ensures comparisons { command ≡ Step → meter.new.compared ≤ meter.old.compared + most_comparisons_at self.old.state.plan self.old.state.now }
     {
-        self.history.reserve()?;
+        self.history.reserve(self.run.timeline.rows())?;
         let reply = self.run.apply(self.history.alloc(), meter, command)?;
         self.history.enter(caller, command, &reply);
         Ok(reply)
@@ -135,7 +135,7 @@ impl Desk {
         ensures compared { meter.old.compared ≤ meter.new.compared }
         ensures comparisons { command ≡ Step → meter.new.compared ≤ meter.old.compared + most_comparisons_at self.old.state.plan self.old.state.now }
     {
-        self.history.reserve()?;
+        self.history.reserve(self.run.timeline.rows())?;
         let mut run = self.run.copy()?;
         let reply = run.apply(self.history.alloc(), meter, command)?;
         let entry = Entry {

@@ -1,4 +1,4 @@
-ghost use Rattle.std.specs.Prelude.{◌≡◌, ◌==◌, ◌<◌, ◌≤◌, ◌+◌, ◌-◌, ◌^◌, ◌++◌, [], length, map, All, OnOk, OnErr, vec_len, vec_capacity};
+ghost use Rattle.std.specs.Prelude.{◌≡◌, ◌==◌, ◌<◌, ◌≤◌, ◌+◌, ◌-◌, ◌^◌, ◌++◌, [], length, map, All, OnOk, OnErr};
 ghost use Rattle.std.specs.List.{slice_get};
 ghost use Rattle.pf_place.specs.Lent.{lent_row};
 ghost use Rattle.pf_desk.specs.declared.command.Command.TheVariants.{Step};
@@ -10,6 +10,7 @@ ghost use Rattle.pf_desk.specs.Laid.{reply_of_answer, settled_of, briefs_from, A
 ghost use Rattle.pf_desk.specs.Views.{entry_lent};
 
 use crate::brief::Brief;
+use crate::briefs::Briefs;
 use crate::command::Command;
 use crate::entry::Entry;
 use crate::entry_view::EntryView;
@@ -21,13 +22,13 @@ use pf_place::rows::Rows;
 use std::alloc::{AllocError, Global};
 use std::marker::Model;
 
-/// The commands that a desk was given, in the order of the answers, each with who asked and what was answered. An entry
-/// takes 16 bytes beside its row, or beside its command where it took no slot.
+/// The commands that a desk was given, in the order of the answers, each with who asked and what was answered. Beside the
+/// rows of the steps and the commands that took no slot it takes 24 bytes for each run of either by one caller.
 #[derive(Debug, Drop)]
 pub struct History {
     alloc: Global,
     processors: u32,
-    briefs: Vec<Brief>,
+    briefs: Briefs,
     settled: Settlements,
 
     /// The row of each slot that was taken, and behind them at most the one that is laid for the next step.
@@ -38,7 +39,6 @@ pub struct History {
 
 impl Model for History {
     ghost use Rattle.std.specs.Prelude.{min};
-    ghost use Rattle.std.specs.Vec.{vec_capacity};
     ghost use Rattle.pf_desk.specs.Recorded.{Recorded};
 
     ghost Value = { Recorded };
@@ -48,7 +48,7 @@ impl Model for History {
 
     ghost view = { λ h. recorded_by h.processors h.has_room h.briefs.items h.settled.items h.rows };
 
-    ghost invariant = { λ h. AreLaid h.processors h.slots h.has_room h.briefs.items h.settled.items h.rows (vec_capacity h.briefs) (min h.settled.room h.settled.wide_room) };
+    ghost invariant = { λ h. AreLaid h.processors h.slots h.has_room h.briefs.items h.settled.items h.rows h.briefs.room (min h.settled.room h.settled.wide_room) };
 }
 
 impl History {
@@ -59,7 +59,7 @@ impl History {
         History {
             alloc,
             processors,
-            briefs: Vec::new(alloc),
+            briefs: Briefs::new(alloc),
             settled: Settlements::new(alloc),
             rows: Rows::new(alloc),
             slots: 0,
@@ -84,7 +84,7 @@ impl History {
     pub fn is_empty(&self) -> bool
         ensures { result ≡ (length self.now.entries == 0) }
     {
-        self.briefs.is_empty()
+        self.briefs.len() == 0
     }
 
     /// The k-th entry, counted from 0, where there is one.
@@ -103,18 +103,19 @@ impl History {
         self.entry(last)
     }
 
-    /// Makes room for an entry, so that entering it can't fail.
+    /// Makes room for an entry, so that entering it can't fail. Memory has the rows once that the schedule has too, by full
+    /// blocks.
     ///
     /// # Errors
     ///
     /// Where memory is refused.
-    pub(crate) fn reserve(&mut self) -> Result<(), AllocError>
+    pub(crate) fn reserve(&mut self, schedule: &Rows) -> Result<(), AllocError>
         ensures ok { OnOk result (1 ≤ self.new.spare) }
         ensures same { HasNoLessRoom self.old self.new }
     {
         self.briefs.reserve(1)?;
         self.settled.reserve()?;
-        lay_row(&mut self.rows, self.slots, self.processors)?;
+        lay_row(&mut self.rows, self.slots, self.processors, schedule)?;
         self.has_room = true;
         Ok(())
     }
@@ -182,21 +183,21 @@ impl History {
 /// # Errors
 ///
 /// Where memory is refused: the rows are as before.
-fn lay_row(rows: &mut Rows, slots: u64, processors: u32) -> Result<(), AllocError>
+fn lay_row(rows: &mut Rows, slots: u64, processors: u32, schedule: &Rows) -> Result<(), AllocError>
     requires { AreKept processors slots rows.old }
     ensures ok { OnOk result (IsRowLaid processors slots rows.old rows.new) }
     ensures err { OnErr result (rows.new ≡ rows.old) }
 {
     if rows.len() as u64 == slots {
-        rows.push_idle(processors)?;
+        rows.push_idle_beside(processors, schedule)?;
     }
     Ok(())
 }
 
 /// Appends what is kept of entries that took no slot; it takes no memory, since there must be room.
-fn settle(briefs: &mut Vec<Brief>, settled: &mut Settlements, entries: &[Entry])
+fn settle(briefs: &mut Briefs, settled: &mut Settlements, entries: &[Entry])
     requires took_none { All (λ e. slots_of e.reply ≡ 0) entries.now }
-    requires for_briefs { vec_len briefs.old + length entries.now ≤ vec_capacity briefs.old }
+    requires for_briefs { length entries.now ≤ briefs.old.room }
     requires for_commands { HasRoomFor settled.old (map settled_of entries.now) }
     ensures briefs { briefs.new.items ≡ briefs.old.items ++ briefs_from (length settled.old.items) entries.now }
     ensures commands { settled.new.items ≡ settled.old.items ++ map settled_of entries.now }

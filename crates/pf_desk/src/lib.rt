@@ -5,6 +5,7 @@
 mod apply_all;
 mod batch;
 mod brief;
+mod briefs;
 pub mod command;
 pub mod desk;
 pub mod entry;
@@ -16,11 +17,11 @@ mod never_misses;
 pub mod prepared;
 pub mod reply;
 pub mod reply_view;
+mod run;
 mod scenario_run;
 mod settled;
 mod settlements;
 mod small_edit;
-mod small_event;
 pub mod snapshot;
 
 pub use pf_timeline::timeline;

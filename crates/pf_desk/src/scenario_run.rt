@@ -1,9 +1,8 @@
-ghost use Rattle.std.specs.Prelude.{◌≡◌, ◌<◌, ◌≤◌, ◌+◌, if◌then◌else◌, [], length, None, Some, IfOk, IfSome, OnErr};
+ghost use Rattle.std.specs.Prelude.{◌≡◌, ◌<◌, ◌≤◌, ◌+◌, if◌then◌else◌, [], length, None, Some, IfOk, OnErr};
 ghost use Rattle.std.specs.List.{slice_get, slice_index_or};
 ghost use Rattle.pf_order.specs.Counts.{one_more};
 ghost use Rattle.pf_order.specs.Counted.{CountsAtMost};
-ghost use Rattle.pf_scenario.specs.Scenario.{slot_touched};
-ghost use Rattle.pf_scenario.specs.Edit.{edit_fault};
+ghost use Rattle.pf_scenario.specs.Checked.{IsCheckedFor};
 ghost use Rattle.pf_timeline.specs.Comparisons.{most_comparisons_at};
 ghost use Rattle.pf_desk.specs.declared.command.Command.TheVariants.{Edit, Step};
 ghost use Rattle.pf_desk.specs.declared.reply.Reply.TheVariants.{Refused};
@@ -20,6 +19,7 @@ use pf_place::row::Row;
 use pf_place::rows::Rows;
 use pf_run::denied::Denied;
 use pf_scenario::change::Change;
+use pf_scenario::checked_change::CheckedChange;
 use pf_scenario::scenario::Scenario;
 use pf_timeline::timeline::Timeline;
 use std::alloc::{AllocError, Global};
@@ -129,51 +129,52 @@ impl ScenarioRun {
         ensures uncounted { IsUncounted (state_in self.old) (Edit change strict) → meter.new ≡ meter.old }
         ensures compared { meter.old.compared ≤ meter.new.compared }
     {
-        if let Err(fault) = self.scenario.check(&change) {
-            return Ok(Reply::Refused(Fault::BadEdit(fault)));
-        }
-        match self.scenario.first_slot(&change) {
-            Some(from) if from < self.timeline.now() => self.edit_past(meter, from, change, strict),
-            _ => self.edit_ahead(change, strict),
+        let checked = match self.scenario.checked(change) {
+            Ok(checked) => checked,
+            Err(fault) => return Ok(Reply::Refused(Fault::BadEdit(fault))),
+        };
+        if checked.first_slot() < self.timeline.now() {
+            self.edit_past(meter, checked, strict)
+        } else {
+            self.edit_ahead(checked, strict)
         }
     }
 
-    /// Makes a change without a fault that touches no slot below now: the run so far stays.
-    fn edit_ahead(&mut self, change: Change, strict: bool) -> Result<Reply, AllocError>
+    /// Makes a checked change that touches no slot below now: the run so far stays.
+    fn edit_ahead(&mut self, checked: CheckedChange, strict: bool) -> Result<Reply, AllocError>
         requires stands { Stands self.old }
-        requires faultless { edit_fault self.old.scenario change ≡ None }
-        requires ahead { IfSome (slot_touched self.old.scenario change) (λ t. self.old.timeline.now ≤ t) }
-        ensures ok { IfOk result (λ reply. IsApplied (Edit change strict) self.old reply self.new) }
+        requires checked { IsCheckedFor self.old.scenario checked }
+        requires ahead { self.old.timeline.now ≤ checked.first_slot }
+        ensures ok { IfOk result (λ reply. IsApplied (Edit checked.change strict) self.old reply self.new) }
         ensures err { OnErr result (self.new ≡ self.old) }
         ensures edited { IfOk result (λ reply. ¬ IsStepped reply) }
     {
         if let Some(denied) = objection(strict, self.timeline.denials()) {
             return Ok(Reply::Refused(would_deny(denied)));
         }
-        let id = self.scenario.make(change)?;
+        let id = self.scenario.make(checked)?;
         Ok(Reply::Edited { id })
     }
 
-    /// Makes a change without a fault whose least touched slot `from` is below now: the run so far is replayed apart.
+    /// Makes a checked change whose least touched slot is below now: the run so far is replayed apart.
     fn edit_past(
         &mut self,
         meter: &mut Meter,
-        from: u64,
-        change: Change,
+        checked: CheckedChange,
         strict: bool,
     ) -> Result<Reply, AllocError>
         requires stands { Stands self.old }
-        requires faultless { edit_fault self.old.scenario change ≡ None }
-        requires touched { slot_touched self.old.scenario change ≡ Some from }
-        requires below { from < self.old.timeline.now }
-        ensures ok { IfOk result (λ reply. IsApplied (Edit change strict) self.old reply self.new) }
+        requires checked { IsCheckedFor self.old.scenario checked }
+        requires below { checked.first_slot < self.old.timeline.now }
+        ensures ok { IfOk result (λ reply. IsApplied (Edit checked.change strict) self.old reply self.new) }
         ensures err { OnErr result (self.new ≡ self.old) }
         ensures edited { IfOk result (λ reply. ¬ IsStepped reply) }
-        ensures at_most { CountsAtMost (most_replayed self.old.timeline.now self.old.timeline.every (Some from)) meter.old meter.new }
+        ensures at_most { CountsAtMost (most_replayed self.old.timeline.now self.old.timeline.every (Some checked.first_slot)) meter.old meter.new }
         ensures compared { meter.old.compared ≤ meter.new.compared }
     {
+        let from = checked.first_slot();
         let mut changed = self.scenario.copy()?;
-        let id = changed.make(change)?;
+        let id = changed.make(checked)?;
         let timeline = self.timeline.rewritten(meter, from, &changed)?;
         if let Some(denied) = objection(strict, timeline.denials()) {
             return Ok(Reply::Refused(would_deny(denied)));

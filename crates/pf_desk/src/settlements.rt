@@ -38,8 +38,8 @@ impl Kept {
     }
 }
 
-/// The commands that took no slot, each with its answer. An edit that was made or has a fault takes 40 bytes, where each of its
-/// numbers is below 2^32; any other command stands apart too.
+/// The commands that took no slot, each with its answer. An edit that was made or has a fault takes 40 bytes, where its event
+/// has a packed form and its number is below 2^32; any other command stands apart too.
 #[derive(Debug, Drop)]
 pub(crate) struct Settlements {
     kept: Vec<Kept>,
@@ -122,12 +122,13 @@ impl Settlements {
         ensures room { self.old.room ≤ self.new.room + 1 }
         ensures wide_room { self.old.wide_room ≤ self.new.wide_room + count_wide (settled ∷ []) }
     {
-        if SmallEdit::fits(&settled) {
-            self.kept.push_reserved(Kept::Small(SmallEdit::of(settled)));
-        } else {
-            let index = self.wide.len();
-            self.wide.push_reserved(settled);
-            self.kept.push_reserved(Kept::Wide { index });
+        match SmallEdit::of(&settled) {
+            Some(small) => self.kept.push_reserved(Kept::Small(small)),
+            None => {
+                let index = self.wide.len();
+                self.wide.push_reserved(settled);
+                self.kept.push_reserved(Kept::Wide { index });
+            }
         }
     }
 }
@@ -139,7 +140,7 @@ fn wide_among(entries: &[Entry]) -> usize
 {
     let mut count = 0;
     for entry in entries {
-        if !SmallEdit::fits(&Settled::of(entry)) {
+        if SmallEdit::of(&Settled::of(entry)).is_none() {
             count += 1;
         }
     }

@@ -1,42 +1,36 @@
-ghost use Rattle.std.specs.Prelude.{◌≡◌, true};
-ghost use Rattle.pf_desk.specs.Small.{is_small_change, is_small_beside, is_small, number_named, change_of, settled_of_edit};
+ghost use Rattle.std.specs.Prelude.{◌≡◌, IfSome};
+ghost use Rattle.std.specs.Option.{is_some};
+ghost use Rattle.pf_desk.specs.declared.command.Command.TheVariants.{Edit};
+ghost use Rattle.pf_desk.specs.Small.{is_small_change, is_small_beside, is_small, number_named, change_of, answer_by, settled_of_edit};
 
 use crate::command::Command;
 use crate::reply::Fault;
 use crate::settled::{Answer, Settled};
-use crate::small_event::{LARGEST, SmallEvent};
 use pf_scenario::change::Change;
 use pf_scenario::fault::EditFault;
+use pf_scenario::packed_event::PackedEvent;
 
 /// A change in small. The number of the event that it concerns stands beside it.
 #[derive(Clone, Copy, Debug)]
 enum SmallChange {
-    Insert(SmallEvent),
-    Alter(SmallEvent),
+    Insert(PackedEvent),
+    Alter(PackedEvent),
     Strike,
 }
 
 impl SmallChange {
-    /// Whether the change has a small form and concerns the event of this number.
-    fn fits(change: &Change, id: u64) -> bool
-        ensures { result ≡ is_small_change id change.now }
+    /// The change in small, where it has a small form and concerns the event of this number.
+    fn of(change: &Change, id: u64) -> Option<Self>
+        ensures some { is_some result ≡ is_small_change id change.now }
+        ensures value { IfSome result (λ small. change_of id small ≡ change.now) }
     {
         match change {
-            Change::Insert(event) => SmallEvent::fits(event),
-            Change::Alter(number, event) => *number == id && SmallEvent::fits(event),
-            Change::Strike(number) => *number == id,
-        }
-    }
-
-    /// The change in small, which it must fit.
-    fn of(change: Change, id: u64) -> Self
-        requires { is_small_change id change ≡ true }
-        ensures { change_of id result ≡ change }
-    {
-        match change {
-            Change::Insert(event) => SmallChange::Insert(SmallEvent::of(event)),
-            Change::Alter(_, event) => SmallChange::Alter(SmallEvent::of(event)),
-            Change::Strike(_) => SmallChange::Strike,
+            Change::Insert(event) => Some(SmallChange::Insert(PackedEvent::of(event)?)),
+            Change::Alter(number, event) if *number == id => {
+                Some(SmallChange::Alter(PackedEvent::of(event)?))
+            }
+            Change::Strike(number) if *number == id => Some(SmallChange::Strike),
+            _ => None,
         }
     }
 
@@ -65,45 +59,38 @@ pub(crate) struct SmallEdit {
     id: u32,
 }
 
-const _: () = prove!(size_of::<SmallEdit>() == 36);
+const _: () = prove!(size_of::<SmallEdit>() == 32);
 
 impl SmallEdit {
-    /// Whether the command is an edit that was made or has a fault, and has a small form.
-    pub(crate) fn fits(settled: &Settled) -> bool
-        ensures { result ≡ is_small settled.now }
+    /// The command with its answer in small, where it is an edit that was made or has a fault, and has a small form.
+    pub(crate) fn of(settled: &Settled) -> Option<Self>
+        ensures some { is_some result ≡ is_small settled.now }
+        ensures value { IfSome result (λ small. settled_of_edit small ≡ settled.now) }
     {
-        match (&settled.command, &settled.answer) {
-            (Command::Edit { change, .. }, Answer::Edited { id }) => { fits_beside(change, *id) }
-            (Command::Edit { change, .. }, Answer::Refused(Fault::BadEdit(_))) => {
-                fits_beside(change, number_named(change))
+        let Command::Edit { change, strict } = &settled.command else {
+            return None;
+        };
+        match &settled.answer {
+            Answer::Edited { id } => SmallEdit::beside(change, *strict, *id, None),
+            Answer::Refused(Fault::BadEdit(fault)) => {
+                SmallEdit::beside(change, *strict, number_named(change), Some(*fault))
             }
-            _ => false,
+            Answer::Refused(_) => None,
         }
     }
 
-    /// The command with its answer in small, which it must fit.
-    pub(crate) fn of(settled: Settled) -> Self
-        requires { is_small settled ≡ true }
-        ensures { settled_of_edit result ≡ settled }
+    /// An edit of the event of this number in small, where it has a small form, with its fault.
+    fn beside(change: &Change, strict: bool, id: u64, fault: Option<EditFault>) -> Option<Self>
+        ensures some { is_some result ≡ is_small_beside id change.now }
+        ensures value { IfSome result
+            (λ small. settled_of_edit small ≡ record { command = Edit change.now strict; answer = answer_by id fault }) }
     {
-        match (settled.command, settled.answer) {
-            (Command::Edit { change, strict }, Answer::Edited { id }) => SmallEdit {
-                change: SmallChange::of(change, id),
-                strict,
-                fault: None,
-                id: id as u32,
-            },
-            (Command::Edit { change, strict }, Answer::Refused(Fault::BadEdit(fault))) => {
-                let id = number_named(&change);
-                SmallEdit {
-                    change: SmallChange::of(change, id),
-                    strict,
-                    fault: Some(fault),
-                    id: id as u32,
-                }
-            }
-            _ => unreachable!(),
-        }
+        Some(SmallEdit {
+            id: u32::try_from(id).ok()?,
+            change: SmallChange::of(change, id)?,
+            strict,
+            fault,
+        })
     }
 
     /// The command with its answer.
@@ -133,11 +120,4 @@ fn number_named(change: &Change) -> u64
         Change::Insert(_) => 0,
         Change::Alter(id, _) | Change::Strike(id) => *id,
     }
-}
-
-/// Whether the change has a small form beside this number, which is that of the event concerned.
-fn fits_beside(change: &Change, id: u64) -> bool
-    ensures { result ≡ is_small_beside id change.now }
-{
-    id <= LARGEST && SmallChange::fits(change, id)
 }

@@ -1,5 +1,5 @@
 -- What differs between two schedules, slot by slot and processor by processor.
-use Rattle.std.proofs.Common.{◌≡◌, ◌∙◌, ◌⊎◌, ℕ, zero, suc, ◌+◌, ◌<◌, ◌≤◌, List, [], ◌∷◌, ◌++◌, Option, Some, Result, Ok, Err, length, drop, min, ⊎_elim, inl, inr, ap, sym, refl, append_assoc, arith}
+use Rattle.std.proofs.Common.{◌≡◌, ◌∙◌, ◌⊎◌, ℕ, suc, ◌+◌, ◌<◌, ◌≤◌, List, [], ◌∷◌, ◌++◌, Option, Some, Result, Ok, Err, length, drop, min, ⊎_elim, inl, inr, ap, sym, refl, append_assoc, arith}
 use Rattle.std.specs.Prelude.{OnOk}
 use Rattle.std.specs.List.{slice_get}
 use Rattle.std.proofs.Math.ListN.{drop_of_length-le}
@@ -7,6 +7,7 @@ use Rattle.std.proofs.lemmas.Grind.{flat_map-append}
 use Rattle.std.proofs.Math.Nat.{le-min}
 use Rattle.std.proofs.lemmas.List.{at_drop_more, append-nil}
 use Rattle.csv.specs.Writing.{row_text, default_writer}
+use Rattle.pf_facts.proofs.Orders.{within_or}
 use Rattle.pf_order.specs.declared.pick.Pick.{Pick}
 use Rattle.pf_tally.proofs.Noting.{got_at}
 use Rattle.pf_text.specs.Page.{Page}
@@ -25,11 +26,6 @@ row_none t p (x ∷ xs) = refl
 slot_none : (t : ℕ) (rows : List (List (Option Pick))) → slot_changes t rows [] ≡ []
 slot_none t [] = refl
 slot_none t (x ∷ xs) = refl
-
-within_or : (n p : ℕ) → (n ≤ p) ⊎ (p < n)
-within_or zero p = inl (omega arith)
-within_or (suc n) zero = inr (omega arith)
-within_or (suc n) (suc p) = ⊎_elim (λ h. inl (omega (arith, h))) (λ h. inr (omega (arith, h))) (within_or n p)
 
 past_one : (a b p : ℕ) → min a b ≤ p → (a ≤ p) ⊎ (b ≤ p)
 past_one a b p over = ⊎_elim inl (λ first. ⊎_elim inr (λ second. absurd (omega (arith, over, le-min {k = suc p} {a = a} {b = b} (omega (arith, first)) (omega (arith, second))))) (within_or b p)) (within_or a p)

@@ -1,8 +1,9 @@
 -- A planner's command, entered where nobody else enters any.
-use Rattle.std.proofs.Common.{◌≡◌, ℕ, ◌+◌, ◌-◌, ◌≤◌, List, [], ◌∷◌, ◌++◌, length, map, refl, ap, ap₂, sym, subst, ◌∙◌, arith, length-append}
+use Rattle.std.proofs.Common.{◌≡◌, ℕ, ◌+◌, ◌-◌, List, [], ◌∷◌, ◌++◌, length, map, refl, ap, ap₂, sym, subst, ◌∙◌, arith, length-append}
 use Rattle.std.specs.Prelude.{Result, Ok, Err, IfOk}
 use mathlib.Core.List.{IsPrefix}
 use Rattle.atomic_table.specs.Seated.{TableId}
+use Rattle.pf_facts.proofs.Prefixes.{prefix_whole}
 use Rattle.pf_scenario.specs.System.{System}
 use Rattle.pf_desk.specs.declared.command.Command.{Command}
 use Rattle.pf_desk.specs.declared.entry.Entry.{Entry}
@@ -15,14 +16,6 @@ use Rattle.pf_share.specs.Histories.{quanta_of, quanta_of_reply}
 use Rattle.pf_drill.specs.declared.planner.Planner.{Planner}
 use Rattle.pf_drill.specs.Rounds.{GoesOn, IsInStep, commands_given}
 use Rattle.pf_drill.proofs.Issued.{issues_push}
-
--- a beginning as long as the whole is the whole
-prefix_whole : {A : Type 0} (xs ys : List A) → IsPrefix xs ys → length ys ≤ length xs → xs ≡ ys
-prefix_whole [] [] p le = refl
-prefix_whole [] (y ∷ ys) p le = absurd (omega arith)
-prefix_whole (x ∷ xs) [] p le = absurd (cc (p.1))
-prefix_whole (x ∷ xs) (y ∷ ys) p le =
-    let rest = prefix_whole xs ys (p.0, cc (p.1)) (omega arith) in cc (p.1, rest)
 
 -- Use: the pass's command was answered, whatever its loads found before.
 pub goes_on : (settings : System) (command : Command) (v u w : Passing Entry System) (done : Done) → u ≡ record v { loads = u.loads }

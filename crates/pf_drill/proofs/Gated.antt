@@ -2,6 +2,7 @@
 use Rattle.std.proofs.Common.{◌≡◌, ℕ, zero, suc, ◌<◌, Bool, true, false, Option, None, Some, List, [], ◌∷◌, ◌++◌, length, refl, ap, sym, subst, ◌∙◌, arith, inl, inr}
 use Rattle.std.specs.Prelude.{All, IfSome, slice_index_or, not, ◌||◌, ◌⊎◌}
 use Rattle.std.specs.List.{list_any}
+use Rattle.pf_facts.proofs.Lists.{at_any}
 use Rattle.pf_board.specs.declared.quantum.Quantum.{Quantum}
 use Rattle.pf_drill.specs.declared.worker.Worker.{Worker}
 use Rattle.pf_drill.specs.declared.shift.Shift.{Shift}
@@ -33,12 +34,6 @@ pub first_all : {X : Type 0} (P : X → Type 0) (x : X) (xs all : List X) → al
 first_all {X} P x xs all is of =
     let these : All P (x ∷ xs) = subst (λ (l : List X). All P l) is of in
     (these zero x (omega arith), λ k d lt. these (suc k) d (omega arith))
-
--- Use: an element of a list, whatever is read past its end.
-pub at_any : {A : Type 0} (xs : List A) (k : ℕ) (d e : A) → k < length xs → slice_index_or xs k d ≡ slice_index_or xs k e
-at_any [] k d e lt = absurd (omega arith)
-at_any (x ∷ xs) zero d e lt = refl
-at_any (x ∷ xs) (suc k) d e lt = at_any xs k d e (omega arith)
 
 of_not : (a b : Bool) → not a ≡ b → a ≡ not b
 of_not true b e = ap not e

@@ -1,6 +1,6 @@
 -- What the steps of a calendar leave in its lists.
-use Rattle.std.proofs.Common.{◌≡◌, ◌≢◌, ℕ, ◌+◌, ◌<◌, ◌≤◌, Bool, true, false, not, ◌==◌, ◌||◌, ◌&&◌, cond, leb, ltb, ◌⊎◌, inl, inr, Option, Some, None, List, [], ◌∷◌, zero, suc, length, get_or, unwrap_or, refl, sym, ap, ◌∙◌, arith, ⊎_elim}
-use Rattle.std.proofs.lemmas.Bool.{cases_eq, cases_Bool, eqb-true, leb-true, le-leb}
+use Rattle.std.proofs.Common.{◌≡◌, ◌≢◌, ℕ, ◌+◌, ◌<◌, ◌≤◌, Bool, true, false, not, ◌==◌, ◌&&◌, cond, leb, ltb, ◌⊎◌, inl, inr, Option, Some, None, List, [], ◌∷◌, zero, suc, length, get_or, unwrap_or, refl, sym, ap, ◌∙◌, arith, ⊎_elim}
+use Rattle.std.proofs.lemmas.Bool.{cases_eq, cases_Bool, eqb-true, leb-true, le-leb, or_right, or_left}
 use Rattle.std.proofs.lemmas.Bool.Decides.{nat_tests}
 use Rattle.std.proofs.lemmas.List.{get_or-map, length-map}
 use Rattle.std.specs.Ordering.{nat_cmp, eq_by_cmp}
@@ -83,14 +83,6 @@ put_from q s key (Some x) k h = ⊎_elim
     (sym (ap (λ l. set.contains l k) (ap (list_at (with_put q s key).waiting) e ∙ list_set q.waiting s (set.insert (list_at q.waiting s) key))) ∙ h)))
     (λ ne. inr (sym (ap (λ l. set.contains l k) (list_other q.waiting s x (set.insert (list_at q.waiting s) key) ne)) ∙ h))
     (cases_eq x s)
-
-pub or_right : (a b : Bool) → b ≡ true → (a || b) ≡ true
-or_right true b e = refl
-or_right false b e = e
-
-pub or_left : (a b : Bool) → a ≡ true → (a || b) ≡ true
-or_left true b e = refl
-or_left false b e = cc
 
 pub put_new : (q : Queues) (s : ℕ) (key : Priority) → Has (with_put q s key) (Some s) key
 put_new q s key =

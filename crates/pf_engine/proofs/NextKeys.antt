@@ -1,6 +1,6 @@
 -- The next keys of some tasks: what the steps of a calendar make of them.
 use Rattle.std.proofs.Common.{◌≡◌, ◌≢◌, ℕ, ◌+◌, ◌<◌, ◌≤◌, true, max, nat_le, cond, ◌⊎◌, inl, inr, Option, Some, None, List, [], ◌∷◌, filter_map, Contains, refl, sym, ap, ◌∙◌, subst, arith, ⊎_elim}
-use Rattle.std.proofs.lemmas.Bool.{cases_lt, le-leb, leb-true}
+use Rattle.std.proofs.lemmas.Bool.{cases_lt, le-leb, leb-true, or_right, or_left}
 use Rattle.std.proofs.lemmas.Option.{cond_some}
 use Rattle.std.specs.List.{cons_option}
 use Rattle.std.specs.FinSet as set
@@ -13,7 +13,7 @@ use Rattle.pf_run.specs.Inside.{eligible_from, next_key, ready_key}
 use Rattle.pf_run.proofs.Containing.{contains_none, contains_head, contains_tail, contains_cases}
 use Rattle.pf_engine.specs.Fits.{KeptTask, Kept}
 use Rattle.pf_engine.specs.Agenda.{StandsIn, IsNextOf, HasNext, with_put, IsReady}
-use Rattle.pf_engine.proofs.Held.{Has, or_left, or_right, held_at, holds_from, put_from, put_new, put_old, taken_from, taken_had, taken_gone, left_in, later_from, later_in, due_from, due_in}
+use Rattle.pf_engine.proofs.Held.{Has, held_at, holds_from, put_from, put_new, put_old, taken_from, taken_had, taken_gone, left_in, later_from, later_in, due_from, due_in}
 
 -- some of the tasks
 abbrev pub Are : Type 1

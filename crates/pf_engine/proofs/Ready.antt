@@ -4,6 +4,7 @@ use Rattle.std.proofs.lemmas.Bool.{ne_eqb}
 use Rattle.std.proofs.lemmas.List.{length_push}
 use Rattle.std.proofs.lemmas.List.Elements.{All-weaker, All-map}
 use Rattle.std.proofs.lemmas.List.Folds.{list_any_none}
+use Rattle.pf_facts.proofs.Filters.{filter_map_map}
 use Rattle.pf_order.specs.Priority.{Priority}
 use Rattle.pf_order.specs.First.{AreFirst}
 use Rattle.pf_order.specs.declared.pick.Pick.{Pick}
@@ -16,7 +17,6 @@ use Rattle.pf_run.specs.Run.{pick_of_key}
 use Rattle.pf_engine.specs.Fits.{kept_task, kept_after}
 use Rattle.pf_engine.specs.Kept.{ready_keys}
 use Rattle.pf_run.specs.Inside.{joins_of}
-use Rattle.pf_run.proofs.Counting.{filter_map_map}
 use Rattle.pf_engine.specs.Points.{IsPoint}
 use Rattle.pf_engine.proofs.Picks.{AreNext, is_picked}
 use Rattle.pf_run.proofs.Later.{runs_push}

@@ -20,6 +20,7 @@ use pf_order::key::Key;
 use pf_order::meter::Meter;
 use pf_order::pick::Pick;
 use pf_scenario::event::{Event, Numbered};
+use pf_weight::task::number_of;
 use std::alloc::AllocError;
 
 /// Makes room for the keys of the tasks that join by these events. The keys held stay as they were.
@@ -37,7 +38,7 @@ pub(crate) fn reserve_joins(calendar: &mut Calendar, events: &[Numbered]) -> Res
 {
     for x in events {
         if let Event::Join { task, .. } = x.event {
-            calendar.reserve_task(task as u32)?;
+            calendar.reserve_task(number_of(task))?;
         }
     }
     Ok(())
@@ -47,7 +48,7 @@ pub(crate) fn reserve_joins(calendar: &mut Calendar, events: &[Numbered]) -> Res
 pub(crate) fn put_next(
     calendar: &mut Calendar,
     meter: &mut Meter,
-    task: u64,
+    task: u32,
     member: &Member,
     from: u64,
 )
@@ -63,7 +64,7 @@ pub(crate) fn put_next(
     ensures comparisons { Compares (digits (key_count calendar.old + 1)) meter.old meter.new }
 {
     let sub = member.done as u32 + 1;
-    let key = Key::of(member.weight, member.shift, sub, task as u32);
+    let key = Key::of(member.weight, member.shift, sub, task);
     calendar.put(meter, eligible_from(member).max(from), key);
 }
 
@@ -107,11 +108,10 @@ pub(crate) fn run(
             task: key.task(),
             sub: key.sub(),
         };
-        let task = u64::from(pick.task);
-        let Some(member) = tasks.run(task, u64::from(pick.sub)) else {
+        let Some(member) = tasks.run(pick.task, u64::from(pick.sub)) else {
             unreachable!()
         };
-        put_next(calendar, meter, task, &member, next);
+        put_next(calendar, meter, pick.task, &member, next);
         picks.push_reserved(pick);
     }
 }

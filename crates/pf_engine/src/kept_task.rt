@@ -4,7 +4,7 @@ use pf_admit::member::Member;
 #[derive(Clone, Copy)]
 pub(crate) struct KeptTask {
     /// 1 to 4,095.
-    pub(crate) task: u64,
+    pub(crate) task: u32,
     /// What is known of it.
     pub(crate) member: Member,
 }

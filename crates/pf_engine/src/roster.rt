@@ -14,6 +14,7 @@ use crate::saved_task::SavedTask;
 use pf_admit::member::Member;
 use pf_scenario::event::{Event, Numbered};
 use pf_table::table::Table;
+use pf_weight::task::number_of;
 use std::alloc::{AllocError, Global};
 use std::marker::Model;
 
@@ -68,14 +69,14 @@ impl Roster {
     /// # Errors
     ///
     /// Where memory is refused.
-    pub(crate) fn reserve_task(&mut self, task: u64) -> Result<(), AllocError>
+    pub(crate) fn reserve_task(&mut self, task: u32) -> Result<(), AllocError>
         requires { task ≤ LARGEST_TASK }
         ensures tasks { self.new.tasks ≡ self.old.tasks }
         ensures spare { self.new.spare ≡ self.old.spare }
         ensures grows { self.old.numbers ≤ self.new.numbers }
         ensures room { OnOk result (task < self.new.numbers) }
     {
-        self.places.reserve(task as u32)
+        self.places.reserve(task)
     }
 
     /// Makes room for the tasks that join by these events.
@@ -91,14 +92,14 @@ impl Roster {
     {
         for x in events {
             if let Event::Join { task, .. } = x.event {
-                self.reserve_task(task)?;
+                self.reserve_task(number_of(task))?;
             }
         }
         Ok(())
     }
 
     /// The member of this number.
-    pub(crate) fn get(&self, task: u64) -> Option<&Member>
+    pub(crate) fn get(&self, task: u32) -> Option<&Member>
         requires { task ≤ LARGEST_TASK }
         ensures { option_copied result ≡ member_in self.now.tasks task }
     {
@@ -109,7 +110,7 @@ impl Roster {
     }
 
     /// Adds a task, which is not inside yet.
-    pub(crate) fn push(&mut self, task: u64, member: Member)
+    pub(crate) fn push(&mut self, task: u32, member: Member)
         requires number { task < self.old.numbers }
         requires absent { member_in self.old.tasks task ≡ None }
         requires room { 1 ≤ self.old.spare }
@@ -118,12 +119,12 @@ impl Roster {
         ensures spare { self.old.spare ≤ self.new.spare + 1 }
         ensures numbers { self.new.numbers ≡ self.old.numbers }
     {
-        self.places.set(task as u32, self.tasks.len() as u16);
+        self.places.set(task, self.tasks.len() as u16);
         self.tasks.push_reserved(KeptTask { task, member });
     }
 
     /// Holds back the task's next subtask by this many slots, and answers the member as it is then.
-    pub(crate) fn delay(&mut self, task: u64, by: u64) -> Option<Member>
+    pub(crate) fn delay(&mut self, task: u32, by: u64) -> Option<Member>
         requires number { task ≤ LARGEST_TASK }
         requires fits { ForSome (member_in self.old.tasks task) (λ m. m.shift + by < 2 ^ 64) }
         ensures tasks { self.new.tasks ≡ changed_tasks task (member_after_delay by) self.old.tasks }
@@ -140,7 +141,7 @@ impl Roster {
     }
 
     /// Notes that this subtask of the task ran, and answers the member as it is then.
-    pub(crate) fn run(&mut self, task: u64, sub: u64) -> Option<Member>
+    pub(crate) fn run(&mut self, task: u32, sub: u64) -> Option<Member>
         requires { task ≤ LARGEST_TASK }
         ensures tasks { self.new.tasks ≡ changed_tasks task (member_after_run sub) self.old.tasks }
         ensures member { result ≡ member_in self.new.tasks task }
@@ -157,7 +158,7 @@ impl Roster {
     }
 
     /// Takes the task out.
-    pub(crate) fn remove(&mut self, task: u64)
+    pub(crate) fn remove(&mut self, task: u32)
         requires number { task ≤ LARGEST_TASK }
         requires few { length self.old.tasks ≤ MOST_EVENTS }
         ensures tasks { self.new.tasks ≡ other_tasks task self.old.tasks }
@@ -207,11 +208,11 @@ impl Roster {
     }
 
     /// Where the task of this number stands.
-    fn place_of(&self, task: u64) -> Option<usize>
+    fn place_of(&self, task: u32) -> Option<usize>
         requires { task ≤ LARGEST_TASK }
         ensures { MatchOption result (HasNoTask task self.now.tasks) (IsOnlyAt task self.now.tasks) }
     {
-        let place = usize::from(self.places.get(task as u32));
+        let place = usize::from(self.places.get(task));
         if place >= self.tasks.len() {
             return None;
         }
@@ -231,6 +232,6 @@ fn renumber(places: &mut Table<u16>, tasks: &[KeptTask], from: usize)
 {
     for place in from..tasks.len() {
         let kept = tasks[place];
-        places.set(kept.task as u32, place as u16);
+        places.set(kept.task, place as u16);
     }
 }

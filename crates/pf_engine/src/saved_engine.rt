@@ -90,12 +90,11 @@ impl SavedEngine {
         tasks.reserve(self.tasks.len())?;
         calendar.reserve(self.tasks.len())?;
         for saved in &self.tasks {
-            let task = u64::from(saved.task);
             let member = saved.member(self.settings.base());
-            tasks.reserve_task(task)?;
+            tasks.reserve_task(saved.task)?;
             calendar.reserve_task(saved.task)?;
-            tasks.push(task, member);
-            put_next(&mut calendar, meter, task, &member, self.slots);
+            tasks.push(saved.task, member);
+            put_next(&mut calendar, meter, saved.task, &member, self.slots);
         }
         Ok(Engine {
             state: State {

@@ -40,7 +40,7 @@ impl SavedTask {
     {
         let member = &kept.member;
         SavedTask {
-            task: kept.task as u32,
+            task: kept.task,
             done: member.done as u32,
             cost: member.weight.cost() as u32,
             period: member.weight.period() as u32,

@@ -22,6 +22,7 @@ use pf_order::meter::Meter;
 use pf_run::denied::Denied;
 use pf_scenario::event::{Event, Numbered};
 use pf_scenario::settings::Settings;
+use pf_weight::task::number_of;
 use pf_weight::weight::Weight;
 use std::alloc::{AllocError, Global};
 use std::marker::Model;
@@ -157,9 +158,9 @@ impl State {
                 cost,
                 period,
                 early,
-            } => self.join(meter, slot, task, cost, period, early),
-            Event::Leave { slot, task } => self.leave(meter, slot, task),
-            Event::Delay { slot, task, by } => self.delay(meter, slot, task, by),
+            } => self.join(meter, slot, number_of(task), cost, period, early),
+            Event::Leave { slot, task } => self.leave(meter, slot, number_of(task)),
+            Event::Delay { slot, task, by } => self.delay(meter, slot, number_of(task), by),
             Event::Limit { count, .. } => {
                 self.count = count as u32;
                 Ok(())
@@ -172,7 +173,7 @@ impl State {
         &mut self,
         meter: &mut Meter,
         slot: u64,
-        task: u64,
+        task: u32,
         cost: u64,
         period: u64,
         early: u64,
@@ -200,7 +201,7 @@ impl State {
     }
 
     /// Takes a leave.
-    fn leave(&mut self, meter: &mut Meter, slot: u64, task: u64) -> Result<(), Denial>
+    fn leave(&mut self, meter: &mut Meter, slot: u64, task: u32) -> Result<(), Denial>
         requires { CanTakeNext self.old (Event.Leave slot task) }
         ensures takes { TakesEvent self.old (Event.Leave slot task) (result_err result) self.new }
         ensures comparisons { Compares (3 * digits (length self.old.kept.tasks + 1)) meter.old meter.new }
@@ -210,19 +211,19 @@ impl State {
         let Some(member) = member else { unreachable!() };
         self.load -= member.weight.units();
         self.tasks.remove(task);
-        let _ = self.calendar.take_out(meter, task as u32);
+        let _ = self.calendar.take_out(meter, task);
         Ok(())
     }
 
     /// Takes a delay.
-    fn delay(&mut self, meter: &mut Meter, slot: u64, task: u64, by: u64) -> Result<(), Denial>
+    fn delay(&mut self, meter: &mut Meter, slot: u64, task: u32, by: u64) -> Result<(), Denial>
         requires { CanTakeNext self.old (Event.Delay slot task by) }
         ensures takes { TakesEvent self.old (Event.Delay slot task by) (result_err result) self.new }
         ensures comparisons { Compares (3 * digits (length self.old.kept.tasks + 1)) meter.old meter.new }
     {
         may_delay(slot, self.tasks.get(task))?;
         if let Some(member) = self.tasks.delay(task, by) {
-            let _ = self.calendar.take_out(meter, task as u32);
+            let _ = self.calendar.take_out(meter, task);
             put_next(&mut self.calendar, meter, task, &member, self.slots);
         }
         Ok(())

@@ -3,7 +3,7 @@ use Rattle.std.specs.Prelude.{◌≡◌, ℕ, ◌+◌, ◌-◌, true, List, [], 
 use Rattle.std.specs.List.{range_with_len}
 use Rattle.std.specs.FinSet as set
 use Rattle.pf_order.specs.Priority.{Priority}
-use Rattle.pf_heap.specs.Keys.{Keys, Heaps, IsFirst, HasNone, IsHeld, list_of, with_list, other_keys}
+use Rattle.pf_heap.specs.Keys.{Keys, Heaps, IsFirst, HasNone, IsHeld, list_of, with_list, all_lists, other_keys}
 use Rattle.pf_examples.specs.Order.{key_with, key_a, key_b, key_c, key_e, key_f}
 
 -- k is the first of the keys, and no other is
@@ -15,9 +15,9 @@ abbrev pub ComeOut : Keys → List Priority → Type 0
 ComeOut keys [] = keys ≡ set.empty
 ComeOut keys (k ∷ ks) = IsOnlyFirst keys k × ComeOut (set.remove keys k) ks
 
--- two empty heaps with room for five keys
+-- an empty main heap and two more, with room for five keys
 abbrev pub two_empty : Heaps
-two_empty = record { lists = set.empty ∷ set.empty ∷ []; spare = 5; tasks = 7 }
+two_empty = record { main = set.empty; lists = set.empty ∷ set.empty ∷ []; spare = 5; tasks = 7 }
 
 -- the heaps after an insert
 abbrev pub inserted : ℕ → Priority → Heaps → Heaps
@@ -38,6 +38,10 @@ popped = record (with_list melded 0 (set.remove (list_of melded 0) key_c)) { spa
 -- then the key of task 4 is removed
 abbrev pub removed : Heaps
 removed = record (with_list popped 0 (other_keys (list_of popped 0) 4)) { spare = popped.spare + 1 }
+
+-- then heap 0 is melded into the main one
+abbrev pub gathered : Heaps
+gathered = record (with_list removed 0 set.empty) { main = set.union removed.main (list_of removed 0) }
 
 -- keys of the tasks 1 to 15, all of weight 1/1 and subtask 1
 abbrev pub fifteen : List Priority
@@ -61,6 +65,10 @@ pub record WorkedHeaps : Type 0 where
   pub first_removed : ComeOut (list_of removed 0) (key_f ∷ key_b ∷ key_a ∷ [])
   -- a second time there is none of task 4, and no heap holds one
   pub none_left : HasNone (list_of removed 0) 4
-  pub not_held : ¬ (IsHeld removed.lists 4)
+  pub not_held : ¬ (IsHeld (all_lists removed) 4)
+  -- the main heap was empty; after the meld it is F, B, A, and heap 0 is empty
+  pub main_empty : removed.main ≡ set.empty
+  pub main_melded : ComeOut gathered.main (key_f ∷ key_b ∷ key_a ∷ [])
+  pub all_melded : list_of gathered 0 ≡ set.empty
   -- the keys of the tasks 15 down to 1, inserted in this order, come out from task 1 to task 15
   pub by_task : ComeOut (set.from_list fifteen) fifteen

@@ -37,7 +37,7 @@ pub fn worked_rows_are_told()
     ensures { WorkedRows }
 {}
 
-/// What two heaps hold after inserts, a meld, a pop and a removal.
+/// What heaps hold after inserts, a meld, a pop, a removal and a meld into the main heap.
 pub fn worked_heaps_are_told()
     ensures { WorkedHeaps }
 {}

@@ -7,5 +7,4 @@ pub mod WhatIf
 pub mod Records
 pub mod Titled
 pub mod FaultLines
-pub mod ThirdLines
 pub mod Entries

@@ -1,12 +1,11 @@
 -- What is told of a bad record of a file: what a check tells of it, behind its place.
-use Rattle.std.specs.Prelude.{ℕ, Bool, false, if◌then◌else◌, List, [], ◌∷◌, ◌++◌, codes}
+use Rattle.std.specs.Prelude.{ℕ, if◌then◌else◌, List, [], ◌∷◌, ◌++◌, codes}
 use Rattle.std.specs.Fmt.{decimal}
 use Rattle.pf_check.specs.Reports.{field_text, reason_text}
-use Rattle.pf_check3.specs.Checked.{faults as third_faults}
+use Rattle.pf_check3.specs.Checked.{faults as third_faults, is_third}
 use Rattle.pf_check3.specs.Reports.{FaultShown, third_reason_text}
-use Rattle.pf_rows.specs.Rows.{Row, rows}
+use Rattle.pf_rows.specs.Rows.{rows}
 use Rattle.pf_script.specs.Told.{FaultTold, faults}
-use Rattle.pf_version3.specs.Heading.{is_third_heading}
 use Rattle.pf_run_notes.specs.File.{file_text}
 
 -- a report of a check tells the line and the number of a record so, and then this
@@ -31,11 +30,6 @@ third_why_text f = field_text f.bad.fault.field ++ codes ": " ++ third_reason_te
 abbrev pub third_fault_line : List ℕ → FaultShown → List ℕ
 third_fault_line file f = place_in file f.bad.line f.bad.number ++ third_why_text f
 
--- whether these are the rows of a script of version 3
-abbrev pub is_third : List Row → Bool
-is_third [] = false
-is_third (row ∷ rows) = is_third_heading row.fields
-
 -- the line of the first fault, nothing where there is none
 abbrev pub first_line : {A : Type 0} → (A → List ℕ) → List A → List ℕ
 first_line line [] = []
@@ -44,5 +38,5 @@ first_line line (fault ∷ faults) = line fault
 -- what is told of the first fault that a check finds in a script of any version
 abbrev pub first_fault_note : List ℕ → List ℕ → List ℕ
 first_fault_note file script =
-    if is_third (rows script).rows then first_line (third_fault_line file) (third_faults (rows script))
+    if is_third (rows script) then first_line (third_fault_line file) (third_faults (rows script))
     else first_line (fault_line file) (faults script)

@@ -2,6 +2,7 @@ ghost use Rattle.std.specs.Prelude.{◌≡◌, ◌++◌, List, ℕ, codes, OnOk}
 ghost use Rattle.std.specs.Fmt.{decimal};
 ghost use Rattle.csv.specs.Records.{fields_of};
 ghost use Rattle.pf_check.specs.Reports.{fault_shown};
+ghost use Rattle.pf_check3.specs.Reports.{shown};
 ghost use Rattle.pf_fault_notes.specs.BadRecords.{fault_line, place_in, report_behind, third_fault_line};
 
 use itoa::Buffer;
@@ -34,7 +35,7 @@ pub fn push_fault(
     text.extend_from_slice(behind_place(report.as_bytes(), bad.line, bad.number))
 }
 
-/// The same of a bad record of a script of version 3, which has these bytes in the field that is at fault.
+/// The same of a bad record of a script of version 3.
 ///
 /// # Errors
 ///
@@ -43,13 +44,13 @@ pub fn push_third_fault(
     alloc: Global,
     text: &mut Vec<u8>,
     file: &[u8],
-    at: &[u8],
+    fields: &Fields,
     bad: ThirdBadRecord,
 ) -> Result<(), AllocError>
-    ensures { OnOk result (text.new.items ≡ text.old.items ++ third_fault_line file.now (record { bad = bad; at = at.now })) }
+    ensures { OnOk result (text.new.items ≡ text.old.items ++ third_fault_line file.now (shown bad fields.now)) }
 {
     let mut report = String::new(alloc);
-    push_third_report(&mut report, at, bad)?;
+    push_third_report(&mut report, fields, bad)?;
     push_place(text, file, bad.line, bad.number)?;
     text.extend_from_slice(behind_place(report.as_bytes(), bad.line, bad.number))
 }

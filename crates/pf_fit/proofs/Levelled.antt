@@ -2,7 +2,7 @@
 use Rattle.std.proofs.Common.{◌≡◌, ◌∙◌, ℕ, zero, suc, ◌+◌, ◌-◌, ◌<◌, ◌≤◌, ◌==◌, ◌&&◌, ◌||◌, Bool, true, false, not, nat_le, cond, min, max, Option, Some, List, [], ◌∷◌, ◌++◌, length, map, filter, refl, sym, ap, ap₂, subst, arith, ⊎_elim}
 use Rattle.std.specs.List.{range_with_len, slice_get}
 use Rattle.std.specs.Option.{option_map_or}
-use Rattle.std.proofs.lemmas.Bool.{cases_lt, eq-eqb, eqb-true, ne_eqb, le-leb, lt-leb}
+use Rattle.std.proofs.lemmas.Bool.{cases_lt, eq-eqb, eqb-true, ne_eqb, le-leb, lt-leb, and_parts}
 use Rattle.std.proofs.lemmas.List.{append-nil, get_or_push, length_push}
 use Rattle.std.proofs.lemmas.Option.{slice_get-get_or}
 use Rattle.std.proofs.lemmas.List.FromFn.{filter_of_map_range_with_len_more}
@@ -68,14 +68,9 @@ module _ (s : Plan) (r : List Slot) (from : ℕ) where
       none : (t == from || not (is_still t)) ≡ false
       none = ap₂ (λ a b. a || not b) other still
 
-      both : (a b : Bool) → (a && b) ≡ true → (a ≡ true) × (b ≡ true)
-      both true true e = (refl, refl)
-      both true false e = cc
-      both false b e = cc
-
       by : EndsAt levels (load_in s r (t - 1)) (room_in s r (t - 1)) → EndsAt levels (load_in s r (t + 1 - 1)) (room_in s r (t + 1 - 1))
       by end =
-          let e = both (load_in s r (t - 1) == load_in s r t) (room_in s r (t - 1) == room_in s r t) still in
+          let e = and_parts (load_in s r (t - 1) == load_in s r t) (room_in s r (t - 1) == room_in s r t) still in
           record {
             front = end.front;
             last = end.last;

@@ -4,6 +4,7 @@ use Rattle.std.specs.Fmt.{decimal}
 use Rattle.serde_json.specs.Data.{Data, Items, array}
 use Rattle.serde_json.specs.Written.{compact_text}
 use Rattle.serde_json.proofs.OnLiterals.{serde_json_on_literals}
+use Rattle.pf_facts.proofs.Digits.{numbered}
 use Rattle.pf_names.specs.declared.named.Named.{Named}
 use Rattle.pf_names.specs.declared.slot_length.SlotLength.{SlotLength}
 use Rattle.pf_names.specs.declared.titles.Titles.{Titles}
@@ -43,10 +44,6 @@ module _ (denials : Items) (entries : ℕ) (events figures lags misses : Items) 
       by : (third : Bool) (names : List Named) (slot : Option SlotLength) → IsParted (record { is_third = third; names = names; slot = slot })
       by true names slot = refl
       by false names slot = refl
-
-  -- a key that ends with the next one, a number between them, and what follows
-  numbered : (before : List ℕ) (n : ℕ) (key more : List ℕ) → (before ++ (decimal n ++ key)) ++ more ≡ before ++ (decimal n ++ (key ++ more))
-  numbered before n key more = append_assoc before (decimal n ++ key) more ∙ ap (λ t. before ++ t) (append_assoc (decimal n) key more)
 
   -- Use: the text by its keys, of which two stand behind a number, and one of these behind the names.
   pub by_keys : (titles : Titles) → codes "{\"denials\":" ++ (compact_text (array denials)

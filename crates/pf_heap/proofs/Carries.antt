@@ -8,17 +8,16 @@ use Rattle.pf_order.specs.Counts.{Counts, Compares}
 use Rattle.pf_heap.specs.declared.node.Node.{Node}
 use Rattle.pf_heap.specs.Forest.{Forest, none, tree, nowhere, head, forest_weight, one_each, size, Rises, IsTreeOrNone}
 use Rattle.pf_heap.specs.Memory.{node_at, Stands, Part, root, Parts, nodes_with_sibling, AreJoined}
-use Rattle.pf_heap.specs.Steps.{HasRoots, IsCut, IsAdded, IsAddedTo, HasTreeAndList, IsCarrying}
+use Rattle.pf_heap.specs.Steps.{HasRoots, IsCut, IsJoined, IsAddedTo, HasNodeAndList, IsCarrying}
 use Rattle.pf_order.proofs.Comparing.{compares_none, compares_within, compares_both}
 use Rattle.pf_heap.proofs.Forests.{double, size_from_tree}
-use Rattle.pf_heap.proofs.Standing.{head_somewhere, push_parts}
+use Rattle.pf_heap.proofs.Standing.{none_from_link, head_somewhere, push_parts}
 use Rattle.pf_heap.proofs.Steps.{two_joined}
-use Rattle.pf_heap.proofs.Sums.{none_from_link, some-le}
 use Rattle.pf_heap.proofs.Weights.{sizes-le-length}
 
-pub carry_begun : (nodes : List Node) (rank at link : ℕ) (counts : Counts) (can : HasTreeAndList nodes rank at link) →
-    IsCarrying nodes rank can.added can.list can.others at link counts counts
-carry_begun nodes rank at link counts can = record {
+pub carry_begun : (nodes : List Node) (at link : ℕ) (counts : Counts) (can : HasNodeAndList nodes at link) →
+    IsCarrying nodes 0 can.added can.list can.others at link counts counts
+carry_begun nodes at link counts can = record {
   carry = can.added;
   rest = can.list;
   carry_is = can.added_is;
@@ -75,12 +74,12 @@ module _ {nodes : List Node} {rank : ℕ} {x y : Forest} {others : List Part} {c
   carry_somewhere e = absurd (omega (arith, m.carry_is, e, head_somewhere nodes nowhere m.carry m.small m.parts.stand.0 carry_some))
 
   -- no tree has so many nodes
-  pub carry_low : rank < 32
+  pub carry_low : rank < 16
   carry_low =
-      ⊎_elim (λ lt. lt) (λ ge. absurd (omega (arith, pow_mono ge, sizes-le-length nodes _ m.parts, m.small, m.full))) (cases_lt rank 32)
+      ⊎_elim (λ lt. lt) (λ ge. absurd (omega (arith, pow_mono ge, sizes-le-length nodes _ m.parts, m.small, m.full))) (cases_lt rank 16)
 
   module _ {mid : List Node} {tree_link left : ℕ} (cuts : (can : HasRoots nodes rest_link) → Rises rank can.list → IsCut mid rank can.list can.others tree_link left)
-      (mid_small : length mid < 2 ^ 32) where
+      (mid_small : length mid < 2 ^ 16) where
     abbrev carry_cut : IsCut mid rank m.rest (root m.carry ∷ others) tree_link left
     carry_cut = cuts rest_list m.rises
 
@@ -94,12 +93,11 @@ module _ {nodes : List Node} {rank : ℕ} {x y : Forest} {others : List Part} {c
     cut_node some = tree_node mid rank tree_link carry_cut.first carry_cut.first_is some carry_cut.first_tree cut_parts.stand.1.0
 
     -- the heap has no tree of this rank
-    pub carried_out : {new : List Node} (low : ℕ) → low ≤ rank → tree_link ≡ nowhere → new ≡ nodes_with_sibling mid carry_link left →
-        IsAddedTo new low x y others carry_link before between
-    carried_out {new} low le missing written =
+    pub carried_out : {new : List Node} → tree_link ≡ nowhere → new ≡ nodes_with_sibling mid carry_link left → IsAddedTo new x y others carry_link before between
+    carried_out {new} missing written =
         let empty : carry_cut.first ≡ none = none_from_link mid nowhere tree_link carry_cut.first mid_small cut_parts.stand.1.0 carry_cut.first_is missing in
         let p : Parts mid (root m.carry ∷ root carry_cut.rest ∷ others) = record { stand = (cut_parts.stand.0, cut_parts.stand.1.1); once = λ i. omega (arith, cut_parts.once i) } in
-        let l = tree_laid mid new low rank carry_link left m.carry carry_cut.rest others le m.carry_is carry_somewhere carry_cut.rest_is m.carry_tree carry_cut.rises p written in
+        let l = tree_laid mid new 0 rank carry_link left m.carry carry_cut.rest others (omega arith) m.carry_is carry_somewhere carry_cut.rest_is m.carry_tree carry_cut.rises p written in
         record {
           heap = l.0;
           heap_is = l.1;
@@ -113,24 +111,23 @@ module _ {nodes : List Node} {rank : ℕ} {x y : Forest} {others : List Part} {c
 
     -- it has one, which is joined with the carried one
     pub carried_on : {new : List Node} {result : ℕ} {after : Counts} → tree_link ≢ nowhere → AreJoined mid new carry_link tree_link result → Compares 1 between after →
-        length new < 2 ^ 32 → IsCarrying new (rank + 1) x y others result left before after
+        length new < 2 ^ 16 → IsCarrying new (rank + 1) x y others result left before after
     carried_on {new} {result} {after} some joined counted small =
-        let d : IsAdded new rank _ (root carry_cut.rest ∷ others) nowhere result between after =
-        two_joined mid new between after rank carry_link tree_link result m.carry carry_cut.first (root carry_cut.rest ∷ others) m.carry_is carry_cut.first_is
-        m.carry_tree carry_cut.first_tree cut_parts carry_somewhere some joined counted in
-        let nothing : d.sum ≡ none = none_from_link new nowhere nowhere d.sum small d.parts.stand.0 d.sum_is refl in
+        let d : IsJoined new rank m.carry carry_cut.first (root carry_cut.rest ∷ others) result =
+        two_joined mid new rank carry_link tree_link result m.carry carry_cut.first (root carry_cut.rest ∷ others) m.carry_is carry_cut.first_is
+        m.carry_tree carry_cut.first_tree cut_parts carry_somewhere some joined in
         let whole : size carry_cut.first ≡ 2 ^ rank =
         ⊎_elim (λ h. absurd (some (carry_cut.first_is ∙ ap head h))) (λ h. h) (size_from_tree rank carry_cut.first carry_cut.first_tree) in
         record {
-          carry = d.carry;
+          carry = d.whole;
           rest = carry_cut.rest;
-          carry_is = d.carry_is;
+          carry_is = d.whole_is;
           rest_is = carry_cut.rest_is;
-          carry_tree = d.carry_tree;
-          full = omega (arith, d.kept one_each, ap size nothing, whole, m.full, double rank (rank + 1) refl);
+          carry_tree = d.is_tree;
+          full = omega (arith, d.kept one_each, whole, m.full, double rank (rank + 1) refl);
           rises = carry_cut.rises;
           small = small;
-          parts = record { stand = d.parts.stand.1; once = λ i. omega (arith, d.parts.once i) };
-          kept = λ w. omega (arith, d.kept w, ap (λ f. forest_weight w f) nothing, carry_cut.kept w, m.kept w);
-          counted = compares_within (omega (arith, some-le d.carry)) (compares_both m.counted d.counted);
+          parts = d.parts;
+          kept = λ w. omega (arith, d.kept w, carry_cut.kept w, m.kept w);
+          counted = compares_within (omega arith) (compares_both m.counted counted);
         }

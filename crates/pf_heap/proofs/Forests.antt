@@ -1,14 +1,15 @@
 -- Forests without memory: the order of their keys, and their weights.
-use Rattle.std.proofs.Common.{◌≡◌, ◌≢◌, ℕ, ◌+◌, ◌^◌, ◌≤◌, true, false, ◌⊎◌, inl, inr, refl, sym, ap, ◌∙◌, arith}
+use Rattle.std.proofs.Common.{◌≡◌, ◌≢◌, ℕ, ◌+◌, ◌^◌, ◌≤◌, true, ◌⊎◌, inl, inr, refl, sym, ap, ◌∙◌, arith}
 use Rattle.std.proofs.lemmas.Nat.{pow-add}
 use Rattle.std.proofs.Math.Pow.{pow_mono}
 use Rattle.std.proofs.lemmas.Cmp.{upto, tied_itself}
 use Rattle.std.specs.declared.cmp.Ordering.{Ordering}
 use Rattle.std.specs.declared.cmp.Ordering.TheVariants.{Less, Equal, Greater}
 use Rattle.std.specs.Ordering.{is_lt, is_gt, ordering_reverse}
+use Rattle.pf_facts.proofs.Orders.{not_both}
 use Rattle.pf_order.specs.Priority.{Priority, precedes, priority_cmp}
 use Rattle.pf_order.proofs.Order.{priority_cmp_total}
-use Rattle.pf_heap.specs.Forest.{Forest, none, tree, forest_weight, same, size, IsBelow, AllBelow, Falls, Rises, IsTreeOrNone}
+use Rattle.pf_heap.specs.Forest.{Forest, none, tree, forest_weight, same, size, IsBelow, AllBelow, Falls, Rises, IsTreeOrNone, some}
 
 -- ---- numbers
 
@@ -47,11 +48,6 @@ below-trans p q k upper lower =
 
 pub below-itself : (p : Priority) → IsBelow p p
 below-itself p = ap is_lt (tied_itself priority_cmp_total p)
-
-not_both : (o : Ordering) → is_lt o ≡ true → is_lt (ordering_reverse o) ≡ false
-not_both Less e = refl
-not_both Equal e = refl
-not_both Greater e = cc
 
 -- what precedes is above
 pub below_from_precedes : (p k : Priority) → precedes p k ≡ true → IsBelow p k
@@ -101,3 +97,13 @@ forest_weight-zero w (tree at key rank kids rest) e = omega (arith, e at key, fo
 pub forest_weight-le : (v w : ℕ → Priority → ℕ) (f : Forest) → ((at : ℕ) (key : Priority) → v at key ≤ w at key) → forest_weight v f ≤ forest_weight w f
 forest_weight-le v w none e = omega arith
 forest_weight-le v w (tree at key rank kids rest) e = omega (arith, e at key, forest_weight-le v w kids e, forest_weight-le v w rest e)
+
+-- ---- roots
+
+pub some-le : (f : Forest) → some f ≤ 1
+some-le none = omega arith
+some-le (tree at key rank kids rest) = omega arith
+
+pub rises_less : (r s : ℕ) (f : Forest) → s ≤ r → Rises r f → Rises s f
+rises_less r s none le h = tt
+rises_less r s (tree at key rank kids rest) le h = (omega (arith, h.0), h.1, h.2)

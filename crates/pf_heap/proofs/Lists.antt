@@ -1,17 +1,16 @@
 -- The list of an arena's heaps.
-use Rattle.std.proofs.Common.{◌≡◌, ◌≢◌, ℕ, zero, suc, ◌+◌, ◌-◌, ◌<◌, ◌≤◌, List, [], ◌∷◌, ◌++◌, map, length, get_or, set, take, drop, refl, sym, ap, ◌∙◌, subst, arith, ⊎_elim, length-append, eqb, get_or-set_other}
-use Rattle.std.specs.Prelude.{IsTrue, not}
-use Rattle.std.proofs.lemmas.Bool.Decides.{nat_tests}
+use Rattle.std.proofs.Common.{◌≡◌, ◌≢◌, ℕ, zero, suc, ◌+◌, ◌<◌, ◌≤◌, List, [], ◌∷◌, ◌++◌, map, length, get_or, set, take, drop, refl, sym, ap, ◌∙◌, subst, arith, ⊎_elim, get_or-set_other}
+use Rattle.std.specs.Prelude.{replicate}
 use Rattle.std.proofs.lemmas.Bool.{cases_lt}
-use Rattle.std.proofs.lemmas.List.{get_or_append_left, set-set}
 use Rattle.std.proofs.Math.Seq.{take-append_seam}
 use Rattle.pf_order.specs.Priority.{Priority}
 use Rattle.pf_heap.specs.declared.node.Node.{Node}
-use Rattle.pf_heap.specs.Forest.{Forest, none, tree, nowhere, forest_weight, same, one_each, at_place, of_task, size, Rises}
-use Rattle.pf_heap.specs.Memory.{no_node, node_at, Stands, Part, root, weigh_all, StandAll, Parts}
-use Rattle.pf_heap.specs.Invariant.{AllRise, all_roots, misplaced}
-use Rattle.pf_heap.proofs.Forests.{same-self, same-other, equal_from_same}
-use Rattle.pf_heap.proofs.Weights.{upto, upto-below, pigeonhole}
+use Rattle.pf_heap.specs.Forest.{Forest, none, tree, nowhere, idle, forest_weight, same, at_place, of_task, Rises}
+use Rattle.pf_heap.specs.Memory.{node_at, Stands, all_roots, weigh_all, StandAll}
+use Rattle.pf_heap.specs.View.{with_trees, side_by_side}
+use Rattle.pf_heap.specs.Invariant.{AllRise, IsIdle, AreIdle, misplaced}
+use Rattle.pf_heap.proofs.Forests.{same-other, equal_from_same}
+use Rattle.pf_heap.proofs.Tables.{weigh_all-put, weigh-le-all}
 
 -- a slice that was lent is back in its Vec
 pub written_back : {X : Type 0} (new items : List X) (n : ℕ) → length new ≡ length items → n ≡ length items → take n (new ++ drop (length new) items) ≡ new
@@ -27,27 +26,6 @@ pub length-map_at : {X Y : Type 0} (f : X → Y) (xs : List X) → length (map f
 length-map_at f [] = refl
 length-map_at f (x ∷ xs) = ap suc (length-map_at f xs)
 
-pub weigh_all-set : (w : ℕ → Priority → ℕ) (fs : List Forest) (k : ℕ) (g : Forest) → k < length fs →
-    weigh_all w (all_roots (set fs k g)) + forest_weight w (get_or fs k none) ≡ weigh_all w (all_roots fs) + forest_weight w g
-weigh_all-set w [] k g h = absurd (omega (arith, h))
-weigh_all-set w (f ∷ fs) zero g h = omega arith
-weigh_all-set w (f ∷ fs) (suc k) g h = omega (arith, weigh_all-set w fs k g (omega (arith, h)))
-
-pub forest_weight-le-all : (w : ℕ → Priority → ℕ) (fs : List Forest) (k : ℕ) → forest_weight w (get_or fs k none) ≤ weigh_all w (all_roots fs)
-forest_weight-le-all w [] k = omega arith
-forest_weight-le-all w (f ∷ fs) zero = omega arith
-forest_weight-le-all w (f ∷ fs) (suc k) = omega (arith, forest_weight-le-all w fs k)
-
-pub stands_in : (nodes : List Node) (fs : List Forest) (k : ℕ) → StandAll nodes (all_roots fs) → Stands nodes nowhere (get_or fs k none)
-stands_in nodes [] k s = tt
-stands_in nodes (f ∷ fs) zero s = s.0
-stands_in nodes (f ∷ fs) (suc k) s = stands_in nodes fs k s.1
-
-pub stand_all-put : (nodes : List Node) (fs : List Forest) (k : ℕ) (g : Forest) → StandAll nodes (all_roots fs) → Stands nodes nowhere g → StandAll nodes (all_roots (set fs k g))
-stand_all-put nodes [] k g s t = tt
-stand_all-put nodes (f ∷ fs) zero g s t = (t, s.1)
-stand_all-put nodes (f ∷ fs) (suc k) g s t = (s.0, stand_all-put nodes fs k g s.1 t)
-
 pub rises_in : (fs : List Forest) (k : ℕ) → AllRise fs → Rises 0 (get_or fs k none)
 rises_in [] k r = tt
 rises_in (f ∷ fs) zero r = r.0
@@ -58,89 +36,7 @@ all_rise-set [] k g r t = tt
 all_rise-set (f ∷ fs) zero g r t = (t, r.1)
 all_rise-set (f ∷ fs) (suc k) g r t = (r.0, all_rise-set fs k g r.1 t)
 
--- a heap beside the others and the free nodes, and back among them
-module _ {nodes : List Node} (spares : Forest) (fs : List Forest) (k : ℕ) (within : k < length fs) where
-  pub parts_apart : Parts nodes (root spares ∷ all_roots fs) → Parts nodes (root (get_or fs k none) ∷ root spares ∷ all_roots (set fs k none))
-  parts_apart parts = record {
-    stand = (stands_in nodes fs k parts.stand.1, (parts.stand.0, stand_all-put nodes fs k none parts.stand.1 tt));
-    once = λ i. omega (arith, parts.once i, weigh_all-set (at_place i) fs k none within);
-  }
-
-  pub parts_put : (f : Forest) → Parts nodes (root f ∷ root spares ∷ all_roots (set fs k none)) → Parts nodes (root spares ∷ all_roots (set fs k f))
-  parts_put f parts = record {
-    stand = (
-      parts.stand.1.0,
-      subst (λ l. StandAll nodes (all_roots l)) (set-set fs k none f) (stand_all-put nodes (set fs k none) k f parts.stand.1.1 parts.stand.0),
-    );
-    once = λ i. omega (arith, parts.once i, weigh_all-set (at_place i) fs k none within, weigh_all-set (at_place i) fs k f within);
-  }
-
--- ---- weights that differ at one task alone
-
-forest_weight-ext_but : (t : ℕ) (v w : ℕ → Priority → ℕ) (f : Forest) → ((at : ℕ) (key : Priority) → key.task ≢ t → v at key ≡ w at key) → forest_weight (of_task t) f ≡ 0 → forest_weight v f ≡ forest_weight w f
-forest_weight-ext_but t v w none e h = refl
-forest_weight-ext_but t v w (tree at key rank kids rest) e h =
-    let differ : key.task ≢ t = λ i. absurd (omega (arith, h, same-self t, ap (λ x. same t x) i)) in
-    omega (arith, e at key differ, forest_weight-ext_but t v w kids e (omega (arith, h)), forest_weight-ext_but t v w rest e (omega (arith, h)))
-
-pub weigh_all-ext_but : (t : ℕ) (v w : ℕ → Priority → ℕ) (ps : List Part) → ((at : ℕ) (key : Priority) → key.task ≢ t → v at key ≡ w at key) → weigh_all (of_task t) ps ≡ 0 → weigh_all v ps ≡ weigh_all w ps
-weigh_all-ext_but t v w [] e h = refl
-weigh_all-ext_but t v w (p ∷ ps) e h =
-    omega (arith, forest_weight-ext_but t v w p.1 e (omega (arith, h)), weigh_all-ext_but t v w ps e (omega (arith, h)))
-
--- ---- one task's place is written
-
--- the places of the other tasks are as before
-pub same_place : (places : List ℕ) (u t at : ℕ) → same u t ≡ 0 → same (get_or (set places t at) u nowhere) nowhere ≡ same (get_or places u nowhere) nowhere
-same_place places u t at other =
-    let differ : u ≢ t = λ e. absurd (omega (arith, other, same-self u, ap (λ x. same u x) e)) in
-    ap (λ x. same x nowhere) (get_or-set_other places t u at nowhere differ)
-
--- where the task isn't held, as many keys are misplaced as before
-pub replaced : (places : List ℕ) (t at : ℕ) (ps : List Part) → weigh_all (of_task t) ps ≡ 0 → weigh_all (misplaced (set places t at)) ps ≡ weigh_all (misplaced places) ps
-replaced places t at ps absent =
-    weigh_all-ext_but t (misplaced (set places t at)) (misplaced places) ps
-    (λ i key differ. ap (λ x. 1 - same x i) (get_or-set_other places t key.task at nowhere differ)) absent
-
--- ---- as many keys as tasks at most
-
-low_tasks : (n : ℕ) (f : Forest) → ((t : ℕ) → n ≤ t → forest_weight (of_task t) f ≡ 0) → forest_weight (λ at key. upto n key.task) f ≡ size f
-low_tasks n none h = refl
-low_tasks n (tree at key rank kids rest) h =
-    let low : key.task < n = ⊎_elim (λ lt. lt) (λ ge. absurd (omega (arith, h key.task ge, same-self key.task))) (cases_lt key.task n) in
-    omega (arith, upto-below n key.task low, low_tasks n kids (λ t ge. omega (arith, h t ge)), low_tasks n rest (λ t ge. omega (arith, h t ge)))
-
-all_low_tasks : (n : ℕ) (ps : List Part) → ((t : ℕ) → n ≤ t → weigh_all (of_task t) ps ≡ 0) → weigh_all (λ at key. upto n key.task) ps ≡ weigh_all one_each ps
-all_low_tasks n [] h = refl
-all_low_tasks n (p ∷ ps) h =
-    omega (arith, low_tasks n p.1 (λ t ge. omega (arith, h t ge)), all_low_tasks n ps (λ t ge. omega (arith, h t ge)))
-
-pub few_keys : (n : ℕ) (ps : List Part) → ((t : ℕ) → weigh_all (of_task t) ps ≤ 1) → ((t : ℕ) → n ≤ t → weigh_all (of_task t) ps ≡ 0) → weigh_all one_each ps ≤ n
-few_keys n ps once low = omega (arith, all_low_tasks n ps low, pigeonhole (λ at key. key.task) ps n once)
-
--- ---- one more node at the end
-
-pub stands-push : (nodes : List Node) (v : Node) (up : ℕ) (f : Forest) → Stands nodes up f → Stands (nodes ++ v ∷ []) up f
-stands-push nodes v up none s = tt
-stands-push nodes v up (tree at key rank kids rest) s = (
-  omega (arith, s.0, length-append nodes (v ∷ [])),
-  get_or_append_left nodes (v ∷ []) no_node at s.0 ∙ s.1,
-  stands-push nodes v at kids s.2,
-  stands-push nodes v up rest s.3,
-)
-
-pub stand_all-push : (nodes : List Node) (v : Node) (ps : List Part) → StandAll nodes ps → StandAll (nodes ++ v ∷ []) ps
-stand_all-push nodes v [] s = tt
-stand_all-push nodes v (p ∷ ps) s = (stands-push nodes v p.0 p.1 s.0, stand_all-push nodes v ps s.1)
-
-past : (nodes : List Node) (up : ℕ) (f : Forest) → Stands nodes up f → forest_weight (at_place (length nodes)) f ≡ 0
-past nodes up none s = refl
-past nodes up (tree at key rank kids rest) s =
-    omega (arith, same-other (length nodes) at (λ e. absurd (omega (arith, s.0, e))), past nodes at kids s.2, past nodes up rest s.3)
-
-pub all_past : (nodes : List Node) (ps : List Part) → StandAll nodes ps → weigh_all (at_place (length nodes)) ps ≡ 0
-all_past nodes [] s = refl
-all_past nodes (p ∷ ps) s = omega (arith, past nodes p.0 p.1 s.0, all_past nodes ps s.1)
+-- ---- some heap, and two of them
 
 -- some heap weighs something where all together do
 pub some_heap : (w : ℕ → Priority → ℕ) (fs : List Forest) → 1 ≤ weigh_all w (all_roots fs) → (k : ℕ) × (k < length fs) × (1 ≤ forest_weight w (get_or fs k none))
@@ -151,62 +47,104 @@ some_heap w (f ∷ fs) h =
     (λ le. let m = some_heap w fs (omega (arith, h, le)) in (suc m.0, omega (arith, m.1), m.2))
     (cases_lt 0 (forest_weight w f))
 
--- ---- tests
-
-pub differ_from_true : (m n : ℕ) → IsTrue (not (eqb m n)) → m ≢ n
-differ_from_true m n t e = grind (arith, nat_tests)
-
-pub true_from_differ : (m n : ℕ) → m ≢ n → IsTrue (not (eqb m n))
-true_from_differ m n h = grind (arith, nat_tests)
-
--- ---- no heaps, and one more
-
-pub weigh_all-none : (w : ℕ → Priority → ℕ) (fs : List Forest) → weigh_all w (all_roots (fs ++ none ∷ [])) ≡ weigh_all w (all_roots fs)
-weigh_all-none w [] = refl
-weigh_all-none w (f ∷ fs) = ap (λ n. forest_weight w f + n) (weigh_all-none w fs)
-
-pub all_rise-none : (fs : List Forest) → AllRise fs → AllRise (fs ++ none ∷ [])
-all_rise-none [] r = (tt, tt)
-all_rise-none (f ∷ fs) r = (r.0, all_rise-none fs r.1)
-
-pub stand_all-none : (nodes : List Node) (fs : List Forest) → StandAll nodes (all_roots fs) → StandAll nodes (all_roots (fs ++ none ∷ []))
-stand_all-none nodes [] s = (tt, tt)
-stand_all-none nodes (f ∷ fs) s = (s.0, stand_all-none nodes fs s.1)
-
--- ---- two heaps of the list
-
+-- two heaps of the list
 pub two-le-all : (w : ℕ → Priority → ℕ) (fs : List Forest) (j k : ℕ) → j ≢ k → k < length fs → forest_weight w (get_or fs j none) + forest_weight w (get_or fs k none) ≤ weigh_all w (all_roots fs)
 two-le-all w fs j k differ within =
-    omega (arith, weigh_all-set w fs k none within, forest_weight-le-all w (set fs k none) j, ap (λ f. forest_weight w f) (get_or-set_other fs k j none none differ))
+    omega (arith, weigh_all-put w fs k none within, weigh-le-all w (set fs k none) j, ap (λ f. forest_weight w f) (get_or-set_other fs k j none none differ))
 
--- weights that are the same for the tasks that are there
-forest_weight-ext_tasks : (v w : ℕ → Priority → ℕ) (f : Forest) → ((at : ℕ) (key : Priority) → 1 ≤ forest_weight (of_task key.task) f → v at key ≡ w at key) → forest_weight v f ≡ forest_weight w f
-forest_weight-ext_tasks v w none e = refl
-forest_weight-ext_tasks v w (tree at key rank kids rest) e =
+-- ---- empty heaps more
+
+pub weigh_all-more : (w : ℕ → Priority → ℕ) (fs : List Forest) (n : ℕ) → weigh_all w (all_roots (fs ++ replicate n none)) ≡ weigh_all w (all_roots fs)
+weigh_all-more w [] zero = refl
+weigh_all-more w [] (suc n) = omega (arith, weigh_all-more w [] n)
+weigh_all-more w (f ∷ fs) n = ap (λ m. forest_weight w f + m) (weigh_all-more w fs n)
+
+pub all_rise-more : (fs : List Forest) (n : ℕ) → AllRise fs → AllRise (fs ++ replicate n none)
+all_rise-more [] zero r = tt
+all_rise-more [] (suc n) r = (tt, all_rise-more [] n tt)
+all_rise-more (f ∷ fs) n r = (r.0, all_rise-more fs n r.1)
+
+pub stand_all-more : (nodes : List Node) (fs : List Forest) (n : ℕ) → StandAll nodes (all_roots fs) → StandAll nodes (all_roots (fs ++ replicate n none))
+stand_all-more nodes [] zero s = tt
+stand_all-more nodes [] (suc n) s = (tt, stand_all-more nodes [] n tt)
+stand_all-more nodes (f ∷ fs) n s = (s.0, stand_all-more nodes fs n s.1)
+
+-- ---- trees side by side
+
+pub with_trees-weight : (w : ℕ → Priority → ℕ) (f g : Forest) → forest_weight w (with_trees f g) ≡ forest_weight w f + forest_weight w g
+with_trees-weight w none g = omega arith
+with_trees-weight w (tree at key rank kids rest) g = omega (arith, with_trees-weight w rest g)
+
+pub side_by_side-weight : (w : ℕ → Priority → ℕ) (fs : List Forest) → forest_weight w (side_by_side fs) ≡ weigh_all w (all_roots fs)
+side_by_side-weight w [] = refl
+side_by_side-weight w (f ∷ fs) = omega (arith, with_trees-weight w f (side_by_side fs), side_by_side-weight w fs)
+
+-- ---- each key is in its task's node
+
+pub own_task : (t : ℕ) (f : Forest) → forest_weight misplaced f ≡ 0 → forest_weight (of_task t) f ≡ forest_weight (at_place t) f
+own_task t none h = refl
+own_task t (tree at key rank kids rest) h =
+    let e : key.task ≡ at = equal_from_same key.task at (omega (arith, h)) in
+    omega (arith, ap (λ x. same t x) e, own_task t kids (omega (arith, h)), own_task t rest (omega (arith, h)))
+
+pub own_tasks : (t : ℕ) (fs : List Forest) → weigh_all misplaced (all_roots fs) ≡ 0 → weigh_all (of_task t) (all_roots fs) ≡ weigh_all (at_place t) (all_roots fs)
+own_tasks t [] h = refl
+own_tasks t (f ∷ fs) h = omega (arith, own_task t f (omega (arith, h)), own_tasks t fs (omega (arith, h)))
+
+-- ---- idle nodes
+
+idle_other : (i j : ℕ) (f : Forest) → IsIdle j f → i ≢ j → forest_weight (at_place i) f ≡ 0
+idle_other i j none h differ = refl
+idle_other i j (tree at key rank kids rest) h differ =
     omega (
       arith,
-      e at key (omega (arith, same-self key.task)),
-      forest_weight-ext_tasks v w kids (λ i k h. e i k (omega (arith, h))),
-      forest_weight-ext_tasks v w rest (λ i k h. e i k (omega (arith, h))),
+      same-other i at (λ e. differ (e ∙ h.0)),
+      ap (λ g. forest_weight (at_place i) g) h.2,
+      ap (λ g. forest_weight (at_place i) g) h.3,
     )
 
-pub weigh_all-ext_tasks : (v w : ℕ → Priority → ℕ) (ps : List Part) → ((at : ℕ) (key : Priority) → 1 ≤ weigh_all (of_task key.task) ps → v at key ≡ w at key) → weigh_all v ps ≡ weigh_all w ps
-weigh_all-ext_tasks v w [] e = refl
-weigh_all-ext_tasks v w (p ∷ ps) e =
-    omega (arith, forest_weight-ext_tasks v w p.1 (λ i k h. e i k (omega (arith, h))), weigh_all-ext_tasks v w ps (λ i k h. e i k (omega (arith, h))))
+idles_below : (i k : ℕ) (fs : List Forest) → AreIdle k fs → i < k → weigh_all (at_place i) (all_roots fs) ≡ 0
+idles_below i k [] h lt = refl
+idles_below i k (f ∷ fs) h lt =
+    omega (arith, idle_other i k f h.0 (λ e. absurd (omega (arith, lt, e))), idles_below i (suc k) fs h.1 (omega (arith, lt)))
 
--- a task that is there is at its place
-pub placed_node : (nodes : List Node) (places : List ℕ) (up t : ℕ) (f : Forest) → Stands nodes up f → forest_weight (misplaced places) f ≡ 0 → 1 ≤ forest_weight (of_task t) f →
-    (1 ≤ forest_weight (at_place (get_or places t nowhere)) f) × ((node_at nodes (get_or places t nowhere)).key.task ≡ t)
-placed_node nodes places up t none s placed has = absurd (omega (arith, has))
-placed_node nodes places up t (tree at key rank kids rest) s placed has =
-    ⊎_elim
-    (λ here.
-    let e : t ≡ key.task = equal_from_same t key.task (omega (arith, here)) in
-    let p : get_or places t nowhere ≡ at = ap (λ x. get_or places x nowhere) e ∙ equal_from_same _ _ (omega (arith, placed)) in
-    (omega (arith, same-self at, ap (λ x. same x at) p), ap (λ x. (node_at nodes x).key.task) p ∙ ap (λ (n : Node). n.key.task) s.1 ∙ sym e))
-    (λ other. ⊎_elim
-    (λ inside. let m = placed_node nodes places at t kids s.2 (omega (arith, placed)) (omega (arith, inside)) in (omega (arith, m.0), m.1))
-    (λ outside. let m = placed_node nodes places up t rest s.3 (omega (arith, placed)) (omega (arith, has, other, outside)) in (omega (arith, m.0), m.1))
-    (cases_lt 0 (forest_weight (of_task t) kids)))
-    (cases_lt 0 (same t key.task))
+idle_at : (k i : ℕ) (fs : List Forest) → AreIdle k fs → IsIdle (k + i) (get_or fs i none)
+idle_at k i [] h = tt
+idle_at k zero (f ∷ fs) h = subst (λ n. IsIdle n f) (let e : k ≡ k + 0 = omega arith in e) h.0
+idle_at k (suc i) (f ∷ fs) h = subst (λ n. IsIdle n (get_or fs i none)) (let e : suc k + i ≡ k + suc i = omega arith in e) (idle_at (suc k) i fs h.1)
+
+pub own_idle : (t : ℕ) (fs : List Forest) → AreIdle 0 fs → IsIdle t (get_or fs t none)
+own_idle t fs h = subst (λ n. IsIdle n (get_or fs t none)) (let e : 0 + t ≡ t = omega arith in e) (idle_at 0 t fs h)
+
+idle_put : (k i : ℕ) (fs : List Forest) (g : Forest) → AreIdle k fs → IsIdle (k + i) g → AreIdle k (set fs i g)
+idle_put k i [] g h t = tt
+idle_put k zero (f ∷ fs) g h t = (subst (λ n. IsIdle n g) (let e : k + 0 ≡ k = omega arith in e) t, h.1)
+idle_put k (suc i) (f ∷ fs) g h t =
+    (h.0, idle_put (suc k) i fs g h.1 (subst (λ n. IsIdle n g) (let e : k + suc i ≡ suc k + i = omega arith in e) t))
+
+pub put_idle : (t : ℕ) (fs : List Forest) (g : Forest) → AreIdle 0 fs → IsIdle t g → AreIdle 0 (set fs t g)
+put_idle t fs g h i = idle_put 0 t fs g h (subst (λ n. IsIdle n g) (let e : t ≡ 0 + t = omega arith in e) i)
+
+idles_weight : (k i : ℕ) (fs : List Forest) → AreIdle k fs → weigh_all (at_place (k + i)) (all_roots fs) ≡ forest_weight (at_place (k + i)) (get_or fs i none)
+idles_weight k i [] h = refl
+idles_weight k zero (f ∷ fs) h =
+    omega (arith, idles_below (k + 0) (suc k) fs h.1 (omega arith))
+idles_weight k (suc i) (f ∷ fs) h =
+    let e : suc k + i ≡ k + suc i = omega arith in
+    omega (
+      arith,
+      idle_other (k + suc i) k f h.0 (λ z. absurd (omega (arith, z))),
+      idles_weight (suc k) i fs h.1,
+      ap (λ x. weigh_all (at_place x) (all_roots fs)) e,
+      ap (λ x. forest_weight (at_place x) (get_or fs i none)) e,
+    )
+
+-- the idle nodes weigh what the one at its place does
+pub idle_weight : (t : ℕ) (fs : List Forest) → AreIdle 0 fs → weigh_all (at_place t) (all_roots fs) ≡ forest_weight (at_place t) (get_or fs t none)
+idle_weight t fs h =
+    let e : 0 + t ≡ t = omega arith in
+    omega (arith, idles_weight 0 t fs h, ap (λ x. weigh_all (at_place x) (all_roots fs)) e, ap (λ x. forest_weight (at_place x) (get_or fs t none)) e)
+
+pub idle_rank : (nodes : List Node) (t : ℕ) (f : Forest) → IsIdle t f → Stands nodes nowhere f → 1 ≤ forest_weight (at_place t) f → (node_at nodes t).rank ≡ idle
+idle_rank nodes t none h s has = absurd (omega (arith, has))
+idle_rank nodes t (tree at key rank kids rest) h s has = ap (λ x. (node_at nodes x).rank) (sym h.0) ∙ ap (λ (n : Node). n.rank) s.1 ∙ h.1

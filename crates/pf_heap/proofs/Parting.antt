@@ -7,10 +7,9 @@ use Rattle.pf_heap.specs.declared.node.Node.{Node}
 use Rattle.pf_heap.specs.Forest.{Forest, none, tree, nowhere, head, forest_weight, same, at_place, size, Rises, HasRoot}
 use Rattle.pf_heap.specs.Memory.{no_node, node_at, Stands, Part, root, Parts, nodes_with_sibling}
 use Rattle.pf_heap.specs.Pops.{HasHeapAndRoot, IsRightBefore, IsPassing, IsParted}
-use Rattle.pf_heap.proofs.Forests.{same-self, size_from_rises}
+use Rattle.pf_heap.proofs.Forests.{same-self, size_from_rises, rises_less}
 use Rattle.pf_heap.proofs.Standing.{stands-set, stand_all-set, cut_parts}
 use Rattle.pf_heap.proofs.Weights.{sizes-le-length}
-use Rattle.pf_heap.proofs.Sums.{rises_less}
 use Rattle.pf_heap.proofs.Pops.{root_used, root_stands}
 
 -- ---- the root right before it
@@ -62,7 +61,7 @@ module _ {nodes : List Node} {heap : Forest} {at : ℕ} {key : Priority} {rank :
   passing_within = first_within nodes now at key rank kids t.rest t.rest_is t.has t.stands
 
   -- there are no more roots than ranks
-  pub not_all_passed : {others : List Part} → 32 ≤ steps → length nodes < 2 ^ 32 → Parts nodes (root heap ∷ others) → ⊥
+  pub not_all_passed : {others : List Part} → 16 ≤ steps → length nodes < 2 ^ 16 → Parts nodes (root heap ∷ others) → ⊥
   not_all_passed {others} all small parts =
       ⊎_elim
       (λ e. omega (arith, root_used at key rank kids t.rest t.has, ap (λ f. forest_weight (at_place at) f) e))

@@ -1,22 +1,17 @@
--- Taking a root out of a heap.
-use Rattle.std.proofs.Common.{◌≡◌, ◌≢◌, ℕ, zero, suc, ◌+◌, ◌-◌, ◌^◌, ◌<◌, ◌≤◌, inl, inr, List, ◌∷◌, length, get_or, refl, sym, ap, ◌∙◌, subst, arith, get_or-set_same, ⊎_elim}
-use Rattle.std.proofs.Math.ListN.{length-set}
+-- Roots, and the one with the first key.
+use Rattle.std.proofs.Common.{◌≡◌, ◌≢◌, ℕ, zero, suc, ◌+◌, ◌-◌, ◌^◌, ◌<◌, ◌≤◌, inl, inr, List, ◌∷◌, length, refl, sym, ap, ◌∙◌, subst, arith, ⊎_elim}
 use Rattle.std.proofs.Math.Pow.{pow_mono}
 use Rattle.std.proofs.lemmas.Nat.{pow_pos}
-use Rattle.std.proofs.lemmas.Bool.{cases_lt}
-use Rattle.std.proofs.lemmas.List.{get_or_read}
 use Rattle.pf_order.specs.Priority.{Priority, precedes}
 use Rattle.pf_order.specs.Counts.{Counts, Compares}
 use Rattle.pf_heap.specs.declared.node.Node.{Node}
-use Rattle.pf_heap.specs.Forest.{Forest, none, tree, nowhere, head, forest_weight, same, one_each, at_place, size, IsBelow, AllBelow, Falls, Rises, Sinks, HasRoot}
-use Rattle.pf_heap.specs.Memory.{no_node, node_at, Stands, Part, root, Parts}
-use Rattle.pf_heap.specs.Steps.{IsMerged}
-use Rattle.pf_heap.specs.Pops.{roots, IsEarlier, IsSeeking, IsLeastRoot, HasHeapAndRoot, IsParted, nodes_with_free, CanPop, IsPopped, HasChildren}
+use Rattle.pf_heap.specs.Forest.{Forest, none, tree, nowhere, head, forest_weight, same, at_place, size, IsBelow, AllBelow, Falls, Rises, HasRoot, roots}
+use Rattle.pf_heap.specs.Memory.{node_at, Stands, Part, root, Parts}
+use Rattle.pf_heap.specs.Pops.{IsEarlier, IsSeeking, IsLeastRoot}
 use Rattle.pf_order.proofs.Comparing.{compares_none, compares_both}
-use Rattle.pf_heap.proofs.Forests.{same-self, double, size_from_falls, size_from_rises, below-trans, below-itself, below_from_precedes, all_below-trans, all_below_from_falls}
-use Rattle.pf_heap.proofs.Standing.{head_within, stands-set, stand_all-set}
+use Rattle.pf_heap.proofs.Forests.{same-self, double, size_from_falls, size_from_rises, below-trans, below-itself, below_from_precedes, all_below-trans, all_below_from_falls, rises_less}
+use Rattle.pf_heap.proofs.Standing.{none_from_link, head_within}
 use Rattle.pf_heap.proofs.Weights.{sizes-le-length}
-use Rattle.pf_heap.proofs.Sums.{none_from_link, rises_less}
 
 -- ---- roots
 
@@ -177,15 +172,15 @@ module _ {nodes : List Node} {heap : Forest} {best rest_link steps : ℕ} {befor
   }
 
   -- at the end of the roots, and after as many steps as there are ranks
-  pub found_out : length nodes < 2 ^ 32 → rest_link ≡ nowhere → IsLeastRoot heap best before after
+  pub found_out : length nodes < 2 ^ 16 → rest_link ≡ nowhere → IsLeastRoot heap best before after
   found_out small out = found_by (none_from_link nodes nowhere rest_link t.rest small t.stands t.rest_is out)
 
-  pub found_all : {others : List Part} → 32 ≤ steps → length nodes < 2 ^ 32 → Parts nodes (root heap ∷ others) → IsLeastRoot heap best before after
+  pub found_all : {others : List Part} → 16 ≤ steps → length nodes < 2 ^ 16 → Parts nodes (root heap ∷ others) → IsLeastRoot heap best before after
   found_all {others} all small parts =
       found_by
       (⊎_elim (λ h. h) (λ h. absurd (omega (arith, h, pow_mono all, t.smaller, sizes-le-length nodes (root heap ∷ others) parts))) (size_from_rises steps t.rest t.rises))
 
--- ---- a root is out of its heap and free
+-- ---- a root's children
 
 pub root_falls : (r i : ℕ) (k : Priority) (rk : ℕ) (g f : Forest) → Rises r f → HasRoot i k rk g f → Falls k rk g
 root_falls r i k rk g none rises h = absurd h
@@ -195,112 +190,3 @@ root_falls r i k rk g (tree at key rank kids rest) rises h =
     subst (λ x. Falls k rk x) e.3 (subst (λ n. Falls k n kids) e.2 (subst (λ j. Falls j rank kids) e.1 rises.1)))
     (λ m. root_falls (rank + 1) i k rk g rest rises.2 m)
     h
-
-pub sinks_from_falls : (p : Priority) (r : ℕ) (f : Forest) → Falls p r f → Sinks r f
-sinks_from_falls p r none h = tt
-sinks_from_falls p r (tree at key rank kids rest) h = (omega (arith, h.0), h.2, sinks_from_falls p rank rest h.3)
-
-release_parts : (nodes : List Node) (at : ℕ) (key : Priority) (rank : ℕ) (kids stay spares : Forest) (ps : List Part) →
-    Parts nodes (root stay ∷ root (tree at key rank kids none) ∷ root spares ∷ ps) →
-    Parts (nodes_with_free nodes at (head spares)) (root stay ∷ (at, kids) ∷ root (tree at key 0 none spares) ∷ ps)
-release_parts nodes at key rank kids stay spares ps parts =
-    let s = parts.stand.1.0 in
-    let v : Node = record (node_at nodes at) { parent = nowhere; child = nowhere; sibling = head spares; rank = 0 } in
-    let o = parts.once at in
-    let e = same-self at in
-    record {
-      stand = (
-        stands-set nodes at v nowhere stay (omega (arith, o)) parts.stand.0,
-        (
-          stands-set nodes at v at kids (omega (arith, o)) s.2,
-          (
-            (
-              omega (arith, s.0, length-set nodes at v),
-              get_or-set_same nodes at v no_node s.0 ∙ ap (λ (n : Node). record n { parent = nowhere; child = nowhere; sibling = head spares; rank = 0 }) s.1,
-              tt,
-              stands-set nodes at v nowhere spares (omega (arith, o)) parts.stand.1.1.0,
-            ),
-            stand_all-set nodes at v ps (omega (arith, o)) parts.stand.1.1.1,
-          ),
-        ),
-      );
-      once = λ i. omega (arith, parts.once i);
-    }
-
-abbrev pub heap_and_root : {nodes : List Node} {link at free : ℕ} → CanPop nodes link at free → HasHeapAndRoot nodes link at
-heap_and_root can = record {
-  heap = can.heap;
-  others = root can.spares ∷ can.others;
-  key = can.key;
-  rank = can.rank;
-  kids = can.kids;
-  heap_is = can.heap_is;
-  has = can.has;
-  rises = can.rises;
-  small = can.small;
-  parts = can.parts;
-}
-
-module _ {old mid : List Node} {link at free stay : ℕ} (can : CanPop old link at free)
-    (parts_them : (c : HasHeapAndRoot old link at) → IsParted mid c.heap c.others at c.key c.rank c.kids stay) where
-  abbrev pub parted : IsParted mid can.heap (root can.spares ∷ can.others) at can.key can.rank can.kids stay
-  parted = parts_them (heap_and_root can)
-
-  pub alone_node : IsRootNode mid at can.key can.rank can.kids
-  alone_node =
-      let here : HasRoot at can.key can.rank can.kids (tree at can.key can.rank can.kids none) = inl (refl, refl, refl, refl) in
-      root_stands mid nowhere at can.key can.rank can.kids (tree at can.key can.rank can.kids none) parted.parts.stand.1.0 here
-
-  pub kids_fall : Falls can.key can.rank can.kids
-  kids_fall = root_falls 0 at can.key can.rank can.kids can.heap can.rises can.has
-
-  pub rank_low : length mid < 2 ^ 32 → can.rank ≤ 32
-  rank_low small =
-      ⊎_elim
-      (λ lt. omega (arith, lt))
-      (λ ge. absurd (omega (arith, pow_mono ge, size_from_falls can.key can.rank can.kids kids_fall, sizes-le-length mid _ parted.parts, small)))
-      (cases_lt can.rank 32)
-
-  -- what was read of the root
-  module _ (node : Node) (found : node ≡ get_or mid at node) where
-    pub read_child : node.child ≡ head can.kids
-    read_child = ap (λ (n : Node). n.child) (get_or_read mid at node alone_node.within found no_node) ∙ alone_node.child_is
-
-    pub read_rank : node.rank ≡ can.rank
-    read_rank = ap (λ (n : Node). n.rank) (get_or_read mid at node alone_node.within found no_node) ∙ alone_node.rank_is
-
-  module _ {freed : List Node} (written : freed ≡ nodes_with_free mid at free) (mid_small : length mid < 2 ^ 32) (freed_small : length freed < 2 ^ 32) where
-    pub freed_parts : Parts freed (root parted.stay ∷ (at, can.kids) ∷ root (tree at can.key 0 none can.spares) ∷ can.others)
-    freed_parts =
-        subst (λ ns. Parts ns (root parted.stay ∷ (at, can.kids) ∷ root (tree at can.key 0 none can.spares) ∷ can.others))
-        (sym (written ∙ ap (λ z. nodes_with_free mid at z) can.free_is))
-        (release_parts mid at can.key can.rank can.kids parted.stay can.spares can.others parted.parts)
-
-    module _ {rank child : ℕ} (rank_is : rank ≡ can.rank) (child_is : child ≡ head can.kids) where
-      abbrev pub children : HasChildren freed rank child stay
-      children = record {
-        up = at;
-        kids = can.kids;
-        heap = parted.stay;
-        others = root (tree at can.key 0 none can.spares) ∷ can.others;
-        child_is = child_is;
-        heap_is = parted.stay_is;
-        low = omega (arith, rank_is, rank_low mid_small);
-        sinks = subst (λ r. Sinks r can.kids) (sym rank_is) (sinks_from_falls can.key can.rank can.kids kids_fall);
-        rises = parted.rises;
-        small = freed_small;
-        parts = let s = freed_parts.stand in record { stand = (s.1.0, (s.0, s.1.1)); once = λ i. omega (arith, freed_parts.once i) };
-      }
-
-      pub popped : {new : List Node} {result : ℕ} {before after : Counts} →
-          ((c : HasChildren freed rank child stay) → IsMerged new c.kids c.heap c.others result before after) → IsPopped new can.heap can.spares can.others at can.key result before after
-      popped merges = let m = merges children in record {
-        heap = m.heap;
-        heap_is = m.heap_is;
-        rises = m.rises;
-        parts = m.parts;
-        kept = λ w. omega (arith, m.kept w, parted.kept w);
-        made = m.made;
-        made_paid = ⊎_elim (λ h. inl h) (λ h. inr (omega (arith, h, parted.kept one_each))) m.made_paid;
-        counted = m.counted;
-      }

@@ -33,7 +33,11 @@ pub head_within : (nodes : List Node) (up : ℕ) (f : Forest) (x : ℕ) → Stan
 head_within nodes up none x s e some = absurd (some e)
 head_within nodes up (tree at key rank kids rest) x s e some = omega (arith, e, s.0)
 
-pub head_somewhere : (nodes : List Node) (up : ℕ) (f : Forest) → length nodes < 2 ^ 32 → Stands nodes up f → f ≢ none → head f < nowhere
+pub none_from_link : (nodes : List Node) (up link : ℕ) (f : Forest) → length nodes < 2 ^ 16 → Stands nodes up f → link ≡ head f → link ≡ nowhere → f ≡ none
+none_from_link nodes up link none small s is e = refl
+none_from_link nodes up link (tree at key rank kids rest) small s is e = absurd (omega (arith, s.0))
+
+pub head_somewhere : (nodes : List Node) (up : ℕ) (f : Forest) → length nodes < 2 ^ 16 → Stands nodes up f → f ≢ none → head f < nowhere
 head_somewhere nodes up none small s some = absurd (some refl)
 head_somewhere nodes up (tree at key rank kids rest) small s some = omega (arith, s.0)
 

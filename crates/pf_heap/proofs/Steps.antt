@@ -1,19 +1,17 @@
--- The steps of a merge, each a write or two.
-use Rattle.std.proofs.Common.{◌≡◌, ◌≢◌, ℕ, ◌+◌, ◌^◌, ◌<◌, ◌≤◌, List, [], ◌∷◌, length, set, refl, sym, ap, ◌∙◌, subst, arith, get_or-set_same, get_or-set_other, ⊎_elim}
+-- Linking two trees, and cutting the first one off a list, each a write or two.
+use Rattle.std.proofs.Common.{◌≡◌, ◌≢◌, ℕ, ◌+◌, ◌^◌, ◌<◌, List, ◌∷◌, length, set, refl, sym, ap, ◌∙◌, subst, arith, get_or-set_same, get_or-set_other, ⊎_elim}
 use Rattle.std.proofs.Math.ListN.{length-set}
 use Rattle.pf_order.specs.Priority.{Priority, precedes}
-use Rattle.pf_order.specs.Counts.{Counts, Compares}
 use Rattle.pf_heap.specs.declared.node.Node.{Node}
-use Rattle.pf_heap.specs.Forest.{Forest, none, tree, nowhere, head, forest_weight, at_place, some, IsBelow, Falls, Rises, Sinks, IsTreeOrNone}
+use Rattle.pf_heap.specs.Forest.{Forest, none, tree, nowhere, head, forest_weight, at_place, IsBelow, Falls, Rises, IsTreeOrNone}
 use Rattle.pf_heap.specs.Memory.{no_node, node_at, Stands, Part, root, Parts, nodes_with_sibling, nodes_with_child, AreJoined}
-use Rattle.pf_heap.specs.Steps.{IsCut, IsAdded, IsPushed}
-use Rattle.pf_order.proofs.Comparing.{compares_none, compares_within}
+use Rattle.pf_heap.specs.Steps.{IsCut, IsJoined}
 use Rattle.pf_heap.proofs.Forests.{same-self, below_from_precedes}
-use Rattle.pf_heap.proofs.Standing.{elsewhere, stands-set, stand_all-set, cut_parts, push_parts}
+use Rattle.pf_heap.proofs.Standing.{elsewhere, stands-set, stand_all-set, cut_parts}
 
 -- ---- linking
 
-link_parts : (nodes : List Node) (a b : ℕ) (ka kb : Priority) (ra rb : ℕ) (fa fb : Forest) (ps : List Part) →
+pub link_parts : (nodes : List Node) (a b : ℕ) (ka kb : Priority) (ra rb : ℕ) (fa fb : Forest) (ps : List Part) →
     Parts nodes (root (tree a ka ra fa none) ∷ root (tree b kb rb fb none) ∷ ps) →
     Parts (nodes_with_child nodes a b) (root (tree a ka (ra + 1) (tree b kb rb fb fa) none) ∷ ps)
 link_parts nodes a b ka kb ra rb fa fb ps parts =
@@ -61,97 +59,53 @@ swap_parts nodes p q ps parts = record {
 
 -- ---- two trees of one rank
 
-joined_is_added : (old new : List Node) (before after : Counts) (rank a b result : ℕ) (ka kb : Priority) (ra rb : ℕ) (fa fb : Forest) (others : List Part) →
+joined_is : (old new : List Node) (rank a b result : ℕ) (ka kb : Priority) (ra rb : ℕ) (fa fb : Forest) (others : List Part) →
     ra ≡ rank → Falls ka ra fa → rb ≡ rank → Falls kb rb fb →
     Parts old (root (tree a ka ra fa none) ∷ root (tree b kb rb fb none) ∷ others) →
     result ≡ a → IsBelow ka kb → new ≡ nodes_with_child old a b →
-    Compares 1 before after →
-    IsAdded new rank (root (tree a ka ra fa none) ∷ root (tree b kb rb fb none) ∷ []) others nowhere result before after
-joined_is_added old new before after rank a b result ka kb ra rb fa fb others rank_a falls_a rank_b falls_b parts is below written counted = record {
-  sum = none;
-  carry = tree a ka (ra + 1) (tree b kb rb fb fa) none;
-  sum_is = refl;
-  carry_is = is;
-  sum_tree = tt;
-  carry_tree = (omega arith, (omega arith, below, falls_b, subst (λ r. Falls ka r fa) (omega arith) falls_a));
-  parts =
-      let p = link_parts old a b ka kb ra rb fa fb others parts in
-      let q : Parts new (root (tree a ka (ra + 1) (tree b kb rb fb fa) none) ∷ others) = subst (λ ns. Parts ns (root (tree a ka (ra + 1) (tree b kb rb fb fa) none) ∷ others)) (sym written) p in
-      record { stand = (tt, q.stand); once = λ i. omega (arith, q.once i) };
+    IsJoined new rank (tree a ka ra fa none) (tree b kb rb fb none) others result
+joined_is old new rank a b result ka kb ra rb fa fb others rank_a falls_a rank_b falls_b parts is below written = record {
+  whole = tree a ka (ra + 1) (tree b kb rb fb fa) none;
+  whole_is = is;
+  is_tree = (omega arith, (omega arith, below, falls_b, subst (λ r. Falls ka r fa) (omega arith) falls_a));
+  parts = subst (λ ns. Parts ns (root (tree a ka (ra + 1) (tree b kb rb fb fa) none) ∷ others)) (sym written) (link_parts old a b ka kb ra rb fa fb others parts);
   kept = λ w. omega arith;
-  counted = compares_within (omega arith) counted;
 }
 
-swap_added : (new : List Node) (rank : ℕ) (p q : Part) (others : List Part) (s c : ℕ) (before after : Counts) →
-    IsAdded new rank (p ∷ q ∷ []) others s c before after → IsAdded new rank (q ∷ p ∷ []) others s c before after
-swap_added new rank p q others s c before after d = record {
-  sum = d.sum;
-  carry = d.carry;
-  sum_is = d.sum_is;
-  carry_is = d.carry_is;
-  sum_tree = d.sum_tree;
-  carry_tree = d.carry_tree;
+swap_joined : (new : List Node) (rank : ℕ) (p q : Forest) (others : List Part) (c : ℕ) → IsJoined new rank p q others c → IsJoined new rank q p others c
+swap_joined new rank p q others c d = record {
+  whole = d.whole;
+  whole_is = d.whole_is;
+  is_tree = d.is_tree;
   parts = d.parts;
   kept = λ w. omega (arith, d.kept w);
-  counted = d.counted;
 }
 
-pub two_joined : (old new : List Node) (before after : Counts) (rank x y result : ℕ) (first second : Forest) (others : List Part) →
+pub two_joined : (old new : List Node) (rank x y result : ℕ) (first second : Forest) (others : List Part) →
     x ≡ head first → y ≡ head second → IsTreeOrNone rank first → IsTreeOrNone rank second →
     Parts old (root first ∷ root second ∷ others) → x ≢ nowhere → y ≢ nowhere →
-    AreJoined old new x y result → Compares 1 before after →
-    IsAdded new rank (root first ∷ root second ∷ []) others nowhere result before after
-two_joined old new before after rank x y result none second others x_is y_is tx ty parts some_x some_y joined counted = absurd (some_x x_is)
-two_joined old new before after rank x y result (tree a ka ra fa (tree a' ka' ra' fa' na')) second others x_is y_is tx ty parts some_x some_y joined counted = absurd tx
-two_joined old new before after rank x y result (tree a ka ra fa none) none others x_is y_is tx ty parts some_x some_y joined counted = absurd (some_y y_is)
-two_joined old new before after rank x y result (tree a ka ra fa none) (tree b kb rb fb (tree b' kb' rb' fb' nb')) others x_is y_is tx ty parts some_x some_y joined counted = absurd ty
-two_joined old new before after rank x y result (tree a ka ra fa none) (tree b kb rb fb none) others x_is y_is tx ty parts some_x some_y joined counted =
+    AreJoined old new x y result → IsJoined new rank first second others result
+two_joined old new rank x y result none second others x_is y_is tx ty parts some_x some_y joined = absurd (some_x x_is)
+two_joined old new rank x y result (tree a ka ra fa (tree a' ka' ra' fa' na')) second others x_is y_is tx ty parts some_x some_y joined = absurd tx
+two_joined old new rank x y result (tree a ka ra fa none) none others x_is y_is tx ty parts some_x some_y joined = absurd (some_y y_is)
+two_joined old new rank x y result (tree a ka ra fa none) (tree b kb rb fb (tree b' kb' rb' fb' nb')) others x_is y_is tx ty parts some_x some_y joined = absurd ty
+two_joined old new rank x y result (tree a ka ra fa none) (tree b kb rb fb none) others x_is y_is tx ty parts some_x some_y joined =
     let sa = parts.stand.0 in
     let sb = parts.stand.1.0 in
     let at_a : AreJoined old new a y result = subst (λ z. AreJoined old new z y result) x_is joined in
     let at_both : AreJoined old new a b result = subst (λ z. AreJoined old new a z result) y_is at_a in
     let test : precedes (node_at old b).key (node_at old a).key ≡ precedes kb ka = λ i. precedes (sb.1 i).key (sa.1 i).key in
     ⊎_elim
-    (λ h. joined_is_added old new before after rank a b result ka kb ra rb fa fb others tx.0 tx.1 ty.0 ty.1 parts
-    h.0 (sym test ∙ h.1) h.2 counted)
-    (λ h. swap_added new rank _ _ others nowhere result before after
-    (joined_is_added old new before after rank b a result kb ka rb ra fb fa others ty.0 ty.1 tx.0 tx.1
-    (swap_parts old _ _ others parts) h.0 (below_from_precedes kb ka (sym test ∙ h.1)) h.2 counted))
+    (λ h. joined_is old new rank a b result ka kb ra rb fa fb others tx.0 tx.1 ty.0 ty.1 parts h.0 (sym test ∙ h.1) h.2)
+    (λ h. swap_joined new rank _ _ others result
+    (joined_is old new rank b a result kb ka rb ra fb fa others ty.0 ty.1 tx.0 tx.1
+    (swap_parts old _ _ others parts) h.0 (below_from_precedes kb ka (sym test ∙ h.1)) h.2))
     at_both
 
--- one of the two trees is missing
-pub one_missing_left : (nodes : List Node) (counts : Counts) (rank x y : ℕ) (first second : Forest) (others : List Part) →
-    length nodes < 2 ^ 32 →
-    x ≡ head first → y ≡ head second → IsTreeOrNone rank first → IsTreeOrNone rank second →
-    Parts nodes (root first ∷ root second ∷ others) → x ≡ nowhere →
-    IsAdded nodes rank (root first ∷ root second ∷ []) others y nowhere counts counts
-one_missing_left nodes counts rank x y none second others small x_is y_is tx ty parts missing = record {
-  sum = second;
-  carry = none;
-  sum_is = y_is;
-  carry_is = refl;
-  sum_tree = ty;
-  carry_tree = tt;
-  parts = record { stand = (parts.stand.1.0, (tt, parts.stand.1.1)); once = λ i. omega (arith, parts.once i) };
-  kept = λ w. omega arith;
-  counted = compares_none _;
-}
-one_missing_left nodes counts rank x y (tree a ka ra fa na) second others small x_is y_is tx ty parts missing =
-    absurd (omega (arith, parts.stand.0.0))
-
-pub one_missing_right : (nodes : List Node) (counts : Counts) (rank x y : ℕ) (first second : Forest) (others : List Part) →
-    length nodes < 2 ^ 32 →
-    x ≡ head first → y ≡ head second → IsTreeOrNone rank first → IsTreeOrNone rank second →
-    Parts nodes (root first ∷ root second ∷ others) → y ≡ nowhere →
-    IsAdded nodes rank (root first ∷ root second ∷ []) others x nowhere counts counts
-one_missing_right nodes counts rank x y first second others small x_is y_is tx ty parts missing =
-    swap_added nodes rank (root second) (root first) others x nowhere counts counts
-    (one_missing_left nodes counts rank y x second first others small y_is x_is ty tx (swap_parts nodes _ _ others parts) missing)
-
--- ---- cutting and pushing
+-- ---- cutting
 
 pub is_uncut : (nodes : List Node) (rank link : ℕ) (list : Forest) (others : List Part) →
-    length nodes < 2 ^ 32 → link ≡ head list → Parts nodes (root list ∷ others) → Rises rank list →
+    length nodes < 2 ^ 16 → link ≡ head list → Parts nodes (root list ∷ others) → Rises rank list →
     (link ≢ nowhere → (node_at nodes link).rank ≢ rank) → IsCut nodes rank list others nowhere link
 is_uncut nodes rank link none others small is parts rises other = record {
   first = none;
@@ -199,35 +153,3 @@ is_cut old new rank link next (tree at key r kids rest) others is some at_rank r
           (cut_parts old nowhere at key r kids rest others parts);
       kept = λ w. omega arith;
     }
-
-pub sinks_more : (r s : ℕ) (f : Forest) → r ≤ s → Sinks r f → Sinks s f
-sinks_more r s none le h = tt
-sinks_more r s (tree at key rank kids rest) le h = (omega (arith, h.0), h.1, h.2)
-
-pub is_unpushed : (nodes : List Node) (rank x y : ℕ) (first second : Forest) (others : List Part) →
-    length nodes < 2 ^ 32 → x ≡ head first → y ≡ head second → Sinks rank second →
-    Parts nodes (root first ∷ root second ∷ others) → x ≡ nowhere → IsPushed nodes rank first second others y
-is_unpushed nodes rank x y none second others small x_is y_is sinks parts missing = record {
-  list = second;
-  list_is = y_is;
-  sinks = sinks_more rank (rank + 1) second (omega arith) sinks;
-  parts = record { stand = parts.stand.1; once = λ i. omega (arith, parts.once i) };
-  kept = λ w. omega arith;
-}
-is_unpushed nodes rank x y (tree a ka ra fa na) second others small x_is y_is sinks parts missing =
-    absurd (omega (arith, parts.stand.0.0))
-
-pub is_pushed : (old new : List Node) (rank x y : ℕ) (first second : Forest) (others : List Part) →
-    x ≡ head first → y ≡ head second → IsTreeOrNone rank first → Sinks rank second →
-    Parts old (root first ∷ root second ∷ others) → x ≢ nowhere → new ≡ nodes_with_sibling old x y →
-    IsPushed new rank first second others x
-is_pushed old new rank x y none second others x_is y_is t sinks parts some written = absurd (some x_is)
-is_pushed old new rank x y (tree a ka ra fa (tree a' ka' ra' fa' na')) second others x_is y_is t sinks parts some written = absurd t
-is_pushed old new rank x y (tree a ka ra fa none) second others x_is y_is t sinks parts some written = record {
-  list = tree a ka ra fa second;
-  list_is = x_is;
-  sinks = (omega (arith, t.0), t.1, subst (λ r. Sinks r second) (sym t.0) sinks);
-  parts = subst (λ ns. Parts ns (root (tree a ka ra fa second) ∷ others)) (sym (written ∙ (λ i. nodes_with_sibling old (x_is i) (y_is i))))
-      (push_parts old nowhere a ka ra fa second others parts);
-  kept = λ w. omega arith;
-}

@@ -1,5 +1,5 @@
 -- Binomial trees, as the nodes of an arena link them: a node's first child and its next sibling.
-use Rattle.std.specs.Prelude.{◌≡◌, ℕ, ◌+◌, ◌-◌, ◌<◌, ◌≤◌, ◌^◌, ◌⊎◌, false, cond}
+use Rattle.std.specs.Prelude.{◌≡◌, ℕ, ◌+◌, ◌-◌, ◌≤◌, ◌^◌, ◌⊎◌, false, cond}
 use Rattle.std.specs.Ordering.{eq_by_cmp}
 use Rattle.pf_order.specs.Priority.{Priority, precedes, key_cmp}
 
@@ -14,7 +14,11 @@ single at key = tree at key 0 none none
 
 -- the link that stands for no node
 abbrev pub nowhere : ℕ
-nowhere = 2 ^ 32 - 1
+nowhere = 2 ^ 16 - 1
+
+-- the rank that stands for none
+abbrev pub idle : ℕ
+idle = 2 ^ 16 - 1
 
 -- the first tree's node
 abbrev pub head : Forest → ℕ
@@ -65,16 +69,21 @@ abbrev pub Rises : ℕ → Forest → Type 0
 Rises r none = Unit {0}
 Rises r (tree at key rank kids rest) = (r ≤ rank) × Falls key rank kids × Rises (rank + 1) rest
 
--- trees of strictly falling ranks, all below r
-abbrev pub Sinks : ℕ → Forest → Type 0
-Sinks r none = Unit {0}
-Sinks r (tree at key rank kids rest) = (rank < r) × Falls key rank kids × Sinks rank rest
+-- trees side by side, of any ranks
+abbrev pub AreTrees : Forest → Type 0
+AreTrees none = Unit {0}
+AreTrees (tree at key rank kids rest) = Falls key rank kids × AreTrees rest
 
 -- one tree of rank r, or none
 abbrev pub IsTreeOrNone : ℕ → Forest → Type 0
 IsTreeOrNone r none = Unit {0}
 IsTreeOrNone r (tree at key rank kids none) = (rank ≡ r) × Falls key rank kids
 IsTreeOrNone r (tree at key rank kids (tree at' key' rank' kids' rest')) = ⊥
+
+-- the number of roots
+abbrev pub roots : Forest → ℕ
+roots none = 0
+roots (tree at key rank kids rest) = 1 + roots rest
 
 -- 1 where there is a tree, else 0
 abbrev pub some : Forest → ℕ

@@ -1,5 +1,5 @@
 -- Heaps as contracts see them: a list of keys in the order is the set of its keys, since no two keys are equal.
-use Rattle.std.specs.Prelude.{◌≡◌, ◌≢◌, ℕ, ◌<◌, true, false, not, ◌==◌, List, length, slice_index_or, slice_set, refl}
+use Rattle.std.specs.Prelude.{◌≡◌, ◌≢◌, ℕ, ◌<◌, true, false, not, ◌==◌, List, ◌∷◌, length, slice_index_or, slice_set, refl}
 use Rattle.std.specs.Coded.{Coded, code_by, coded×, coded_list, coded_ℕ}
 use Rattle.std.specs.FinSet as set
 use Rattle.pf_order.specs.Priority.{Priority, precedes, key_cmp}
@@ -20,8 +20,10 @@ other_keys keys task = set.retain keys (λ k. not (k.task == task))
 abbrev pub HasNone : Keys → ℕ → Type 0
 HasNone keys task = (q : Priority) → set.contains keys q ≡ true → q.task ≢ task
 
--- the lists, how many keys can be inserted before memory is wanted, and the number below which a task's key can be
+-- the main heap's keys, the lists of the others, how many keys can be inserted before there is no room, and the number
+-- below which a task's key can be
 pub record Heaps : Type 0 where
+  pub main : Keys
   pub lists : List Keys
   pub spare : ℕ
   pub tasks : ℕ
@@ -29,6 +31,10 @@ pub record Heaps : Type 0 where
 -- list h
 abbrev pub list_of : Heaps → ℕ → Keys
 list_of heaps h = slice_index_or heaps.lists h set.empty
+
+-- the keys of all heaps, those of the main one first
+abbrev pub all_lists : Heaps → List Keys
+all_lists heaps = heaps.main ∷ heaps.lists
 
 -- list h becomes these keys
 abbrev pub with_list : Heaps → ℕ → Keys → Heaps
@@ -57,5 +63,7 @@ priority_code =
 
 abbrev pub heaps_code : Coded Heaps
 heaps_code =
-    code_by (List Keys × (ℕ × ℕ)) (coded× (coded_list (set.code priority_code)) (coded× coded_ℕ coded_ℕ)) (λ h. (h.lists, (h.spare, h.tasks)))
-    (λ p. record { lists = p.0; spare = p.1.0; tasks = p.1.1 }) (λ _. refl)
+    code_by (Keys × (List Keys × (ℕ × ℕ)))
+    (coded× (set.code priority_code) (coded× (coded_list (set.code priority_code)) (coded× coded_ℕ coded_ℕ)))
+    (λ h. (h.main, (h.lists, (h.spare, h.tasks))))
+    (λ p. record { main = p.0; lists = p.1.0; spare = p.1.1.0; tasks = p.1.1.1 }) (λ _. refl)

@@ -6,4 +6,6 @@ pub mod View
 pub mod Digits
 pub mod Pops
 pub mod Invariant
-pub mod Hoist
+pub mod Table
+pub mod Split
+pub mod Taking

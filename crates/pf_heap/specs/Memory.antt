@@ -1,8 +1,8 @@
 -- Forests in an arena's nodes.
-use Rattle.std.specs.Prelude.{◌≡◌, ℕ, ◌+◌, ◌<◌, ◌≤◌, ◌⊎◌, true, false, List, [], ◌∷◌, length, slice_index_or, slice_set}
+use Rattle.std.specs.Prelude.{◌≡◌, ℕ, ◌+◌, ◌-◌, ◌<◌, ◌≤◌, ◌⊎◌, true, false, List, [], ◌∷◌, map, length, slice_index_or, slice_set}
 use Rattle.pf_order.specs.Priority.{Priority, precedes}
 use Rattle.pf_heap.specs.declared.node.Node.{Node}
-use Rattle.pf_heap.specs.Forest.{Forest, none, tree, nowhere, head, forest_weight, at_place}
+use Rattle.pf_heap.specs.Forest.{Forest, none, tree, nowhere, idle, head, forest_weight, at_place}
 
 -- a node that no list has
 abbrev pub no_node : Node
@@ -28,6 +28,7 @@ Part = ℕ × Forest
 abbrev pub root : Forest → Part
 root f = (nowhere, f)
 
+-- what all nodes of the parts weigh together
 abbrev pub weigh_all : (ℕ → Priority → ℕ) → List Part → ℕ
 weigh_all w [] = 0
 weigh_all w (p ∷ ps) = forest_weight w p.1 + weigh_all w ps
@@ -40,6 +41,10 @@ StandAll nodes (p ∷ ps) = Stands nodes p.0 p.1 × StandAll nodes ps
 pub record Parts (nodes : List Node) (ps : List Part) : Type 0 where
   pub stand : StandAll nodes ps
   pub once : (i : ℕ) → weigh_all (at_place i) ps ≤ 1
+
+-- the forests as parts of memory
+abbrev pub all_roots : List Forest → List Part
+all_roots fs = map root fs
 
 -- the node is a root with this sibling
 abbrev pub nodes_with_sibling : List Node → ℕ → ℕ → List Node
@@ -55,6 +60,26 @@ abbrev pub nodes_with_child : List Node → ℕ → ℕ → List Node
 nodes_with_child nodes above below =
     slice_set (lowered_root nodes above below) above
     (record (node_at (lowered_root nodes above below) above) { child = below; rank = (node_at (lowered_root nodes above below) above).rank + 1 })
+
+-- the first child of the root `above` is a root, and the rank of that is one less
+abbrev pub nodes_without_child : List Node → ℕ → ℕ → List Node
+nodes_without_child nodes above below =
+    nodes_with_sibling
+    (slice_set nodes above (record (node_at nodes above) { child = (node_at nodes below).sibling; rank = (node_at nodes above).rank - 1 }))
+    below nowhere
+
+-- the node is alone
+abbrev pub nodes_alone : List Node → ℕ → List Node
+nodes_alone nodes at =
+    slice_set nodes at (record (node_at nodes at) { parent = nowhere; sibling = nowhere; child = nowhere; rank = 0 })
+
+-- a node in no heap, with this key
+abbrev pub idle_node : Priority → Node
+idle_node key = record { key = key; parent = nowhere; sibling = nowhere; child = nowhere; rank = idle }
+
+-- the node is in no heap
+abbrev pub nodes_idle : List Node → ℕ → List Node
+nodes_idle nodes at = slice_set nodes at (record (node_at nodes at) { rank = idle })
 
 -- the root with the first of the two keys has the other as its first child; in a tie x stays above
 abbrev pub AreJoined : List Node → List Node → ℕ → ℕ → ℕ → Type 0

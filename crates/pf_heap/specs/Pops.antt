@@ -1,15 +1,10 @@
--- What it takes to take a root out of a heap, and to get a node for a new key.
-use Rattle.std.specs.Prelude.{◌≡◌, ◌≢◌, ℕ, ◌+◌, ◌<◌, ◌≤◌, ◌^◌, ◌⊎◌, true, false, List, ◌∷◌, length, slice_set}
+-- Finding the root with the first key of a list of trees, and cutting a root out of it.
+use Rattle.std.specs.Prelude.{◌≡◌, ◌≢◌, ℕ, ◌+◌, ◌<◌, ◌≤◌, ◌^◌, ◌⊎◌, true, false, List, ◌∷◌, length}
 use Rattle.pf_order.specs.Priority.{Priority, precedes}
 use Rattle.pf_order.specs.Counts.{Counts, Compares}
 use Rattle.pf_heap.specs.declared.node.Node.{Node}
-use Rattle.pf_heap.specs.Forest.{Forest, none, tree, nowhere, head, forest_weight, size, AllBelow, IsBelow, Falls, Rises, Sinks, HasRoot}
+use Rattle.pf_heap.specs.Forest.{Forest, none, tree, nowhere, head, forest_weight, size, AllBelow, IsBelow, Rises, HasRoot, roots}
 use Rattle.pf_heap.specs.Memory.{node_at, Stands, Part, root, Parts}
-
--- the number of roots
-abbrev pub roots : Forest → ℕ
-roots none = 0
-roots (tree at key rank kids rest) = 1 + roots rest
 
 -- the link is a heap's
 pub record HasHeap (nodes : List Node) (link : ℕ) : Type 0 where
@@ -17,7 +12,7 @@ pub record HasHeap (nodes : List Node) (link : ℕ) : Type 0 where
   pub others : List Part
   pub heap_is : link ≡ head heap
   pub rises : Rises 0 heap
-  pub small : length nodes < 2 ^ 32
+  pub small : length nodes < 2 ^ 16
   pub parts : Parts nodes (root heap ∷ others)
 
 -- the node whose key comes first; in a tie x
@@ -64,7 +59,7 @@ pub record HasHeapAndRoot (nodes : List Node) (link at : ℕ) : Type 0 where
   pub heap_is : link ≡ head heap
   pub has : HasRoot at key rank kids heap
   pub rises : Rises 0 heap
-  pub small : length nodes < 2 ^ 32
+  pub small : length nodes < 2 ^ 16
   pub parts : Parts nodes (root heap ∷ others)
 
 -- root p stands right before root i
@@ -90,72 +85,3 @@ pub record IsParted (nodes : List Node) (heap : Forest) (others : List Part) (at
   pub rises : Rises 0 stay
   pub parts : Parts nodes (root stay ∷ root (tree at key rank kids none) ∷ others)
   pub kept : (w : ℕ → Priority → ℕ) → forest_weight w stay + forest_weight w (tree at key rank kids none) ≡ forest_weight w heap
-
--- the node is free and stands in front of the free ones
-abbrev pub nodes_with_free : List Node → ℕ → ℕ → List Node
-nodes_with_free nodes at free =
-    slice_set nodes at (record (node_at nodes at) { parent = nowhere; child = nowhere; sibling = free; rank = 0 })
-
--- a list of nodes with no children
-abbrev pub AreChildless : Forest → Type 0
-AreChildless none = Unit {0}
-AreChildless (tree at key rank kids rest) = (kids ≡ none) × (rank ≡ 0) × AreChildless rest
-
--- the links are a heap's with this root and the free nodes'
-pub record CanPop (nodes : List Node) (link at free : ℕ) : Type 0 where
-  pub heap : Forest
-  pub spares : Forest
-  pub others : List Part
-  pub key : Priority
-  pub rank : ℕ
-  pub kids : Forest
-  pub heap_is : link ≡ head heap
-  pub free_is : free ≡ head spares
-  pub has : HasRoot at key rank kids heap
-  pub rises : Rises 0 heap
-  pub small : length nodes < 2 ^ 32
-  pub parts : Parts nodes (root heap ∷ root spares ∷ others)
-
--- the root is out of its heap and free
-pub record IsPopped (nodes : List Node) (old spares : Forest) (others : List Part) (at : ℕ) (key : Priority) (link : ℕ) (before after : Counts) : Type 0 where
-  pub heap : Forest
-  pub heap_is : link ≡ head heap
-  pub rises : Rises 0 heap
-  pub parts : Parts nodes (root heap ∷ root (tree at key 0 none spares) ∷ others)
-  pub kept : (w : ℕ → Priority → ℕ) → w at key + forest_weight w heap ≡ forest_weight w old
-  pub made : ℕ
-  pub made_paid : (made ≡ 0) ⊎ (2 ^ made ≤ size old)
-  pub counted : Compares made before after
-
--- children of the node `up`, all of ranks below this one, and a heap
-pub record HasChildren (nodes : List Node) (rank child link : ℕ) : Type 0 where
-  pub up : ℕ
-  pub kids : Forest
-  pub heap : Forest
-  pub others : List Part
-  pub child_is : child ≡ head kids
-  pub heap_is : link ≡ head heap
-  pub low : rank ≤ 32
-  pub sinks : Sinks rank kids
-  pub rises : Rises 0 heap
-  pub small : length nodes < 2 ^ 32
-  pub parts : Parts nodes ((up, kids) ∷ root heap ∷ others)
-
--- the same, where only the heap's first root has a rank below that bound
-pub record HasOneBelow (nodes : List Node) (child link : ℕ) : Type 0 where
-  pub up : ℕ
-  pub kids : Forest
-  pub key : Priority
-  pub rank : ℕ
-  pub below : Forest
-  pub rest : Forest
-  pub others : List Part
-  pub child_is : child ≡ head kids
-  pub bound : ℕ
-  pub high : rank ≤ bound
-  pub low : bound ≤ 32
-  pub sinks : Sinks bound kids
-  pub falls : Falls key rank below
-  pub rises : Rises bound rest
-  pub small : length nodes < 2 ^ 32
-  pub parts : Parts nodes ((up, kids) ∷ root (tree link key rank below rest) ∷ others)

@@ -1,27 +1,26 @@
-ghost use Rattle.std.specs.Prelude.{◌≡◌, ◌≢◌, ◌↔◌, IsTrue, true, ℕ, ◌+◌, ◌-◌, ◌*◌, ◌<◌, ◌≤◌, ◌^◌, [], ◌∷◌, ◌++◌, length, max, IfNone, IfOk, OnOk, OnErr, MatchOption, vec_len};
-ghost use Rattle.std.specs.Vec.{vec_capacity};
+ghost use Rattle.std.specs.Prelude.{◌≡◌, ◌≢◌, ◌↔◌, IsTrue, true, ℕ, ◌+◌, ◌-◌, ◌*◌, ◌<◌, ◌≤◌, ◌^◌, [], ◌∷◌, ◌++◌, length, max, replicate, IfNone, IfOk, OnOk, OnErr, MatchOption};
 ghost use Rattle.std.specs.FinSet as set;
 ghost use Rattle.pf_weight.specs.declared.task.TheConstants.{LARGEST_TASK};
-ghost use Rattle.pf_order.specs.Priority.{IsPriority};
 ghost use Rattle.pf_order.specs.Counts.{Compares};
-ghost use Rattle.pf_heap.specs.Keys.{list_of, with_list, IsHeld, IsFirst, HasNone, EachTaskOnce, other_keys};
+ghost use Rattle.pf_heap.specs.Keys.{list_of, with_list, all_lists, IsHeld, IsFirst, HasNone, EachTaskOnce, other_keys};
 ghost use Rattle.pf_heap.specs.Digits.{digits};
-ghost use Rattle.pf_heap.specs.Invariant.{HasSpares, IsSettled};
 
-use crate::adding::{add, merge};
-use crate::hoisting::{cut_node, has_root, top};
-use crate::node::{NOWHERE, Node};
-use crate::popping::{least_root, pop_root};
+use crate::adding::add;
+use crate::growing::grow;
+use crate::node::{IDLE, NOWHERE, Node, idle_node};
+use crate::popping::least_root;
+use crate::splitting::{has_root, top};
+use crate::table::Roots;
+use crate::taking::{merge, take, take_first, take_from};
 use pf_order::key::Key;
 use pf_order::meter::Meter;
-use pf_table::table::Table;
 use std::alloc::{AllocError, Global};
 use std::marker::Model;
 
 /// Names one of an arena's heaps.
 #[derive(Clone, Copy)]
 pub struct HeapId {
-    index: u32,
+    index: usize,
 }
 
 impl Model for HeapId {
@@ -34,77 +33,50 @@ impl Model for HeapId {
     ghost inverse = { λ n. record { index = n } };
 }
 
-/// Many heaps of keys in one block of nodes. A task is held at most once. The arena takes the memory of the keys that
-/// it has room for, and of the task numbers up to the greatest that it has room for.
+/// The most keys that `reserve` makes room for: a `usize` then still counts the room that keys leave when they are taken.
+const MOST_RESERVED: usize = 1 << 63;
+
+/// Many heaps of keys in one block of nodes: a main one, and others that are named. A task is held at most once. The
+/// node of a key is that of its task's number, so the arena takes the memory of the task numbers up to the greatest that
+/// it has room for.
 #[derive(Drop)]
 pub struct Arena {
     nodes: Vec<Node>,
-    heads: Vec<u32>,
-    /// The node of each task's key.
-    places: Table<u32>,
-    free: u32,
+    /// The first root of each heap that is named.
+    heads: Vec<u16>,
+    main: Roots,
     room: usize,
 }
 
 impl Model for Arena {
-    ghost use Rattle.std.specs.Vec.{vec_capacity};
     ghost use Rattle.pf_heap.specs.Keys.{Heaps, heaps_code};
 
     ghost Value = { Heaps };
 
     ghost coded = { heaps_code };
 
-    ghost use Rattle.std.specs.Prelude.{◌≡◌};
-    ghost use Rattle.pf_table.specs.Grown.{size_of};
-    ghost use Rattle.pf_heap.specs.Forest.{nowhere};
-    ghost use Rattle.pf_heap.specs.View.{lists_at};
+    ghost use Rattle.std.specs.Prelude.{length};
+    ghost use Rattle.pf_heap.specs.View.{lists_at, main_at};
     ghost use Rattle.pf_heap.specs.Invariant.{IsArena};
 
-    ghost view = { λ a. record { lists = lists_at a.nodes.items a.heads.items; spare = a.room; tasks = size_of a.places } };
+    ghost view = { λ a. record { main = main_at a.nodes.items a.main; lists = lists_at a.nodes.items a.heads.items; spare = a.room; tasks = length a.nodes.items } };
 
-    ghost invariant = { λ a. IsArena a.nodes.items a.heads.items a.places.0 a.free a.room (vec_capacity a.nodes) × (a.places.1 ≡ nowhere) };
-}
-
-/// Gives the key a node of its own, a free one where there is one: the node, and the first free node then.
-fn settle(nodes: &mut Vec<Node>, free: u32, key: Key) -> (u32, u32)
-    requires can { HasSpares nodes.old.items free }
-    requires room { free ≡ NOWHERE → vec_len nodes.old < vec_capacity nodes.old }
-    requires low { free ≡ NOWHERE → vec_len nodes.old < 2 ^ 32 - 1 }
-    ensures settled { (can : HasSpares nodes.old.items free)
-        → IsSettled nodes.old.items nodes.new.items can.spares can.others key result.0 result.1 }
-    ensures capacity { vec_capacity nodes.new ≡ vec_capacity nodes.old }
-{
-    let node = Node {
-        key,
-        parent: NOWHERE,
-        child: NOWHERE,
-        sibling: NOWHERE,
-        rank: 0,
-    };
-    if free == NOWHERE {
-        let at = nodes.len() as u32;
-        nodes.push_reserved(node);
-        return (at, NOWHERE);
-    }
-    let next = nodes[free as usize].sibling;
-    nodes[free as usize] = node;
-    (free, next)
+    ghost invariant = { λ a. IsArena a.nodes.items a.heads.items a.main a.room };
 }
 
 impl Arena {
-    /// An arena with no heap.
+    /// An arena with no heap but the main one, which is empty.
     ///
     /// # Errors
     ///
-    /// Where memory is refused.
+    /// Never: it takes no memory yet.
     pub fn new(alloc: Global) -> Result<Self, AllocError>
-        ensures { IfOk result (λ a. a ≡ record { lists = []; spare = 0; tasks = 0 }) }
+        ensures { IfOk result (λ a. a ≡ record { main = set.empty; lists = []; spare = 0; tasks = 0 }) }
     {
         Ok(Self {
             nodes: Vec::new(alloc),
             heads: Vec::new(alloc),
-            places: Table::new(alloc, NOWHERE),
-            free: NOWHERE,
+            main: Roots::new(),
             room: 0,
         })
     }
@@ -120,28 +92,28 @@ impl Arena {
             (λ h. (h ≡ length self.old.lists) × (self.new ≡ record self.old { lists = self.old.lists ++ set.empty ∷ [] })) }
         ensures err { OnErr result (self.new ≡ self.old) }
     {
-        let index = self.heads.len() as u32;
+        let index = self.heads.len();
         self.heads.push(NOWHERE)?;
         Ok(HeapId { index })
     }
 
-    /// Makes room for at least n more keys.
+    /// Makes room for at least n more keys. They take no memory here: a key has that of its task's number.
     ///
     /// # Errors
     ///
-    /// Where memory is refused: all is as before.
+    /// Where n is more than 2^63: the arena is as before.
     pub fn reserve(&mut self, n: usize) -> Result<(), AllocError>
+        ensures main { self.new.main ≡ self.old.main }
         ensures lists { self.new.lists ≡ self.old.lists }
         ensures tasks { self.new.tasks ≡ self.old.tasks }
         ensures grows { self.old.spare ≤ self.new.spare }
         ensures ok { OnOk result (n ≤ self.new.spare) }
         ensures err { OnErr result (self.new ≡ self.old) }
     {
-        if n <= self.room {
-            return Ok(());
+        if n > MOST_RESERVED {
+            return Err(AllocError);
         }
-        self.nodes.reserve(n)?;
-        self.room = n;
+        self.room = self.room.max(n);
         Ok(())
     }
 
@@ -155,7 +127,8 @@ impl Arena {
         ensures ok { OnOk result (self.new ≡ record self.old { tasks = max self.old.tasks (task + 1) }) }
         ensures err { OnErr result (self.new ≡ self.old) }
     {
-        self.places.reserve(task)
+        let more = (task as usize + 1).saturating_sub(self.nodes.len());
+        grow(&mut self.nodes, more, idle_node())
     }
 
     /// An arena with the same heaps, for keys of the same tasks, and no room.
@@ -169,22 +142,23 @@ impl Arena {
         let alloc = *self.nodes.allocator();
         let nodes = Vec::from_slice(alloc, &self.nodes)?;
         let heads = Vec::from_slice(alloc, &self.heads)?;
-        let places = self.places.copy()?;
         Ok(Self {
             nodes,
             heads,
-            places,
-            free: self.free,
+            main: self.main,
             room: 0,
         })
     }
 
     /// Whether some heap has a key of this task.
     pub fn holds(&self, task: u32) -> bool
-        ensures held { IsTrue result ↔ IsHeld self.now.lists task }
-        ensures once { EachTaskOnce self.now.lists }
+        ensures held { IsTrue result ↔ IsHeld (all_lists self.now) task }
+        ensures once { EachTaskOnce (all_lists self.now) }
     {
-        self.places.get(task) != NOWHERE
+        match self.nodes.get(task as usize) {
+            Some(node) => node.rank != IDLE,
+            None => false,
+        }
     }
 
     /// Adds the key to heap h.
@@ -192,18 +166,23 @@ impl Arena {
         requires room { 1 ≤ self.old.spare }
         requires placed { key.task < self.old.tasks }
         requires heap { h < length self.old.lists }
-        requires absent { ¬ IsHeld self.old.lists key.task }
+        requires absent { ¬ IsHeld (all_lists self.old) key.task }
         ensures inserted { self.new
             ≡ record (with_list self.old h (set.insert (list_of self.old h) key)) { spare = self.old.spare - 1 } }
         ensures comparisons { Compares (digits (set.len (list_of self.old h) + 1)) meter.old meter.new }
     {
         let task = key.task();
-        let index = h.index as usize;
-        let (at, free) = settle(&mut self.nodes, self.free, key);
-        self.free = free;
-        let heap = add(&mut self.nodes, meter, 0, at, self.heads[index]);
+        let index = h.index;
+        let head = self.heads[index];
+        self.nodes[task as usize] = Node {
+            key,
+            parent: NOWHERE,
+            sibling: NOWHERE,
+            child: NOWHERE,
+            rank: 0,
+        };
+        let heap = add(&mut self.nodes, meter, task as u16, head);
         self.heads[index] = heap;
-        self.places.set(task, at);
         self.room -= 1;
     }
 
@@ -216,11 +195,24 @@ impl Arena {
             ≡ with_list (with_list self.old from set.empty) into (set.union (list_of self.old into) (list_of self.old from)) }
         ensures comparisons { Compares (digits (set.len (list_of self.old into) + set.len (list_of self.old from))) meter.old meter.new }
     {
-        let first = self.heads[into.index as usize];
-        let second = self.heads[from.index as usize];
+        let first = self.heads[into.index];
+        let second = self.heads[from.index];
         let heap = merge(&mut self.nodes, meter, first, second);
-        self.heads[from.index as usize] = NOWHERE;
-        self.heads[into.index as usize] = heap;
+        self.heads[from.index] = NOWHERE;
+        self.heads[into.index] = heap;
+    }
+
+    /// Merges heap `from` into the main one and leaves it empty.
+    pub fn meld_main(&mut self, meter: &mut Meter, from: HeapId)
+        requires { from < length self.old.lists }
+        ensures melded { self.new
+            ≡ record (with_list self.old from set.empty) { main = set.union self.old.main (list_of self.old from) } }
+        ensures comparisons { Compares (digits (set.len self.old.main + set.len (list_of self.old from))) meter.old meter.new }
+    {
+        let index = from.index;
+        let head = self.heads[index];
+        self.main.add_all(&mut self.nodes, meter, head);
+        self.heads[index] = NOWHERE;
     }
 
     /// The first key of heap h, which stays there.
@@ -229,7 +221,7 @@ impl Arena {
         ensures first { MatchOption result (list_of self.now h ≡ set.empty) (IsFirst (list_of self.now h)) }
         ensures comparisons { Compares (digits (set.len (list_of self.now h))) meter.old meter.new }
     {
-        let head = self.heads[h.index as usize];
+        let head = self.heads[h.index];
         if head == NOWHERE {
             return None;
         }
@@ -245,18 +237,32 @@ impl Arena {
             × (self.new ≡ record (with_list self.old h (set.remove (list_of self.old h) k)) { spare = self.old.spare + 1 })) }
         ensures comparisons { Compares (2 * digits (set.len (list_of self.old h))) meter.old meter.new }
     {
-        let index = h.index as usize;
+        let index = h.index;
         let head = self.heads[index];
         if head == NOWHERE {
             return None;
         }
         let at = least_root(&self.nodes, meter, head);
         let key = self.nodes[at as usize].key;
-        self.heads[index] = pop_root(&mut self.nodes, meter, head, at, self.free);
-        self.free = at;
-        self.places.set(key.task(), NOWHERE);
+        let heap = take(&mut self.nodes, meter, head, at, at);
+        self.heads[index] = heap;
         self.room += 1;
         Some(key)
+    }
+
+    /// Takes the first key out of the main heap.
+    pub fn pop_main(&mut self, meter: &mut Meter) -> Option<Key>
+        ensures popped { MatchOption result ((self.old.main ≡ set.empty) × (self.new ≡ self.old))
+            (λ k. IsFirst self.old.main k
+            × (self.new ≡ record self.old { main = set.remove self.old.main k; spare = self.old.spare + 1 })) }
+        ensures comparisons { Compares (2 * digits (set.len self.old.main)) meter.old meter.new }
+    {
+        if self.main.is_empty() {
+            return None;
+        }
+        let at = take_first(&mut self.nodes, meter, &mut self.main);
+        self.room += 1;
+        Some(self.nodes[at as usize].key)
     }
 
     /// Takes the key of this task out of heap h. Where it isn't there no keys are compared.
@@ -265,32 +271,52 @@ impl Arena {
         ensures removed { MatchOption result (HasNone (list_of self.old h) task × (self.new ≡ self.old))
             (λ k. (set.contains (list_of self.old h) k ≡ true) × (k.task ≡ task)
             × (self.new ≡ record (with_list self.old h (other_keys (list_of self.old h) task)) { spare = self.old.spare + 1 })) }
-        ensures once { EachTaskOnce self.old.lists }
+        ensures once { EachTaskOnce (all_lists self.old) }
         ensures unfound { IfNone result (meter.new ≡ meter.old) }
         ensures comparisons { Compares (2 * digits (set.len (list_of self.old h))) meter.old meter.new }
     {
-        let at = self.places.get(task);
-        if at == NOWHERE {
+        if !self.holds(task) {
             return None;
         }
-        let index = h.index as usize;
+        let index = h.index;
         let head = self.heads[index];
-        let root = top(&self.nodes, at);
+        let root = top(&self.nodes, task as u16);
         if !has_root(&self.nodes, head, root) {
             return None;
         }
-        let key = self.nodes[at as usize].key;
-        let (left, hole) = cut_node(
+        let key = self.nodes[task as usize].key;
+        let heap = take(&mut self.nodes, meter, head, root, task as u16);
+        self.heads[index] = heap;
+        self.room += 1;
+        Some(key)
+    }
+
+    /// Takes the key of this task out of the main heap. Where it isn't there no keys are compared.
+    pub fn remove_main(&mut self, meter: &mut Meter, task: u32) -> Option<Key>
+        ensures removed { MatchOption result (HasNone self.old.main task × (self.new ≡ self.old))
+            (λ k. (set.contains self.old.main k ≡ true) × (k.task ≡ task)
+            × (self.new ≡ record self.old { main = other_keys self.old.main task; spare = self.old.spare + 1 })) }
+        ensures once { EachTaskOnce (all_lists self.old) }
+        ensures unfound { IfNone result (meter.new ≡ meter.old) }
+        ensures comparisons { Compares (2 * digits (set.len self.old.main)) meter.old meter.new }
+    {
+        if !self.holds(task) {
+            return None;
+        }
+        let root = top(&self.nodes, task as u16);
+        let rank = self.nodes[root as usize].rank as u32;
+        if !self.main.has_root(rank, root) {
+            return None;
+        }
+        let key = self.nodes[task as usize].key;
+        take_from(
             &mut self.nodes,
-            &mut self.places,
             meter,
-            head,
-            at,
-            self.free,
+            &mut self.main,
+            rank,
+            root,
+            task as u16,
         );
-        self.heads[index] = left;
-        self.free = hole;
-        self.places.set(task, NOWHERE);
         self.room += 1;
         Some(key)
     }

@@ -4,8 +4,10 @@
 
 mod adding;
 pub mod arena;
-mod hoisting;
+mod growing;
 mod links;
 mod node;
 mod popping;
-mod roots;
+mod splitting;
+mod table;
+mod taking;

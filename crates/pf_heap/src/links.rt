@@ -1,13 +1,13 @@
-ghost use Rattle.std.specs.Prelude.{◌≡◌, ◌-◌, ◌<◌, ◌^◌, length};
+ghost use Rattle.std.specs.Prelude.{◌≡◌, ◌≢◌, ◌-◌, ◌<◌, ◌≤◌, ◌^◌, length};
 ghost use Rattle.pf_order.specs.Counts.{Compares};
-ghost use Rattle.pf_heap.specs.Memory.{node_at, nodes_with_sibling, nodes_with_child, AreJoined};
-ghost use Rattle.pf_heap.specs.Pops.{IsEarlier, nodes_with_free};
+ghost use Rattle.pf_heap.specs.Memory.{node_at, nodes_with_sibling, nodes_with_child, nodes_without_child, nodes_alone, nodes_idle, AreJoined};
+ghost use Rattle.pf_heap.specs.Pops.{IsEarlier};
 
-use crate::node::{NOWHERE, Node};
+use crate::node::{IDLE, NOWHERE, Node};
 use pf_order::meter::Meter;
 
 /// Makes the node a root with this sibling.
-pub(crate) fn relink(nodes: &mut [Node], at: u32, sibling: u32)
+pub(crate) fn relink(nodes: &mut [Node], at: u16, sibling: u16)
     requires { at < length nodes.old }
     ensures { nodes.new ≡ nodes_with_sibling nodes.old at sibling }
 {
@@ -17,10 +17,10 @@ pub(crate) fn relink(nodes: &mut [Node], at: u32, sibling: u32)
 }
 
 /// Makes the root `below` the first child of the root `above`.
-fn link(nodes: &mut [Node], above: u32, below: u32)
+fn link(nodes: &mut [Node], above: u16, below: u16)
     requires upper { above < length nodes.old }
     requires lower { below < length nodes.old }
-    requires rank { (node_at nodes.old above).rank < 2 ^ 32 - 1 }
+    requires rank { (node_at nodes.old above).rank < 2 ^ 16 - 1 }
     ensures { nodes.new ≡ nodes_with_child nodes.old above below }
 {
     let child = nodes[above as usize].child;
@@ -33,11 +33,11 @@ fn link(nodes: &mut [Node], above: u32, below: u32)
 }
 
 /// Makes one tree of two roots, and returns its root. One comparison.
-pub(crate) fn join(nodes: &mut [Node], meter: &mut Meter, x: u32, y: u32) -> u32
+pub(crate) fn join(nodes: &mut [Node], meter: &mut Meter, x: u16, y: u16) -> u16
     requires first { x < length nodes.old }
     requires second { y < length nodes.old }
-    requires first_rank { (node_at nodes.old x).rank < 2 ^ 32 - 1 }
-    requires second_rank { (node_at nodes.old y).rank < 2 ^ 32 - 1 }
+    requires first_rank { (node_at nodes.old x).rank < 2 ^ 16 - 1 }
+    requires second_rank { (node_at nodes.old y).rank < 2 ^ 16 - 1 }
     ensures joined { AreJoined nodes.old nodes.new x y result }
     ensures counted { Compares 1 meter.old meter.new }
 {
@@ -50,8 +50,24 @@ pub(crate) fn join(nodes: &mut [Node], meter: &mut Meter, x: u32, y: u32) -> u32
     above
 }
 
+/// Cuts the first child off a root that has one: two trees of one rank are left.
+pub(crate) fn unlink(nodes: &mut [Node], above: u16, below: u16)
+    requires upper { above < length nodes.old }
+    requires lower { below < length nodes.old }
+    requires child { below ≡ (node_at nodes.old above).child }
+    requires differ { above ≢ below }
+    requires rank { 1 ≤ (node_at nodes.old above).rank }
+    ensures { nodes.new ≡ nodes_without_child nodes.old above below }
+{
+    let next = nodes[below as usize].sibling;
+    let upper = &mut nodes[above as usize];
+    upper.child = next;
+    upper.rank -= 1;
+    relink(nodes, below, NOWHERE);
+}
+
 /// The node whose key comes first, x in a tie. One comparison.
-pub(crate) fn earlier(nodes: &[Node], meter: &mut Meter, x: u32, y: u32) -> u32
+pub(crate) fn earlier(nodes: &[Node], meter: &mut Meter, x: u16, y: u16) -> u16
     requires first { x < length nodes.now }
     requires second { y < length nodes.now }
     ensures earlier { IsEarlier nodes.now x y result }
@@ -64,14 +80,22 @@ pub(crate) fn earlier(nodes: &[Node], meter: &mut Meter, x: u32, y: u32) -> u32
     }
 }
 
-/// Puts a node that stands alone in front of the free ones.
-pub(crate) fn release(nodes: &mut [Node], at: u32, free: u32)
+/// Leaves the node alone: its children have no parent in any tree.
+pub(crate) fn strip(nodes: &mut [Node], at: u16)
     requires { at < length nodes.old }
-    ensures { nodes.new ≡ nodes_with_free nodes.old at free }
+    ensures { nodes.new ≡ nodes_alone nodes.old at }
 {
     let node = &mut nodes[at as usize];
     node.parent = NOWHERE;
+    node.sibling = NOWHERE;
     node.child = NOWHERE;
-    node.sibling = free;
     node.rank = 0;
+}
+
+/// Marks a node that stands alone as one of no heap.
+pub(crate) fn release(nodes: &mut [Node], at: u16)
+    requires { at < length nodes.old }
+    ensures { nodes.new ≡ nodes_idle nodes.old at }
+{
+    nodes[at as usize].rank = IDLE;
 }

@@ -1,5 +1,5 @@
 -- Only texts name formats.
-use Rattle.std.proofs.Common.{◌≡◌, ◌∙◌, ◌<◌, ℕ, List, [], ◌∷◌, Bool, ◌&&◌, true, false, None, sym, subst, refl, codes, rules, tests}
+use Rattle.std.proofs.Common.{◌≡◌, ◌∙◌, ◌<◌, ℕ, List, [], ◌∷◌, Bool, true, false, None, sym, subst, refl, codes, rules, tests}
 use Rattle.std.specs.Prelude.{if◌then◌else◌, nat_lt}
 use Rattle.std.specs.Str.{IsUtf8, bytes_eq}
 use Rattle.std.proofs.lemmas.Slice.Eq.{bytes_eq-Decides}
@@ -7,6 +7,7 @@ use Rattle.std.specs.List.{All, list_all}
 use Rattle.std.proofs.lemmas.Str.{IsUtf8-from_ascii}
 use Rattle.std.proofs.lemmas.Str.Ascii.{IsAscii-from_all}
 use Rattle.std.proofs.lemmas.List.Elements.{All-nil, All-cons}
+use Rattle.std.proofs.lemmas.Bool.{and_parts}
 use Rattle.pf_options.specs.Formats.{format_named}
 
 abbrev small : ℕ → Bool
@@ -15,14 +16,10 @@ small byte = nat_lt byte 128
 below : (byte : ℕ) → small byte ≡ true → byte < 128
 below byte e = search (rules, tests)
 
-both : (a b : Bool) → (a && b) ≡ true → (a ≡ true) × (b ≡ true)
-both true b e = (refl, e)
-both false b e = absurd (search rules)
-
 all_ascii : (bytes : List ℕ) → list_all small bytes ≡ true → All (λ byte. byte < 128) bytes
 all_ascii [] e = All-nil _
 all_ascii (byte ∷ bytes) e =
-    let p = both (small byte) (list_all small bytes) e in
+    let p = and_parts (small byte) (list_all small bytes) e in
     All-cons (λ b. b < 128) byte bytes (below byte p.0) (all_ascii bytes p.1)
 
 is_text_of : (bytes : List ℕ) → list_all small bytes ≡ true → IsUtf8 bytes

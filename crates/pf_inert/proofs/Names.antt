@@ -4,12 +4,13 @@ use Rattle.std.proofs.lemmas.List.Elements.{All-cons, All-head, All-nil, All-tai
 use Rattle.std.specs.List.{list_all}
 use Rattle.serde_json.specs.View.{items_of}
 use Rattle.std.specs.Prelude.{map}
+use Rattle.std.proofs.lemmas.Bool.{and_parts}
 use Rattle.pf_names.specs.Text.{is_text, is_text_byte}
 use Rattle.pf_names.specs.declared.named.Named.{Named}
 use Rattle.pf_report.specs.Json.{name_data}
 use Rattle.pf_retold.specs.Titles.{AreGivable}
 use Rattle.pf_inert.specs.Page.{AreTexts, is_inert}
-use Rattle.pf_inert.proofs.Texts.{behind, both, front}
+use Rattle.pf_inert.proofs.Texts.{both}
 use Rattle.pf_inert.proofs.Values.{items_are_inert, value_is_inert}
 
 of_text_bytes : (bytes : List ℕ) → is_text bytes ≡ true → list_all is_text_byte bytes ≡ true
@@ -22,8 +23,8 @@ byte_inert byte text = search (rules, tests)
 bytes_inert : (bytes : List ℕ) → list_all is_text_byte bytes ≡ true → is_inert bytes ≡ true
 bytes_inert [] all = refl
 bytes_inert (byte ∷ bytes) all =
-    both (not (byte == 60)) (is_inert bytes) (byte_inert byte (front (is_text_byte byte) (list_all is_text_byte bytes) all))
-    (bytes_inert bytes (behind (is_text_byte byte) (list_all is_text_byte bytes) all))
+    both (not (byte == 60)) (is_inert bytes) (byte_inert byte (and_parts (is_text_byte byte) (list_all is_text_byte bytes) all).0)
+    (bytes_inert bytes (and_parts (is_text_byte byte) (list_all is_text_byte bytes) all).1)
 
 name_inert : (named : Named) → is_text named.name ≡ true → value_is_inert (name_data named) ≡ true
 name_inert named text = both (is_inert named.name) true (bytes_inert named.name (of_text_bytes named.name text)) refl

@@ -5,6 +5,7 @@ use Rattle.std.specs.Char.{digit_char}
 use Rattle.std.specs.Fmt.{decimal, digit_glyph, digits, digits_onto, signed_decimal}
 use Rattle.std.proofs.lemmas.Bool.Decides.{nat_tests}
 use Rattle.std.proofs.lemmas.List.Folds.{list_all-append}
+use Rattle.std.proofs.lemmas.Bool.{and_parts}
 use Rattle.json.specs.Print.{escape, escape_byte, escape_letter, quoted}
 use Rattle.pf_inert.specs.Page.{is_inert}
 
@@ -57,19 +58,11 @@ byte_inert byte other = by (nat_lt 0 (escape_letter byte)) (nat_lt byte 32)
         (both (not (digit_char (byte % 16) == 60)) true (char_inert (byte % 16)) refl)
     by false false = both (not (byte == 60)) true other refl
 
-pub front : (a b : Bool) → (a && b) ≡ true → a ≡ true
-front true b e = refl
-front false b e = e
-
-pub behind : (a b : Bool) → (a && b) ≡ true → b ≡ true
-behind true b e = e
-behind false b e = absurd cc
-
 escape_inert : (text : List ℕ) → is_inert text ≡ true → is_inert (escape text) ≡ true
 escape_inert [] inert = refl
 escape_inert (byte ∷ text) inert =
-    joined (escape_byte byte) (escape text) (byte_inert byte (front (not (byte == 60)) (is_inert text) inert))
-    (escape_inert text (behind (not (byte == 60)) (is_inert text) inert))
+    joined (escape_byte byte) (escape text) (byte_inert byte (and_parts (not (byte == 60)) (is_inert text) inert).0)
+    (escape_inert text (and_parts (not (byte == 60)) (is_inert text) inert).1)
 
 pub quoted_inert : (text : List ℕ) → is_inert text ≡ true → is_inert (quoted text) ≡ true
 quoted_inert text inert = joined (escape text) (34 ∷ []) (escape_inert text inert) refl

@@ -1,11 +1,12 @@
 -- The compact text of a JSON value whose strings and keys have no `<`.
 use Rattle.std.proofs.Common.{◌≡◌, ◌&&◌, Bool, true, false, List, [], ◌∷◌, ◌++◌, map, refl}
+use Rattle.std.proofs.lemmas.Bool.{and_parts}
 use Rattle.serde_json.specs.Data.{Num, unsigned, negative, float, Data, null, boolean, number, string, array, object, Items, no_items, item, Members, no_members, member}
 use Rattle.serde_json.specs.View.{items_of}
 use Rattle.serde_json.specs.Written.{comma_if, compact_text, items_text, members_text, number_text}
 use Rattle.json.specs.Print.{quoted}
 use Rattle.pf_inert.specs.Page.{is_inert}
-use Rattle.pf_inert.proofs.Texts.{behind, both, decimal_inert, front, joined, quoted_inert, signed_inert}
+use Rattle.pf_inert.proofs.Texts.{both, decimal_inert, joined, quoted_inert, signed_inert}
 
 -- each string and each key is inert
 abbrev mutual
@@ -48,18 +49,18 @@ mutual
   items_inert later no_items inert = refl
   items_inert later (item d ds) inert =
       joined (comma_if later) (compact_text d ++ items_text true ds) (comma_inert later)
-      (joined (compact_text d) (items_text true ds) (text_inert d (front (value_is_inert d) (items_are_inert ds) inert))
-      (items_inert true ds (behind (value_is_inert d) (items_are_inert ds) inert)))
+      (joined (compact_text d) (items_text true ds) (text_inert d (and_parts (value_is_inert d) (items_are_inert ds) inert).0)
+      (items_inert true ds (and_parts (value_is_inert d) (items_are_inert ds) inert).1))
 
   members_inert : (later : Bool) (ms : Members) → members_are_inert ms ≡ true → is_inert (members_text later ms) ≡ true
   members_inert later no_members inert = refl
   members_inert later (member k d ms) inert =
-      let rest : (value_is_inert d && members_are_inert ms) ≡ true = behind (is_inert k) (value_is_inert d && members_are_inert ms) inert in
+      let rest : (value_is_inert d && members_are_inert ms) ≡ true = (and_parts (is_inert k) (value_is_inert d && members_are_inert ms) inert).1 in
       joined (comma_if later) (quoted k ++ 58 ∷ (compact_text d ++ members_text true ms)) (comma_inert later)
       (joined (quoted k) (58 ∷ (compact_text d ++ members_text true ms))
-      (quoted_inert k (front (is_inert k) (value_is_inert d && members_are_inert ms) inert))
-      (joined (compact_text d) (members_text true ms) (text_inert d (front (value_is_inert d) (members_are_inert ms) rest))
-      (members_inert true ms (behind (value_is_inert d) (members_are_inert ms) rest))))
+      (quoted_inert k (and_parts (is_inert k) (value_is_inert d && members_are_inert ms) inert).0)
+      (joined (compact_text d) (members_text true ms) (text_inert d (and_parts (value_is_inert d) (members_are_inert ms) rest).0)
+      (members_inert true ms (and_parts (value_is_inert d) (members_are_inert ms) rest).1)))
 
 -- Use: an array each element of which is inert.
 pub array_inert : {X : Type 0} (show : X → Data) → ((x : X) → value_is_inert (show x) ≡ true) → (xs : List X)

@@ -1,5 +1,5 @@
 -- The jobs of a task, by what is told of it.
-use Rattle.std.proofs.Common.{◌≡◌, ◌∙◌, ℕ, zero, suc, ◌+◌, ◌-◌, ◌*◌, ◌/◌, ◌<◌, ◌≤◌, Bool, true, false, cond, take, filter, filter_map, get_or, subst, Result, Ok, Err, List, [], ◌∷◌, ◌++◌, length, All, refl, sym, ap, ap₂, arith}
+use Rattle.std.proofs.Common.{◌≡◌, ◌∙◌, ℕ, suc, ◌+◌, ◌-◌, ◌*◌, ◌/◌, ◌<◌, ◌≤◌, Bool, true, false, cond, take, filter, filter_map, get_or, subst, Result, Ok, Err, List, [], ◌∷◌, ◌++◌, length, All, refl, sym, ap, ap₂, arith}
 use Rattle.std.specs.Prelude.{OnOk}
 use Rattle.std.specs.List.{flat_map, range_with_len, slice_get}
 use Rattle.std.specs.Option.{option_map}
@@ -8,6 +8,7 @@ use Rattle.std.proofs.lemmas.Grind.{flat_map-append}
 use Rattle.std.proofs.lemmas.List.{append-nil, take_all}
 use Rattle.std.proofs.lemmas.List.Concat.{flat_map-cons}
 use Rattle.std.proofs.lemmas.List.Elements.{filter_more}
+use Rattle.pf_facts.proofs.Ranges.{flat_map_agree}
 use Rattle.pf_window.specs.Window.{release_of, deadline_of}
 use Rattle.pf_scenario.specs.Scenario.{Plan}
 use Rattle.pf_scenario.specs.Edit.{IsScenario}
@@ -42,14 +43,6 @@ use Rattle.pf_text.specs.Sheets.{AddsAtMostOne}
 use Rattle.pf_jobs.specs.Ran.{NamedRan, Ran, ran_by}
 use Rattle.pf_jobs.specs.Jobs.{first_of, last_of, job_of, job_by, job_count, job_record, job_records, is_told, jobs_records, named_behind_job, records_behind_job, records_of_task}
 use Rattle.pf_jobs.specs.declared.job.Job.{Job}
-
-flat_map_agree : {X : Type 0} (f g : ℕ → List X) (a k : ℕ) → ((i : ℕ) → a ≤ i → f i ≡ g i) →
-    flat_map f (range_with_len a k) ≡ flat_map g (range_with_len a k)
-flat_map_agree f g a zero same = refl
-flat_map_agree f g a (suc k) same =
-    flat_map-cons f a (range_with_len (a + 1) k)
-    ∙ ap₂ (λ xs ys. xs ++ ys) (same a (omega arith)) (flat_map_agree f g (a + 1) k (λ i above. same i (omega (arith, above))))
-    ∙ sym (flat_map-cons g a (range_with_len (a + 1) k))
 
 -- Use: a job has at least a subtask.
 pub some_subs : (k cost : ℕ) → 1 ≤ k → cost ≤ k * cost

@@ -1,6 +1,6 @@
 -- What a crash leaves while a file is opened.
 use Rattle.std.proofs.Common.{◌≡◌, ◌≢◌, ◌⊎◌, inl, inr, ℕ, ◌+◌, ◌≤◌, ◌<◌, Bool, true, false, ◌&&◌, ◌||◌, List, [], ◌∷◌, ◌++◌, length, take, drop, slice_index, refl, sym, ◌∙◌, ap, subst, arith, length-append, length-drop, take-append-drop, if◌then◌else◌, ◌==◌, nat_eq, nat_le}
-use Rattle.std.proofs.lemmas.Bool.{cases_eq, cases_lt, leb-true, le-leb}
+use Rattle.std.proofs.lemmas.Bool.{cases_eq, cases_lt, leb-true, le-leb, and_parts}
 use Rattle.std.proofs.lemmas.Bool.Decides.{Decides-eqb}
 use Rattle.std.proofs.lemmas.List.{append-nil, take_at, drop_at, drop_all, drop_more}
 use Rattle.std.proofs.lemmas.Slice.Eq.{starts_is}
@@ -9,14 +9,14 @@ use Rattle.sqlite_disk.specs.Disk.{Torn, Holds, Cut}
 use Rattle.pf_journal.specs.declared.state.State.TheVariants.{New, Journal, Other}
 use Rattle.pf_journal.specs.Lines.{is_text, line_of, lines_of, journal_of, texts_of, heading, is_new, state_of, records_of, script_of}
 use Rattle.pf_journal.specs.Crash.{IsBegun, IsAtRest}
-use Rattle.pf_journal.proofs.Reading.{both, shuts, line_read, lines_then, short_nothing, texts_of-all, split}
+use Rattle.pf_journal.proofs.Reading.{shuts, line_read, lines_then, short_nothing, texts_of-all, split}
 use Rattle.pf_journal.proofs.Sizes.{size_within}
 use Rattle.pf_journal.proofs.Shapes.{torn_front, written, torn_end, written_end, torn_byte, written_byte, torn_cut, cut_done}
 
 -- the tests of a new file
 new_parts : (short few blank : Bool) → (short || (few && blank)) ≡ true → (short ≡ true) ⊎ ((few ≡ true) × (blank ≡ true))
 new_parts true few blank is = inl refl
-new_parts false few blank is = inr (both few blank is)
+new_parts false few blank is = inr (and_parts few blank is)
 
 is_either : (short few blank : Bool) → few ≡ true → blank ≡ true → (short || (few && blank)) ≡ true
 is_either true few blank is_few is_blank = refl

@@ -2,13 +2,13 @@
 use Rattle.std.proofs.Common.{◌≡◌, ◌≢◌, inl, inr, ℕ, ◌+◌, true, List, [], ◌∷◌, ◌++◌, length, take, drop, refl, sym, ◌∙◌, ap, subst, arith, append_assoc, length-append}
 use Rattle.std.proofs.lemmas.List.{length-take, take_at}
 use Rattle.std.proofs.lemmas.Grind.{flat_map-append}
-use Rattle.std.proofs.lemmas.Bool.{cases_eq}
+use Rattle.std.proofs.lemmas.Bool.{cases_eq, and_parts}
 use Rattle.std.specs.List.{list_all}
 use Rattle.std.specs.Cmp.Derive.{both_true}
 use Rattle.sqlite_disk.specs.Disk.{Torn, Holds}
 use Rattle.pf_journal.specs.Lines.{is_text, line_of, lines_of, journal_of, texts_of, heading, records_of}
 use Rattle.pf_journal.specs.Crash.{IsShutAt, IsAdding, IsAtRest, IsBeforeOrAfter}
-use Rattle.pf_journal.proofs.Reading.{both, shuts, lines_then, journal_texts}
+use Rattle.pf_journal.proofs.Reading.{shuts, lines_then, journal_texts}
 use Rattle.pf_journal.proofs.Shapes.{torn_end, written_end, torn_byte, written_byte}
 use Rattle.pf_journal.proofs.Opening.{records_are}
 
@@ -57,7 +57,7 @@ module _ (records : List (List ℕ)) (first : List ℕ) (others : List (List ℕ
     where
       all_of : (front : List (List ℕ)) → list_all is_text front ≡ true → list_all is_text (front ++ newer) ≡ true
       all_of [] is = batch_texts
-      all_of (text ∷ front) is = let parts = both (is_text text) (list_all is_text front) is in both_true parts.0 (all_of front parts.1)
+      all_of (text ∷ front) is = let parts = and_parts (is_text text) (list_all is_text front) is in both_true parts.0 (all_of front parts.1)
 
   pub added_is : lines_of headed ++ 32 ∷ tail ≡ journal_of (heading ∷ (records ++ newer))
   added_is =

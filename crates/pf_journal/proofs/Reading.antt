@@ -1,15 +1,11 @@
 -- What the bytes of lines stand for.
-use Rattle.std.proofs.Common.{◌≡◌, ◌≢◌, inl, inr, ℕ, ◌≤◌, Bool, true, false, not, ◌&&◌, ◌==◌, Option, None, Some, List, [], ◌∷◌, ◌++◌, length, refl, sym, ◌∙◌, ap, subst, arith, append_assoc}
+use Rattle.std.proofs.Common.{◌≡◌, ◌≢◌, inl, inr, ℕ, ◌≤◌, Bool, true, false, not, ◌==◌, Option, None, Some, List, [], ◌∷◌, ◌++◌, length, refl, sym, ◌∙◌, ap, subst, arith, append_assoc}
 use Rattle.std.proofs.lemmas.List.{append-nil}
-use Rattle.std.proofs.lemmas.Bool.{cases_eq}
+use Rattle.std.proofs.lemmas.Bool.{cases_eq, and_parts}
 use Rattle.std.proofs.lemmas.Bool.Decides.{nat_tests}
 use Rattle.std.specs.List.{list_all}
 use Rattle.std.specs.Cmp.Derive.{both_true}
 use Rattle.pf_journal.specs.Lines.{is_text, line_of, lines_of, journal_of, texts_from, texts_of}
-
-pub both : (a b : Bool) → (a && b) ≡ true → (a ≡ true) × (b ≡ true)
-both true b is = (refl, is)
-both false b is = absurd (cc is)
 
 not_ten : (byte : ℕ) → byte ≢ 10 → not (byte == 10) ≡ true
 not_ten byte other = grind (arith, nat_tests)
@@ -18,13 +14,13 @@ not_ten byte other = grind (arith, nat_tests)
 pub text_parts : (byte : ℕ) (rest : List ℕ) → is_text (byte ∷ rest) ≡ true → (byte ≢ 10) × (is_text rest ≡ true)
 text_parts byte rest is = elim (cases_eq byte 10) [
   | inl ten ↦ absurd (cc (sym (ap (λ (b : ℕ). is_text (b ∷ rest)) ten) ∙ is))
-  | inr other ↦ (other, (both (not (byte == 10)) (is_text rest) is).1)
+  | inr other ↦ (other, (and_parts (not (byte == 10)) (is_text rest) is).1)
 ]
 
 text_more : (line : List ℕ) (byte : ℕ) → is_text line ≡ true → byte ≢ 10 → is_text (line ++ byte ∷ []) ≡ true
 text_more [] byte is other = both_true (not_ten byte other) refl
 text_more (first ∷ line) byte is other =
-    let parts = both (not (first == 10)) (is_text line) is in
+    let parts = and_parts (not (first == 10)) (is_text line) is in
     both_true parts.0 (text_more line byte parts.1 other)
 
 pub opens : (gate : ℕ) (rest : List ℕ) → gate ≡ 32 → texts_from None (gate ∷ rest) ≡ texts_from (Some []) rest
@@ -60,7 +56,7 @@ line_read text rest is = ap (λ (l : List ℕ). texts_from (Some []) l) (append_
 pub lines_read : (texts : List (List ℕ)) (rest : List ℕ) → list_all is_text texts ≡ true → texts_of (lines_of texts ++ rest) ≡ texts ++ texts_of rest
 lines_read [] rest all = refl
 lines_read (text ∷ texts) rest all =
-    let parts = both (is_text text) (list_all is_text texts) all in
+    let parts = and_parts (is_text text) (list_all is_text texts) all in
     ap texts_of (append_assoc (line_of text) (lines_of texts) rest)
     ∙ line_read text (lines_of texts ++ rest) parts.0
     ∙ ap (λ (ts : List (List ℕ)). text ∷ ts) (lines_read texts rest parts.1)

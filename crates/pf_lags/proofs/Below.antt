@@ -5,6 +5,7 @@ use Rattle.std.specs.Option.{option_map_or}
 use Rattle.std.proofs.Math.Nat.{lt_of_mul-lt-mul_right}
 use Rattle.std.proofs.lemmas.Bool.{cases_lt, le-leb, leb-true}
 use Rattle.std.proofs.lemmas.Int.{ints}
+use Rattle.pf_facts.proofs.Ranges.{in_range}
 use Rattle.pf_weight.specs.Share.{Share, IsShare}
 use Rattle.pf_window.specs.Window.{deadline_of}
 use Rattle.pf_window.proofs.Quotients.{ceil_is}
@@ -22,7 +23,7 @@ use Rattle.pf_tally.proofs.Windows.{deadline_late}
 use Rattle.pf_promise.proofs.Shifts.{done-rises}
 use Rattle.pf_promise.proofs.Joining.{all_joined}
 use Rattle.pf_promise.proofs.Ran.{IsMiss, is_miss}
-use Rattle.pf_promise.proofs.Counted.{in_map, in_range}
+use Rattle.pf_promise.proofs.Counted.{in_map}
 use Rattle.pf_lags.specs.Stay.{IsStay, lag_after}
 use Rattle.pf_lags.specs.Laws.{LagsAreBelow}
 use Rattle.pf_lags.proofs.Clocks.{clock_before}

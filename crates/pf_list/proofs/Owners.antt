@@ -1,7 +1,7 @@
 -- The same items, with other owners.
-use Rattle.std.proofs.Common.{◌≡◌, ℕ, zero, suc, List, [], ◌∷◌, take, ap, ap₂, refl}
+use Rattle.std.proofs.Common.{◌≡◌, ℕ, zero, suc, Some, None, List, [], ◌∷◌, take, set, ap, ap₂, refl}
 use Rattle.std.specs.Arc.{arc_value}
-use Rattle.std.specs.List.{AllZip}
+use Rattle.std.specs.List.{AllZip, slice_get}
 use Rattle.std.specs.declared.sync.Arc.{Arc}
 use Rattle.pf_list.specs.Sharing.{values_of}
 
@@ -16,3 +16,16 @@ pub first_values : {X A : Type 0} (n : ℕ) (owners : List (Arc X A)) → values
 first_values zero owners = refl
 first_values (suc n) [] = refl
 first_values {X = X} {A = A} (suc n) (owner ∷ owners) = ap (λ values. arc_value {X = X} {Z = A} owner ∷ values) (first_values n owners)
+
+-- an owner of an equal item in place of the k-th
+pub equal_put : {X A : Type 0} (owners : List (Arc X A)) (k : ℕ) (owner : Arc X A)
+    → Some (arc_value {X = X} {Z = A} owner) ≡ slice_get (values_of owners) k → values_of (set owners k owner) ≡ values_of owners
+equal_put [] k owner is = refl
+equal_put {X = X} {A = A} (first ∷ owners) zero owner is =
+    let value : X = arc_value {X = X} {Z = A} owner in
+    let old : X = arc_value {X = X} {Z = A} first in
+    let e : Some value ≡ Some old = is in
+    let same : value ≡ old = cc in
+    ap (λ value. value ∷ values_of owners) same
+equal_put {X = X} {A = A} (first ∷ owners) (suc k) owner is =
+    ap (λ values. arc_value {X = X} {Z = A} first ∷ values) (equal_put owners k owner is)

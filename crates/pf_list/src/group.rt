@@ -1,6 +1,7 @@
-ghost use Rattle.std.specs.Prelude.{◌≡◌, ◌∷◌, [], ◌++◌, length, take, vec_len, vec_capacity, ◌+◌, ◌≤◌, IfOk, IfErr, OnOk, OnErr};
+ghost use Rattle.std.specs.Prelude.{◌≡◌, ◌∷◌, [], ◌++◌, length, take, vec_len, vec_capacity, ◌+◌, ◌≤◌, Some, IfOk, IfErr, OnOk, OnErr};
 ghost use Rattle.std.specs.List.{slice_get};
-ghost use Rattle.std.specs.Option.{option_copied};
+ghost use Rattle.std.specs.Arc.{arc_value};
+ghost use Rattle.std.specs.Option.{option_copied, option_map};
 ghost use Rattle.pf_list.specs.Sharing.{values_of};
 
 use std::alloc::{AllocError, AllocFailed, Global};
@@ -67,10 +68,17 @@ impl<T> Group<T> {
     pub(crate) fn get(&self, k: usize) -> Option<&T>
         ensures { option_copied result ≡ slice_get self.now k }
     {
-        match self.owners().get(k) {
+        match self.owner(k) {
             Some(owner) => Some(owner),
             None => None,
         }
+    }
+
+    /// The owner of the k-th item, where there is one.
+    pub(crate) fn owner(&self, k: usize) -> Option<&Arc<T>>
+        ensures { option_map (λ owner. arc_value owner.now) result ≡ slice_get self.now k }
+    {
+        self.owners().get(k)
     }
 
     /// Equal items, shared.
@@ -113,6 +121,19 @@ impl<T: Drop> Group<T> {
         }
         // Not reached, since nobody else has the items now.
         Err(AllocFailed { value: item })
+    }
+
+    /// Lets the k-th item be kept by this owner, which has an equal one; not where others share these items. It takes no
+    /// memory.
+    pub(crate) fn share(&mut self, k: usize, owner: &Arc<T>)
+        requires { Some (arc_value owner.now) ≡ slice_get self.old k }
+        ensures { self.new ≡ self.old }
+    {
+        if let Some(shared) = &mut self.items {
+            if let Some(items) = Arc::get_mut(shared) {
+                put(items, k, owner);
+            }
+        }
     }
 
     /// Keeps the first `count` items, where there are more. It takes no memory where nobody else has them.
@@ -160,6 +181,16 @@ fn share<T: Drop>(alloc: Global, owners: &[Arc<T>]) -> Result<Vec<Arc<T>>, Alloc
     ensures { IfOk result (λ shared. values_of shared.items ≡ values_of owners.now) }
 {
     Vec::from_clones(alloc, owners)
+}
+
+/// Puts this owner, whose item is equal, in place of the k-th.
+fn put<T: Drop>(items: &mut Vec<Arc<T>>, k: usize, owner: &Arc<T>)
+    requires { Some (arc_value owner.now) ≡ slice_get (values_of items.old.items) k }
+    ensures { values_of items.new.items ≡ values_of items.old.items }
+{
+    if let Ok(owner) = Arc::try_clone(owner) {
+        items[k] = owner;
+    }
 }
 
 /// Appends an item. Where memory is refused, they are as before.

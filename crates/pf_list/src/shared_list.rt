@@ -1,11 +1,13 @@
 ghost use Rattle.std.specs.Prelude.{◌≡◌, ◌==◌, ◌+◌, ◌-◌, ◌≤◌, ◌<◌, ◌∷◌, [], ◌++◌, length, take, IfOk, IfErr, OnOk, OnErr};
 ghost use Rattle.std.specs.List.{slice_get};
-ghost use Rattle.std.specs.Option.{option_copied};
+ghost use Rattle.std.specs.Arc.{arc_value};
+ghost use Rattle.std.specs.Option.{option_copied, option_map};
 ghost use Rattle.pf_list.specs.Grouping.{grouped, AreGroups};
 
 use crate::group::Group;
 use std::alloc::{AllocError, AllocFailed, Global};
 use std::marker::Model;
+use std::sync::Arc;
 
 /// How many items a full group has.
 const GROUP: usize = 128;
@@ -68,12 +70,22 @@ impl<T: Drop> SharedList<T> {
     pub fn get(&self, k: usize) -> Option<&T>
         ensures { option_copied result ≡ slice_get self.now k }
     {
+        match self.owner(k) {
+            Some(owner) => Some(owner),
+            None => None,
+        }
+    }
+
+    /// The owner of the k-th item, where there is one.
+    fn owner(&self, k: usize) -> Option<&Arc<T>>
+        ensures { option_map (λ owner. arc_value owner.now) result ≡ slice_get self.now k }
+    {
         if k >= self.count {
             return None;
         }
         match self.full.get(k / GROUP) {
-            Some(group) => group.get(k % GROUP),
-            None => self.last.get(k - self.full.len() * GROUP),
+            Some(group) => group.owner(k % GROUP),
+            None => self.last.owner(k - self.full.len() * GROUP),
         }
     }
 
@@ -107,6 +119,23 @@ impl<T: Drop> SharedList<T> {
         ensures { self.new ≡ take (length self.old - 1) self.old }
     {
         self.count = self.count.saturating_sub(1);
+    }
+
+    /// Lets the last item be shared with another list whose item at that place is equal, so that memory has it once. It
+    /// takes no memory; nothing is done where a copy of this list has the item too.
+    pub fn share_last(&mut self, other: &SharedList<T>)
+        requires { slice_get other.now (length self.old - 1) ≡ slice_get self.old (length self.old - 1) }
+        ensures { self.new ≡ self.old }
+    {
+        let Some(k) = self.count.checked_sub(1) else {
+            return;
+        };
+        let Some(at) = k.checked_sub(self.full.len() * GROUP) else {
+            return;
+        };
+        if let Some(owner) = other.owner(k) {
+            self.last.share(at, owner);
+        }
     }
 
     /// The first `count` items, shared; all of them where there are fewer.

@@ -7,6 +7,7 @@ use Rattle.std.proofs.lemmas.List.{take_all, take_more}
 use Rattle.std.proofs.lemmas.List.Elements.{filter_map-append}
 use Rattle.std.proofs.lemmas.List.Sums.{sum_by-cons}
 use Rattle.std.proofs.lemmas.List.Sorted.{list_any-IsPermutation}
+use Rattle.pf_facts.proofs.Finding.{missed_any, find-filter}
 use Rattle.pf_weight.specs.Share.{share_of}
 use Rattle.pf_scenario.specs.Event.{is_join_of, is_leave_of}
 use Rattle.pf_scenario.specs.declared.event.Event.{Event}
@@ -16,7 +17,7 @@ use Rattle.pf_run.specs.Inside.{Joined, joined_by, join_of, has_left, inside, lo
 use Rattle.pf_notes.specs.Absence.{join_among, leave_among}
 use Rattle.pf_notes.specs.Point.{joined_at}
 use Rattle.pf_notes.specs.Leavers.{leaver_of, left_by, AreLeavers, units_beside, units_staying}
-use Rattle.pf_notes.proofs.Finding.{find-filter, found_any, missed_any}
+use Rattle.pf_notes.proofs.Finding.{found_any}
 
 brings : (base task : ℕ) (x : Numbered) (event : Event) (js : List Joined) (o : Option Numbered) → event ≡ x.event →
     find (λ j. j.task == task) js ≡ option_and_then (join_of base) o →

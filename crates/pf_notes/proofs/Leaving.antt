@@ -2,6 +2,7 @@
 use Rattle.std.proofs.Common.{◌≡◌, ℕ, zero, suc, ◌+◌, ◌-◌, ◌<◌, ◌≤◌, Bool, true, false, nat_le, nat_lt, Option, None, Some, List, sym, ap, ◌∙◌, ⊎_elim, arith}
 use Rattle.std.proofs.lemmas.Bool.{cases_Bool, cases_eq, cond-true, cond-false}
 use Rattle.std.proofs.lemmas.Bool.Decides.{nat_tests}
+use Rattle.pf_facts.proofs.Options.{some_is}
 use Rattle.pf_scenario.specs.Scenario.{Plan}
 use Rattle.pf_admit.specs.Member.{free_from}
 use Rattle.pf_admit.specs.declared.denial.Denial.TheVariants.{TooEarly}
@@ -10,9 +11,6 @@ use Rattle.pf_run.specs.Inside.{Joined}
 use Rattle.pf_notes.specs.Point.{first_slot, member_in}
 use Rattle.pf_notes.specs.Grounds.{lets_go}
 use Rattle.pf_notes.specs.Laws.{leave_in, NextLeaveIsFirst}
-
-some_is : (x y : ℕ) → ◌≡◌ {A = Option ℕ} (Some x) (Some y) → x ≡ y
-some_is x y e = cc
 
 record IsFirst (p : ℕ → Bool) (t k u : ℕ) : Type 0 where
   from : t ≤ u

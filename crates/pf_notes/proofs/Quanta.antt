@@ -9,6 +9,7 @@ use Rattle.std.proofs.lemmas.List.{take_more, take-take, length-take-le}
 use Rattle.std.proofs.lemmas.List.Sorted.{list_any-IsPermutation, All-permutation}
 use Rattle.std.proofs.lemmas.List.Elements.{All-map, All-weaker}
 use Rattle.std.proofs.lemmas.List.Sums.{sum_by_push, count_by-le-length}
+use Rattle.pf_facts.proofs.Finding.{found_all, found_passes, missed_any}
 use Rattle.pf_order.specs.Priority.{Priority}
 use Rattle.pf_order.specs.declared.pick.Pick.{Pick}
 use Rattle.pf_place.specs.Occupancy.{sitters}
@@ -24,7 +25,7 @@ use Rattle.pf_run.proofs.Runs.{run_is_computed}
 use Rattle.pf_tally.proofs.Turns.{AreSeated, run_seated, rows_length, rows_of_run}
 use Rattle.pf_notes.specs.Walk.{IsLast, seated_pick, quantum_in, last_in, AreRunRows}
 use Rattle.pf_notes.specs.declared.quantum.Quantum.{Quantum}
-use Rattle.pf_notes.proofs.Finding.{found_all, found_any, found_passes, missed_any}
+use Rattle.pf_notes.proofs.Finding.{found_any}
 
 no_slot : Slot
 no_slot = record { picks = []; denials = [] }

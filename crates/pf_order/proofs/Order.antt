@@ -7,6 +7,7 @@ use Rattle.std.specs.Cmp.{IsTotalOrder, nat_cmp_total}
 use Rattle.std.specs.declared.cmp.Ordering.{Ordering}
 use Rattle.std.specs.declared.cmp.Ordering.TheVariants.{Less, Equal, Greater}
 use Rattle.std.specs.Ordering.{is_lt, ordering_reverse}
+use Rattle.pf_facts.proofs.Orders.{is_less}
 use Rattle.pf_window.specs.Share.{is_heavy}
 use Rattle.pf_window.specs.Window.{bit_of}
 use Rattle.pf_window.specs.Group.{group_of}
@@ -41,11 +42,6 @@ one_of_two_precedes x y differ =
 
 pub none_precedes_itself : NonePrecedesItself
 none_precedes_itself x = ap is_lt (tied_itself priority_cmp_total x)
-
-is_less : (o : Ordering) → is_lt o ≡ true → o ≡ Less
-is_less Less e = refl
-is_less Equal e = cc
-is_less Greater e = cc
 
 pub preceding_is_transitive : PrecedingIsTransitive
 preceding_is_transitive x y z first second = ap is_lt (priority_cmp_total.trans x y z (is_less _ first) (is_less _ second))

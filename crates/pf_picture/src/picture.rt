@@ -19,7 +19,7 @@ use pf_look::look::Look;
 use pf_names::slot_length::SlotLength;
 use pf_names::titles::Titles;
 use pf_tasks::task_list::TaskList;
-use pf_text::pieces::{Chain, Pieces, Whole, gathered};
+use pf_text::pieces::{Chain, Pieces, Whole};
 use std::alloc::{AllocError, Global};
 
 /// A picture in pieces: what stands before the blocks, the blocks, and what the signs mean.
@@ -127,8 +127,7 @@ fn pieces_of<'a>(
 }
 
 /// The picture of the slots from `from` on, below `to`, in this look, with these names of tasks and this length of a slot,
-/// in pieces: each is the row of a processor or the part of a task in a block at most. `is_range` of pf_chart tells whether
-/// the snapshot has these slots.
+/// in pieces: each is the row of a processor or the part of a task in a block at most.
 ///
 /// # Errors
 ///
@@ -193,30 +192,5 @@ pub fn task_picture_pieces<'a>(
         from,
         to,
         look,
-    )
-}
-
-/// The picture of the slots from `from` on, below `to`, in this look, with these names of tasks and this length of a slot,
-/// in whole.
-///
-/// # Errors
-///
-/// Where memory is refused.
-pub fn picture_text(
-    alloc: Global,
-    snapshot: &Snapshot,
-    titles: &Titles,
-    from: u64,
-    to: u64,
-    look: &Look,
-) -> Result<Vec<u8>, AllocError>
-    requires rising { from ≤ to }
-    requires within { to ≤ snapshot.now.state.now }
-    requires short { to - from ≤ 4096 }
-    ensures { IfOk result (λ text. text.items ≡ picture_text_of snapshot.now titles.now from to look.now) }
-{
-    gathered(
-        alloc,
-        picture_pieces(alloc, snapshot, titles, from, to, look)?,
     )
 }

@@ -4,13 +4,12 @@ use Rattle.std.specs.List.{All, slice_get}
 use Rattle.std.proofs.Math.Seq.{take-append-add}
 use Rattle.std.proofs.lemmas.Bool.{cases_lt}
 use Rattle.std.proofs.lemmas.Grind.{flat_map-append}
-use Rattle.std.specs.Option.{option_map}
-use Rattle.std.proofs.lemmas.List.{append-nil, length-map, map-append}
-use Rattle.std.proofs.lemmas.List.Elements.{All-head, All-tail, All-nil, All-cons, All-append}
+use Rattle.std.proofs.lemmas.List.{append-nil}
+use Rattle.std.proofs.lemmas.List.Elements.{All-head, All-tail, All-nil, All-cons}
 use Rattle.std.proofs.lemmas.Option.{slice_get-get_or}
 use Rattle.pf_order.specs.declared.pick.Pick.{Pick}
 use Rattle.pf_place.specs.Blocks.{all_rows_of, Held, KeepsRoom, HasRoomFor}
-use Rattle.pf_place.specs.Filed.{AreFiled, rows_of_each}
+use Rattle.pf_place.specs.Filed.{AreFiled}
 use Rattle.pf_place.specs.Occupancy.{row_of, idle_row}
 use Rattle.pf_place.specs.RunRows.{last_row, but_last, row_before}
 use Rattle.pf_place.proofs.Blocks.{last_of_some, last_is_read, last_behind, but_last_behind}
@@ -99,13 +98,6 @@ room_kept old new rows room fits = record {
   for_rows = omega (arith, fits.for_rows, room.for_rows);
 }
 
-pub nothing_left : {X : Type 0} (xs : List X) → length xs ≡ 0 → xs ≡ []
-nothing_left [] e = refl
-nothing_left (x ∷ xs) e = absurd (omega arith)
-
-All-one : {X : Type 0} (P : X → Type 0) (x : X) → P x → All P (x ∷ [])
-All-one P x h = All-cons P x [] h (All-nil P)
-
 All-front : {X : Type 0} (P : X → Type 0) (xs : List X) (x : X) → All P (xs ++ x ∷ []) → All P xs
 All-front P [] x h = All-nil P
 All-front P (y ∷ xs) x h = All-cons P y xs (All-head P y (xs ++ x ∷ []) h) (All-front P xs x (All-tail P y (xs ++ x ∷ []) h))
@@ -121,19 +113,6 @@ All-kept P Q keep (x ∷ xs) h = All-cons Q x xs (keep x (All-head P x xs h)) (A
 -- there is room for the rows of each block still
 pub room_for_each : (old new : Held) (full : List (List (List (Option Pick)))) → KeepsRoom old new → All (HasRoomFor old) full → All (HasRoomFor new) full
 room_for_each old new full room fits = All-kept (HasRoomFor old) (HasRoomFor new) (λ rows h. room_kept old new rows room h) full fits
-
--- the last block was closed, and the next one has a row
-pub filed_closed : (full : List (List (List (Option Pick)))) (old next new : Held) → AreFiled full old → length old.rows ≡ 256 → length full < 2 ^ 54
-    → KeepsRoom old next → HasRoomFor next old.rows → KeepsRoom next new → length new.rows ≡ 1 → AreFiled (full ++ old.rows ∷ []) new
-filed_closed full old next new filed long few same fits room one = record {
-  whole = All-append (λ rows. length rows ≡ 256) full (old.rows ∷ []) filed.whole (All-one (λ rows. length rows ≡ 256) old.rows long);
-  part = omega arith;
-  some = λ _. omega arith;
-  room = All-append (HasRoomFor new) full (old.rows ∷ [])
-      (All-kept (HasRoomFor old) (HasRoomFor new) (λ rows h. room_kept next new rows room (room_kept old next rows same h)) full filed.room)
-      (All-one (HasRoomFor new) old.rows (room_kept next new old.rows room fits));
-  few = omega (arith, length-append full (old.rows ∷ []));
-}
 
 -- the last full block was opened again
 pub filed_opened : (full : List (List (List (Option Pick)))) (rows : List (List (Option Pick))) (old new : Held)
@@ -181,16 +160,6 @@ row_pushed front rows old idle row some is =
     sym (append_assoc front (but_last rows) (row ∷ []))
     ∙ ap (λ xs. xs ++ row ∷ []) (sym (but_last_behind_full front rows some) ∙ ap but_last is ∙ but_last_behind old idle)
 
--- as many lists of rows as blocks
-pub count_blocks : (blocks : List Held) → length (rows_of_each blocks) ≡ length blocks
-count_blocks blocks = length-map blocks (λ (held : Held). held.rows)
-
--- the rows of one of the blocks
-pub block_at : (blocks : List Held) (q : ℕ) (block : Held) → Some block ≡ slice_get blocks q → Some block.rows ≡ slice_get (rows_of_each blocks) q
-block_at [] q block is = absurd (let none : Some block ≡ None = is in cc)
-block_at (first ∷ blocks) zero block is = (let e : Some block ≡ Some first = is in ap (λ (held : Option Held). option_map (λ (h : Held). h.rows) held) e)
-block_at (first ∷ blocks) (suc q) block is = block_at blocks q block is
-
 -- behind the last one is none
 pub none_within : {X : Type 0} (xs : List X) (k : ℕ) → None ≡ slice_get xs k → length xs ≤ k
 none_within [] k none = omega arith
@@ -209,12 +178,10 @@ last_taken zero (y ∷ []) x long is = (let e : Some x ≡ Some y = is in let sa
 last_taken zero (y ∷ z ∷ xs) x long is = absurd (omega arith)
 last_taken (suc n) (y ∷ xs) x long is = ap (λ rest. y ∷ rest) (last_taken n xs x (omega arith) is)
 
--- the rows of the blocks before the last
-pub blocks_less : (blocks : List Held) (block : Held) → Some block ≡ slice_get blocks (length blocks - 1)
-    → rows_of_each (take (length blocks - 1) blocks) ++ block.rows ∷ [] ≡ rows_of_each blocks
-blocks_less blocks block is =
-    sym (map-append (λ (held : Held). held.rows) (take (length blocks - 1) blocks) (block ∷ []))
-    ∙ ap rows_of_each (last_taken (length blocks - 1) blocks block (omega (arith, some_within blocks (length blocks - 1) block is)) is)
+-- the blocks before the last, and the last
+pub blocks_less : {X : Type 0} (blocks : List X) (block : X) → Some block ≡ slice_get blocks (length blocks - 1)
+    → take (length blocks - 1) blocks ++ block ∷ [] ≡ blocks
+blocks_less blocks block is = last_taken (length blocks - 1) blocks block (omega (arith, some_within blocks (length blocks - 1) block is)) is
 
 -- Picks in the last row.
 module _ (front rows now : List (List (Option Pick))) (some : 0 < length rows) (is : front ++ rows ≡ now) where

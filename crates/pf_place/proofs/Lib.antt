@@ -5,6 +5,8 @@ pub mod Seats
 pub mod Seated
 pub mod Blocks
 pub mod Filed
+pub mod Packed
+pub mod Small
 pub mod Positions
 pub mod Index
 pub mod Marks

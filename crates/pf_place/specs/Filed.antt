@@ -1,12 +1,8 @@
 -- How rows are filed: full blocks, which other rows may share, and a last one behind them.
-use Rattle.std.specs.Prelude.{◌≡◌, ◌^◌, ◌≤◌, ◌<◌, Option, List, length, map}
+use Rattle.std.specs.Prelude.{◌≡◌, ◌^◌, ◌≤◌, ◌<◌, Option, List, length}
 use Rattle.std.specs.List.{All}
 use Rattle.pf_order.specs.declared.pick.Pick.{Pick}
 use Rattle.pf_place.specs.Blocks.{Held, HasRoomFor}
-
--- the rows of each of these blocks
-abbrev pub rows_of_each : List Held → List (List (List (Option Pick)))
-rows_of_each blocks = map (λ block. block.rows) blocks
 
 -- each full block has 256 rows, and the last one at most as many. The last row is in the last block, which has room to
 -- take over any full one: so a row can be taken off without memory.

@@ -11,3 +11,6 @@ pub mod Blocks
 pub mod Filed
 pub mod Turns
 pub mod Index
+pub mod Small
+pub mod Packed
+pub mod Closed

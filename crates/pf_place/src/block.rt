@@ -1,9 +1,11 @@
-ghost use Rattle.std.specs.Prelude.{◌≡◌, ◌<◌, ◌≤◌, ◌+◌, ◌-◌, ◌++◌, [], ◌∷◌, length, take, slice_range, slice_index, IfOk, OnOk, OnErr};
+ghost use Rattle.std.specs.Prelude.{◌≡◌, ◌<◌, ◌≤◌, ◌+◌, ◌-◌, ◌++◌, [], ◌∷◌, true, length, take, slice_range, slice_index, IfOk, IfSome, OnOk, OnErr};
 ghost use Rattle.std.specs.List.{All, slice_get};
 ghost use Rattle.pf_place.specs.Lent.{places_lent, lent_row};
 ghost use Rattle.pf_place.specs.Occupancy.{row_of, idle_row};
+ghost use Rattle.pf_place.specs.Packed.{even_ends};
 ghost use Rattle.pf_place.specs.RunRows.{last_row, but_last};
 
+use crate::packed_rows::PackedRows;
 use crate::place::Place;
 use crate::row_view::RowView;
 use crate::seating::seat;
@@ -95,6 +97,64 @@ impl Block {
         Ok(block)
     }
 
+    /// Its rows, packed; none where they aren't of one width, or a place has no small form.
+    ///
+    /// # Errors
+    ///
+    /// Where memory is refused.
+    pub(crate) fn pack(&self) -> Result<Option<PackedRows>, AllocError>
+        ensures { IfOk result (λ packed. IfSome packed (λ rows. rows ≡ self.now.rows)) }
+    {
+        let width = start_of(&self.ends, self.ends.len().min(1));
+        if !end_evenly(&self.ends, width) {
+            return Ok(None);
+        }
+        let alloc = *self.places.allocator();
+        PackedRows::of(alloc, self.ends.len(), width, &self.places)
+    }
+
+    /// Takes over packed rows in place of its own; it takes no memory.
+    pub(crate) fn unpack(&mut self, rows: &PackedRows)
+        requires { HasRoomFor self.old rows.now }
+        ensures rows { self.new.rows ≡ rows.now }
+        ensures room { KeepsRoom self.old self.new }
+    {
+        self.places.clear();
+        self.ends.clear();
+        rows.put_places(&mut self.places);
+        rows.put_ends(&mut self.ends);
+    }
+
+    /// Makes room for the idle row of m processors in place of all rows.
+    ///
+    /// # Errors
+    ///
+    /// Where memory is refused.
+    pub(crate) fn reserve_anew(&mut self, m: usize) -> Result<(), AllocError>
+        ensures rows { self.new.rows ≡ self.old.rows }
+        ensures ok { OnOk result (m ≤ self.new.places_room) }
+        ensures room { KeepsRoom self.old self.new }
+        ensures fits { HasRoomFor self.new self.new.rows }
+    {
+        self.places.reserve(m.saturating_sub(self.places.len()))
+    }
+
+    /// Puts the idle row of m processors in place of all rows; it takes no memory.
+    pub(crate) fn begin_anew(&mut self, m: usize)
+        requires for_places { m ≤ self.old.places_room }
+        requires for_rows { 1 ≤ self.old.rows_room }
+        ensures rows { self.new.rows ≡ idle_row m ∷ [] }
+        ensures room { KeepsRoom self.old self.new }
+    {
+        self.places.clear();
+        match self.places.resize(m, Place::idle()) {
+            Ok(()) => {}
+            Err(_) => unreachable!(),
+        }
+        self.ends.clear();
+        self.ends.push_reserved(m);
+    }
+
     /// How many rows it has.
     pub(crate) fn len(&self) -> usize
         ensures { result ≡ length self.now.rows }
@@ -148,10 +208,10 @@ impl Block {
     }
 
     /// Puts another row of as many places in place of the last one; it takes no memory.
-    pub(crate) fn assign_last(&mut self, row: &[Place])
+    pub(crate) fn assign_last(&mut self, row: RowView<'_>)
         requires some { 0 < length self.old.rows }
-        requires long { length row.now ≡ length (last_row [] self.old.rows) }
-        ensures rows { self.new.rows ≡ but_last self.old.rows ++ row.now ∷ [] }
+        requires long { length (lent_row row) ≡ length (last_row [] self.old.rows) }
+        ensures rows { self.new.rows ≡ but_last self.old.rows ++ lent_row row.entry ∷ [] }
         ensures room { KeepsRoom self.old self.new }
     {
         let last = self.ends.len() - 1;
@@ -161,12 +221,12 @@ impl Block {
 
     /// Makes the last row the one that `picks` place behind the row before it, or behind `above` where it is the only
     /// one; it takes no memory.
-    pub(crate) fn seat_last(&mut self, above: &[Place], count: usize, picks: &[Pick])
+    pub(crate) fn seat_last(&mut self, above: RowView<'_>, count: usize, picks: &[Pick])
         requires some { 0 < length self.old.rows }
         requires in_use { count ≤ length (last_row [] self.old.rows) }
         requires numbered { All (λ pick. 1 ≤ pick.task) picks.now }
         ensures rows { self.new.rows ≡ but_last self.old.rows
-            ++ row_of (length (last_row [] self.old.rows)) count (last_row above.now (but_last self.old.rows)) picks.now ∷ [] }
+            ++ row_of (length (last_row [] self.old.rows)) count (last_row (lent_row above.entry) (but_last self.old.rows)) picks.now ∷ [] }
         ensures room { KeepsRoom self.old self.new }
     {
         let last = self.ends.len() - 1;
@@ -198,11 +258,11 @@ fn start_of(ends: &[usize], k: usize) -> usize
 }
 
 /// Puts the row on the places from `start` on.
-fn assign_from(places: &mut [Place], start: usize, row: &[Place])
-    requires { start + length row.now ≡ length places.old }
-    ensures { places.new ≡ take start places.old ++ row.now }
+fn assign_from(places: &mut [Place], start: usize, row: RowView<'_>)
+    requires { start + length (lent_row row) ≡ length places.old }
+    ensures { places.new ≡ take start places.old ++ lent_row row.entry }
 {
-    places[start..].copy_from_slice(row);
+    row.copy_to(&mut places[start..]);
 }
 
 /// Makes the places from `start` on the row that `picks` place behind the row from `before` to `start`.
@@ -215,5 +275,28 @@ fn seat_behind(places: &mut [Place], before: usize, start: usize, count: usize, 
         ++ row_of (length places.old - start) count (slice_range places.old before start) picks.now }
 {
     let (front, last) = places.split_at_mut(start);
-    seat(last, count, &front[before..], picks);
+    seat_after(last, count, &front[before..], picks);
+}
+
+/// Makes these places the row that `picks` place behind the row of the places before.
+fn seat_after(places: &mut [Place], count: usize, before: &[Place], picks: &[Pick])
+    requires in_use { count ≤ length places.old }
+    requires numbered { All (λ pick. 1 ≤ pick.task) picks.now }
+    ensures { places.new ≡ row_of (length places.old) count before.now picks.now }
+{
+    seat(places, count, RowView::of(before), picks);
+}
+
+/// Whether the rows that end there are all of this width.
+fn end_evenly(ends: &[usize], width: usize) -> bool
+    ensures { result ≡ true → ends.now ≡ even_ends 0 width (length ends.now) }
+{
+    let mut start = 0;
+    for end in ends {
+        match end.checked_sub(start) {
+            Some(gap) if gap == width => start = *end,
+            _ => return false,
+        }
+    }
+    true
 }

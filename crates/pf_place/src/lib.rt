@@ -3,9 +3,13 @@
 #![tactic(auto)]
 
 mod block;
+mod closed_block;
+mod packed_rows;
 mod pick_index;
 mod place;
+mod places;
 pub mod row;
 pub mod row_view;
 pub mod rows;
 mod seating;
+mod small_place;

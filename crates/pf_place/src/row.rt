@@ -93,7 +93,7 @@ impl Row {
         ensures once { IfOk result (λ row. NoTaskTwice (sitters row)) }
     {
         let mut places = vec![in alloc; Place::idle(); m as usize]?;
-        seat(&mut places, count as usize, &before.places, picks);
+        seat(&mut places, count as usize, before.view(), picks);
         Ok(Row { places })
     }
 
@@ -123,7 +123,7 @@ impl Row {
         requires { length self.old ≡ length (lent_row other) }
         ensures { self.new ≡ lent_row other.entry }
     {
-        self.places.copy_from_slice(other.places());
+        other.copy_to(&mut self.places);
     }
 
     /// An equal row.

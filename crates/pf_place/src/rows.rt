@@ -2,14 +2,14 @@ ghost use Rattle.std.specs.Prelude.{◌≡◌, ◌==◌, ◌<◌, ◌≤◌, ◌
 ghost use Rattle.std.specs.List.{All, slice_get};
 ghost use Rattle.std.specs.List.Sorted.{IsPermutation};
 ghost use Rattle.pf_place.specs.Blocks.{all_rows_of, HasRoomFor};
-ghost use Rattle.pf_place.specs.Filed.{rows_of_each, AreFiled};
+ghost use Rattle.pf_place.specs.Filed.{AreFiled};
 ghost use Rattle.pf_place.specs.Lent.{places_lent, lent_row};
 ghost use Rattle.pf_place.specs.Occupancy.{sitters, row_of, idle_row};
 ghost use Rattle.pf_place.specs.RunRows.{last_row, but_last, row_before};
 ghost use Rattle.pf_place.specs.Turns.{IsTurn, IsRow};
 
 use crate::block::Block;
-use crate::place::Place;
+use crate::closed_block::ClosedBlock;
 use crate::row::Row;
 use crate::row_view::RowView;
 use pf_list::shared_list::SharedList;
@@ -27,7 +27,7 @@ const MOST_BLOCKS: usize = 0x40_0000_0000_0000;
 /// rows there are.
 #[derive(Debug, Drop)]
 pub struct Rows {
-    full: SharedList<Block>,
+    full: SharedList<ClosedBlock>,
     last: Block,
 }
 
@@ -35,13 +35,13 @@ impl Model for Rows {
     ghost use Rattle.std.specs.Prelude.{◌++◌, List, Option};
     ghost use Rattle.pf_order.specs.declared.pick.Pick.{Pick};
     ghost use Rattle.pf_place.specs.Blocks.{all_rows_of};
-    ghost use Rattle.pf_place.specs.Filed.{rows_of_each, AreFiled};
+    ghost use Rattle.pf_place.specs.Filed.{AreFiled};
 
     ghost Value = { List (List (Option Pick)) };
 
-    ghost view = { λ rows. all_rows_of (rows_of_each rows.full) ++ rows.last.rows };
+    ghost view = { λ rows. all_rows_of rows.full ++ rows.last.rows };
 
-    ghost invariant = { λ rows. AreFiled (rows_of_each rows.full) rows.last };
+    ghost invariant = { λ rows. AreFiled rows.full rows.last };
 }
 
 impl Rows {
@@ -64,9 +64,8 @@ impl Rows {
         ensures ok { OnOk result (self.new ≡ self.old ++ row.now ∷ []) }
         ensures err { OnErr result (self.new ≡ self.old) }
     {
-        let places = row.view().places();
-        self.append_idle(places.len())?;
-        self.last.assign_last(places);
+        self.append_idle(row.processors())?;
+        self.last.assign_last(row.view());
         Ok(())
     }
 
@@ -83,6 +82,22 @@ impl Rows {
         self.append_idle(m as usize)
     }
 
+    /// Appends the idle row of m processors, as `push_idle` does, to rows that grow beside others. Where both have the same
+    /// full blocks, memory has these once.
+    ///
+    /// # Errors
+    ///
+    /// Where memory is refused: the rows are as before.
+    pub fn push_idle_beside(&mut self, m: u32, others: &Rows) -> Result<(), AllocError>
+        ensures ok { OnOk result (self.new ≡ self.old ++ idle_row m ∷ []) }
+        ensures err { OnErr result (self.new ≡ self.old) }
+    {
+        if self.last.len() == BLOCK {
+            share_last(&mut self.full, &others.full);
+        }
+        self.push_idle(m)
+    }
+
     /// Appends the idle row of m processors. A block that is full is closed here and not when it gets full, and only once
     /// the row has its room, so that the last row is always in the last block.
     fn append_idle(&mut self, m: usize) -> Result<(), AllocError>
@@ -95,9 +110,9 @@ impl Rows {
         if self.full.len() >= MOST_BLOCKS {
             return Err(AllocError);
         }
-        let mut next = self.last.empty_like()?;
-        next.push_idle(m)?;
-        close(&mut self.full, &mut self.last, next)?;
+        self.last.reserve_anew(m)?;
+        self.full.push(ClosedBlock::of(&self.last)?)?;
+        self.last.begin_anew(m);
         Ok(())
     }
 
@@ -122,7 +137,7 @@ impl Rows {
         requires long { length (lent_row row) ≡ length (last_row [] self.old) }
         ensures { self.new ≡ but_last self.old ++ lent_row row.entry ∷ [] }
     {
-        self.last.assign_last(row.places());
+        self.last.assign_last(row);
     }
 
     /// Makes the last row the row of a slot in which `picks` run on the processors below `count`, as `Row::place` does:
@@ -142,7 +157,7 @@ impl Rows {
         ensures seated { IsPermutation picks.now (sitters (last_row [] self.new)) }
         ensures row { IsRow (length (last_row [] self.old)) (last_row [] self.new) }
     {
-        let above = last_places(&self.full);
+        let above = last_row(&self.full);
         self.last.seat_last(above, count as usize, picks);
     }
 
@@ -193,48 +208,47 @@ impl Rows {
     }
 }
 
-/// Puts the last block behind the full ones, and goes on with the next. Where memory is refused, both are as before.
-fn close(full: &mut SharedList<Block>, last: &mut Block, next: Block) -> Result<(), AllocError>
-    ensures full { OnOk result (rows_of_each full.new ≡ rows_of_each full.old ++ last.old.rows ∷ []) }
-    ensures opened { OnOk result (last.new ≡ next) }
-    ensures err_full { OnErr result (full.new ≡ full.old) }
-    ensures err_last { OnErr result (last.new ≡ last.old) }
-{
-    let closed = std::mem::replace(last, next);
-    match full.push(closed) {
-        Ok(()) => Ok(()),
-        Err(refused) => {
-            *last = refused.value;
-            Err(AllocError)
-        }
-    }
-}
-
 /// Puts the last full block, where there is one, in place of the last block, which has no rows; it takes no memory.
-fn reopen(full: &mut SharedList<Block>, last: &mut Block)
-    requires whole { All (λ rows. length rows ≡ 256) (rows_of_each full.old) }
+fn reopen(full: &mut SharedList<ClosedBlock>, last: &mut Block)
+    requires whole { All (λ rows. length rows ≡ 256) full.old }
     requires few { length full.old ≤ 2 ^ 54 }
-    requires room { All (HasRoomFor last.old) (rows_of_each full.old) }
+    requires room { All (HasRoomFor last.old) full.old }
     requires empty { length last.old.rows ≡ 0 }
-    ensures filed { AreFiled (rows_of_each full.new) last.new }
-    ensures same { all_rows_of (rows_of_each full.new) ++ last.new.rows ≡ all_rows_of (rows_of_each full.old) }
+    ensures filed { AreFiled full.new last.new }
+    ensures same { all_rows_of full.new ++ last.new.rows ≡ all_rows_of full.old }
 {
     if let Some(block) = full.last() {
-        last.assign(block);
+        block.open_on(last);
         full.pop();
     }
 }
 
-/// The last row of these blocks; no places where there are none.
-fn last_places(full: &SharedList<Block>) -> &[Place]
-    requires { All (λ rows. length rows ≡ 256) (rows_of_each full.now) }
-    ensures { result.now ≡ last_row [] (all_rows_of (rows_of_each full.now)) }
+/// The last row of these blocks; one of no places where there are none.
+fn last_row(full: &SharedList<ClosedBlock>) -> RowView<'_>
+    requires { All (λ rows. length rows ≡ 256) full.now }
+    ensures { lent_row result ≡ last_row [] (all_rows_of full.entry.now) }
 {
     match full.last() {
-        None => &[],
+        None => RowView::of(&[]),
         Some(block) => match block.row(BLOCK - 1) {
-            Some(row) => row.places(),
+            Some(row) => row,
             None => unreachable!(),
         },
+    }
+}
+
+/// Lets these rows share the last full block with the others, where they are known to have the same there.
+fn share_last(full: &mut SharedList<ClosedBlock>, others: &SharedList<ClosedBlock>)
+    ensures { full.new ≡ full.old }
+{
+    let Some(k) = full.len().checked_sub(1) else {
+        return;
+    };
+    let same = match (full.get(k), others.get(k)) {
+        (Some(block), Some(other)) => block.equals(other),
+        _ => false,
+    };
+    if same {
+        full.share_last(others);
     }
 }

@@ -1,31 +1,24 @@
 ghost use Rattle.std.specs.Prelude.{◌≡◌, ◌≤◌, ◌<◌, [], ◌∷◌, map, length, false};
 ghost use Rattle.std.specs.List.{All, position, position_or_len, range_with_len, slice_get};
 ghost use Rattle.std.specs.Option.{is_none, option_and_then};
+ghost use Rattle.pf_place.specs.Lent.{lent_row};
 ghost use Rattle.pf_place.specs.Index.{number_of, with_mark, AreMarked};
 ghost use Rattle.pf_place.specs.Occupancy.{next_pick, sitter, is_seated, others, row_of};
 ghost use Rattle.pf_place.specs.Seating.{seats_filled_with};
 
 use crate::pick_index::PickIndex;
 use crate::place::Place;
+use crate::row_view::RowView;
 use pf_order::pick::Pick;
 
 /// How many picks can be marked: more than a slot has. Of those behind, the tasks are looked for among the places.
 const MARKS: usize = 256;
 
-/// Whether the task sits on one of these places.
-fn sits(places: &[Place], task: u32) -> bool
-    ensures { result ≡ is_seated places.now task }
-{
-    places
-        .iter()
-        .any(|place| place.pick().map_or(false, |sat| sat.task == task))
-}
-
 /// Where the pick stands of whoever sat on place q of the earlier ones and runs again.
-fn keeper(index: &PickIndex<'_>, earlier: &[Place], q: usize) -> Option<usize>
-    ensures { result ≡ option_and_then (λ sat. number_of index.now sat.task) (sitter earlier.now q) }
+fn keeper(index: &PickIndex<'_>, earlier: RowView<'_>, q: usize) -> Option<usize>
+    ensures { result ≡ option_and_then (λ sat. number_of index.now sat.task) (sitter (lent_row earlier.entry) q) }
 {
-    match earlier.get(q).and_then(|place| place.pick()) {
+    match earlier.sitter(q) {
         Some(sat) => index.number(sat.task),
         None => None,
     }
@@ -54,12 +47,12 @@ fn mark(marks: &mut [bool], k: Option<usize>)
 
 /// Leaves on each place who sat there on the earlier ones and runs again, and nobody on any other. Marks the picks whose
 /// task sat on an earlier place: of a task's picks the first.
-fn keep(places: &mut [Place], marks: &mut [bool], earlier: &[Place], index: &PickIndex<'_>)
+fn keep(places: &mut [Place], marks: &mut [bool], earlier: RowView<'_>, index: &PickIndex<'_>)
     requires numbered { All (λ pick. 1 ≤ pick.task) index.now }
-    requires long { length earlier.now ≤ length places.old }
+    requires long { length (lent_row earlier) ≤ length places.old }
     requires unmarked { All (λ mark. mark ≡ false) marks.old }
-    ensures kept { places.new ≡ map (λ q. next_pick index.now (sitter earlier.now q)) (range_with_len 0 (length places.old)) }
-    ensures marked { AreMarked marks.new earlier.now index.now }
+    ensures kept { places.new ≡ map (λ q. next_pick index.now (sitter (lent_row earlier.entry) q)) (range_with_len 0 (length places.old)) }
+    ensures marked { AreMarked marks.new (lent_row earlier.entry) index.now }
 {
     let picks = index.picks();
     for q in 0..places.len() {
@@ -70,13 +63,13 @@ fn keep(places: &mut [Place], marks: &mut [bool], earlier: &[Place], index: &Pic
 }
 
 /// Whether the task sat on one of the earlier places: its first pick's mark tells it, where that can be marked.
-fn sat(marks: &[bool], earlier: &[Place], index: &PickIndex<'_>, task: u32) -> bool
-    requires { AreMarked marks.now earlier.now index.now }
-    ensures { result ≡ is_seated earlier.now task }
+fn sat(marks: &[bool], earlier: RowView<'_>, index: &PickIndex<'_>, task: u32) -> bool
+    requires { AreMarked marks.now (lent_row earlier) index.now }
+    ensures { result ≡ is_seated (lent_row earlier.entry) task }
 {
     match index.number(task) {
         Some(k) if k < marks.len() => marks[k],
-        _ => sits(earlier, task),
+        _ => earlier.seats(task),
     }
 }
 
@@ -113,10 +106,10 @@ fn seat_lowest(places: &mut [Place], free: usize, pick: Pick) -> usize
 
 /// Seats the picks whose task sat on none of the earlier places, in order, on the free ones of these places, from the
 /// lowest.
-fn seat_others(places: &mut [Place], marks: &[bool], earlier: &[Place], index: &PickIndex<'_>)
+fn seat_others(places: &mut [Place], marks: &[bool], earlier: RowView<'_>, index: &PickIndex<'_>)
     requires numbered { All (λ pick. 1 ≤ pick.task) index.now }
-    requires marked { AreMarked marks.now earlier.now index.now }
-    ensures { places.new ≡ seats_filled_with places.old (others earlier.now index.now) }
+    requires marked { AreMarked marks.now (lent_row earlier) index.now }
+    ensures { places.new ≡ seats_filled_with places.old (others (lent_row earlier.entry) index.now) }
 {
     let picks = index.picks();
     let mut free = free_from(places, 0);
@@ -129,13 +122,13 @@ fn seat_others(places: &mut [Place], marks: &[bool], earlier: &[Place], index: &
 
 /// Makes these places the row of a slot in which `picks` run on the places below `count`, where `before` is the row of
 /// the slot before. Where `before` is shorter, the places that it lacks were idle.
-pub(crate) fn seat(places: &mut [Place], count: usize, before: &[Place], picks: &[Pick])
+pub(crate) fn seat(places: &mut [Place], count: usize, before: RowView<'_>, picks: &[Pick])
     requires in_use { count ≤ length places.old }
     requires numbered { All (λ pick. 1 ≤ pick.task) picks.now }
-    ensures { places.new ≡ row_of (length places.old) count before.now picks.now }
+    ensures { places.new ≡ row_of (length places.old) count (lent_row before.entry) picks.now }
 {
     let index = PickIndex::of(picks);
-    let earlier = &before[..count.min(before.len())];
+    let earlier = before.first(count);
     let mut marks = [false; MARKS];
     keep(places, &mut marks, earlier, &index);
     seat_others(&mut places[..count], &marks, earlier, &index);

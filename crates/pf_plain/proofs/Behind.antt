@@ -1,29 +1,22 @@
 -- The state of a desk on which lines are carried out.
-use Rattle.std.proofs.Common.{◌≡◌, ◌<◌, ◌≤◌, ℕ, ◌+◌, List, [], ◌∷◌, ◌++◌, length, map, drop, get_or, Result, Ok, Err, refl, sym, ap, ◌∙◌, replicate, append-nil}
-use Rattle.std.specs.Prelude.{OnOk}
+use Rattle.std.proofs.Common.{◌≡◌, ◌<◌, ℕ, ◌+◌, List, [], ◌∷◌, ◌++◌, length, map, drop, get_or, refl, sym, ap, ◌∙◌, append-nil}
 use Rattle.std.specs.List.{flat_map}
-use Rattle.std.proofs.lemmas.List.{at_drop_all, at_drop_more, replicate_more}
+use Rattle.std.proofs.lemmas.List.{at_drop_more}
 use Rattle.std.proofs.lemmas.Grind.{flat_map-append}
 use Rattle.pf_desk.specs.declared.command.Command.{Command}
-use Rattle.pf_desk.specs.declared.command.Command.TheVariants.{Step}
 use Rattle.pf_desk.specs.declared.entry.Entry.{Entry}
 use Rattle.pf_desk.specs.declared.reply.Reply.{Reply}
-use Rattle.pf_desk.specs.Desk.{Shown, AnswersAll, AnswersCaller}
+use Rattle.pf_desk.specs.Desk.{Shown, AnswersAll}
 use Rattle.pf_desk.specs.History as past
 use Rattle.pf_desk.specs.Machine.{State, reply_to, state_after}
+use Rattle.pf_carrying.specs.Carrying.{Carrying, HasAnswered, HasTaken, script_caller}
 use Rattle.pf_version3.specs.Line.{Line}
-use Rattle.pf_version3.specs.Line.TheVariants.{Steps}
 use Rattle.pf_version3.specs.Asked.{commands_of}
-use Rattle.pf_plain.specs.Carried.{state_behind}
+use Rattle.pf_plain.specs.Carried.{state_behind, state_to_be}
 
 pub behind-append : (st : State) (xs ys : List Command) → state_behind st (xs ++ ys) ≡ state_behind (state_behind st xs) ys
 behind-append st [] ys = refl
 behind-append st (x ∷ xs) ys = behind-append (state_after st x (reply_to st x)) xs ys
-
--- Use: one command was answered.
-pub one_answered : (caller : ℕ) (command : Command) (a b : Shown) (reply : Reply) → AnswersCaller caller command a reply b
-    → b.state ≡ state_behind a.state (command ∷ [])
-one_answered caller command a b reply h = h.state ∙ ap (state_after a.state command) h.answer
 
 legal_behind : (st : State) (es : List Entry) → past.IsLegalFrom st es → past.state_behind st es ≡ state_behind st (map (λ e. e.command) es)
 legal_behind st [] h = refl
@@ -31,37 +24,31 @@ legal_behind st (e ∷ es) h =
     legal_behind (state_after st e.command e.reply) es h.1
     ∙ ap (λ r. state_behind (state_after st e.command r) (map (λ e. e.command) es)) h.0
 
--- Use: commands were answered.
-pub all_answered : (caller : ℕ) (commands : List Command) (a b : Shown) → AnswersAll caller commands a b → b.state ≡ state_behind a.state commands
-all_answered caller commands a b h = h.state ∙ legal_behind a.state h.entries h.answers ∙ ap (state_behind a.state) h.commands_in_order
+-- commands were answered
+all_answered : (commands : List Command) (a b : Shown) → AnswersAll script_caller commands a b → b.state ≡ state_behind a.state commands
+all_answered commands a b h = h.state ∙ legal_behind a.state h.entries h.answers ∙ ap (state_behind a.state) h.commands_in_order
 
--- what follows from what a call did
-pub on_ok : {A E : Type 0} (r : Result A E) (P Q : Type 0) → (P → Q) → OnOk r P → OnOk r Q
-on_ok (Ok x) P Q then h = then h
-on_ok (Err e) P Q then h = tt
+-- Use: commands were taken.
+pub taken_behind : (commands : List Command) (a b : Carrying) → HasTaken commands a b → state_to_be b ≡ state_behind (state_to_be a) commands
+taken_behind commands a b h =
+    ap (λ st. state_behind st b.waiting) (all_answered h.answered a.desk b.desk h.answers)
+    ∙ sym (behind-append a.desk.state h.answered b.waiting)
+    ∙ ap (state_behind a.desk.state) h.in_order
+    ∙ behind-append a.desk.state a.waiting commands
 
--- Use: one step more was taken.
-pub step_more : (caller turn : ℕ) (st : State) (a b : Shown) (reply : Reply) → AnswersCaller caller Step a reply b
-    → a.state ≡ state_behind st (replicate turn Step) → b.state ≡ state_behind st (replicate (turn + 1) Step)
-step_more caller turn st a b reply h is =
-    one_answered caller Step a b reply h
-    ∙ ap (λ s. state_behind s (Step ∷ [])) is
-    ∙ sym (behind-append st (replicate turn Step) (Step ∷ []))
-    ∙ ap (state_behind st) (replicate_more turn Step)
+-- Use: those that waited were answered, and then one more.
+module _ (command : Command) (a b : Carrying) (reply : Reply) (h : HasAnswered command a reply b) where
+  waited_behind : h.between.state ≡ state_to_be a
+  waited_behind = all_answered a.waiting a.desk h.between h.waited
 
--- Use: one edit more waits.
-pub edit_more : (st : State) (edits more : List Command) (edit : Command) (line : Line) → more ≡ edits ++ edit ∷ [] → commands_of line ≡ edit ∷ []
-    → state_behind st more ≡ state_behind (state_behind st edits) (commands_of line)
-edit_more st edits more edit line is of_line =
-    ap (state_behind st) is ∙ behind-append st edits (edit ∷ []) ∙ ap (state_behind (state_behind st edits)) (sym of_line)
+  pub answered_reply : reply ≡ reply_to (state_to_be a) command
+  answered_reply = h.answers.answer ∙ ap (λ st. reply_to st command) waited_behind
 
--- Use: the edits that wait were answered, and then steps were taken.
-pub steps_behind : {A E : Type 0} (r : Result A E) (caller count : ℕ) (given edits none : List Command) (a b d : Shown) → AnswersAll caller given a b
-    → given ≡ edits → none ≡ [] → OnOk r (d.state ≡ state_behind b.state (replicate count Step))
-    → OnOk r (state_behind d.state none ≡ state_behind (state_behind a.state edits) (commands_of (Steps count)))
-steps_behind r caller count given edits none a b d h same is taken =
-    on_ok r _ _ (λ t. ap (state_behind d.state) is ∙ t
-    ∙ ap (λ s. state_behind s (replicate count Step)) (all_answered caller given a b h ∙ ap (state_behind a.state) same)) taken
+  pub answered_behind : state_to_be b ≡ state_behind (state_to_be a) (command ∷ [])
+  answered_behind =
+      ap (state_behind b.desk.state) h.none
+      ∙ h.answers.state ∙ ap (state_after h.between.state command) h.answers.answer
+      ∙ ap (λ st. state_behind st (command ∷ [])) waited_behind
 
 -- Use: of the lines left the first was taken.
 pub next_line : (c d : State) (lines : List Line) (i : ℕ) (z : Line) → i < length lines → d ≡ state_behind c (commands_of (get_or lines i z))
@@ -71,14 +58,6 @@ next_line c d lines i z within taken =
     ap (λ x. state_behind x rest) taken
     ∙ sym (behind-append c (commands_of (get_or lines i z)) rest)
     ∙ sym (at_drop_more (λ xs. state_behind c (flat_map commands_of xs)) lines i z within)
-
--- Use: no line is left, and the edits that wait were answered.
-pub all_taken : {A E : Type 0} (r : Result A E) (caller : ℕ) (given edits : List Command) (a b : Shown) (lines : List Line) (i : ℕ) (whole : State)
-    → given ≡ edits → length lines ≤ i → state_behind (state_behind a.state edits) (flat_map commands_of (drop i lines)) ≡ whole
-    → OnOk r (AnswersAll caller given a b) → OnOk r (b.state ≡ whole)
-all_taken r caller given edits a b lines i whole same none left answered =
-    on_ok r _ _ (λ h. all_answered caller given a b h ∙ ap (state_behind a.state) same
-    ∙ sym (at_drop_all (λ xs. state_behind (state_behind a.state edits) (flat_map commands_of xs)) lines i none) ∙ left) answered
 
 -- Use: one line more waits.
 pub line_more : (st : State) (waiting more : List Line) (line : Line) → more ≡ waiting ++ line ∷ []

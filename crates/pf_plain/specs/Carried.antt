@@ -5,6 +5,7 @@ use Rattle.pf_desk.specs.declared.command.Command.{Command}
 use Rattle.pf_desk.specs.declared.command.Command.TheVariants as command
 use Rattle.pf_desk.specs.declared.reply.Reply.{Reply}
 use Rattle.pf_desk.specs.declared.reply.Reply.TheVariants.{Edited, Stepped, Refused}
+use Rattle.pf_carrying.specs.Carrying.{Carrying}
 use Rattle.pf_version3.specs.Line.{Line}
 use Rattle.pf_version3.specs.Line.TheVariants.{Edit, Steps}
 use Rattle.pf_version3.specs.Asked.{commands_of}
@@ -13,6 +14,10 @@ use Rattle.pf_version3.specs.Asked.{commands_of}
 abbrev pub state_behind : State → List Command → State
 state_behind st [] = st
 state_behind st (command ∷ commands) = state_behind (state_after st command (reply_to st command)) commands
+
+-- the state of a desk once the commands that wait are answered
+abbrev pub state_to_be : Carrying → State
+state_to_be c = state_behind c.desk.state c.waiting
 
 -- behind what a line asks for
 abbrev pub state_behind_line : State → Line → State

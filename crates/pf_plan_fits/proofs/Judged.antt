@@ -8,6 +8,7 @@ use Rattle.std.proofs.lemmas.List.{length-append}
 use Rattle.std.proofs.lemmas.List.Elements.{All-cons, All-head, All-nil, All-tail}
 use Rattle.std.proofs.lemmas.List.Sorted.{All-permutation, length_permutation}
 use Rattle.std.proofs.lemmas.List.Sums.{sum_by-cons}
+use Rattle.pf_facts.proofs.Lists.{none_long}
 use Rattle.pf_order.specs.declared.pick.Pick.{Pick}
 use Rattle.pf_convert.specs.declared.plan.Plan.{Plan}
 use Rattle.pf_scenario.specs.System.{System}
@@ -111,10 +112,6 @@ fits_denies_none g fits = by (is_clean g) (is_settled g) refl fits
     by : (a b : Bool) → is_clean g ≡ a → (if a then (if b then Fits else FitsSoFar) else DoesNotFit) ≡ Fits → g.denied ≡ 0
     by true b clean e = let parts = and_parts (g.refused == 0 && g.denied == 0) (g.missed == 0) clean in eqb-true g.denied 0 (and_parts (g.refused == 0) (g.denied == 0) parts.0).1
     by false b clean e = cc
-
-none_long : {X : Type 0} (xs : List X) → length xs ≡ 0 → xs ≡ []
-none_long [] e = refl
-none_long (x ∷ xs) e = absurd (omega (arith, e))
 
 -- what is seen of a desk in which tasks only join
 judged : (seen : Seen) (history : List Entry) (m base : ℕ) → seen.state.plan.settings ≡ plan_settings m base → StandsForHistory history seen

@@ -4,9 +4,9 @@ use Rattle.std.specs.List.{flat_map, range_with_len}
 use Rattle.std.proofs.Math.Nat.{mul-le-mul_left}
 use Rattle.std.proofs.lemmas.Bool.{cases_lt, and_parts, eqb-true}
 use Rattle.std.proofs.lemmas.List.Elements.{Contains-append_left, Contains-append_right}
-use Rattle.std.proofs.lemmas.List.FromFn.{length-range_with_len, get_or-range_with_len}
 use Rattle.std.proofs.lemmas.List.Sorted.{Contains-permutation, sum_by-IsPermutation}
 use Rattle.std.proofs.lemmas.List.Sums.{sum_by-cons, sum_by-append}
+use Rattle.pf_facts.proofs.Ranges.{in_range}
 use Rattle.pf_scenario.specs.Scenario.{Plan}
 use Rattle.pf_scenario.specs.Edit.{IsScenario}
 use Rattle.pf_scenario.specs.declared.event.Numbered.{Numbered}
@@ -43,9 +43,6 @@ in_flat_map f (z ∷ zs) x y at there = ⊎_elim
     (λ same. Contains-append_left (f z) (flat_map f zs) y (subst (λ w. Contains (f w) y) (sym same) there))
     (λ later. Contains-append_right (f z) (flat_map f zs) y (in_flat_map f zs x y later there))
     (contains_cases z zs x at)
-
-pub in_range : (n i : ℕ) → i < n → Contains (range_with_len 1 n) (suc i)
-in_range n i lt = (i, omega (arith, lt, length-range_with_len 1 n), omega (arith, get_or-range_with_len 1 n i (suc i) lt))
 
 -- counts
 

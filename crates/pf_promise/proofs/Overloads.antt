@@ -3,6 +3,7 @@ use Rattle.std.proofs.Common.{◌≡◌, ℕ, zero, suc, ◌<◌, ◌≤◌, ◌
 use Rattle.std.specs.List.{list_any}
 use Rattle.std.proofs.lemmas.Bool.{eqb-true, eq-eqb}
 use Rattle.std.proofs.lemmas.List.Elements.{Contains-get_or}
+use Rattle.pf_facts.proofs.Sums.{sum_by-agree}
 use Rattle.pf_scenario.specs.Scenario.{Plan}
 use Rattle.pf_scenario.specs.Edit.{IsScenario}
 use Rattle.pf_run.specs.Record.{Slot}
@@ -13,7 +14,6 @@ use Rattle.pf_tally.proofs.Joined.{inside_joined}
 use Rattle.pf_ideal.specs.Schedule.{load, overload}
 use Rattle.pf_promise.specs.Load.{load_in, overload_of}
 use Rattle.pf_promise.proofs.Sets.{is_among, sum_by-among, sum_by-filter, filter_differ, among_filter, list_any-contains, contains-list_any, list_any-map}
-use Rattle.pf_promise.proofs.Shifts.{sum_by-agree}
 use Rattle.pf_promise.proofs.Joining.{demand_of, task_at, task_at-joined, tasks_differ}
 use Rattle.pf_promise.proofs.Choosing.{schedule_upto, joined_at_end}
 

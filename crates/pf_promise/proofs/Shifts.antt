@@ -1,11 +1,12 @@
 -- Shifts are settled: once a task's next subtask is released, or runs, no later delay holds it back. So the choice of a
 -- slot looks at the shifts that stay at the end.
-use Rattle.std.proofs.Common.{◌≡◌, ℕ, suc, ◌+◌, ◌<◌, ◌≤◌, ◌==◌, ◌⊎◌, ◌&&◌, Bool, true, false, nat_le, cond, Option, None, Some, List, [], ◌∷◌, ◌++◌, length, take, get_or, count_by, sum_by, All, Contains, arith, refl, ap, sym, ◌∙◌, subst, inl, inr, ⊎_elim, length-append}
+use Rattle.std.proofs.Common.{◌≡◌, ℕ, suc, ◌+◌, ◌<◌, ◌≤◌, ◌==◌, ◌⊎◌, ◌&&◌, Bool, true, false, nat_le, cond, Option, None, Some, List, [], ◌∷◌, ◌++◌, length, take, get_or, count_by, All, Contains, arith, refl, ap, sym, ◌∙◌, subst, inl, inr, ⊎_elim, length-append}
 use Rattle.std.proofs.lemmas.Bool.{cases_lt, cases_Bool, eqb-true, leb-true}
 use Rattle.std.proofs.lemmas.Bool.Decides.{nat_tests}
 use Rattle.std.proofs.lemmas.List.{take_all, take-append-le, take-take, get_or_append_left}
-use Rattle.std.proofs.lemmas.List.Elements.{All-head, All-tail, All-weaker, Contains-get_or, filter_map-append}
-use Rattle.std.proofs.lemmas.List.Sums.{sum_by-cons, sum_by-append, count_by_more_yes, count_by_more_no, sum_by-take-le}
+use Rattle.std.proofs.lemmas.List.Elements.{All-head, All-weaker, Contains-get_or, filter_map-append}
+use Rattle.std.proofs.lemmas.List.Sums.{sum_by-append, count_by_more_yes, count_by_more_no, sum_by-take-le}
+use Rattle.pf_facts.proofs.Sums.{sum_by-agree}
 use Rattle.pf_window.specs.Window.{release_of}
 use Rattle.pf_scenario.specs.Event.{slot_of}
 use Rattle.pf_scenario.specs.Scenario.{Plan, past}
@@ -63,17 +64,6 @@ done-rises r task u v le =
     omega (arith, sum_by-take-le (λ d. cond (runs task d) 1 0) (take v r) u, ap (count_by (runs task)) (take-take u v r le))
 
 -- sums over a list whose terms are equal
-
-pub sum_by-agree : {A : Type 0} (f g : A → ℕ) (xs : List A) → All (λ x. f x ≡ g x) xs → sum_by f xs ≡ sum_by g xs
-sum_by-agree f g [] same = refl
-sum_by-agree f g (x ∷ xs) same =
-    omega (
-      arith,
-      sum_by-cons f x xs,
-      sum_by-cons g x xs,
-      All-head (λ y. f y ≡ g y) x xs same,
-      sum_by-agree f g xs (All-tail (λ y. f y ≡ g y) x xs same),
-    )
 
 -- a delay counts by the slots before it alone
 held-slots : (q r : List Slot) (task i : ℕ) (event : Event) →

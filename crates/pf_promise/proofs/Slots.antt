@@ -1,8 +1,9 @@
 -- What runs in a slot: the tasks of the chosen keys, each of a task inside.
-use Rattle.std.proofs.Common.{◌≡◌, ℕ, ◌≤◌, ◌==◌, Bool, true, false, not, nat_le, cond, Option, None, Some, List, [], ◌∷◌, length, map, filter, filter_map, find, Contains, refl, ap, sym, ◌∙◌, subst, ⊎_elim}
-use Rattle.std.specs.List.{list_any, cons_option}
+use Rattle.std.proofs.Common.{◌≡◌, ℕ, ◌≤◌, ◌==◌, Bool, true, false, not, nat_le, cond, None, Some, List, [], ◌∷◌, length, map, filter, find, Contains, refl, ap, sym, ◌∙◌, subst, ⊎_elim}
+use Rattle.std.specs.List.{list_any}
 use Rattle.std.proofs.lemmas.Bool.{not-true, eqb-true, eq-eqb, leb-true, le-leb, cond-true, both_ways}
 use Rattle.std.proofs.lemmas.Option.{cond_some}
+use Rattle.pf_facts.proofs.Filters.{to_filter_map}
 use Rattle.pf_order.specs.Priority.{Priority}
 use Rattle.pf_order.specs.First.{AreFirst}
 use Rattle.pf_order.specs.declared.pick.Pick.{Pick}
@@ -15,18 +16,6 @@ use Rattle.pf_run.proofs.Containing.{contains_none, contains_head, contains_tail
 use Rattle.pf_tally.proofs.Subs.{from_filter_map}
 use Rattle.pf_promise.proofs.Sets.{list_any-contains, contains-list_any, list_any-map}
 use Rattle.pf_promise.proofs.Members.{joined_of}
-
--- what an element gives is among what all give
-to_filter_map : {X Y : Type 0} (h : X → Option Y) (xs : List X) (x : X) (y : Y) → Contains xs x → h x ≡ Some y →
-    Contains (filter_map h xs) y
-to_filter_map {Y = Y} h [] x y at gives = absurd (contains_none x at)
-to_filter_map {Y = Y} h (z ∷ zs) x y at gives = ⊎_elim
-    (λ same. subst (λ o. Contains (cons_option o (filter_map h zs)) y) (sym (ap h same ∙ gives)) (contains_head y (filter_map h zs)))
-    (λ later. grown (h z) (to_filter_map h zs x y later gives))
-    (contains_cases z zs x at) where
-      grown : (o : Option Y) → Contains (filter_map h zs) y → Contains (cons_option o (filter_map h zs)) y
-      grown None at = at
-      grown (Some w) at = contains_tail w (filter_map h zs) y at
 
 -- the key of a task's next subtask
 abbrev pub key_now : List Slot → List Numbered → Joined → Priority

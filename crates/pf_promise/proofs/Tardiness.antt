@@ -1,5 +1,5 @@
 -- Tardiness costs quanta: where a missed subtask runs at last, its window is still overdue.
-use Rattle.std.proofs.Common.{◌≡◌, ℕ, zero, suc, ◌+◌, ◌-◌, ◌*◌, ◌<◌, ◌≤◌, ◌==◌, ◌⊎◌, ◌&&◌, Bool, true, false, max, cond, Option, None, Some, List, [], ◌∷◌, length, map, filter, fold, All, Contains, arith, refl, ap, sym, subst, inl, inr, ⊎_elim}
+use Rattle.std.proofs.Common.{◌≡◌, ℕ, zero, suc, ◌+◌, ◌-◌, ◌*◌, ◌<◌, ◌≤◌, ◌==◌, ◌⊎◌, ◌&&◌, Bool, true, false, max, cond, Option, None, Some, List, [], ◌∷◌, length, map, filter, fold, All, Contains, arith, refl, ap, sym, subst, ⊎_elim}
 use Rattle.std.specs.List.{list_any, flat_map, range_with_len}
 use Rattle.std.proofs.Math.Nat.{mul-le-mul_left}
 use Rattle.std.proofs.lemmas.Bool.{cases_lt}
@@ -7,6 +7,7 @@ use Rattle.std.proofs.lemmas.List.Elements.{All-nil, All-cons, All-append, All-h
 use Rattle.std.proofs.lemmas.List.FromFn.{length-range_with_len, get_or-range_with_len}
 use Rattle.std.proofs.lemmas.List.Quantifiers.{position-Some}
 use Rattle.std.proofs.lemmas.List.Sorted.{All-permutation, Contains-permutation, IsPermutation-sym}
+use Rattle.pf_facts.proofs.Orders.{within_or}
 use Rattle.pf_order.specs.declared.pick.Pick.{Pick}
 use Rattle.pf_scenario.specs.Scenario.{Plan}
 use Rattle.pf_scenario.specs.Edit.{IsScenario}
@@ -91,13 +92,10 @@ module _ (s : Plan) (scenario : IsScenario s) (r : List Slot) (run : IsRun s (le
         (λ (early : t < due_of r end_now j (suc i)).
         let none : t - (due_of r end_now j (suc i) - 1) ≡ 0 = omega (arith, early) in
         omega (arith, ap (λ k. s.settings.base * k) none))
-        (late_or_early (due_of r end_now j (suc i)) t)
+        (within_or (due_of r end_now j (suc i)) t)
       where
         earlier : (a b : ℕ) → a - (b - 1) ≤ a + 1 - b
         earlier a b = omega arith
-
-        late_or_early : (a b : ℕ) → (a ≤ b) ⊎ (b < a)
-        late_or_early a b = ⊎_elim (λ lt. inr lt) (λ ge. inl ge) (cases_lt b a)
 
   -- that of a task's misses, each due by the run's end
   of_task : (j : Joined) → Contains (all_joined s r) j → All (λ m. Costs m × (m.deadline ≤ length r)) (misses_of_task r end_now j)

@@ -7,6 +7,7 @@ use Rattle.std.proofs.lemmas.Bool.Decides.{nat_tests}
 use Rattle.std.specs.Ordering.{ordering_then, nat_cmp}
 use Rattle.std.specs.Option.{option_map, unwrap_or}
 use Rattle.std.specs.Prelude.{if◌then◌else◌, find, filter_map, sum_by}
+use Rattle.pf_facts.proofs.Filters.{filter_map_map}
 use Rattle.pf_weight.specs.Share.{share_of}
 use Rattle.pf_order.specs.Priority.{Priority}
 use Rattle.pf_order.specs.First.{first_keys}
@@ -29,7 +30,7 @@ use Rattle.pf_run.specs.Run.{pick_of_key}
 use Rattle.pf_run.specs.Computed.{RunCourse, with_event, after_events, denials_among, picks_of, with_slot, next_course, course_of, run_of}
 use Rattle.pf_run.proofs.Counting.{filter-map, sum_by-map}
 use Rattle.pf_reopen.specs.Renumbered.{renumber, denied_under}
-use Rattle.pf_reopen.proofs.Maps.{list_any-map, filter_map-map, KeepsOrder, sorted_by-map}
+use Rattle.pf_reopen.proofs.Maps.{list_any-map, KeepsOrder, sorted_by-map}
 
 -- a slot whose denials are of renumbered events
 abbrev pub slot_under : (ℕ → ℕ) → Slot → Slot
@@ -76,7 +77,7 @@ module _ (f : ℕ → ℕ) where
 
   -- what is known of the tasks inside
   pub joined_kept : (base : ℕ) (xs : List Numbered) → filter_map (join_of base) (map (renumber f) xs) ≡ filter_map (join_of base) xs
-  joined_kept base xs = filter_map-map (join_of base) (renumber f) xs
+  joined_kept base xs = filter_map_map (join_of base) (renumber f) xs
 
   left_kept : (xs : List Numbered) (task : ℕ) → has_left (map (renumber f) xs) task ≡ has_left xs task
   left_kept xs task = list_any-map (λ x. is_leave_of task x.event) (renumber f) xs

@@ -6,6 +6,7 @@ use Rattle.std.proofs.lemmas.List.Folds.{list_any-append}
 use Rattle.std.specs.List.{list_any}
 use Rattle.std.specs.Option.{option_map}
 use Rattle.std.specs.Prelude.{if◌then◌else◌, find, filter_map, sum_by}
+use Rattle.pf_facts.proofs.Filters.{filters_swap}
 use Rattle.pf_order.specs.Priority.{Priority}
 use Rattle.pf_order.specs.First.{first_keys}
 use Rattle.pf_scenario.specs.System.{System}
@@ -29,17 +30,6 @@ use Rattle.pf_run.specs.Computed.{RunCourse, with_event, after_events, denials_a
 use Rattle.pf_run.proofs.Counting.{sum_by-map}
 use Rattle.pf_run.proofs.Runs.{course_is_run}
 use Rattle.pf_repairs.specs.Repairs.{DeniedEventsHaveNoEffect, slot_without}
-
-swap_by : {X : Type 0} (p q : X → Bool) (x : X) (xs : List X) (a b : Bool) → p x ≡ a → q x ≡ b → filter p (filter q xs) ≡ filter q (filter p xs)
-    → filter p (filter q (x ∷ xs)) ≡ filter q (filter p (x ∷ xs))
-swap_by p q x xs true true hp hq rest = simp (hp, hq) (ap (λ ys. x ∷ ys) rest)
-swap_by p q x xs true false hp hq rest = simp (hp, hq) rest
-swap_by p q x xs false true hp hq rest = simp (hp, hq) rest
-swap_by p q x xs false false hp hq rest = simp (hp, hq) rest
-
-filters_swap : {X : Type 0} (p q : X → Bool) (xs : List X) → filter p (filter q xs) ≡ filter q (filter p xs)
-filters_swap p q [] = refl
-filters_swap p q (x ∷ xs) = swap_by p q x xs (p x) (q x) refl refl (filters_swap p q xs)
 
 module _ (id : ℕ) where
   abbrev pub bare : List Slot → List Slot

@@ -5,13 +5,13 @@ use Rattle.std.specs.Option.{option_and_then, option_map}
 use Rattle.std.proofs.lemmas.Bool.{eq-eqb, eqb-true, lt-ltb}
 use Rattle.std.proofs.lemmas.List.Elements.{All-contains, All-contains_itself}
 use Rattle.std.proofs.lemmas.List.Folds.{list_any_at}
+use Rattle.pf_facts.proofs.Finding.{found_all, found_passes}
 use Rattle.pf_admit.specs.declared.denial.Denial.{Denial}
 use Rattle.pf_admit.specs.declared.denial.Denial.TheVariants as denied
 use Rattle.pf_notes.specs.Grounds.{early_leave, grounds_for, last_slot, leaves_in}
 use Rattle.pf_notes.specs.Point.{before_event, event_of, joined_at}
 use Rattle.pf_notes.specs.declared.grounds.Grounds.{Grounds}
 use Rattle.pf_notes.specs.declared.grounds.Grounds.TheVariants.{NotInside, TooEarly}
-use Rattle.pf_repairs.proofs.Inside.{found_all, found_passes}
 use Rattle.pf_notes.specs.Laws.{NextLeaveIsFirst}
 use Rattle.pf_scenario.specs.Edit.{IsEvent, IsScenario}
 use Rattle.pf_scenario.specs.Event.{slot_of}

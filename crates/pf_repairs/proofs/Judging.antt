@@ -6,10 +6,10 @@ use Rattle.std.specs.Ordering.{is_lt}
 use Rattle.std.specs.Prelude.{find}
 use Rattle.std.proofs.lemmas.Bool.{eq-eqb, eqb-true, ne_eqb, true≢false}
 use Rattle.std.proofs.lemmas.List.Elements.{All-head, All-tail}
+use Rattle.pf_facts.proofs.Finding.{find-filter}
 use Rattle.pf_admit.specs.Admission.{leave_denial}
 use Rattle.pf_admit.specs.declared.denial.Denial.{Denial}
 use Rattle.pf_admit.specs.declared.member.Member.{Member}
-use Rattle.pf_repairs.proofs.Inside.{find-filter}
 use Rattle.pf_scenario.specs.Event.{is_leave_of, run_cmp}
 use Rattle.pf_scenario.specs.Scenario.{is_held}
 use Rattle.pf_scenario.specs.System.{System}

@@ -2,13 +2,14 @@
 use Rattle.std.proofs.Common.{◌≡◌, ℕ, zero, suc, ◌+◌, ◌<◌, ◌≤◌, ◌==◌, cond, List, ◌++◌, map, filter, arith, refl, ap, ap₂, sym, ◌∙◌, ⊎_elim}
 use Rattle.std.specs.declared.cmp.Ordering.TheVariants.{Less, Equal, Greater}
 use Rattle.std.specs.Ordering.{nat_cmp, ordering_then, is_lt}
-use Rattle.std.proofs.lemmas.Bool.{cases_order, lt-ltb, le-ltb, eq-eqb, ne_eqb, cond-false}
+use Rattle.std.proofs.lemmas.Bool.{cases_order, lt-ltb, ne_eqb, cond-false}
 use Rattle.std.proofs.lemmas.List.{map-append}
 use Rattle.std.proofs.lemmas.List.Elements.{filter_agree}
+use Rattle.pf_facts.proofs.Orders.{cmp_equal, cmp_greater}
+use Rattle.pf_facts.proofs.Sums.{sum_by-agree}
 use Rattle.pf_order.specs.Priority.{Priority, precedes, priority_cmp}
 use Rattle.pf_order.specs.First.{rank, first_keys}
 use Rattle.pf_run.proofs.Counting.{filter-map, sum_by-map}
-use Rattle.pf_promise.proofs.Shifts.{sum_by-agree}
 use Rattle.pf_repeat.proofs.Shifted.{later_group, later_key}
 
 -- what rises keeps the order of numbers
@@ -17,24 +18,14 @@ nat_cmp-rises f rises a b = ⊎_elim same (⊎_elim below above) (cases_order a 
   less : (a b : ℕ) → a < b → nat_cmp a b ≡ Less
   less a b lt = ap (λ c. cond c Less (cond (a == b) Equal Greater)) (lt-ltb a b lt)
 
-  more : (a b : ℕ) → b < a → nat_cmp a b ≡ Greater
-  more a b lt =
-      ap (λ c. cond c Less (cond (a == b) Equal Greater)) (le-ltb a b (omega (arith, lt)))
-      ∙ ap (λ c. cond c Equal Greater) (ne_eqb a b (λ e. omega (arith, e, lt)))
-
-  equal : (a b : ℕ) → a ≡ b → nat_cmp a b ≡ Equal
-  equal a b e =
-      ap (λ c. cond c Less (cond (a == b) Equal Greater)) (le-ltb a b (omega (arith, e)))
-      ∙ ap (λ c. cond c Equal Greater) (eq-eqb a b e)
-
   same : a ≡ b → nat_cmp (f a) (f b) ≡ nat_cmp a b
-  same e = equal (f a) (f b) (ap f e) ∙ sym (equal a b e)
+  same e = cmp_equal (f a) (f b) (ap f e) ∙ sym (cmp_equal a b e)
 
   below : a < b → nat_cmp (f a) (f b) ≡ nat_cmp a b
   below lt = less (f a) (f b) (rises a b lt) ∙ sym (less a b lt)
 
   above : b < a → nat_cmp (f a) (f b) ≡ nat_cmp a b
-  above lt = more (f a) (f b) (rises b a lt) ∙ sym (more a b lt)
+  above lt = cmp_greater (f a) (f b) (rises b a lt) ∙ sym (cmp_greater a b lt)
 
 group-some : (span n : ℕ) → 1 ≤ n → later_group span n ≡ n + span
 group-some span n some = cond-false (n == 0) 0 (n + span) (ne_eqb n 0 (λ e. omega (arith, e, some)))

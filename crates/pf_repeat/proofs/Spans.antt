@@ -6,9 +6,11 @@ use Rattle.std.proofs.Math.Nat.{mul-le-mul_right, lt_of_mul-lt-mul_right}
 use Rattle.std.proofs.lemmas.Bool.{cases_Bool, cases_lt, eqb-true, eq-eqb}
 use Rattle.std.proofs.lemmas.List.{length-take-le, take-take}
 use Rattle.std.proofs.lemmas.List.Elements.{All-head, All-tail, All-weaker, All-contains_itself, All-contains}
-use Rattle.std.proofs.lemmas.List.FromFn.{length-range_with_len, get_or-range_with_len}
 use Rattle.std.proofs.lemmas.List.Sorted.{length_permutation}
 use Rattle.std.proofs.lemmas.List.Sums.{sum_by-cons}
+use Rattle.pf_facts.proofs.Lists.{none_long}
+use Rattle.pf_facts.proofs.Ranges.{in_range}
+use Rattle.pf_facts.proofs.Sums.{sum_of_none}
 use Rattle.pf_window.specs.Window.{release_of, deadline_of}
 use Rattle.pf_order.specs.declared.pick.Pick.{Pick}
 use Rattle.pf_scenario.specs.Scenario.{Plan}
@@ -54,13 +56,6 @@ none_given f (y ∷ ys) x none at =
     let both = none_of_two (f y) (flat_map f ys) none in
     ⊎_elim (λ (same : y ≡ x). sym (ap f same) ∙ both.0) (λ later. none_given f ys x both.1 later) (contains_cases y ys x at)
 
-none_long : {X : Type 0} (xs : List X) → length xs ≡ 0 → xs ≡ []
-none_long [] none = refl
-none_long (x ∷ xs) none = absurd (omega (arith, none))
-
-in_range : (n i : ℕ) → i < n → Contains (range_with_len 1 n) (suc i)
-in_range n i lt = (i, omega (arith, lt, length-range_with_len 1 n), omega (arith, get_or-range_with_len 1 n i (suc i) lt))
-
 -- a run without misses has no missed subtask
 none_missed : (s : Plan) (r : List Slot) (j : Joined) (i : ℕ) → misses_of s r ≡ [] → Contains (tasks_in s r) j → i < length r →
     is_missed r (events_in_force s r (length r)) j (suc i) ≡ true → ⊥
@@ -81,10 +76,6 @@ none_missed s r j i none at lt missed =
 ones : {X : Type 0} (f : X → ℕ) (xs : List X) → sum_by (λ (n : ℕ). 1) (map f xs) ≡ length xs
 ones f [] = refl
 ones f (x ∷ xs) = omega (arith, sum_by-cons (λ (n : ℕ). 1) (f x) (map f xs), ones f xs)
-
-nothing : (xs : List ℕ) → sum_by (λ (n : ℕ). 0) xs ≡ 0
-nothing [] = refl
-nothing (x ∷ xs) = omega (arith, sum_by-cons (λ (n : ℕ). 0) x xs, nothing xs)
 
 sums_within : {X : Type 0} (f g : X → ℕ) (a b : ℕ) (xs : List X) → All (λ x. f x * a ≤ g x * b) xs → sum_by f xs * a ≤ sum_by g xs * b
 sums_within f g a b [] all = omega arith
@@ -216,7 +207,7 @@ module _ (s : Plan) (scenario : IsScenario s) (start : IsSynchronous s) (r : Lis
 
   none_yet : (xs : List ℕ) → sum_by (λ task. done r task 0) xs ≡ 0
   unfolding done
-  none_yet xs = nothing xs
+  none_yet xs = sum_of_none xs
 
   quanta_within : (t : ℕ) → t ≤ length r → quanta_of t ≤ t * s.settings.processors
   unfolding quanta_of

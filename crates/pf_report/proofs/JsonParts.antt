@@ -4,6 +4,7 @@ use Rattle.std.specs.Fmt.{decimal}
 use Rattle.serde_json.specs.Data.{Items, array}
 use Rattle.serde_json.specs.Written.{compact_text}
 use Rattle.serde_json.proofs.OnLiterals.{serde_json_on_literals}
+use Rattle.pf_facts.proofs.Digits.{numbered}
 use Rattle.pf_names.specs.declared.named.Named.{Named}
 use Rattle.pf_names.specs.declared.slot_length.SlotLength.{SlotLength}
 use Rattle.pf_names.specs.declared.titles.Titles.{Titles}
@@ -27,10 +28,6 @@ object_parts titles denials entries lags misses now schedule = by titles.is_thir
         → IsParted (record { is_third = third; names = names; slot = slot }) denials entries lags misses now schedule
     by true names slot = refl
     by false names slot = refl
-
--- a key that ends with the next one, a number between them, and what follows
-numbered : (before : List ℕ) (n : ℕ) (key more : List ℕ) → (before ++ (decimal n ++ key)) ++ more ≡ before ++ (decimal n ++ (key ++ more))
-numbered before n key more = append_assoc before (decimal n ++ key) more ∙ ap (λ t. before ++ t) (append_assoc (decimal n) key more)
 
 -- of an object's four arrays, each behind its key, the text is that of the object
 pub keyed_parts : (titles : Titles) (denials : Items) (entries : ℕ) (lags misses : Items) (now : ℕ) (schedule : Items)

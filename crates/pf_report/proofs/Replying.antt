@@ -30,10 +30,6 @@ ok_retold (Err e) new xs ys same h = tt
 pub ten_digits : (n : ℕ) → n < 2 ^ 32 → length (decimal n) ≤ 10
 ten_digits n fits = length-decimal-le 10 n (omega arith) (omega arith) (omega arith)
 
--- a number of 64 bits has at most twenty
-pub twenty_digits : (n : ℕ) → n < 2 ^ 64 → length (decimal n) ≤ 20
-twenty_digits n fits = length-decimal-le 20 n (omega arith) (omega arith) fits
-
 -- the places below `from`, and behind them those below `to`
 pub places_more : (row : List (Option Pick)) (from to : ℕ) → from ≤ to
     → flat_map place_text (take from row) ++ flat_map place_text (drop from (take to row)) ≡ flat_map place_text (take to row)

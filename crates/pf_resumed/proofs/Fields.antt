@@ -1,16 +1,17 @@
 -- The fields of a good record need no quotes, and have no blanks around them.
 use Rattle.std.proofs.Common.{◌≡◌, ◌∙◌, ◌<◌, ◌≤◌, ◌+◌, ◌==◌, ℕ, Bool, true, false, List, [], ◌∷◌, Option, None, Some, Result, Ok, Err, All, codes, length, refl, sym, ap, subst, arith, inl, inr}
-use Rattle.std.specs.Prelude.{⊤, if◌then◌else◌, nat_le, nat_lt, ok_or, ◌&&◌, ◌||◌}
-use Rattle.std.specs.Char.{is_ascii_digit, is_ascii_whitespace}
+use Rattle.std.specs.Prelude.{⊤, if◌then◌else◌, nat_le, nat_lt, ok_or, ◌||◌}
+use Rattle.std.specs.Char.{is_ascii_digit}
 use Rattle.std.specs.Str.{all_ascii_digits, bytes_eq}
 use Rattle.std.specs.Str.Parse.{digits_value}
-use Rattle.std.proofs.lemmas.Bool.{cases_Bool, eqb-true}
+use Rattle.std.proofs.lemmas.Bool.{cases_Bool, eqb-true, and_parts, and_right}
 use Rattle.std.proofs.lemmas.Bool.Decides.{nat_tests}
 use Rattle.std.proofs.lemmas.List.{take_all}
 use Rattle.std.proofs.lemmas.List.Elements.{All-head, All-tail}
 use Rattle.std.proofs.lemmas.Slice.Eq.{bytes_eq-Decides}
 use Rattle.csv.specs.Records.{trim_end, trim_start}
-use Rattle.pf_converted.proofs.Plain.{both_left, both_right, name_plain, plain_digits}
+use Rattle.pf_facts.proofs.Digits.{digit_dark}
+use Rattle.pf_converted.proofs.Plain.{name_plain, plain_digits}
 use Rattle.pf_names.specs.Names.{task_of}
 use Rattle.pf_names.specs.Text.{is_letter_first, is_text}
 use Rattle.pf_names.specs.declared.named.Named.{Named}
@@ -74,26 +75,18 @@ at_most fields least most reason done e = by (nat_lt (length fields) least) (nat
     by false true is e = let bad : Err (fault_at most reason) ≡ Ok done = e in cc
     by false false is e = grind (arith, nat_tests, is)
 
--- digits
-and_false : (a : Bool) → (a && false) ≡ false
-and_false true = refl
-and_false false = refl
-
-digit_dark : (b : ℕ) → is_ascii_digit b ≡ true → is_ascii_whitespace b ≡ false
-digit_dark b digit = grind (arith, nat_tests, digit)
-
 end_digits : (bs : List ℕ) → all_ascii_digits bs ≡ true → trim_end bs ≡ length bs
 unfolding trim_end
 end_digits [] all = refl
 end_digits (b ∷ bs) all =
-    let dark = digit_dark b (both_left (is_ascii_digit b) (all_ascii_digits bs) all) in
-    let more : trim_end bs ≡ length bs = end_digits bs (both_right (is_ascii_digit b) (all_ascii_digits bs) all) in
-    rw (dark, and_false (trim_end bs == 0)) (omega (arith, more))
+    let dark = digit_dark b (and_parts (is_ascii_digit b) (all_ascii_digits bs) all).0 in
+    let more : trim_end bs ≡ length bs = end_digits bs (and_parts (is_ascii_digit b) (all_ascii_digits bs) all).1 in
+    rw (dark, and_right (trim_end bs == 0) false refl) (omega (arith, more))
 
 start_digits : (bs : List ℕ) → all_ascii_digits bs ≡ true → trim_start bs ≡ bs
 unfolding trim_start
 start_digits [] all = refl
-start_digits (b ∷ bs) all = rw (digit_dark b (both_left (is_ascii_digit b) (all_ascii_digits bs) all)) refl
+start_digits (b ∷ bs) all = rw (digit_dark b (and_parts (is_ascii_digit b) (all_ascii_digits bs) all).0) refl
 
 digits_plain : (bs : List ℕ) → all_ascii_digits bs ≡ true → IsPlain bs
 digits_plain bs all = (plain_digits bs all, rw (start_digits bs all, end_digits bs all) (take_all (length bs) bs (omega arith)))

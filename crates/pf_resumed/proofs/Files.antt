@@ -1,8 +1,8 @@
 -- A journal that has the records of a session has the lines of its script, each behind a gate.
 use Rattle.std.proofs.Common.{◌≡◌, ◌∙◌, ◌==◌, ℕ, Bool, true, false, List, [], ◌∷◌, ◌++◌, None, Ok, All, codes, drop, map, append_assoc, refl, sym, ap, subst, inl, inr}
-use Rattle.std.specs.Prelude.{◌⊎◌, ◌||◌, if◌then◌else◌, nat_eq, not}
+use Rattle.std.specs.Prelude.{◌⊎◌, if◌then◌else◌, nat_eq, not}
 use Rattle.std.specs.List.{flat_map, list_any, starts_with}
-use Rattle.std.proofs.lemmas.Bool.{cases_Bool, eqb-true}
+use Rattle.std.proofs.lemmas.Bool.{cases_Bool, eqb-true, or_parts}
 use Rattle.std.proofs.lemmas.Bool.Decides.{Decides-eqb}
 use Rattle.std.proofs.lemmas.List.Elements.{All-head, All-tail}
 use Rattle.std.proofs.lemmas.List.Folds.{list_any-append}
@@ -39,14 +39,6 @@ line_then r tail = ap (λ (t : List ℕ). t ++ tail) (line_is r) ∙ append_asso
 abbrev ends_none : List ℕ → Type 0
 ends_none x = list_any (λ b. b == 10) x ≡ false
 
-or_left : (a b : Bool) → (a || b) ≡ false → a ≡ false
-or_left true b e = let bad : true ≡ false = e in cc
-or_left false b e = refl
-
-or_right : (a b : Bool) → (a || b) ≡ false → b ≡ false
-or_right true b e = let bad : true ≡ false = e in cc
-or_right false b e = e
-
 byte_ends_none : (b : ℕ) → needs_byte default_writer b ≡ false → (b == 10) ≡ false
 byte_ends_none b plain = elim (cases_Bool (b == 10)) [
   | inl same ↦ let bad : true ≡ false = sym (ap (needs_byte default_writer) (eqb-true b 10 same)) ∙ plain in cc
@@ -56,8 +48,8 @@ byte_ends_none b plain = elim (cases_Bool (b == 10)) [
 plain_ends_none : (x : List ℕ) → list_any (needs_byte default_writer) x ≡ false → ends_none x
 plain_ends_none [] plain = refl
 plain_ends_none (b ∷ x) plain =
-    rw (byte_ends_none b (or_left (needs_byte default_writer b) (list_any (needs_byte default_writer) x) plain))
-    (plain_ends_none x (or_right (needs_byte default_writer b) (list_any (needs_byte default_writer) x) plain))
+    rw (byte_ends_none b (or_parts (needs_byte default_writer b) (list_any (needs_byte default_writer) x) plain).0)
+    (plain_ends_none x (or_parts (needs_byte default_writer b) (list_any (needs_byte default_writer) x) plain).1)
 
 both_end_none : (a b : List ℕ) → ends_none a → ends_none b → ends_none (a ++ b)
 both_end_none a b first second = list_any-append (λ b. b == 10) a b ∙ rw (first, second) refl
@@ -79,8 +71,8 @@ whole_run front [] tail none = ap (λ (t : List ℕ). whole_behind t tail) (sym 
     no_more [] = refl
     no_more (b ∷ t) = ap (λ (u : List ℕ). b ∷ u) (no_more t)
 whole_run front (b ∷ x) tail none =
-    rw (or_left (b == 10) (list_any (λ b. b == 10) x) none)
-    (whole_run (front ++ b ∷ []) x tail (or_right (b == 10) (list_any (λ b. b == 10) x) none)
+    rw (or_parts (b == 10) (list_any (λ b. b == 10) x) none).0
+    (whole_run (front ++ b ∷ []) x tail (or_parts (b == 10) (list_any (λ b. b == 10) x) none).1
     ∙ ap (λ (t : List ℕ). whole_behind t tail) (append_assoc front (b ∷ []) x))
 
 pub whole_all : (rs : List (List (List ℕ))) → AreRead rs → whole_lines (lines_text false rs) ≡ map body rs

@@ -8,9 +8,9 @@ use Rattle.std.specs.Str.{all_ascii_digits}
 use Rattle.std.proofs.lemmas.Bool.Decides.{nat_tests}
 use Rattle.std.proofs.lemmas.Fmt.{digits_decimal}
 use Rattle.std.proofs.lemmas.Str.Parse.{numerals_by_value, tells_all_ascii_digits}
+use Rattle.std.proofs.lemmas.Bool.{and_parts}
 use Rattle.pf_converted.proofs.Fields.{early_told, task_told}
 use Rattle.pf_converted.proofs.Numbers.{number_here}
-use Rattle.pf_converted.proofs.Plain.{both_left}
 use Rattle.pf_heard.specs.Lines.{line_of}
 use Rattle.pf_names.specs.Text.{is_letter_first}
 use Rattle.pf_names.specs.declared.named.Named.{Named}
@@ -33,7 +33,7 @@ use Rattle.pf_version3.specs.declared.state.Progress.{Progress}
 -- a number is no label
 digit_first : (bytes : List ℕ) → all_ascii_digits bytes ≡ true → is_letter_first bytes ≡ false
 digit_first [] e = refl
-digit_first (c ∷ cs) e = let digit : is_ascii_digit c ≡ true = both_left (is_ascii_digit c) (all_ascii_digits cs) e in grind (arith, nat_tests, digit)
+digit_first (c ∷ cs) e = let digit : is_ascii_digit c ≡ true = (and_parts (is_ascii_digit c) (all_ascii_digits cs) e).0 in grind (arith, nat_tests, digit)
 
 id_told : (labels : List Labelled) (fields : List (List ℕ)) (place n : ℕ) → field fields place ≡ decimal n → n < 10 ^ 15 → id_at labels fields place ≡ Ok n
 unfolding id_at

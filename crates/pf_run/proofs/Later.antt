@@ -1,9 +1,10 @@
 -- How often a task ran and how far it is shifted, one slot further.
-use Rattle.std.proofs.Common.{◌≡◌, ℕ, ◌+◌, ◌≤◌, ◌&&◌, ◌==◌, nat_le, cond, List, [], ◌∷◌, ◌++◌, length, sum_by, count_by, All, refl, sym, ap, ◌∙◌, arith}
+use Rattle.std.proofs.Common.{◌≡◌, ℕ, ◌+◌, ◌≤◌, ◌&&◌, ◌==◌, nat_le, cond, List, [], ◌∷◌, ◌++◌, length, count_by, All, refl, sym, ap, ◌∙◌, arith}
 use Rattle.std.proofs.lemmas.Bool.{le-leb}
 use Rattle.std.proofs.lemmas.List.{take_all, take-append-le}
-use Rattle.std.proofs.lemmas.List.Sums.{sum_by-cons, sum_by_push, sum_by-take-le}
-use Rattle.std.proofs.lemmas.List.Elements.{All-head, All-tail, All-weaker}
+use Rattle.std.proofs.lemmas.List.Sums.{sum_by_push, sum_by-take-le}
+use Rattle.std.proofs.lemmas.List.Elements.{All-weaker}
+use Rattle.pf_facts.proofs.Sums.{sum_by-agree}
 use Rattle.pf_scenario.specs.Event.{slot_of}
 use Rattle.pf_scenario.specs.declared.event.Event.{Event}
 use Rattle.pf_scenario.specs.declared.event.Event.TheVariants.{Join, Leave, Delay, Limit}
@@ -47,17 +48,10 @@ held_later r task i (Join slot task' cost period early) later = refl
 held_later r task i (Leave slot task') later = refl
 held_later r task i (Limit slot count) later = refl
 
-sum_same : {A : Type 0} (f g : A → ℕ) (xs : List A) → All (λ x. f x ≡ g x) xs → sum_by f xs ≡ sum_by g xs
-sum_same f g [] same = refl
-sum_same f g (x ∷ xs) same =
-    let first = All-head (λ y. f y ≡ g y) x xs same in
-    let rest = sum_same f g xs (All-tail (λ y. f y ≡ g y) x xs same) in
-    omega (arith, sum_by-cons f x xs, sum_by-cons g x xs)
-
 pub shift_same : (r : List Slot) (d : Slot) (xs : List Numbered) (j : Joined) (i : ℕ) → All (λ x. slot_of x.event ≤ length r) xs →
     shift_of (r ++ d ∷ []) xs j i ≡ shift_of r xs j i
 unfolding shift_of
-shift_same r d xs j i past = ap (λ n. j.slot + n) (sum_same _ _ xs
+shift_same r d xs j i past = ap (λ n. j.slot + n) (sum_by-agree _ _ xs
     (All-weaker (λ x. slot_of x.event ≤ length r) (λ x. hold_back_of (r ++ d ∷ []) j.task i x.event ≡ hold_back_of r j.task i x.event)
     (λ x within. held_same r d j.task i x.event within) xs past))
 
@@ -65,4 +59,4 @@ pub shift_later : (r : List Slot) (xs : List Numbered) (j : Joined) (i : ℕ) �
     shift_of r xs j i ≡ shift_of r xs j (next_sub r j.task)
 unfolding shift_of
 shift_later r xs j i later = ap (λ n. j.slot + n)
-    (sum_same _ _ xs (λ k e within. held_later r j.task i _ later))
+    (sum_by-agree _ _ xs (λ k e within. held_later r j.task i _ later))

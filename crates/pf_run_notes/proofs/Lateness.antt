@@ -2,7 +2,7 @@
 use Rattle.std.proofs.Common.{◌≡◌, ◌≢◌, ℕ, zero, suc, ◌+◌, ◌-◌, ◌≤◌, ◌<◌, ◌==◌, ◌||◌, Bool, true, false, cond, List, [], ◌∷◌, ◌++◌, length, get_or, set, replicate, count_by, fold, refl, sym, ap, ap₂, ◌∙◌, ⊎_elim, arith}
 use Rattle.std.specs.List.{list_any}
 use Rattle.std.proofs.Math.Bool.{or-false}
-use Rattle.std.proofs.lemmas.Bool.{cases_Bool, cases_eq, cond-true, cond-false, eq-eqb, ne_eqb}
+use Rattle.std.proofs.lemmas.Bool.{cases_Bool, cases_eq, cond-true, cond-false, eq-eqb, ne_eqb, or_parts}
 use Rattle.std.proofs.lemmas.List.{length-append, length-replicate, get_or-set_same, get_or-set_other}
 use Rattle.std.proofs.lemmas.List.Sums.{sum_by_push, fold_push}
 use Rattle.std.proofs.lemmas.List.Folds.{list_any-append}
@@ -38,16 +38,8 @@ any_after : (t : ℕ) (xs acc : List Miss) → list_any (is_of_task t) acc ≡ f
 any_after t [] acc none less = none
 any_after t (x ∷ xs) acc none less =
     any_after t xs (with_first acc x)
-    (any_with t acc x ∙ ap₂ (λ a b. a || b) none (head_false (is_of_task t x) (list_any (is_of_task t) xs) less))
-    (tail_false (is_of_task t x) (list_any (is_of_task t) xs) less)
-  where
-    head_false : (a b : Bool) → (a || b) ≡ false → a ≡ false
-    head_false true b e = cc
-    head_false false b e = refl
-
-    tail_false : (a b : Bool) → (a || b) ≡ false → b ≡ false
-    tail_false true b e = cc
-    tail_false false b e = e
+    (any_with t acc x ∙ ap₂ (λ a b. a || b) none (or_parts (is_of_task t x) (list_any (is_of_task t) xs) less).0)
+    (or_parts (is_of_task t x) (list_any (is_of_task t) xs) less).1
 
 any_there : (t : ℕ) (xs acc : List Miss) → list_any (is_of_task t) acc ≡ true → list_any (is_of_task t) (fold with_first acc xs) ≡ true
 any_there t [] acc some = some

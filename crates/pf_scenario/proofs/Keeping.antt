@@ -1,19 +1,20 @@
 -- What a scenario's representation is asked for at each change.
-use Rattle.std.proofs.Common.{◌≡◌, ℕ, ◌<◌, ◌≤◌, ◌%◌, Option, Some, None, true, not, List, [], ◌∷◌, ◌++◌, refl, sym, ap, ◌∙◌, subst, arith, IfSome, inl, inr}
+use Rattle.std.proofs.Common.{◌≡◌, ℕ, ◌<◌, ◌≤◌, ◌%◌, ◌^◌, Option, Some, None, true, not, List, [], ◌∷◌, ◌++◌, refl, sym, ap, ◌∙◌, subst, arith, IfSome, inl, inr}
 use Rattle.std.specs.Prelude.{◌==◌, nat_le}
 use Rattle.std.specs.List.{All, AllPairs}
 use Rattle.std.specs.Option.{option_map, option_map_or}
-use Rattle.std.proofs.lemmas.Bool.{cases_Bool, ne_eqb, leb-true, ltb-true, and_parts}
+use Rattle.std.proofs.lemmas.Bool.{cases_Bool, ne_eqb, leb-true, ltb-true, lt-ltb, and_from, and_parts}
 use Rattle.std.proofs.lemmas.List.{append-nil}
 use Rattle.std.proofs.lemmas.List.Elements.{All-weaker}
 use Rattle.std.proofs.lemmas.Bool.Decides.{nat_tests}
 use Rattle.std.proofs.lemmas.Nat.Gcd.{le_of_dvd, dvd_of_mod-eq-zero}
+use Rattle.pf_facts.proofs.Filters.{filter_all}
 use Rattle.pf_weight.specs.Share.{IsBase}
 use Rattle.pf_weight.specs.Weighed.{weight_fault}
 use Rattle.pf_weight.specs.declared.fault.WeightFault.{WeightFault}
 use Rattle.pf_weight.specs.declared.base.TheConstants.{LARGEST_BASE}
 use Rattle.pf_weight.specs.declared.task.TheConstants.{LARGEST_TASK}
-use Rattle.pf_scenario.proofs.Lists.{Pairs, Pairs-from_all, All_at, find_none, filter_all}
+use Rattle.pf_scenario.proofs.Lists.{Pairs, Pairs-from_all, All_at, find_none}
 use Rattle.std.proofs.lemmas.Bool.{not_from_false}
 use Rattle.pf_scenario.proofs.Scenarios.{or_else_none, unless_none, without_held, replaced_held, held, changes_keep_scenarios}
 use Rattle.pf_scenario.proofs.Indexing.{around_apart}
@@ -21,7 +22,7 @@ use Rattle.pf_scenario.specs.System.{System, IsSystem, wide_horizon}
 use Rattle.pf_scenario.specs.Event.{slot_of, task_of}
 use Rattle.pf_scenario.specs.Scenario.{Plan, with_number, is_held, events_without, plan_after}
 use Rattle.pf_scenario.specs.Edit.{IsScenario, IsEvent, is_within, edit_fault, has_early, has_delay, has_count, bad_weight}
-use Rattle.pf_scenario.specs.Held.{HasSmallNumbers}
+use Rattle.pf_scenario.specs.Packed.{has_packed}
 use Rattle.pf_scenario.specs.declared.limits.TheConstants.{MOST_EARLY, LONGEST_DELAY}
 use Rattle.pf_scenario.specs.declared.fault.EditFault.TheVariants.{BadWeight}
 use Rattle.pf_scenario.specs.Index.{AreDistinctEvents, IsNewEvent, event_at}
@@ -81,9 +82,9 @@ weight_low base cost period of_base none =
     let short : period ≤ base = le_of_dvd of_base.some (dvd_of_mod-eq-zero period whole) in
     (omega arith, short)
 
--- the numbers of an event within its limits are small
-small_numbers : (settings : System) (event : Event) → IsSystem settings → IsEvent settings event → HasSmallNumbers event
-small_numbers settings (Join slot task cost period early) system h =
+-- each event within its limits has a packed form
+packed_within : (settings : System) (event : Event) → IsSystem settings → IsEvent settings event → has_packed event ≡ true
+packed_within settings (Join slot task cost period early) system h =
     let at = slot_within settings (Join slot task cost period early) system h in
     let number = task_within settings (Join slot task cost period early) h in
     let tests = passes_tests settings (Join slot task cost period early) h in
@@ -92,23 +93,37 @@ small_numbers settings (Join slot task cost period early) system h =
     let base : settings.base ≤ LARGEST_BASE = system.limits.base.within in
     let cost_low = low.0 in
     let period_low = low.1 in
-    (omega arith, omega arith, omega arith, omega arith, omega arith)
-small_numbers settings (Leave slot task) system h =
+    let for_task : task < 2 ^ 16 = omega arith in
+    let for_slot : slot < 2 ^ 32 = omega arith in
+    let for_cost : cost < 2 ^ 32 = omega arith in
+    let for_period : period < 2 ^ 32 = omega arith in
+    let for_early : early < 2 ^ 32 = omega arith in
+    and_from _ _
+    (and_from _ _ (and_from _ _ (and_from _ _ (lt-ltb _ _ for_task) (lt-ltb _ _ for_slot)) (lt-ltb _ _ for_cost)) (lt-ltb _ _ for_period))
+    (lt-ltb _ _ for_early)
+packed_within settings (Leave slot task) system h =
     let at = slot_within settings (Leave slot task) system h in
     let number = task_within settings (Leave slot task) h in
-    (omega arith, omega arith)
-small_numbers settings (Delay slot task by) system h =
+    let for_task : task < 2 ^ 16 = omega arith in
+    let for_slot : slot < 2 ^ 32 = omega arith in
+    and_from _ _ (lt-ltb _ _ for_task) (lt-ltb _ _ for_slot)
+packed_within settings (Delay slot task by) system h =
     let at = slot_within settings (Delay slot task by) system h in
     let number = task_within settings (Delay slot task by) h in
     let tests = passes_tests settings (Delay slot task by) h in
     let most = leb-true by LONGEST_DELAY ((and_parts (nat_le 1 by) (nat_le by LONGEST_DELAY) tests.delay).1) in
-    (omega arith, omega arith, omega arith)
-small_numbers settings (Limit slot count) system h =
+    let for_task : task < 2 ^ 16 = omega arith in
+    let for_slot : slot < 2 ^ 32 = omega arith in
+    let for_by : by < 2 ^ 32 = omega arith in
+    and_from _ _ (and_from _ _ (lt-ltb _ _ for_task) (lt-ltb _ _ for_slot)) (lt-ltb _ _ for_by)
+packed_within settings (Limit slot count) system h =
     let at = slot_within settings (Limit slot count) system h in
     let tests = passes_tests settings (Limit slot count) h in
     let most = leb-true count settings.processors ((and_parts (nat_le 1 count) (nat_le count settings.processors) tests.count).1) in
     let processors = system.limits.processors_within in
-    (omega arith, omega arith)
+    let for_slot : slot < 2 ^ 32 = omega arith in
+    let for_count : count < 2 ^ 32 = omega arith in
+    and_from _ _ (lt-ltb _ _ for_slot) (lt-ltb _ _ for_count)
 
 -- the events of a scenario are apart
 events_apart : (s : Plan) → IsScenario s → AllPairs AreDistinctEvents s.events
@@ -134,7 +149,7 @@ amid_new s front x back e h =
       };
       small = record {
         number = omega arith;
-        event = small_numbers s.settings x.event h.settings limits;
+        event = packed_within s.settings x.event h.settings limits;
       };
       apart = around_apart front x back all;
     }

@@ -1,11 +1,12 @@
 -- Lists with one element in the middle: what holds of each, and of every two.
-use Rattle.std.proofs.Common.{Some, None, ◌≡◌, suc, Bool, true, false, if◌then◌else◌, List, [], ◌∷◌, ◌++◌, map, refl, ap, arith, inl, inr}
+use Rattle.std.proofs.Common.{Some, None, ◌≡◌, suc, Bool, true, false, List, [], ◌∷◌, ◌++◌, map, refl, ap, arith, inl, inr}
 use Rattle.std.specs.List.{All, AllPairs, list_any, filter, find}
 use Rattle.std.proofs.lemmas.List.Elements.{All-nil, All-cons, All-head, All-tail, All-append, filter-append}
 use Rattle.std.proofs.lemmas.List.Kept.{AllPairs-cons}
 use Rattle.std.proofs.lemmas.List.{map-append}
 use Rattle.std.proofs.lemmas.List.Folds.{map_fixed}
 use Rattle.std.proofs.lemmas.Bool.{or_parts, or_cases}
+use Rattle.pf_facts.proofs.Filters.{filter_all}
 
 -- what holds of each element of a list holds of each element of its parts
 pub All_left : {X : Type 0} (P : X → Type 0) (xs ys : List X) → All P (xs ++ ys) → All P xs
@@ -61,14 +62,6 @@ pub Pairs_after : {X : Type 0} (R : X → X → Type 0) (xs : List X) (y : X) (y
 Pairs_after R [] y ys h = h.0
 Pairs_after R (x ∷ xs) y ys h = Pairs_after R xs y ys h.1
 
--- a filter that keeps each element
-pub filter_all : {X : Type 0} (p : X → Bool) (xs : List X) → All (λ x. p x ≡ true) xs → filter p xs ≡ xs
-filter_all p [] h = refl
-filter_all p (x ∷ xs) h =
-    let here = All-head (λ x. p x ≡ true) x xs h in
-    let rest = filter_all p xs (All-tail (λ x. p x ≡ true) x xs h) in
-    rw here (ap (λ zs. x ∷ zs) rest)
-
 -- the one element in the middle that a filter drops, a map changes, or a search finds
 pub filter_middle : {X : Type 0} (p : X → Bool) (xs : List X) (y : X) (ys : List X) → All (λ x. p x ≡ true) (xs ++ ys) → p y ≡ false → filter p (xs ++ y ∷ ys) ≡ xs ++ ys
 filter_middle p xs y ys h fails =
@@ -118,10 +111,3 @@ found p (x ∷ xs) h =
       | inr later ↦ let rest = found p xs later in
           record { front = x ∷ rest.front; at = rest.at; back = rest.back; is = ap (λ zs. x ∷ zs) rest.is; passes = rest.passes }
     ]
-
--- two tests that agree at these elements keep the same of them
-pub filter_same : {X : Type 0} (p q : X → Bool) (xs : List X) → All (λ x. p x ≡ q x) xs → filter p xs ≡ filter q xs
-filter_same p q [] h = refl
-filter_same p q (x ∷ xs) h =
-    let here = All-head (λ x. p x ≡ q x) x xs h in
-    rw here (ap (λ zs. if q x then x ∷ zs else zs) (filter_same p q xs (All-tail (λ x. p x ≡ q x) x xs h)))

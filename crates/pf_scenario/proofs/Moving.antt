@@ -13,6 +13,7 @@ use Rattle.std.proofs.lemmas.Bool.{cases_Bool, false≢true, or_parts, or_cases,
 use Rattle.std.proofs.lemmas.Bool.Decides.{nat_tests}
 use Rattle.std.proofs.lemmas.List.{append-nil}
 use Rattle.std.proofs.lemmas.List.Elements.{All-nil, All-head, All-tail, All-weaker}
+use Rattle.pf_facts.proofs.Orders.{is_equal}
 use Rattle.pf_scenario.proofs.Lists.{Pairs-from_all, Pairs_middle, Pairs_without, Pairs_before, Pairs_after, none_passes, All_at}
 use Rattle.pf_scenario.proofs.Sorting.{put_comm, All-put, list_any-put}
 use Rattle.pf_scenario.proofs.Indexing.{room_held}
@@ -47,11 +48,6 @@ not_equal : (r : Ordering) → is_eq r ≡ false → r ≢ Equal
 not_equal Less h e = absurd (cc)
 not_equal Equal h e = absurd (false≢true (sym h))
 not_equal Greater h e = absurd (cc)
-
-is_equal : (r : Ordering) → is_eq r ≡ true → r ≡ Equal
-is_equal Less h = absurd (false≢true h)
-is_equal Equal h = refl
-is_equal Greater h = absurd (false≢true h)
 
 reversed : (r : Ordering) → r ≢ Equal → ordering_reverse r ≢ Equal
 reversed Less h e = absurd (cc)

@@ -10,19 +10,9 @@ use Rattle.std.proofs.lemmas.Cmp.{alike_right}
 use Rattle.std.proofs.lemmas.Bool.{cases_Bool, cond-true, cond-false, false≢true, false_from_ne_true}
 use Rattle.std.proofs.lemmas.List.Elements.{All-nil, All-cons, All-head, All-tail, All-weaker, All-filter}
 use Rattle.std.proofs.lemmas.List.Sorted.{IsPermutation-refl, IsPermutation-sym, IsPermutation-cons, IsPermutation-middle, IsPermutation-trans}
+use Rattle.pf_facts.proofs.Orders.{not_both, is_less}
 use Rattle.pf_scenario.proofs.Lists.{Pairs}
 use Rattle.pf_scenario.specs.Sorted.{put_in_order, sorted_by}
-
--- what an order says of two elements, by its test
-pub is_less : (o : Ordering) → is_lt o ≡ true → o ≡ Less
-is_less Less e = refl
-is_less Equal e = cc
-is_less Greater e = cc
-
-not_both : (o : Ordering) → is_lt o ≡ true → is_lt (ordering_reverse o) ≡ false
-not_both Less e = refl
-not_both Equal e = cc
-not_both Greater e = cc
 
 one_of_both : (o : Ordering) → o ≢ Equal → is_lt o ≡ false → is_lt (ordering_reverse o) ≡ true
 one_of_both Less differ e = cc

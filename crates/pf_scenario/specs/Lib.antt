@@ -7,11 +7,12 @@ pub mod Sorted
 pub mod Event
 pub mod Scenario
 pub mod Edit
+pub mod Checked
 pub mod Refusals
 pub mod Laws
 pub mod TimeOrder
 pub mod Place
-pub mod Held
+pub mod Packed
 pub mod Cards
 pub mod Index
 pub mod Sharing

@@ -1,5 +1,6 @@
 ghost use Rattle.std.specs.Prelude.{◌≡◌, ◌<◌, ◌≤◌, true, [], ◌∷◌, ◌++◌, length, filter, All, IfOk, OnOk, OnErr};
 ghost use Rattle.std.specs.List.{list_any};
+ghost use Rattle.std.specs.Option.{option_map};
 ghost use Rattle.pf_scenario.specs.declared.settings.TheConstants.{WIDE_HORIZON};
 ghost use Rattle.pf_scenario.specs.Event.{slot_of, is_of_slot, in_run_order};
 ghost use Rattle.pf_scenario.specs.Scenario.{with_number, is_held, events_without};
@@ -10,6 +11,7 @@ ghost use Rattle.pf_scenario.specs.TimeOrder.{in_time_order, is_before, is_betwe
 use crate::by_number::ByNumber;
 use crate::event::{Event, Numbered};
 use crate::events::Events;
+use crate::found::Found;
 use crate::place::{Place, move_place};
 use crate::settings::WIDE_HORIZON;
 use crate::tables::{grow_for, note, notes_other};
@@ -59,11 +61,11 @@ impl Agenda {
         self.events.len()
     }
 
-    /// The event of this number, where it is held.
-    pub fn get(&self, id: u64) -> Option<Event>
-        ensures { result ≡ event_at self.now id }
+    /// The event of this number, where it is held, and where its card stands.
+    pub fn find(&self, id: u64) -> Option<Found>
+        ensures { option_map (λ f. f.event) result ≡ event_at self.now id }
     {
-        self.events.get(id)
+        self.events.find(self.events.guess(id), id)
     }
 
     /// Holds an event whose number is above all others.
@@ -92,38 +94,40 @@ impl Agenda {
         }
     }
 
-    /// Takes the event of this number out, which is held.
-    pub fn take_out(&mut self, id: u64)
+    /// Takes the event of this number out, which is held and looked for at `first`.
+    pub fn take_out(&mut self, first: usize, id: u64)
         requires { is_held self.old id ≡ true }
         ensures { self.new ≡ events_without id self.old }
     {
-        let Some(event) = self.events.get(id) else {
+        let Some(found) = self.events.find(first, id) else {
             unreachable!()
         };
+        let event = found.event;
         self.order.remove(&Place::of(&Numbered { id, event }));
-        self.events.take_out(id);
+        self.events.take_out(found.at, id);
         note(&mut self.joins, &mut self.leaves, &event, 0);
     }
 
-    /// Puts the event in place of the one of this number, which is held.
+    /// Puts the event in place of the one of this number, which is held and looked for at `first`.
     ///
     /// # Errors
     ///
     /// Where memory is refused: the events are as before.
-    pub fn replace(&mut self, id: u64, event: Event) -> Result<(), AllocError>
+    pub fn replace(&mut self, first: usize, id: u64, event: Event) -> Result<(), AllocError>
         requires held { is_held self.old id ≡ true }
         requires new { IsNewEvent (with_number id event) (events_without id self.old) }
         ensures ok { OnOk result (self.new ≡ with_event id event self.old) }
         ensures err { OnErr result (self.new ≡ self.old) }
     {
-        let Some(was) = self.events.get(id) else {
+        let Some(found) = self.events.find(first, id) else {
             unreachable!()
         };
+        let was = found.event;
         grow_for(&mut self.joins, &mut self.leaves, &event)?;
         let from = Place::of(&Numbered { id, event: was });
         let to = Place::of(&Numbered { id, event });
         move_place(&mut self.order, from, to)?;
-        self.events.set(id, event);
+        self.events.set(found.at, id, event);
         note(&mut self.joins, &mut self.leaves, &was, 0);
         note(&mut self.joins, &mut self.leaves, &event, id);
         Ok(())
@@ -168,10 +172,13 @@ impl Agenda {
         let mut events = Vec::new(*self.joins.allocator());
         for place in self.order.range(Place::first_of(from)..Place::first_of(to)) {
             let id = u64::from(place.id);
-            let Some(event) = self.events.get(id) else {
+            let Some(found) = self.events.find(self.events.guess(id), id) else {
                 unreachable!()
             };
-            events.push(Numbered { id, event })?;
+            events.push(Numbered {
+                id,
+                event: found.event,
+            })?;
         }
         Ok(events)
     }
@@ -211,18 +218,15 @@ impl Agenda {
     {
         self.events.iter()
     }
+}
 
-    /// The same events.
-    ///
-    /// # Errors
-    ///
-    /// Where memory is refused.
-    pub fn copy(&self) -> Result<Self, AllocError>
-        ensures { IfOk result (λ a. a ≡ self.now) }
-    {
-        let joins = Vec::from_slice(*self.joins.allocator(), &self.joins)?;
-        let leaves = Vec::from_slice(*self.leaves.allocator(), &self.leaves)?;
-        let events = self.events.copy()?;
+impl Clone for Agenda {
+    ghost is_clone = { λ a copy. copy ≡ a };
+
+    fn clone(&self) -> Result<Self, AllocError> {
+        let joins = self.joins.clone()?;
+        let leaves = self.leaves.clone()?;
+        let events = self.events.clone()?;
         let order = self.order.clone()?;
         Ok(Agenda {
             events,

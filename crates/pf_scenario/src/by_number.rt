@@ -1,4 +1,5 @@
-ghost use Rattle.std.specs.Prelude.{◌≡◌, ◌<◌, true, [], ◌∷◌, ◌++◌, length, All, AllPairs, IfOk, OnOk, OnErr};
+ghost use Rattle.std.specs.Prelude.{◌≡◌, ◌<◌, true, [], ◌∷◌, ◌++◌, length, All, AllPairs, OnOk, OnErr};
+ghost use Rattle.std.specs.Option.{option_map};
 ghost use Rattle.pf_scenario.specs.Scenario.{with_number, is_held, events_without};
 ghost use Rattle.pf_scenario.specs.Index.{event_at, with_event};
 ghost use Rattle.pf_scenario.specs.Cards.{AreRising, AreBelow, AreBehind, IsCut, IsPlaceOf, IsSmall, listed};
@@ -6,13 +7,14 @@ ghost use Rattle.pf_scenario.specs.Cards.{AreRising, AreBelow, AreBehind, IsCut,
 use crate::card::Card;
 use crate::event::{Event, Numbered};
 use crate::events::Events;
+use crate::found::Found;
 use crate::guide::Guide;
 use std::alloc::{AllocError, Global};
 use std::marker::Model;
 
 /// Events by number. It takes the memory of the events held, and of no more that are struck, and eight bytes for each 32 numbers
-/// that were given. A search looks at two cards where its guess is good, as it is while numbers rise, and at the logarithm of
-/// their number where it is not. A change costs as much in the mean.
+/// that were given. A search looks at two cards where it knows the place, or its guess is good, as it is while numbers rise, and
+/// at the logarithm of their number where it is not. A change costs as much in the mean.
 #[derive(Debug, Drop)]
 pub struct ByNumber {
     /// In rising order of their numbers. No more than half of them are struck.
@@ -144,12 +146,19 @@ impl ByNumber {
         self.held
     }
 
-    /// The event of this number, where it is held.
-    pub fn get(&self, id: u64) -> Option<Event>
-        ensures { result ≡ event_at self.now id }
+    /// Where the card of this number may stand. Nothing is promised of it.
+    pub fn guess(&self, id: u64) -> usize {
+        self.guide.guess(id)
+    }
+
+    /// The event of this number, where it is held, and where its card stands. It is looked for at `first` before it is searched
+    /// for.
+    pub fn find(&self, first: usize, id: u64) -> Option<Found>
+        ensures { option_map (λ f. f.event) result ≡ event_at self.now id }
     {
-        let at = place_of(&self.cards, self.guide.guess(id), id)?;
-        self.cards[at].event()
+        let at = place_of(&self.cards, first, id)?;
+        let event = self.cards[at].event()?;
+        Some(Found { event, at })
     }
 
     /// Holds an event whose number is above all others.
@@ -170,23 +179,23 @@ impl ByNumber {
         Ok(())
     }
 
-    /// Puts the event in place of the one of this number, which is held.
-    pub fn set(&mut self, id: u64, event: Event)
+    /// Puts the event in place of the one of this number, which is held and looked for at `first`.
+    pub fn set(&mut self, first: usize, id: u64, event: Event)
         requires held { is_held self.old id ≡ true }
         requires small { IsSmall (with_number id event) }
         ensures { self.new ≡ with_event id event self.old }
     {
-        let Some(at) = place_of(&self.cards, self.guide.guess(id), id) else {
+        let Some(at) = place_of(&self.cards, first, id) else {
             unreachable!()
         };
         self.cards[at] = Card::of(Numbered { id, event });
     }
 
-    /// Takes the event of this number out. It takes no memory.
-    pub fn take_out(&mut self, id: u64)
+    /// Takes the event of this number out, which is looked for at `first`. It takes no memory.
+    pub fn take_out(&mut self, first: usize, id: u64)
         ensures { self.new ≡ events_without id self.old }
     {
-        let Some(at) = place_of(&self.cards, self.guide.guess(id), id) else {
+        let Some(at) = place_of(&self.cards, first, id) else {
             return;
         };
         if self.cards[at].is_struck() {
@@ -203,17 +212,14 @@ impl ByNumber {
     {
         Events::of(&self.cards)
     }
+}
 
-    /// The same events.
-    ///
-    /// # Errors
-    ///
-    /// Where memory is refused.
-    pub fn copy(&self) -> Result<Self, AllocError>
-        ensures { IfOk result (λ b. b ≡ self.now) }
-    {
-        let cards = Vec::from_slice(*self.cards.allocator(), &self.cards)?;
-        let guide = self.guide.copy()?;
+impl Clone for ByNumber {
+    ghost is_clone = { λ b copy. copy ≡ b };
+
+    fn clone(&self) -> Result<Self, AllocError> {
+        let cards = self.cards.clone()?;
+        let guide = self.guide.clone()?;
         Ok(ByNumber {
             cards,
             held: self.held,

@@ -3,7 +3,7 @@ ghost use Rattle.std.specs.Option.{is_some};
 ghost use Rattle.pf_scenario.specs.Cards.{IsSmall, event_on, numbered_on};
 
 use crate::event::{Event, Numbered};
-use crate::held_event::HeldEvent;
+use crate::packed_event::PackedEvent;
 
 /// A card of the table of events: a number, and its event until that is struck.
 #[derive(Clone, Copy, Debug)]
@@ -11,7 +11,7 @@ pub struct Card {
     id: u32,
 
     /// None once it is struck.
-    event: Option<HeldEvent>,
+    event: Option<PackedEvent>,
 }
 
 const _: () = prove!(size_of::<Card>() == 28);
@@ -24,7 +24,7 @@ impl Card {
     {
         Card {
             id: x.id as u32,
-            event: Some(HeldEvent::of(x.event)),
+            event: PackedEvent::of(&x.event),
         }
     }
 
@@ -39,10 +39,7 @@ impl Card {
     pub fn event(&self) -> Option<Event>
         ensures { result ≡ event_on self.now }
     {
-        match &self.event {
-            Some(event) => Some(event.event()),
-            None => None,
-        }
+        self.event.map(PackedEvent::event)
     }
 
     /// Its event with its number, until that is struck.

@@ -16,7 +16,7 @@ struct Marks {
 
 /// Guesses of where the cards of a table of events by number stand, so that a search looks at few of them. They take eight bytes
 /// for each 32 numbers. Nothing is promised of a guess: a search tries it before it believes it.
-#[derive(Debug, Drop)]
+#[derive(Clone, Debug, Drop)]
 pub struct Guide {
     /// For each 32 numbers, from 0 on.
     marks: Vec<Marks>,
@@ -99,15 +99,5 @@ impl Guide {
             *marks = marks_of(cards, at, k as u64);
             at = at.saturating_add(marks.marked.count_ones() as usize);
         }
-    }
-
-    /// The same guesses.
-    ///
-    /// # Errors
-    ///
-    /// Where memory is refused.
-    pub fn copy(&self) -> Result<Self, AllocError> {
-        let marks = Vec::from_slice(*self.marks.allocator(), &self.marks)?;
-        Ok(Guide { marks })
     }
 }

@@ -3,6 +3,8 @@ ghost use Rattle.std.specs.List.{list_any};
 ghost use Rattle.std.specs.Result.{result_err};
 ghost use Rattle.pf_scenario.specs.Scenario.{Plan, opening_plan, is_held, events_without, plan_after, number_of_change, held_slot, slot_touched, events_of, past};
 ghost use Rattle.pf_scenario.specs.Edit.{IsScenario, event_fault, edit_fault, unless, join_alike, leave_alike};
+ghost use Rattle.pf_scenario.specs.Checked.{IsCheckedFor};
+ghost use Rattle.pf_scenario.specs.Index.{event_at};
 ghost use Rattle.pf_scenario.specs.declared.fault.EditFault.{EditFault};
 ghost use Rattle.pf_scenario.specs.declared.fault.EditFault.TheVariants.{EventNotFound};
 ghost use Rattle.pf_scenario.specs.declared.change.Change.TheVariants.{Insert, Alter, Strike};
@@ -10,9 +12,11 @@ ghost use Rattle.pf_scenario.specs.declared.apply_fault.ApplyFault.TheVariants.{
 
 use crate::apply_fault::ApplyFault;
 use crate::change::Change;
+use crate::checked_change::CheckedChange;
 use crate::event::{Event, Numbered};
 use crate::events::Events;
 use crate::fault::EditFault;
+use crate::found::Found;
 use crate::limits::check_limits;
 use crate::settings::Settings;
 use crate::shared_agenda::SharedAgenda;
@@ -68,38 +72,80 @@ impl Scenario {
         ensures value { result_err result ≡ edit_fault self.now change.now }
         ensures scenario { IsScenario self.now }
     {
-        match *change {
+        self.checked(*change)?;
+        Ok(())
+    }
+
+    /// The change, checked, for `make`.
+    ///
+    /// # Errors
+    ///
+    /// Why it is refused: the first test that fails, in the order of `EditFault`.
+    pub fn checked(&self, change: Change) -> Result<CheckedChange, EditFault>
+        ensures value { result_err result ≡ edit_fault self.now change }
+        ensures ok { IfOk result (λ c. (c.change ≡ change) × IsCheckedFor self.now c) }
+        ensures scenario { IsScenario self.now }
+    {
+        match change {
             Change::Insert(event) => {
-                self.check_new(&event)?;
-                if self.events.len() >= MOST_EVENTS {
-                    return Err(EditFault::TooManyEvents);
-                }
-                if self.next > LAST_NUMBER {
-                    return Err(EditFault::NumbersSpent);
-                }
-                Ok(())
+                self.check_insert(&event)?;
+                Ok(CheckedChange {
+                    change,
+                    first_slot: event.slot(),
+                    at: 0,
+                })
             }
             Change::Alter(id, event) => {
-                self.check_held(id)?;
-                self.check_event(id, &event)
+                let found = self.find_held(id)?;
+                self.check_event(id, &event)?;
+                Ok(CheckedChange {
+                    change,
+                    first_slot: found.event.slot().min(event.slot()),
+                    at: found.at,
+                })
             }
-            Change::Strike(id) => self.check_held(id),
+            Change::Strike(id) => {
+                let found = self.find_held(id)?;
+                Ok(CheckedChange {
+                    change,
+                    first_slot: found.event.slot(),
+                    at: found.at,
+                })
+            }
         }
     }
 
-    /// Refused where no event has this number.
-    fn check_held(&self, id: u64) -> Result<(), EditFault>
-        ensures { result_err result ≡ unless (is_held self.now.events id) EventNotFound }
+    /// The event of this number, and where it stands. Refused where it is not held.
+    fn find_held(&self, id: u64) -> Result<Found, EditFault>
+        ensures value { result_err result ≡ unless (is_held self.now.events id) EventNotFound }
+        ensures found { IfOk result (λ f. event_at self.now.events id ≡ Some f.event) }
+        ensures scenario { IsScenario self.now }
     {
-        match self.events.get(id) {
-            Some(_) => Ok(()),
+        match self.events.find(id) {
+            Some(found) => Ok(found),
             None => Err(EditFault::EventNotFound),
         }
     }
 
+    /// Why an insert of this event is refused.
+    fn check_insert(&self, event: &Event) -> Result<(), EditFault>
+        ensures value { result_err result ≡ edit_fault self.now (Insert event.now) }
+        ensures scenario { IsScenario self.now }
+    {
+        self.check_new(event)?;
+        if self.events.len() >= MOST_EVENTS {
+            return Err(EditFault::TooManyEvents);
+        }
+        if self.next > LAST_NUMBER {
+            return Err(EditFault::NumbersSpent);
+        }
+        Ok(())
+    }
+
     /// Why a new event is refused.
     fn check_new(&self, event: &Event) -> Result<(), EditFault>
-        ensures { result_err result ≡ event_fault self.now.settings self.now.events event.now }
+        ensures value { result_err result ≡ event_fault self.now.settings self.now.events event.now }
+        ensures scenario { IsScenario self.now }
     {
         // No event has the number 0, which is known once a field is looked at.
         let _ = &self.events;
@@ -147,32 +193,30 @@ impl Scenario {
         ensures err { OnErr result (self.new ≡ self.old) }
         ensures scenario { IsScenario self.new }
     {
-        if let Err(fault) = self.check(&change) {
-            return Err(ApplyFault::Refused(fault));
-        }
-        Ok(self.make(change)?)
+        let checked = self.checked(change).map_err(ApplyFault::Refused)?;
+        Ok(self.make(checked)?)
     }
 
-    /// Makes a change that has no fault and gives the number of the event that it concerns. That it has none is the
-    /// caller's duty: `check` tells.
+    /// Makes a change that was checked for this scenario, or for an equal one, and gives the number of the event that it
+    /// concerns.
     ///
     /// # Errors
     ///
     /// Where memory is refused: the scenario is as before.
-    pub fn make(&mut self, change: Change) -> Result<u64, AllocError>
-        requires { edit_fault self.old change ≡ None }
-        ensures ok { IfOk result (λ id. (id ≡ number_of_change self.old change) × (self.new ≡ plan_after self.old change)) }
+    pub fn make(&mut self, checked: CheckedChange) -> Result<u64, AllocError>
+        requires { IsCheckedFor self.old checked }
+        ensures ok { IfOk result (λ id. (id ≡ number_of_change self.old checked.change) × (self.new ≡ plan_after self.old checked.change)) }
         ensures err { OnErr result (self.new ≡ self.old) }
         ensures scenario { IsScenario self.new }
     {
-        match change {
+        match checked.change {
             Change::Insert(event) => self.insert(event),
             Change::Alter(id, event) => {
-                self.alter(id, event)?;
+                self.alter(checked.at, id, event)?;
                 Ok(id)
             }
             Change::Strike(id) => {
-                self.strike(id)?;
+                self.strike(checked.at, id)?;
                 Ok(id)
             }
         }
@@ -191,25 +235,25 @@ impl Scenario {
         Ok(id)
     }
 
-    /// Puts the event in place of the one of this number.
-    fn alter(&mut self, id: u64, event: Event) -> Result<(), AllocError>
+    /// Puts the event in place of the one of this number, which is looked for at `first`.
+    fn alter(&mut self, first: usize, id: u64, event: Event) -> Result<(), AllocError>
         requires { edit_fault self.old (Alter id event) ≡ None }
         ensures ok { OnOk result (self.new ≡ plan_after self.old (Alter id event)) }
         ensures err { OnErr result (self.new ≡ self.old) }
         ensures scenario { IsScenario self.new }
     {
-        self.events.replace(id, event)?;
+        self.events.replace(first, id, event)?;
         Ok(())
     }
 
-    /// Drops the event of this number.
-    fn strike(&mut self, id: u64) -> Result<(), AllocError>
+    /// Drops the event of this number, which is looked for at `first`.
+    fn strike(&mut self, first: usize, id: u64) -> Result<(), AllocError>
         requires { edit_fault self.old (Strike id) ≡ None }
         ensures ok { OnOk result (self.new ≡ plan_after self.old (Strike id)) }
         ensures err { OnErr result (self.new ≡ self.old) }
         ensures scenario { IsScenario self.new }
     {
-        self.events.take_out(id)?;
+        self.events.take_out(first, id)?;
         Ok(())
     }
 
@@ -232,8 +276,8 @@ impl Scenario {
     fn held_slot(&self, id: u64) -> Option<u64>
         ensures { result ≡ held_slot self.now.events id }
     {
-        let event = self.events.get(id)?;
-        Some(event.slot())
+        let found = self.events.find(id)?;
+        Some(found.event.slot())
     }
 
     /// The events, in rising order of their numbers.

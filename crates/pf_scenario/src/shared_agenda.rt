@@ -1,5 +1,6 @@
 ghost use Rattle.std.specs.Prelude.{◌≡◌, ◌<◌, true, ◌∷◌, [], ◌++◌, length, filter, All, IfOk, OnOk, OnErr};
 ghost use Rattle.std.specs.List.{list_any};
+ghost use Rattle.std.specs.Option.{option_map};
 ghost use Rattle.pf_scenario.specs.Event.{is_of_slot, in_run_order};
 ghost use Rattle.pf_scenario.specs.Scenario.{with_number, is_held, events_without};
 ghost use Rattle.pf_scenario.specs.Edit.{join_alike, leave_alike};
@@ -9,6 +10,7 @@ ghost use Rattle.pf_scenario.specs.TimeOrder.{in_time_order, is_before};
 use crate::agenda::Agenda;
 use crate::event::{Event, Numbered};
 use crate::events::Events;
+use crate::found::Found;
 use std::alloc::{AllocError, Global};
 use std::marker::Model;
 use std::sync::Arc;
@@ -24,13 +26,15 @@ pub struct SharedAgenda {
 }
 
 impl Model for SharedAgenda {
-    ghost use Rattle.std.specs.Prelude.{List};
+    ghost use Rattle.std.specs.Prelude.{◌≡◌, List, []};
     ghost use Rattle.pf_scenario.specs.declared.event.Numbered.{Numbered};
     ghost use Rattle.pf_scenario.specs.Sharing.{events_shared};
 
     ghost Value = { List Numbered };
 
-    ghost view = { λ a. events_shared a.empty a.shared };
+    ghost view = { λ a. events_shared a.shared };
+
+    ghost invariant = { λ a. a.empty ≡ [] };
 }
 
 impl SharedAgenda {
@@ -62,11 +66,11 @@ impl SharedAgenda {
         self.agenda().len()
     }
 
-    /// The event of this number, where it is held.
-    pub fn get(&self, id: u64) -> Option<Event>
-        ensures { result ≡ event_at self.now id }
+    /// The event of this number, where it is held, and where its card stands.
+    pub fn find(&self, id: u64) -> Option<Found>
+        ensures { option_map (λ f. f.event) result ≡ event_at self.now id }
     {
-        self.agenda().get(id)
+        self.agenda().find(id)
     }
 
     /// Holds an event whose number is above all others.
@@ -80,59 +84,49 @@ impl SharedAgenda {
         ensures ok { OnOk result (self.new ≡ self.old ++ x ∷ []) }
         ensures err { OnErr result (self.new ≡ self.old) }
     {
-        if let Some(shared) = &mut self.shared {
-            if let Some(agenda) = Arc::get_mut(shared) {
-                return agenda.push(x);
+        match &mut self.shared {
+            Some(shared) => Arc::make_mut(shared)?.push(x),
+            None => {
+                let mut agenda = Agenda::new(self.alloc);
+                agenda.push(x)?;
+                self.shared = Some(Arc::new(self.alloc, agenda)?);
+                Ok(())
             }
         }
-        let mut changed = self.agenda().copy()?;
-        changed.push(x)?;
-        self.shared = Some(Arc::new(self.alloc, changed)?);
-        Ok(())
     }
 
-    /// Takes the event of this number out, which is held.
+    /// Takes the event of this number out, which is held and looked for at `first`.
     ///
     /// # Errors
     ///
     /// Where memory is refused: the events are as before. It takes none where nobody else has them.
-    pub fn take_out(&mut self, id: u64) -> Result<(), AllocError>
+    pub fn take_out(&mut self, first: usize, id: u64) -> Result<(), AllocError>
         requires { is_held self.old id ≡ true }
         ensures ok { OnOk result (self.new ≡ events_without id self.old) }
         ensures err { OnErr result (self.new ≡ self.old) }
     {
-        if let Some(shared) = &mut self.shared {
-            if let Some(agenda) = Arc::get_mut(shared) {
-                agenda.take_out(id);
-                return Ok(());
-            }
-        }
-        let mut changed = self.agenda().copy()?;
-        changed.take_out(id);
-        self.shared = Some(Arc::new(self.alloc, changed)?);
+        let Some(shared) = &mut self.shared else {
+            unreachable!()
+        };
+        Arc::make_mut(shared)?.take_out(first, id);
         Ok(())
     }
 
-    /// Puts the event in place of the one of this number, which is held.
+    /// Puts the event in place of the one of this number, which is held and looked for at `first`.
     ///
     /// # Errors
     ///
     /// Where memory is refused: the events are as before.
-    pub fn replace(&mut self, id: u64, event: Event) -> Result<(), AllocError>
+    pub fn replace(&mut self, first: usize, id: u64, event: Event) -> Result<(), AllocError>
         requires held { is_held self.old id ≡ true }
         requires new { IsNewEvent (with_number id event) (events_without id self.old) }
         ensures ok { OnOk result (self.new ≡ with_event id event self.old) }
         ensures err { OnErr result (self.new ≡ self.old) }
     {
-        if let Some(shared) = &mut self.shared {
-            if let Some(agenda) = Arc::get_mut(shared) {
-                return agenda.replace(id, event);
-            }
-        }
-        let mut changed = self.agenda().copy()?;
-        changed.replace(id, event)?;
-        self.shared = Some(Arc::new(self.alloc, changed)?);
-        Ok(())
+        let Some(shared) = &mut self.shared else {
+            unreachable!()
+        };
+        Arc::make_mut(shared)?.replace(first, id, event)
     }
 
     /// Whether an event of another number than this one joins the task that the event joins.
@@ -186,14 +180,13 @@ impl SharedAgenda {
     pub fn copy(&self) -> Result<Self, AllocError>
         ensures { IfOk result (λ a. a ≡ self.now) }
     {
-        let empty = self.empty.copy()?;
         let shared = match &self.shared {
             Some(agenda) => Some(Arc::try_clone(agenda)?),
             None => None,
         };
         Ok(SharedAgenda {
             alloc: self.alloc,
-            empty,
+            empty: Agenda::new(self.alloc),
             shared,
         })
     }

@@ -4,7 +4,6 @@
 
 pub mod fault;
 pub mod fields;
-pub mod grammar;
 pub mod line;
 pub mod line_reader;
 pub mod opened;

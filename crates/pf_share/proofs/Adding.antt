@@ -5,9 +5,9 @@ use Rattle.std.proofs.lemmas.Bool.Decides.{nat_tests}
 use mathlib.Core.List.{IsPrefix}
 use prog.Atomic.{either}
 use Rattle.logbook.specs.Pages.{Cell, cell, keeps, no_nib, step, Moves, Goes}
+use Rattle.pf_facts.proofs.Prefixes.{prefix_whole}
 use Rattle.pf_share.specs.declared.story.Story.{Story}
 use Rattle.pf_share.specs.Stories.{CountsStories, Adds}
-use Rattle.pf_share.proofs.Prefixes.{prefix_whole}
 
 abbrev pub shown : List Story → List Story
 shown log = []

@@ -5,11 +5,11 @@ use mathlib.Core.List.{IsPrefix}
 use lib.ListN.{get_elem?}
 use Rattle.atomic_table.proofs.Lists.{at_set, at_snoc}
 use Rattle.left_right.specs.Register.{Forks, Merges}
+use Rattle.pf_facts.proofs.Prefixes.{prefix_self, prefix_trans}
 use Rattle.pf_desk.specs.declared.entry.Entry.{Entry}
 use Rattle.pf_share.specs.declared.reads.Reads.{Reads}
 use Rattle.pf_share.specs.Stories.{Stamped}
 use Rattle.pf_share.specs.Reads.{Fits, FitAll, Sees, Publishes, knowing, nothing_read, IsViewer}
-use Rattle.pf_share.proofs.Prefixes.{prefix_self, prefix_trans}
 
 fit_set : (x : Stamped) (views : List Reads) (seat : ℕ) (w : Reads) → FitAll x views → Fits x w → FitAll x (set views seat w)
 fit_set x views seat w h low j u e =

@@ -7,7 +7,6 @@ mod Issuing
 mod Limits
 mod Looking
 mod Numbering
-mod Prefixes
 mod Publishing
 mod Rising
 mod Tying

@@ -3,6 +3,7 @@ use Rattle.std.proofs.Common.{◌≡◌, ℕ, zero, suc, ◌+◌, ◌<◌, List,
 use Rattle.std.specs.Prelude.{slice_index_or}
 use mathlib.Core.Option.{some}
 use lib.ListN.{get_elem?}
+use Rattle.pf_facts.proofs.Lists.{at_any}
 
 -- Use: an element by its place.
 pub at_place : {X : Type 0} (xs : List X) (k : ℕ) (d : X) → k < length xs → get_elem? xs k ≡ some (slice_index_or xs k d)
@@ -14,11 +15,6 @@ pub at_some : {X : Type 0} (xs : List X) (k : ℕ) (x : X) → get_elem? xs k �
 at_some [] k x e = absurd cc
 at_some (y ∷ xs) zero x e = (omega arith, cc)
 at_some (y ∷ xs) (suc k) x e = let rest = at_some xs k x e in (omega (arith, rest.0), rest.1)
-
-pub at_any : {X : Type 0} (xs : List X) (k : ℕ) (d e : X) → k < length xs → slice_index_or xs k d ≡ slice_index_or xs k e
-at_any [] k d e lt = absurd (omega arith)
-at_any (x ∷ xs) zero d e lt = refl
-at_any (x ∷ xs) (suc k) d e lt = at_any xs k d e (omega arith)
 
 -- Use: one more of them is so.
 pub so_far : {X : Type 0} (P : X → Type 0) (all xs : List X) (i : ℕ) (x : X) → xs ≡ all → i < length xs

@@ -4,6 +4,7 @@ use Rattle.std.proofs.Common.{◌≡◌, ℕ, zero, suc, ◌*◌, ◌≤◌, ◌
 use Rattle.std.specs.List.{list_any}
 use Rattle.std.proofs.lemmas.Bool.{or_left, or_right, eq-eqb}
 use Rattle.std.proofs.lemmas.List.Sums.{sum_by-cons}
+use Rattle.pf_facts.proofs.Sums.{sum_of_none}
 use Rattle.pf_weight.specs.Share.{Share}
 use Rattle.pf_window.specs.Window.{deadline_of}
 use Rattle.pf_window.proofs.Quotients.{ceil_is, ceil_only}
@@ -14,10 +15,6 @@ use Rattle.pf_static.specs.Periodic.{Periodic, is_task_of, weight_of}
 use Rattle.pf_static.specs.Choice.{received_of, RunsInWindow}
 use Rattle.pf_static.specs.Service.{IsWeighed, Serves, EachServedFits, ServedByPD2}
 use Rattle.pf_static.proofs.Timely.{each_runs_in_its_window}
-
-none_at_first : (xs : List ℕ) → sum_by (λ (t : ℕ). 0) xs ≡ 0
-none_at_first [] = refl
-none_at_first (x ∷ xs) = omega (arith, sum_by-cons (λ (t : ℕ). 0) x xs, none_at_first xs)
 
 -- a sum over tasks is no more where each term is no more
 sum_by-known : (f g : ℕ → ℕ) (xs : List ℕ) → ((t : ℕ) → list_any (λ u. t == u) xs ≡ true → f t ≤ g t) →
@@ -52,7 +49,7 @@ module _ (p : Periodic) (runs : ℕ → ℕ → Bool) (is : IsWeighed p) (serves
 
   quanta_within : (v : ℕ) → quanta_of v ≤ v * p.processors
   unfolding received_of quanta_of
-  quanta_within zero = omega (arith, none_at_first p.tasks)
+  quanta_within zero = omega (arith, sum_of_none p.tasks)
   quanta_within (suc v) =
       omega (
         arith,

@@ -103,11 +103,6 @@ pub stopped_on_the_way : (start mid new : Option (List ℕ)) (was more rest whol
     → TookFront mid new (was ++ more) → TookFront start new whole
 stopped_on_the_way start mid new was more rest whole h k = (k.0 ++ rest, on_the_way start mid new was k.0 more rest whole h k.1)
 
--- what holds anyway holds after an error
-pub anyway : {A E : Type 0} (r : Result A E) (P : Type 0) → P → OnErr r P
-anyway (Ok x) P h = tt
-anyway (Err e) P h = h
-
 -- Of a whole text some was taken, and a piece is written next.
 pub piece_written : (start mid new : Option (List ℕ)) (left piece rest whole : List ℕ) → left ≡ piece ++ rest → TookAllBut left start mid whole
     → Appends mid new piece → TookAllBut rest start new whole

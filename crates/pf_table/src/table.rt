@@ -48,13 +48,6 @@ impl<T: Copy> Table<T> {
         Ok(())
     }
 
-    /// Numbers below this have room for a value.
-    pub fn size(&self) -> usize
-        ensures { result ≡ size_of self.now }
-    {
-        self.values.len()
-    }
-
     /// The value of the number.
     pub fn get(&self, task: u32) -> T
         ensures { result ≡ value_of self.now task }

@@ -1,13 +1,12 @@
 -- What a chain of delays adds up to: the shift of each subtask, and the clock.
-use Rattle.std.proofs.Common.{◌≡◌, ℕ, zero, suc, ◌+◌, ◌-◌, ◌<◌, ◌≤◌, Bool, true, false, ◌&&◌, ◌||◌, ◌==◌, nat_lt, nat_le, not, cond, List, [], ◌∷◌, ◌++◌, length, map, get_or, count_by, sum_by, All, ⊎_elim, refl, sym, ap, ap₂, ◌∙◌, subst, add_assoc, arith}
+use Rattle.std.proofs.Common.{◌≡◌, ℕ, zero, suc, ◌+◌, ◌-◌, ◌<◌, ◌≤◌, Bool, true, false, ◌&&◌, ◌||◌, ◌==◌, nat_lt, nat_le, not, cond, List, [], ◌∷◌, length, map, get_or, count_by, sum_by, All, ⊎_elim, refl, sym, ap, ap₂, ◌∙◌, subst, add_assoc, arith}
 use Rattle.std.specs.List.{range_with_len}
 use Rattle.std.specs.List.Sorted.{IsNonDecreasingBy}
 use Rattle.std.proofs.lemmas.Bool.{cases_lt, cond-true, cond-false, lt-ltb, le-ltb, le-leb, lt-leb, or_from}
-use Rattle.std.proofs.lemmas.List.{map-id}
 use Rattle.std.proofs.lemmas.List.Folds.{fold-map}
-use Rattle.std.proofs.lemmas.List.FromFn.{map-range_with_len_more}
 use Rattle.std.proofs.lemmas.List.Elements.{All-head, All-tail}
 use Rattle.std.proofs.lemmas.List.Sums.{sum_by-cons, sum_by_push, sum_by-append}
+use Rattle.pf_facts.proofs.Ranges.{range_more}
 use Rattle.pf_weight.specs.Share.{Share, IsShare}
 use Rattle.pf_window.specs.Window.{release_of}
 use Rattle.pf_scenario.specs.declared.event.Event.{Event}
@@ -139,9 +138,6 @@ parts_more n from (s ∷ ss) rise =
     not_own a true c none = cc
     not_own true false c none = omega arith
     not_own false false c none = omega arith
-
-pub range_more : (a n : ℕ) → range_with_len a (n + 1) ≡ range_with_len a n ++ (a + n) ∷ []
-range_more a n = sym (map-id (range_with_len a (n + 1))) ∙ map-range_with_len_more (λ x. x) a n (a + n) refl ∙ ap (λ xs. xs ++ (a + n) ∷ []) (map-id (range_with_len a n))
 
 no_part : (a from : ℕ) (ss : List Stop) → StopsRise from ss → a ≤ from → 0 + sum_by (part_of (a + 0)) ss ≡ 0
 no_part a from [] rise low = refl

@@ -15,6 +15,7 @@ use Rattle.std.proofs.lemmas.List.Elements.{filter-append, Contains-append_cases
 use Rattle.std.proofs.lemmas.List.FromFn.{length-range_with_len, get_or-range_with_len}
 use Rattle.std.proofs.lemmas.List.Kept.{AllPairs-filter}
 use Rattle.std.proofs.lemmas.List.Sums.{sum_by-le-sum_by}
+use Rattle.pf_facts.proofs.Ranges.{range_more}
 use Rattle.pf_weight.specs.Share.{IsShare}
 use Rattle.pf_window.specs.Window.{deadline_of}
 use Rattle.pf_scenario.specs.Scenario.{Plan}
@@ -36,7 +37,7 @@ use Rattle.pf_tally.specs.Quanta.{slots_of}
 use Rattle.pf_tally.specs.Walk.{late_quantum, late_quanta}
 use Rattle.pf_tally.specs.declared.held.Held.{Held}
 use Rattle.pf_tally.specs.declared.miss.Miss.{Miss}
-use Rattle.pf_tally.proofs.Chains.{all_counted, range_more}
+use Rattle.pf_tally.proofs.Chains.{all_counted}
 use Rattle.pf_tally.proofs.Sorts.{NoTies, one_sorted}
 use Rattle.pf_tally.proofs.Subs.{ran_is}
 use Rattle.pf_tally.proofs.Walks.{late_push}

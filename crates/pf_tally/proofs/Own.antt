@@ -1,12 +1,13 @@
 -- Of a task only its own events count: for its shifts, its clock, its leave and its misses.
-use Rattle.std.proofs.Common.{◌≡◌, ℕ, ◌+◌, ◌-◌, ◌<◌, ◌≤◌, Bool, true, false, ◌&&◌, ◌==◌, nat_le, not, cond, Option, None, Some, List, [], ◌∷◌, ◌++◌, length, take, get_or, filter, find, count_by, sum_by, All, ⊎_elim, refl, sym, ap, ap₂, ◌∙◌, subst, arith}
+use Rattle.std.proofs.Common.{◌≡◌, ℕ, ◌+◌, ◌-◌, ◌<◌, ◌≤◌, true, false, ◌&&◌, ◌==◌, nat_le, not, cond, Option, None, Some, List, [], ◌∷◌, ◌++◌, length, take, get_or, filter, find, count_by, sum_by, ⊎_elim, refl, sym, ap, ap₂, ◌∙◌, subst, arith}
 use Rattle.std.specs.List.{range_with_len}
 use Rattle.std.specs.Option.{option_map_or}
 use Rattle.std.proofs.lemmas.Bool.{cases_Bool, cond-false}
 use Rattle.std.proofs.lemmas.List.{append-nil, take_all, take_more}
-use Rattle.std.proofs.lemmas.List.Elements.{All-filter, All-head, All-tail, filter-append}
+use Rattle.std.proofs.lemmas.List.Elements.{All-filter, filter-append}
 use Rattle.std.proofs.lemmas.Map.Views.{any-filter_same}
 use Rattle.std.proofs.lemmas.List.Sums.{sum_by-cons, length-filter, count_by-le-length}
+use Rattle.pf_facts.proofs.Filters.{filter_same}
 use Rattle.pf_window.specs.Window.{release_of}
 use Rattle.pf_scenario.specs.Event.{slot_of, task_of, is_leave_of}
 use Rattle.pf_scenario.specs.declared.event.Event.{Event}
@@ -108,16 +109,11 @@ leave_is_own task (Limit slot count) is = cc
 left_own : (xs : List Numbered) (task : ℕ) → has_left (events_of_task task xs) task ≡ has_left xs task
 left_own xs task = any-filter_same (λ x. is_leave_of task x.event) (λ x. is_own task x.event) true (λ x is. leave_is_own task x.event is) xs
 
-filter_agree_on : {X : Type 0} (p q : X → Bool) (xs : List X) → All (λ x. p x ≡ q x) xs → filter p xs ≡ filter q xs
-filter_agree_on p q [] agree = refl
-filter_agree_on p q (x ∷ xs) agree =
-    ap₂ (λ b ys. cond b (x ∷ ys) ys) (All-head (λ x. p x ≡ q x) x xs agree) (filter_agree_on p q xs (All-tail (λ x. p x ≡ q x) x xs agree))
-
 -- Use: the tasks that stay, by their own events.
 pub staying_own : (xs : List Numbered) (table : List (List Numbered)) (js : List Joined) → AreDiaries xs table →
     filter (λ j. not (has_left (noted_of table j.task) j.task)) js ≡ filter (λ j. not (has_left xs j.task)) js
 staying_own xs table js are =
-    filter_agree_on (λ j. not (has_left (noted_of table j.task) j.task)) (λ j. not (has_left xs j.task)) js
+    filter_same (λ j. not (has_left (noted_of table j.task) j.task)) (λ j. not (has_left xs j.task)) js
     (λ k d within. let task = (get_or js k d).task in ap (λ ys. not (has_left ys task)) (are.each task) ∙ ap not (left_own xs task))
 
 pub find_own : (xs : List Numbered) (task : ℕ) → find (λ x. is_leave_of task x.event) (events_of_task task xs) ≡ find (λ x. is_leave_of task x.event) xs

@@ -10,6 +10,7 @@ use Rattle.std.proofs.lemmas.Bool.{true≢false, cases_Bool, cond-true, cond-fal
 use Rattle.std.proofs.lemmas.List.Kept.{AllPairs-cons}
 use Rattle.std.proofs.lemmas.List.Sums.{sum_by-cons, get_or-le-sum_by}
 use Rattle.std.proofs.lemmas.List.Sorted.{IsPermutation-sym, IsPermutation-trans, Contains-permutation, sum_by-IsPermutation, ranks_by, sorted_far}
+use Rattle.pf_facts.proofs.Orders.{is_equal}
 use Rattle.pf_scenario.specs.Sorted.{sorted_by}
 use Rattle.pf_scenario.proofs.Lists.{AllPairs-from_pairs}
 use Rattle.pf_scenario.proofs.Sorting.{after, not_after, sorted_keeps, IsInOrder-sorted_by}
@@ -17,11 +18,6 @@ use Rattle.pf_run.proofs.Containing.{pairs_tail, one_in_order}
 
 eq_is : (r : Ordering) → r ≡ Equal → is_eq r ≡ true
 eq_is r e = ap is_eq e
-
-equal_from : (r : Ordering) → is_eq r ≡ true → r ≡ Equal
-equal_from Less e = cc
-equal_from Equal e = refl
-equal_from Greater e = cc
 
 not_eq : (r : Ordering) → r ≢ Equal → is_eq r ≡ false
 not_eq Less e = refl
@@ -52,7 +48,7 @@ module _ {X : Type 0} {R : X → X → Ordering} (o : IsTotalOrder R) where
   few_ties x [] differ = omega arith
   few_ties x (y ∷ ys) differ = ⊎_elim
       (λ same.
-      let e : R x y ≡ Equal = equal_from (R x y) same in
+      let e : R x y ≡ Equal = is_equal (R x y) same in
       let none : All (λ z. R x z ≢ Equal) ys = λ k d within is. differ 0 (suc k) d (omega arith) (omega arith)
       (let z = get_or ys k d in tied_back o z y (sym (alike_right o x y z e) ∙ tied_back o x z is)) in
       omega (arith, sum_by-cons (tie x) y ys, tie_one x y e, ties_none x ys none))

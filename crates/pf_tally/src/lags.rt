@@ -11,6 +11,7 @@ use crate::walked_run::walk_over;
 use pf_place::rows::Rows;
 use pf_run::denied::Denied;
 use pf_scenario::scenario::Scenario;
+use pf_weight::task::number_of;
 use std::alloc::{AllocError, Global};
 
 /// The lag of a task of this clock that received so many quanta.
@@ -31,7 +32,7 @@ pub(crate) fn lag_at(task: Admitted, clock: u64, received: u64) -> Lag
     let owed = cost * clock;
     let had = period * received;
     Lag {
-        task: task.task as u32,
+        task: number_of(task.task),
         cost,
         period,
         received,

@@ -12,6 +12,7 @@ use crate::walked_run::walk_over;
 use pf_place::rows::Rows;
 use pf_run::denied::Denied;
 use pf_scenario::scenario::Scenario;
+use pf_weight::task::number_of;
 use std::alloc::{AllocError, Global};
 
 /// Appends those of the windows that ran late which are due by the slot `last`.
@@ -41,7 +42,7 @@ pub(crate) fn note_unrun(
     ensures { OnOk result ((ran : List ℕ) (start : List Miss) → length ran ≡ received →
         misses.old.items ≡ start ++ late_misses task ran delays.now last received → misses.new.items ≡ start ++ late_misses task ran delays.now last now) }
 {
-    let number = task.task as u32;
+    let number = number_of(task.task);
     for i in received + 1..now + 1 {
         let due = due_of(task, delays, i);
         if due > last {

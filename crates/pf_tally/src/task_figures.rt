@@ -21,6 +21,7 @@ use crate::walked_run::{WalkedRun, walk_over};
 use pf_place::rows::Rows;
 use pf_run::denied::Denied;
 use pf_scenario::scenario::Scenario;
+use pf_weight::task::number_of;
 use std::alloc::{AllocError, Global};
 
 /// The figures of a task that has joined and ran on these processors, in the slots `ran`.
@@ -41,7 +42,7 @@ fn figures_of_task(
     let responses = responses(alloc, task, ran, delays)?;
     let last = last_slot(run.journal.diary(task), task, run.journal.now);
     Ok(Figures {
-        task: task.task as u32,
+        task: number_of(task.task),
         cost: task.weight.cost(),
         period: task.weight.period(),
         quanta: ran.len() as u64,

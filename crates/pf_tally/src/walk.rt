@@ -24,6 +24,7 @@ use pf_scenario::event::{Event, Numbered};
 use pf_scenario::settings::Settings;
 use pf_table::lists::Lists;
 use pf_table::table::Table;
+use pf_weight::task::number_of;
 use std::alloc::{AllocError, Global};
 
 /// A walk over the slots of a run and its events in force: how far the tasks have come, and what was found on the way.
@@ -46,7 +47,7 @@ impl Walk {
     {
         let mut progress = Table::new(alloc, None);
         for task in tasks {
-            let number = task.task as u32;
+            let number = number_of(task.task);
             progress.reserve(number)?;
             progress.set(
                 number,
@@ -69,7 +70,7 @@ impl Walk {
         requires { task.task ≤ LARGEST_TASK }
         ensures { result ≡ option_map_or (λ p. p.received) (value_of self.entry.now.progress task.task) 0 }
     {
-        match self.progress.get(task.task as u32) {
+        match self.progress.get(number_of(task.task)) {
             Some(progress) => u64::from(progress.received),
             None => 0,
         }
@@ -153,7 +154,7 @@ impl Walk {
         requires within { IsWithin (2 ^ 40) (2 ^ 40) (value_of self.old.progress task) }
         ensures { OnOk result (IsHeldBack self.old self.new task by) }
     {
-        let number = task as u32;
+        let number = number_of(task);
         if let Some(mut progress) = self.progress.get(number) {
             let held = Held {
                 sub: u64::from(progress.received) + 1,

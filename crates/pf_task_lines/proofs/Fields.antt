@@ -1,18 +1,16 @@
 -- The fields of a line, which commas join, byte by byte.
-use Rattle.std.proofs.Common.{◌≡◌, ◌∙◌, ℕ, ◌+◌, ◌-◌, ◌<◌, ◌≤◌, List, [], ◌∷◌, ◌++◌, length, take, drop, get_or, ap, sym, arith}
+use Rattle.std.proofs.Common.{◌≡◌, ◌∙◌, ℕ, ◌+◌, ◌-◌, ◌<◌, ◌≤◌, List, [], ◌∷◌, ◌++◌, length, drop, get_or, ap, sym, arith}
 use Rattle.std.specs.Prelude.{if◌then◌else◌, slice_index_or}
 use Rattle.std.specs.List.{slice_range}
 use Rattle.std.proofs.lemmas.Bool.{eq-eqb, ne_eqb}
-use Rattle.std.proofs.lemmas.List.{at_drop_more, at_drop_all, get_or-drop, length-drop, take_more, take_all}
+use Rattle.std.proofs.lemmas.List.{at_drop_more, at_drop_all, get_or-drop, length-drop, take_all}
+use Rattle.pf_facts.proofs.Lists.{nothing_between, longer}
 use Rattle.pf_task_lines.specs.Lines.{fields_from}
 
 -- the field in the column is the one so many places behind the byte `start`, of whose field the bytes before `end` were read
 pub record IsReadTo (line : List ℕ) (column left start end : ℕ) : Type 0 where
   pub begun : start ≤ end
   pub same : slice_index_or (fields_from (slice_range line start end) (drop end line)) left [] ≡ slice_index_or (fields_from [] line) column []
-
-nothing_between : (line : List ℕ) (n : ℕ) → slice_range line n n ≡ []
-nothing_between line n = let none : n - n ≡ 0 = omega arith in ap (λ k. take k (drop n line)) none
 
 at_comma : (field line : List ℕ) (end : ℕ) → end < length line → get_or line end 0 ≡ 44
     → fields_from field (drop end line) ≡ field ∷ fields_from [] (drop (end + 1) line)
@@ -33,16 +31,6 @@ at_byte field line end lt other =
 at_end : (field line : List ℕ) (end : ℕ) → length line ≤ end → fields_from field (drop end line) ≡ field ∷ []
 unfolding fields_from
 at_end field line end le = at_drop_all (fields_from field) line end le
-
-longer : (line : List ℕ) (start end : ℕ) → start ≤ end → end < length line → slice_range line start end ++ get_or line end 0 ∷ [] ≡ slice_range line start (end + 1)
-longer line start end begun lt =
-    let rest = drop start line in
-    let n = end - start in
-    let within : n < length rest = omega (arith, length-drop start line, begun, lt) in
-    let there : start + n ≡ end = omega (arith, begun) in
-    let grown : n + 1 ≡ end + 1 - start = omega (arith, begun) in
-    ap (λ b. take n rest ++ b ∷ []) (ap (λ k. get_or line k 0) (sym there) ∙ sym (get_or-drop start line n 0))
-    ∙ sym (take_more rest n 0 within) ∙ ap (λ k. take k rest) grown
 
 pub field_met : (line : List ℕ) (column left start end : ℕ) → IsReadTo line column left start end → end < length line → get_or line end 0 ≡ 44 → left ≡ 0
     → slice_range line start end ≡ slice_index_or (fields_from [] line) column []

@@ -1,5 +1,5 @@
 -- The lines that are shown, byte by byte.
-use Rattle.std.proofs.Common.{◌≡◌, ◌∙◌, ℕ, ◌+◌, ◌<◌, List, [], ◌∷◌, ◌++◌, length, drop, get_or, ap, ap₂, sym, refl, Bool, true, false, arith}
+use Rattle.std.proofs.Common.{◌≡◌, ◌∙◌, ℕ, ◌+◌, ◌<◌, List, [], ◌∷◌, ◌++◌, length, drop, get_or, ap, ap₂, sym, refl, Bool, true, false}
 use Rattle.std.specs.Prelude.{if◌then◌else◌}
 use Rattle.std.specs.List.{flat_map}
 use Rattle.std.proofs.lemmas.Bool.{eq-eqb, ne_eqb}
@@ -11,10 +11,6 @@ use Rattle.pf_task_lines.specs.Lines.{is_shown, lines_from, shown_from, shown_li
 either_way : (b : Bool) (xs : List ℕ) → (if b then xs else xs) ≡ xs
 either_way true xs = refl
 either_way false xs = refl
-
-pub none_of : (xs : List ℕ) → length xs ≡ 0 → xs ≡ []
-none_of [] e = refl
-none_of (x ∷ xs) e = absurd (omega (arith, e))
 
 module _ (tasks : List TaskRange) (column : ℕ) where
   pub line_ends : (line rest : List ℕ) (byte : ℕ) → byte ≡ 10

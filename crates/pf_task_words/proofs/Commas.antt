@@ -1,10 +1,11 @@
 -- The items of a list, which commas join, byte by byte.
-use Rattle.std.proofs.Common.{◌≡◌, ◌∙◌, ℕ, ◌+◌, ◌-◌, ◌<◌, ◌≤◌, List, [], ◌∷◌, ◌++◌, length, take, drop, get_or, Option, None, Some, ap, sym, arith}
+use Rattle.std.proofs.Common.{◌≡◌, ◌∙◌, ℕ, ◌+◌, ◌-◌, ◌<◌, ◌≤◌, List, [], ◌∷◌, ◌++◌, length, drop, get_or, Option, None, Some, ap, sym, arith}
 use Rattle.std.specs.Prelude.{if◌then◌else◌}
 use Rattle.std.specs.List.{slice_range}
 use Rattle.std.specs.Option.{option_and_then}
 use Rattle.std.proofs.lemmas.Bool.{eq-eqb, ne_eqb}
-use Rattle.std.proofs.lemmas.List.{at_drop_more, at_drop_all, get_or-drop, length-drop, take_more, take_all}
+use Rattle.std.proofs.lemmas.List.{at_drop_more, at_drop_all, length-drop, take_all}
+use Rattle.pf_facts.proofs.Lists.{nothing_between, longer}
 use Rattle.pf_task_words.specs.declared.task_word.TaskWord.{TaskWord}
 use Rattle.pf_task_words.specs.Reading.{with_item, with_items, word_in, words_in}
 
@@ -12,9 +13,6 @@ use Rattle.pf_task_words.specs.Reading.{with_item, with_items, word_in, words_in
 pub record IsReadTo (text : List ℕ) (words : List TaskWord) (start end : ℕ) : Type 0 where
   pub begun : start ≤ end
   pub left : with_items words (slice_range text start end) (drop end text) ≡ words_in text
-
-nothing_between : (text : List ℕ) (n : ℕ) → slice_range text n n ≡ []
-nothing_between text n = let none : n - n ≡ 0 = omega arith in ap (λ k. take k (drop n text)) none
 
 at_comma : (words : List TaskWord) (item text : List ℕ) (end : ℕ) → end < length text → get_or text end 0 ≡ 44
     → with_items words item (drop end text) ≡ option_and_then (λ more. with_items more [] (drop (end + 1) text)) (with_item words (word_in item))
@@ -37,16 +35,6 @@ at_byte words item text end lt other =
 at_end : (words : List TaskWord) (item text : List ℕ) (end : ℕ) → length text ≤ end → with_items words item (drop end text) ≡ with_item words (word_in item)
 unfolding with_items
 at_end words item text end le = at_drop_all (with_items words item) text end le
-
-longer : (text : List ℕ) (start end : ℕ) → start ≤ end → end < length text → slice_range text start end ++ get_or text end 0 ∷ [] ≡ slice_range text start (end + 1)
-longer text start end begun lt =
-    let rest = drop start text in
-    let n = end - start in
-    let within : n < length rest = omega (arith, length-drop start text, begun, lt) in
-    let there : start + n ≡ end = omega (arith, begun) in
-    let grown : n + 1 ≡ end + 1 - start = omega (arith, begun) in
-    ap (λ b. take n rest ++ b ∷ []) (ap (λ k. get_or text k 0) (sym there) ∙ sym (get_or-drop start text n 0))
-    ∙ sym (take_more rest n 0 within) ∙ ap (λ k. take k rest) grown
 
 pub comma_read : (text : List ℕ) (words more : List TaskWord) (start end : ℕ) → IsReadTo text words start end → end < length text
     → get_or text end 0 ≡ 44 → Some more ≡ with_item words (word_in (slice_range text start end)) → IsReadTo text more (end + 1) (end + 1)

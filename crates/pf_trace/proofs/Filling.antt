@@ -1,7 +1,5 @@
 -- The text of a form, hole by hole.
-use Rattle.std.proofs.Common.{◌≡◌, ◌∙◌, ℕ, ◌+◌, ◌-◌, ◌<◌, ◌≤◌, Bool, true, false, cond, List, [], ◌∷◌, ◌++◌, length, take, drop, get_or, Result, Ok, Err, refl, sym, ap, ap₂, append_assoc, arith}
-use Rattle.std.specs.Prelude.{OnOk}
-use Rattle.std.specs.Result.{is_ok}
+use Rattle.std.proofs.Common.{◌≡◌, ◌∙◌, ℕ, ◌+◌, ◌-◌, ◌<◌, ◌≤◌, Bool, true, false, cond, List, [], ◌∷◌, ◌++◌, length, take, drop, get_or, refl, sym, ap, ap₂, append_assoc, arith}
 use Rattle.std.proofs.lemmas.List.{append-nil, at_drop_all, at_drop_more, drop-drop, get_or-drop, length-drop, take_all, take_more}
 use Rattle.pf_trace.specs.Forms.{filled, first_number, hole_text, is_hole}
 use Rattle.pf_trace.specs.Titles.{Called}
@@ -82,8 +80,3 @@ module _ (title : Called) (form numbers : List ℕ) where
           (take_all (at - start) (drop start form) (omega (arith, over, length-drop start form)))
           (at_drop_all (λ xs. filled title xs (drop used numbers)) form at over ∙ none_left used)
           ∙ append-nil (drop start form)
-
--- Use: what stood there before, and what was appended last.
-pub ended : {A E : Type 0} (r : Result A E) (new old text whole : List ℕ) → new ≡ cond (is_ok r) (old ++ text) old → old ++ text ≡ whole → OnOk r (new ≡ whole)
-ended (Ok x) new old text whole last before = last ∙ before
-ended (Err e) new old text whole last before = tt

@@ -1,17 +1,8 @@
 -- Texts of numbers and of events, one after another.
-use Rattle.std.proofs.Common.{◌≡◌, ◌∙◌, ℕ, ◌+◌, ◌<◌, Bool, true, false, cond, take, filter, get_or, List, [], ◌∷◌, ◌++◌, length, sym, ap, arith}
-use Rattle.std.specs.List.{flat_map, range_with_len}
+use Rattle.std.proofs.Common.{◌≡◌, ◌∙◌, ℕ, ◌+◌, ◌<◌, Bool, true, false, cond, take, filter, get_or, List, [], ◌∷◌, ◌++◌, length, sym, ap}
+use Rattle.std.specs.List.{flat_map}
 use Rattle.std.proofs.lemmas.List.{append-nil, flat_map_more}
 use Rattle.std.proofs.lemmas.List.Elements.{filter_more}
-use Rattle.pf_tally.proofs.Chains.{range_more}
-
--- Use: one number further.
-pub number_next : (f : ℕ → List ℕ) (p : ℕ) (old before after : List ℕ) → after ≡ before ++ f p → before ≡ old ++ flat_map f (range_with_len 0 p) →
-    after ≡ old ++ flat_map f (range_with_len 0 (p + 1))
-number_next f p old before after push so_far =
-    push ∙ ap (λ t. t ++ f p) so_far ∙ flat_map_more f old (range_with_len 0 p) p
-    ∙ ap (λ q. old ++ flat_map f (range_with_len 0 p ++ q ∷ [])) (let z : p ≡ 0 + p = omega arith in z)
-    ∙ ap (λ ps. old ++ flat_map f ps) (sym (range_more 0 p))
 
 module _ {X : Type 0} (f : X → List ℕ) (test : X → Bool) (xs : List X) (k : ℕ) (d : X) (within : k < length xs) (old before after : List ℕ)
     (so_far : before ≡ old ++ flat_map f (filter test (take k xs))) where

@@ -1,10 +1,11 @@
 -- The subtasks that may run in a slot, by the events and the quanta that a ledger has.
-use Rattle.std.proofs.Common.{◌≡◌, ◌∙◌, ℕ, suc, ◌+◌, ◌<◌, ◌≤◌, Bool, true, false, not, ◌||◌, cond, take, filter, filter_map, find, map, get_or, sum_by, Option, None, Some, List, [], ◌∷◌, ◌++◌, length, All, Contains, ⊎_elim, refl, sym, ap, ap₂, subst, arith}
+use Rattle.std.proofs.Common.{◌≡◌, ◌∙◌, ℕ, suc, ◌+◌, ◌<◌, ◌≤◌, Bool, true, false, not, ◌||◌, cond, take, filter, filter_map, find, map, get_or, sum_by, Option, None, Some, List, [], ◌∷◌, ◌++◌, length, All, Contains, refl, sym, ap, ap₂, subst, arith}
 use Rattle.std.specs.List.{cons_option, list_any}
 use Rattle.std.specs.Option.{is_some, option_and_then}
 use Rattle.std.proofs.lemmas.Bool.{le-leb, lt-leb}
 use Rattle.std.proofs.lemmas.List.{append-nil, take_more}
 use Rattle.std.proofs.lemmas.List.Elements.{All-head, All-nil, All-tail, filter-append, filter_map-append}
+use Rattle.pf_facts.proofs.Filters.{to_filter_map, filters_swap, filter_all}
 use Rattle.pf_scenario.specs.Event.{slot_of, is_leave_of}
 use Rattle.pf_scenario.specs.Scenario.{Plan}
 use Rattle.pf_scenario.specs.declared.event.Numbered.{Numbered}
@@ -13,7 +14,6 @@ use Rattle.pf_run.specs.Record.{Slot, denials_of}
 use Rattle.pf_run.specs.Inside.{Joined, has_left, inside, join_of, shift_of}
 use Rattle.pf_run.specs.Run.{events_in_force}
 use Rattle.pf_run.specs.Computed.{run_of}
-use Rattle.pf_run.proofs.Containing.{contains_head, contains_tail, contains_cases, contains_none}
 use Rattle.pf_table.specs.Lists.{noted_of}
 use Rattle.pf_tally.specs.Clock.{next_at}
 use Rattle.pf_tally.specs.Held.{CanTally, next_in, held_from}
@@ -35,44 +35,11 @@ use Rattle.pf_why.specs.Ranking.{candidate_by, candidates_in, is_until, may_run,
 use Rattle.pf_why.specs.Upcoming.{halt_from, upcoming_by, upcoming_of}
 use Rattle.pf_why.proofs.Halts.{halts_are}
 
--- lists
-filter_all : {X : Type 0} (p : X → Bool) (xs : List X) → All (λ x. p x ≡ true) xs → filter p xs ≡ xs
-filter_all p [] all = refl
-filter_all p (x ∷ xs) all =
-    ap (λ b. cond b (x ∷ filter p xs) (filter p xs)) (All-head (λ x. p x ≡ true) x xs all)
-    ∙ ap (λ ys. x ∷ ys) (filter_all p xs (All-tail (λ x. p x ≡ true) x xs all))
-
 filter_none : {X : Type 0} (p : X → Bool) (xs : List X) → All (λ x. p x ≡ false) xs → filter p xs ≡ []
 filter_none p [] none = refl
 filter_none p (x ∷ xs) none =
     ap (λ b. cond b (x ∷ filter p xs) (filter p xs)) (All-head (λ x. p x ≡ false) x xs none)
     ∙ filter_none p xs (All-tail (λ x. p x ≡ false) x xs none)
-
-filters_commute : {X : Type 0} (p q : X → Bool) (xs : List X) → filter p (filter q xs) ≡ filter q (filter p xs)
-filters_commute p q [] = refl
-filters_commute {X} p q (x ∷ xs) = by (filters_commute p q xs) (p x) (q x) refl refl where
-  by : filter p (filter q xs) ≡ filter q (filter p xs) → (a b : Bool) → p x ≡ a → q x ≡ b →
-      filter p (cond (q x) (x ∷ filter q xs) (filter q xs)) ≡ filter q (cond (p x) (x ∷ filter p xs) (filter p xs))
-  by rest true true e f =
-      ap (λ z. filter p (cond z (x ∷ filter q xs) (filter q xs))) f
-      ∙ ap (λ z. cond z (x ∷ filter p (filter q xs)) (filter p (filter q xs))) e
-      ∙ ap (λ ys. x ∷ ys) rest
-      ∙ sym (ap (λ z. filter q (cond z (x ∷ filter p xs) (filter p xs))) e
-      ∙ ap (λ z. cond z (x ∷ filter q (filter p xs)) (filter q (filter p xs))) f)
-  by rest true false e f =
-      ap (λ z. filter p (cond z (x ∷ filter q xs) (filter q xs))) f
-      ∙ rest
-      ∙ sym (ap (λ z. filter q (cond z (x ∷ filter p xs) (filter p xs))) e
-      ∙ ap (λ z. cond z (x ∷ filter q (filter p xs)) (filter q (filter p xs))) f)
-  by rest false true e f =
-      ap (λ z. filter p (cond z (x ∷ filter q xs) (filter q xs))) f
-      ∙ ap (λ z. cond z (x ∷ filter p (filter q xs)) (filter p (filter q xs))) e
-      ∙ rest
-      ∙ sym (ap (λ z. filter q (cond z (x ∷ filter p xs) (filter p xs))) e)
-  by rest false false e f =
-      ap (λ z. filter p (cond z (x ∷ filter q xs) (filter q xs))) f
-      ∙ rest
-      ∙ sym (ap (λ z. filter q (cond z (x ∷ filter p xs) (filter p xs))) e)
 
 pub found_any : {X : Type 0} (p : X → Bool) (xs : List X) → is_some (find p xs) ≡ list_any p xs
 found_any p [] = refl
@@ -81,18 +48,6 @@ found_any p (x ∷ xs) = by (found_any p xs) (p x) refl where
   by rest true e = ap (λ z. is_some (cond z (Some x) (find p xs))) e ∙ sym (ap (λ z. z || list_any p xs) e)
   by rest false e =
       ap (λ z. is_some (cond z (Some x) (find p xs))) e ∙ rest ∙ sym (ap (λ z. z || list_any p xs) e)
-
-in_filter_map : {X Y : Type 0} (h : X → Option Y) (xs : List X) (x : X) (y : Y) → Contains xs x → h x ≡ Some y →
-    Contains (filter_map h xs) y
-in_filter_map h [] x y at gives = absurd (contains_none x at)
-in_filter_map {X} {Y} h (z ∷ zs) x y at gives = ⊎_elim
-    (λ (e : z ≡ x). subst (λ o. Contains (cons_option o (filter_map h zs)) y) (sym (ap h e ∙ gives)) (contains_head y (filter_map h zs)))
-    (λ later. grown (h z) (in_filter_map h zs x y later gives))
-    (contains_cases z zs x at)
-  where
-    grown : (o : Option Y) → Contains (filter_map h zs) y → Contains (cons_option o (filter_map h zs)) y
-    grown None at = at
-    grown (Some w) at = contains_tail w (filter_map h zs) y at
 
 -- one element more
 pub found_more : {X Y : Type 0} (h : X → Option Y) (xs : List X) (k : ℕ) (x : X) (o : Option Y) → k < length xs → get_or xs k x ≡ x → h x ≡ o →
@@ -188,7 +143,7 @@ module _ (s : Plan) (n : ℕ) (ledger : Ledger) (known : IsLedger s n ledger) (t
     own_is : own ≡ events_of_task j.task xs
     own_is =
         of_own ∙ ap (filter (is_until t)) (of_diary ∙ known.diaries.each j.task)
-        ∙ filters_commute (is_until t) (λ x. is_own j.task x.event) ledger.events.items
+        ∙ filters_swap (is_until t) (λ x. is_own j.task x.event) ledger.events.items
         ∙ ap (events_of_task j.task) (sym of_xs)
 
     wide : (ys : List Numbered) → CanTally j (slots_of r j.task) ys n → CanTally j ran ys WIDE_HORIZON
@@ -209,7 +164,7 @@ module _ (s : Plan) (n : ℕ) (ledger : Ledger) (known : IsLedger s n ledger) (t
     can_now : CanTally j (slots_of r j.task) xs n
     can_now =
         let here : Contains (filter_map (join_of s.settings.base) xs) j =
-        in_filter_map (join_of s.settings.base) xs x j at (ap (λ z. join_of z.base x) (sym known.settings) ∙ gives) in
+        to_filter_map (join_of s.settings.base) xs x j at (ap (λ z. join_of z.base x) (sym known.settings) ∙ gives) in
         can_tally s.settings n xs j r (slots_of r j.task) log_now here known.slots refl
 
     pub can_all_now : CanTally j ran xs WIDE_HORIZON

@@ -8,6 +8,7 @@ use Rattle.std.proofs.lemmas.Bool.{le-ltb}
 use Rattle.std.proofs.lemmas.List.{take_all}
 use Rattle.std.proofs.lemmas.List.Concat.{flat_map-cons}
 use Rattle.std.proofs.lemmas.Option.{slice_get_past}
+use Rattle.pf_facts.proofs.Ranges.{flat_map_agree}
 use Rattle.pf_weight.specs.Share.{IsShare, is_heavy}
 use Rattle.pf_window.specs.Window.{bit_of, deadline_of, release_of}
 use Rattle.pf_window.specs.Group.{group_of}
@@ -60,13 +61,6 @@ enough f a (suc m) (suc n) le none =
     flat_map-cons f a (range_with_len (a + 1) m)
     ∙ ap (λ ys. f a ++ ys) (enough f (a + 1) m n (omega (arith, le)) (λ i above below. none i (omega (arith, above)) (omega (arith, below))))
     ∙ sym (flat_map-cons f a (range_with_len (a + 1) n))
-
-agree : {X : Type 0} (f g : ℕ → List X) (a k : ℕ) → ((i : ℕ) → a ≤ i → f i ≡ g i) → flat_map f (range_with_len a k) ≡ flat_map g (range_with_len a k)
-agree f g a zero same = refl
-agree f g a (suc k) same =
-    flat_map-cons f a (range_with_len (a + 1) k)
-    ∙ ap₂ (λ xs ys. xs ++ ys) (same a (omega arith)) (agree f g (a + 1) k (λ i above. same i (omega (arith, above))))
-    ∙ sym (flat_map-cons g a (range_with_len (a + 1) k))
 
 -- one subtask further
 module _ (told : Told) (at : ℕ) (within : at < sub_count told) where
@@ -159,7 +153,7 @@ module _ (s : Plan) (n : ℕ) (scenario : IsScenario s) (long : length (run_of s
       (range_with_len 1 (min (max (end_of xs j m * j.weight.cost / j.weight.period + 1) (length ran)) m - 0))) of_slots
       ∙ ap (λ m. flat_map line_by (range_with_len 1 m)) (let z : count_of - 0 ≡ count_of = omega arith in z)
       ∙ enough line_by 1 count_of n (min-le_right (max (end_of xs j n * j.weight.cost / j.weight.period + 1) (length ran)) n) none_behind
-      ∙ agree line_by (λ i. window_records slots j (end_of xs j n) (leave_slot xs j) (window_of (run_of s n) on xs j i)) 1 n
+      ∙ flat_map_agree line_by (λ i. window_records slots j (end_of xs j n) (leave_slot xs j) (window_of (run_of s n) on xs j i)) 1 n
       (λ i some. ap (window_records slots j (end_of xs j n) (leave_slot xs j)) (window_is s n scenario long xs j ran on held can of_ran refl i some))
       ∙ ap (λ m. flat_map (λ i. window_records slots j (end_of xs j m) (leave_slot xs j) (window_of (run_of s n) on xs j i)) (range_with_len 1 m)) (sym long)
 

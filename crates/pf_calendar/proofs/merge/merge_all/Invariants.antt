@@ -11,13 +11,13 @@ use Rattle.pf_calendar.proofs.merge.merge_all.Given as goal
 
 abbrev pub invariant-loop-entry : goal.invariant-loop-entry
 invariant-loop-entry l = record {
-  merges : MergesAll l.initial.heaps l.heaps l.into (names_of (take l.entry-index l.entries));
+  merges : MergesAll l.initial.heaps l.heaps (names_of (take l.entry-index l.entries));
   aside : l.aside.items ≡ l.initial.aside.items ++ names_of (take l.entry-index l.entries);
   long : vec_len l.aside ≡ vec_len l.initial.aside + l.entry-index;
   capacity : vec_capacity l.aside ≡ vec_capacity l.initial.aside;
-  shrinks : set.len (list_of l.heaps l.into) + sum_by (λ e. set.len (list_of l.initial.heaps e.heap)) (drop l.entry-index l.entries)
-      ≤ set.len (list_of l.initial.heaps l.into) + sum_by (λ e. set.len (list_of l.initial.heaps e.heap)) l.entries;
+  shrinks : set.len l.heaps.main + sum_by (λ e. set.len (list_of l.initial.heaps e.heap)) (drop l.entry-index l.entries)
+      ≤ set.len l.initial.heaps.main + sum_by (λ e. set.len (list_of l.initial.heaps e.heap)) l.entries;
   counted : Compares
-      (l.entry-index * digits (set.len (list_of l.initial.heaps l.into) + sum_by (λ e. set.len (list_of l.initial.heaps e.heap)) l.entries))
+      (l.entry-index * digits (set.len l.initial.heaps.main + sum_by (λ e. set.len (list_of l.initial.heaps e.heap)) l.entries))
       l.initial.meter l.meter;
 }

@@ -1,5 +1,9 @@
+use Rattle.std.proofs.Common.{sym, ap, subst, ◌∙◌}
 use Rattle.std.proofs.lemmas.Result.{err_from_is_err_and}
-use Rattle.pf_carry.proofs.Answered.{line_stops, line_taken, lines_taken}
+use Rattle.pf_desk.specs.Desk.{AnswersAll}
+use Rattle.pf_script.specs.Told.{LinesTold}
+use Rattle.pf_carrying.specs.Carrying.{script_caller}
+use Rattle.pf_carry.proofs.Answered.{line_stops, line_taken, none_left}
 use Rattle.pf_carry.proofs.carry.carry_lines.Goals as goal
 
 pub returns-in_err-told-clause-stopped : goal.returns-in_err-told-clause-stopped
@@ -7,17 +11,29 @@ returns-in_err-told-clause-stopped c =
     let p = err_from_is_err_and c.from_residual.result c.from_residual.ensures.1 in
     rw (p.1, p.2) (line_stops c.args.lines.fault c.lines.lines _ _ _ c.lines.invariant.fault c.in_err-told.ensures)
 
-pub returns-in_err-take_line-clause-stopped : goal.returns-in_err-take_line-clause-stopped
-returns-in_err-take_line-clause-stopped c =
-    let p = err_from_is_err_and c.from_residual-in_err-take_line.result c.from_residual-in_err-take_line.ensures.1 in
+pub returns-in_err-take-clause-stopped : goal.returns-in_err-take-clause-stopped
+returns-in_err-take-clause-stopped c =
+    let p = err_from_is_err_and c.from_residual-in_err-take.result c.from_residual-in_err-take.ensures.1 in
     rw (p.1, p.2) tt
 
-pub returns-in_err-apply_all-clause-stopped : goal.returns-in_err-apply_all-clause-stopped
-returns-in_err-apply_all-clause-stopped c =
-    let p = err_from_is_err_and c.from_residual-in_err-apply_all.result c.from_residual-in_err-apply_all.ensures.1 in
+pub returns-in_err-answer_waiting-clause-stopped : goal.returns-in_err-answer_waiting-clause-stopped
+returns-in_err-answer_waiting-clause-stopped c =
+    let p = err_from_is_err_and c.from_residual-in_err-answer_waiting.result c.from_residual-in_err-answer_waiting.ensures.1 in
     rw (p.1, p.2) tt
+
+pub lines-preserved : goal.lines-preserved
+lines-preserved c =
+    let read = rw c.in-Some.is at c.in_ok-told.ensures in
+    record {
+      answers = λ after rest.
+          c.lines.invariant.answers after
+          (line_taken c.lines.desk c.take.new.self c.lines.lines c.next.new.self c.in-Some.told after read c.in_ok-take.ensures rest);
+      fault = sym (ap (λ (told : LinesTold). told.fault) read) ∙ c.lines.invariant.fault;
+    }
 
 pub returns-clause-answered : goal.returns-clause-answered
 returns-clause-answered c =
-    lines_taken _ c.deref.result.now c.lines.edits.items c.args.desk c.lines.desk c.apply_all.new.self c.lines.lines _
-    (rw c.in_default.is at c.in_ok-told.ensures) c.deref.ensures.value c.in_ok-apply_all.ensures.ok c.lines.invariant.asked c.lines.invariant.settings
+    let desk = c.into_desk.result in
+    c.lines.invariant.answers desk
+    (none_left c.lines.desk c.lines.lines desk (rw c.in_default.is at c.in_ok-told.ensures)
+    (subst (AnswersAll script_caller c.lines.desk.waiting c.lines.desk.desk) (sym c.into_desk.ensures) c.in_ok-answer_waiting.ensures.answered))

@@ -1,13 +1,14 @@
 use Rattle.std.proofs.Common.{◌≡◌, ◌++◌, length}
+use Rattle.pf_desk.specs.Desk.{Shown, AnswersAll}
 use Rattle.pf_script.specs.Asked.{commands_in}
-use Rattle.pf_carry.specs.Carried.{asked_in}
+use Rattle.pf_carrying.specs.Carrying.{script_caller}
 use Rattle.pf_carry.proofs.carry.carry_lines.Given as goal
 
--- what was asked, what waits and what is left are all commands
+-- a desk that has answered what waits and what is left has answered all commands
 abbrev pub invariant-lines : goal.invariant-lines
 invariant-lines l = record {
-  asked : asked_in l.desk.history ++ l.edits.items ++ commands_in l.lines.lines ≡ asked_in l.fn.desk.history ++ commands_in l.fn.lines.lines;
-  settings : l.desk.state.plan.settings ≡ l.fn.desk.state.plan.settings;
+  answers : (after : Shown) → AnswersAll script_caller (l.desk.waiting ++ commands_in l.lines.lines) l.desk.desk after
+      → AnswersAll script_caller (l.fn.desk.waiting ++ commands_in l.fn.lines.lines) l.fn.desk.desk after;
   fault : l.lines.fault ≡ l.fn.lines.fault;
 }
 

@@ -1,7 +1,8 @@
 use Rattle.std.proofs.Common.{◌≡◌, ◌∙◌, ap, arith, length, refl, sym, zero-add}
 use Rattle.pf_script.specs.Told.{faults, readings, records_in}
 use Rattle.pf_script.proofs.Counting.{few_faults, few_records, records_counted}
-use Rattle.pf_stream.proofs.Sending.{anyway, none_written}
+use Rattle.pf_facts.proofs.Options.{anyway}
+use Rattle.pf_stream.proofs.Sending.{none_written}
 use Rattle.pf_check.proofs.Steps.{begun, ended, ended_front, faults_on, is_next, none_left, noted_on, noted_stopped}
 use Rattle.pf_check.proofs.checker.write_check.Goals as goal
 

@@ -1,11 +1,11 @@
-use Rattle.std.proofs.Common.{◌≡◌, ◌∙◌, ◌+◌, ap, ap₂, sym, arith, length, map, None}
+use Rattle.std.proofs.Common.{◌≡◌, ◌∙◌, ap, ap₂, sym, arith, length, map}
 use Rattle.pf_script.proofs.Counting.{few_records, records_counted}
 use Rattle.pf_script.specs.Script.{script_records}
-use Rattle.pf_script.specs.Told.{faults, readings, records_in}
+use Rattle.pf_script.specs.Told.{faults, records_in}
 use Rattle.pf_check_run.specs.Faults.{shown}
-use Rattle.pf_check_run.specs.Lines.{Lines}
+use Rattle.pf_check_run.specs.Lines.{Lines, no_lines}
 use Rattle.pf_check_run.proofs.Finding.{found_all}
-use Rattle.pf_check_run.proofs.Plainly.{end_with, lines_with, split_readings}
+use Rattle.pf_check_run.proofs.Plainly.{lines_with, split_readings}
 use Rattle.pf_check_run.proofs.faults.plain_faults.Goals as goal
 
 pub records-init : goal.records-init
@@ -14,7 +14,6 @@ records-init c =
     let all = c.new-reader.ensures in
     record {
       lines = ap₂ (lines_with c.args.file.now) fresh.lines all;
-      end = ap₂ end_with fresh.end all;
       count = omega (arith, fresh.records, ap records_in all, records_counted c.args.script.now);
       lacking = omega (arith, ap (λ (l : Lines). l.lacking) fresh.lines);
       others = omega (arith, ap (λ (l : Lines). l.others) fresh.lines);
@@ -34,6 +33,14 @@ take-requires-clause-others c =
 pub take-requires-clause-records : goal.take-requires-clause-records
 take-requires-clause-records c = omega (arith, c.records.invariant.count, few_records c.args.script.now, c.requires)
 
+pub end-requires-clause-lacking : goal.end-requires-clause-lacking
+end-requires-clause-lacking c =
+    omega (arith, c.records.invariant.lacking, c.records.invariant.count, few_records c.args.script.now, c.requires)
+
+pub end-requires-clause-others : goal.end-requires-clause-others
+end-requires-clause-others c =
+    omega (arith, c.records.invariant.others, c.records.invariant.count, few_records c.args.script.now, c.requires)
+
 pub returns-in-Ok-None : goal.returns-in-Ok-None
 returns-in-Ok-None c =
     let inv = c.records.invariant in
@@ -42,7 +49,6 @@ returns-in-Ok-None c =
     let script = c.args.script.now in
     let split = split_readings file script in
     let count : c.records.found.records ≡ length (script_records script) = omega (arith, ap records_in none, inv.count) in
-    found_all file (length (script_records script)) (map (shown file) (faults script)) split.bad split.last c.records.found split.parts
-    (sym (ap (lines_with file c.records.found.lines) none) ∙ inv.lines ∙ split.lines _)
-    (sym (ap (end_with c.records.found.end) none) ∙ inv.end ∙ split.end) count inv.lacking inv.others
+    found_all file (length (script_records script)) (map (shown file) (faults script)) c.records.found split.are
+    (sym (ap (lines_with file c.records.found.lines) none) ∙ inv.lines ∙ split.lines no_lines) count inv.others
     (omega (arith, count, few_records script, c.requires))

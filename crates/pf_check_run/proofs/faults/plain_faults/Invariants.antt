@@ -1,17 +1,16 @@
-use Rattle.std.proofs.Common.{◌≡◌, ◌≤◌, ◌+◌, length, None}
+use Rattle.std.proofs.Common.{◌≡◌, ◌≤◌, ◌+◌, length}
 use Rattle.pf_script.specs.Script.{script_records}
 use Rattle.pf_script.specs.Told.{readings, records_in}
 use Rattle.pf_check_run.specs.Lines.{no_lines}
-use Rattle.pf_check_run.proofs.Plainly.{end_with, lines_with}
+use Rattle.pf_check_run.proofs.Plainly.{lines_with}
 use Rattle.pf_check_run.proofs.faults.plain_faults.Given as goal
 
--- with what is left the lines, the end and the count are those of all records
+-- with what is left the lines and the count are those of all records
 abbrev pub invariant-records : goal.invariant-records
 invariant-records l = record {
   lines : lines_with l.file l.found.lines l.reader ≡ lines_with l.file no_lines (readings l.fn.script);
-  end : end_with l.found.end l.reader ≡ end_with None (readings l.fn.script);
   count : l.found.records + records_in l.reader ≡ length (script_records l.fn.script);
-  lacking : l.found.lines.lacking ≤ l.found.records;
+  lacking : l.found.lines.lacking ≤ l.found.records + 1;
   others : l.found.lines.others ≤ l.found.records;
 }
 

@@ -1,8 +1,8 @@
 use Rattle.std.proofs.Common.{◌∙◌, ◌++◌, ap}
+use Rattle.pf_facts.proofs.Ranges.{number_next}
 use Rattle.pf_place.specs.Lent.{lent_row}
 use Rattle.pf_place.specs.Occupancy.{sitter}
 use Rattle.pf_code.specs.Array.{seat_with}
-use Rattle.pf_code.proofs.Parts.{number_next}
 use Rattle.pf_code.proofs.lines.push_row.Goals as goal
 
 pub loop-processor-preserved : goal.loop-processor-preserved

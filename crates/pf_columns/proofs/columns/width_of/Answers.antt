@@ -1,7 +1,8 @@
 use Rattle.std.proofs.Common.{◌∙◌, ◌+◌, length, drop, ap}
 use Rattle.std.specs.Prelude.{max}
+use Rattle.pf_facts.proofs.Orders.{greater_of}
 use Rattle.pf_columns.specs.Columns.{width_of}
-use Rattle.pf_columns.proofs.Widths.{row_looked_at, all_looked_at, greater_of}
+use Rattle.pf_columns.proofs.Widths.{row_looked_at, all_looked_at}
 use Rattle.pf_columns.proofs.columns.width_of.Goals as goal
 
 pub loop-row-preserved : goal.loop-row-preserved

@@ -1,8 +1,8 @@
 use Rattle.std.proofs.Common.{codes}
 use Rattle.std.proofs.lemmas.Result.{on_ok_weaker}
+use Rattle.pf_facts.proofs.Lists.{two_written}
 use Rattle.pf_conversion.specs.Script.{numbered}
 use Rattle.pf_conversion.specs.Table.{quantum_line, series_text}
-use Rattle.pf_conversion.proofs.Numbering.{two_written}
 use Rattle.pf_conversion.proofs.table.push_series.Goals as goal
 
 pub returns : goal.returns

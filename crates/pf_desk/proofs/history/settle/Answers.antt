@@ -35,7 +35,6 @@ loop-entry-preserved c =
           ∙ ap₂ (λ xs x. xs ++ x ∷ []) invariant.commands c.of.ensures
           ∙ command_more c.args.settled.now.items (take i entries) e
           ∙ ap (λ es. c.args.settled.now.items ++ map settled_of es) (sym taken);
-      many_briefs = omega arith;
       many_commands = ap length c.push_reserved-in-loop-entry.ensures.items ∙ length_push c.loop-entry.settled.items c.of.result ∙ omega arith;
       for_briefs = omega arith;
       for_all = omega arith;

@@ -12,11 +12,11 @@ number : (c : In-Join) → c.in-Join.task < LARGEST_TASK + 1
 number c =
     c.requires c.loop-x.x-index _ (omega arith) c.in-Join.task (ap (is_join_of c.in-Join.task) c.in-Join.is ∙ eq-eqb c.in-Join.task c.in-Join.task refl)
 
-pub overflow_cast-task : goal.overflow_cast-task
-overflow_cast-task c = omega (arith, number (goal.at.overflow_cast-task c).In-Join)
+pub number_of-requires : goal.number_of-requires
+number_of-requires c = omega (arith, number (goal.at.number_of-requires c).In-Join)
 
 pub reserve_task-requires : goal.reserve_task-requires
-reserve_task-requires c = omega (arith, number (goal.at.reserve_task-requires c).In-Join)
+reserve_task-requires c = omega (arith, c.number_of.ensures, number (goal.at.reserve_task-requires c).In-Join)
 
 pub returns-clause-room : goal.returns-clause-room
 returns-clause-room c =

@@ -30,8 +30,8 @@ loop-key-init c = record {
 }
 
 -- the key is of this task and this subtask
-number : (c : After-run) → c.from-task.result ≡ c.key-item.result.task
-number c = c.from-task.ensures ∙ c.task.ensures.value
+number : (c : After-run) → c.task.result ≡ c.key-item.result.task
+number c = c.task.ensures.value
 
 ran : (c : After-run) → c.run.new.self.tasks ≡ changed_tasks c.key-item.result.task (member_after_run c.key-item.result.sub) c.loop-key.tasks.tasks
 ran c =
@@ -51,7 +51,7 @@ unreachable-requires c =
     (ap₂ (λ ts t. member_in ts t) (sym (ran g)) (sym (number g)) ∙ sym c.run.ensures.member ∙ c.in_default.is))
 
 -- its member, now that it ran
-found : (c : In-Some) → c.run.new.self.tasks ≡ changed_tasks c.key-item.result.task (member_after_run c.key-item.result.sub) c.loop-key.tasks.tasks → c.from-task.result ≡ c.key-item.result.task → member_in (changed_tasks c.key-item.result.task (member_after_run c.key-item.result.sub) c.loop-key.tasks.tasks) c.key-item.result.task ≡ Some c.in-Some.member
+found : (c : In-Some) → c.run.new.self.tasks ≡ changed_tasks c.key-item.result.task (member_after_run c.key-item.result.sub) c.loop-key.tasks.tasks → c.task.result ≡ c.key-item.result.task → member_in (changed_tasks c.key-item.result.task (member_after_run c.key-item.result.sub) c.loop-key.tasks.tasks) c.key-item.result.task ≡ Some c.in-Some.member
 found c tasks task = ap₂ (λ ts t. member_in ts t) (sym tasks) (sym task) ∙ sym c.in-Some.ensures.member
 
 pub put_next-requires-clause-member : goal.put_next-requires-clause-member

@@ -3,7 +3,7 @@ use Rattle.pf_heap.proofs.Carries.{carry_begun, carry_low, rest_list, carry_node
 use Rattle.pf_heap.proofs.adding.add.Goals as goal
 
 pub loop-rank-init : goal.loop-rank-init
-loop-rank-init c = λ can. carry_begun _ _ _ _ _ can
+loop-rank-init c = λ can. carry_begun _ _ _ _ can
 
 pub cut-tree-requires : goal.cut-tree-requires
 cut-tree-requires c = record { can = rest_list (c.loop-rank.invariant c.requires.can) }
@@ -16,7 +16,7 @@ relink-requires c =
 pub returns-then-tree : goal.returns-then-tree
 returns-then-tree c = λ can.
     let m = c.loop-rank.invariant can in
-    carried_out m c.cut-tree.ensures (omega (arith, m.small)) c.args.from (omega (arith, c.loop-rank.auto.rank)) c.if-tree.true c.relink.ensures
+    carried_out m c.cut-tree.ensures (omega (arith, m.small)) c.if-tree.true c.relink.ensures
 
 pub join-carry-requires-clause-first : goal.join-carry-requires-clause-first
 join-carry-requires-clause-first c =

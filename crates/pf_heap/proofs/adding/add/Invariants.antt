@@ -1,6 +1,6 @@
-use Rattle.pf_heap.specs.Steps.{HasTreeAndList, IsCarrying}
+use Rattle.pf_heap.specs.Steps.{HasNodeAndList, IsCarrying}
 use Rattle.pf_heap.proofs.adding.add.Given as goal
 
 abbrev pub invariant-loop-rank : goal.invariant-loop-rank
 invariant-loop-rank l =
-    (can : HasTreeAndList l.fn.nodes l.fn.from l.fn.at l.fn.link) → IsCarrying l.nodes l.rank can.added can.list can.others l.carry l.rest l.fn.meter l.meter
+    (can : HasNodeAndList l.fn.nodes l.fn.at l.fn.link) → IsCarrying l.nodes l.rank can.added can.list can.others l.carry l.rest l.fn.meter l.meter

@@ -1,7 +1,7 @@
 use Rattle.std.proofs.Common.{sym, ◌∙◌}
+use Rattle.pf_facts.proofs.Finding.{found_all}
 use Rattle.pf_scenario.specs.Edit.{IsEvent}
 use Rattle.pf_scenario.specs.Event.{is_join_of}
-use Rattle.pf_notes.proofs.Finding.{found_all}
 use Rattle.pf_notes.proofs.inside.brought_by.Goals as goal
 
 pub joined_by-requires : goal.joined_by-requires

@@ -1,6 +1,6 @@
 use Rattle.std.proofs.Common.{◌≡◌, ◌++◌, map, take, drop, ap, ap₂, ◌∙◌, length}
 use Rattle.std.specs.List.{range_with_len}
-use Rattle.std.proofs.lemmas.List.{take_min}
+use Rattle.pf_place.specs.Lent.{lent_row}
 use Rattle.pf_place.specs.Occupancy.{next_pick, sitter, others, kept_at}
 use Rattle.pf_place.specs.Seating.{seats_filled_with}
 use Rattle.pf_place.proofs.Seats.{keepers_earlier, row_from_kept}
@@ -8,12 +8,11 @@ use Rattle.pf_place.proofs.seating.seat.Goals as goal
 
 pub returns : goal.returns
 returns c =
-    let before = c.args.before.now in
+    let before = lent_row c.args.before in
     let picks = c.args.picks.now in
     let count = c.args.count in
     let m = length c.args.places.now in
-    let earlier : take c.min.result before ≡ take count before =
-    ap (λ n. take n before) c.min.ensures ∙ take_min count before in
+    let earlier = c.first-earlier.ensures in
     let kept : c.keep.new.places ≡ map (kept_at count before picks) (range_with_len 0 m) =
     c.keep.ensures.kept
     ∙ ap₂ (λ row ps. map (λ q. next_pick ps (sitter row q)) (range_with_len 0 m)) earlier c.of-index.ensures

@@ -1,5 +1,6 @@
 use Rattle.std.proofs.Common.{◌+◌, sym, ◌∙◌, drop, arith}
 use Rattle.pf_order.specs.declared.pick.Pick.{Pick}
+use Rattle.pf_place.specs.Lent.{lent_row}
 use Rattle.pf_place.specs.Occupancy.{others}
 use Rattle.pf_place.proofs.Filling.{filled_full}
 use Rattle.pf_place.proofs.Seats.{seated_more, seated_less, seated_all}
@@ -9,7 +10,7 @@ use Rattle.pf_place.proofs.seating.seat_others.Goals.{then-free-places+then-not-
 pub loop-pick-preserved : goal.loop-pick-preserved
 loop-pick-preserved c =
     let k = c.loop-pick.pick-index in
-    let earlier = c.args.earlier.now in
+    let earlier = lent_row c.args.earlier in
     let picks = c.picks-picks.result.now in
     let places = c.loop-pick.places in
     let none : Pick = record { task = 0; sub = 0 } in
@@ -37,4 +38,4 @@ loop-pick-preserved c =
 pub returns : goal.returns
 returns c =
     rw (← c.picks-picks.ensures)
-    (seated_all c.args.places.now c.loop-pick.places c.args.earlier.now c.picks-picks.result.now c.loop-pick.pick-index c.loop-pick-test.false c.loop-pick.invariant.0)
+    (seated_all c.args.places.now c.loop-pick.places (lent_row c.args.earlier) c.picks-picks.result.now c.loop-pick.pick-index c.loop-pick-test.false c.loop-pick.invariant.0)

@@ -1,15 +1,18 @@
-use Rattle.std.proofs.Common.{◌∙◌, arith}
-use Rattle.pf_plain.specs.Carried.{state_behind}
-use Rattle.pf_plain.proofs.Behind.{all_taken, next_line}
+use Rattle.std.proofs.Common.{sym, ◌∙◌, arith}
+use Rattle.std.specs.List.{flat_map}
+use Rattle.std.proofs.lemmas.List.{at_drop_all}
+use Rattle.pf_version3.specs.Asked.{commands_of}
+use Rattle.pf_plain.specs.Carried.{state_behind, state_to_be}
+use Rattle.pf_plain.proofs.Behind.{next_line, taken_behind}
 use Rattle.pf_plain.proofs.carried.take_lines.Goals as goal
 
 pub loop-line-preserved : goal.loop-line-preserved
 loop-line-preserved c =
-    next_line (state_behind c.loop-line.desk.state c.loop-line.edits.items) (state_behind c.take_line.new.desk.state c.take_line.new.edits.items)
-    c.args.lines.now c.loop-line.line-index _ (omega arith) c.in_ok-take_line.ensures
+    next_line (state_to_be c.loop-line.desk) (state_to_be c.take.new.self) c.args.lines.now c.loop-line.line-index _ (omega arith)
+    (taken_behind _ c.loop-line.desk c.take.new.self c.in_ok-take.ensures)
     ∙ c.loop-line.invariant
 
 pub returns : goal.returns
 returns c =
-    all_taken c.apply_all.result _ c.deref.result.now c.loop-line.edits.items c.loop-line.desk c.apply_all.new.self c.args.lines.now c.loop-line.line-index _
-    c.deref.ensures.value (omega arith) c.loop-line.invariant c.apply_all.ensures.ok
+    sym (at_drop_all (λ xs. state_behind (state_to_be c.loop-line.desk) (flat_map commands_of xs)) c.args.lines.now c.loop-line.line-index (omega arith))
+    ∙ c.loop-line.invariant

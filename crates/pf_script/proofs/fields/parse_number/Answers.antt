@@ -3,7 +3,8 @@ use Rattle.std.proofs.lemmas.List.{take_all}
 use Rattle.std.proofs.lemmas.Int.Digits.{digits_value_more}
 use Rattle.std.proofs.lemmas.Grind.{pow_more}
 use Rattle.std.specs.Str.Parse.{digits_value}
-use Rattle.pf_script.proofs.Digits.{digit-is, digits-more, digits-none, number_of-digits, number_of-none, ten-pow}
+use Rattle.pf_facts.proofs.Digits.{digits-more, digits-none, ten-pow, digit-is}
+use Rattle.pf_script.proofs.Digits.{number_of-digits, number_of-none}
 use Rattle.pf_script.proofs.fields.parse_number.Goals as goal
 
 pub returns-then-not-is_ascii_digit-clause-value : goal.returns-then-not-is_ascii_digit-clause-value

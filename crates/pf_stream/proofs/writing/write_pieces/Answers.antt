@@ -1,5 +1,6 @@
 use Rattle.std.proofs.Common.{◌++◌, ◌∙◌, ap, sym}
-use Rattle.pf_stream.proofs.Sending.{anyway, piece_stopped, piece_written}
+use Rattle.pf_facts.proofs.Options.{anyway}
+use Rattle.pf_stream.proofs.Sending.{piece_stopped, piece_written}
 use Rattle.pf_stream.proofs.writing.write_pieces.Goals as goal
 
 pub returns-in_err-write_out-clause-err : goal.returns-in_err-write_out-clause-err

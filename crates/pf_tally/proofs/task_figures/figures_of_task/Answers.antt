@@ -41,7 +41,7 @@ returns c = λ s rows denials known of_ran.
     (known.journal.slots ∙ sym known.journal.now) of_misses
     c.in_ok-responses.ensures
     (told_is j c.args.processors.now c.args.ran.now responses misses _ _
-    (ap (λ j. j.task) c.task.view_is)
+    (c.number_of.ensures ∙ ap (λ j. j.task) c.task.view_is)
     (c.cost.ensures.value ∙ ap (λ j. j.weight.cost) c.task.view_is)
     (c.period.ensures.value ∙ ap (λ j. j.weight.period) c.task.view_is)
     refl

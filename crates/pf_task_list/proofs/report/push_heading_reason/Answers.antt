@@ -1,8 +1,8 @@
 use Rattle.std.proofs.Common.{◌≡◌, ◌∙◌, ◌++◌, codes, sym, ap, subst}
+use Rattle.pf_facts.proofs.Lists.{two_written, three_written}
 use Rattle.pf_task_list.specs.Faults.{heading_reason}
 use Rattle.pf_task_list.specs.Heading.{column_word}
 use Rattle.pf_task_list.specs.Quoted.{quoted}
-use Rattle.pf_task_list.proofs.Writing.{two_written, three_written}
 use Rattle.pf_task_list.proofs.report.push_heading_reason.Goals as goal
 
 pub returns-in_ok-extend_from_slice-in-NoColumn : goal.returns-in_ok-extend_from_slice-in-NoColumn

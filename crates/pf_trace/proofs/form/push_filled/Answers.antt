@@ -1,5 +1,6 @@
 use Rattle.std.proofs.Common.{◌∙◌, ◌-◌, ◌++◌, drop, take, length, refl, sym, arith}
-use Rattle.pf_trace.proofs.Filling.{byte_passed, ended, form_passed, hole_passed}
+use Rattle.pf_facts.proofs.Options.{appended}
+use Rattle.pf_trace.proofs.Filling.{byte_passed, form_passed, hole_passed}
 use Rattle.pf_trace.proofs.form.push_filled.Goals as goal
 use Rattle.pf_trace.proofs.form.push_filled.Goals.{then-is_hole+in_ok-extend_from_slice+in_ok-push_hole, else-is_hole}
 
@@ -32,6 +33,6 @@ pub returns : goal.returns
 returns c =
     let old = c.loop-at.text.items in
     let behind = take (length c.args.form.now - c.loop-at.start) (drop c.loop-at.start c.args.form.now) in
-    ended c.extend_from_slice-2.result _ old behind _ c.extend_from_slice-2.ensures.items
+    appended c.extend_from_slice-2.result _ old behind _ c.extend_from_slice-2.ensures.items
     (form_passed c.args.title.now c.args.form.now c.args.numbers.now c.loop-at.start c.loop-at.at c.loop-at.used old (old ++ behind) _ (omega arith) refl
     c.loop-at.invariant.whole)

@@ -1,5 +1,5 @@
+use Rattle.pf_facts.proofs.Ranges.{number_next}
 use Rattle.pf_trace.specs.Trace.{processor_name}
-use Rattle.pf_trace.proofs.Steps.{number_next}
 use Rattle.pf_trace.proofs.head.push_processors.Goals as goal
 
 pub loop-processor-preserved : goal.loop-processor-preserved

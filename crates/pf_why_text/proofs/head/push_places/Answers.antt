@@ -1,8 +1,8 @@
 use Rattle.std.proofs.Common.{◌∙◌, ◌++◌, ap}
+use Rattle.pf_facts.proofs.Ranges.{number_next}
 use Rattle.pf_place.specs.Lent.{lent_row}
 use Rattle.pf_place.specs.Occupancy.{sitter}
 use Rattle.pf_why_text.specs.Head.{place_text}
-use Rattle.pf_why_text.proofs.Numbers.{number_next}
 use Rattle.pf_why_text.proofs.head.push_places.Goals as goal
 
 pub loop-processor-preserved : goal.loop-processor-preserved

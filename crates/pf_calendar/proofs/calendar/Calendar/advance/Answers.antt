@@ -10,7 +10,6 @@ use Rattle.pf_order.proofs.Comparing.{compares_within}
 use Rattle.pf_heap.specs.Keys.{list_of}
 use Rattle.pf_calendar.specs.Steps.{MergesAll}
 use Rattle.pf_calendar.proofs.Merging.{CanMergeAll}
-use Rattle.pf_calendar.proofs.Arranged.{ready_listed}
 use Rattle.pf_heap.specs.Digits.{digits}
 use Rattle.pf_calendar.specs.declared.waiting_list.WaitingList.{WaitingList}
 use Rattle.pf_calendar.specs.Queues.{Queues, later, due}
@@ -39,26 +38,23 @@ are_due c =
 
 -- and can be merged, as the slice has them
 can : (c : After-deref-2) → AreDue c.self.inside.waiting.items c.args.t c.partition_point-due.result →
-    CanMergeAll c.self.inside.heaps c.self.inside.ready (take c.partition_point-due.result c.deref-2.result.now)
-can c due = subst (λ l. CanMergeAll c.self.inside.heaps c.self.inside.ready (take c.partition_point-due.result l)) (sym c.deref-2.ensures.value) (can_merge c.self.invariant.0.laid due)
-
-pub merge_all-requires-clause-into : goal.merge_all-requires-clause-into
-merge_all-requires-clause-into c = ready_listed c.self.invariant.0.laid
+    CanMergeAll c.self.inside.heaps (take c.partition_point-due.result c.deref-2.result.now)
+can c due = subst (λ l. CanMergeAll c.self.inside.heaps (take c.partition_point-due.result l)) (sym c.deref-2.ensures.value) (can_merge c.self.invariant.0.laid due)
 
 pub merge_all-requires-clause-heaps : goal.merge_all-requires-clause-heaps
-merge_all-requires-clause-heaps c = let g = goal.at.merge_all-requires-clause-heaps c in (can g.After-deref-2 (are_due g.After-partition_point-due)).1
+merge_all-requires-clause-heaps c = let g = goal.at.merge_all-requires-clause-heaps c in (can g.After-deref-2 (are_due g.After-partition_point-due)).0
 
 pub merge_all-requires-clause-once : goal.merge_all-requires-clause-once
-merge_all-requires-clause-once c = let g = goal.at.merge_all-requires-clause-once c in (can g.After-deref-2 (are_due g.After-partition_point-due)).2
+merge_all-requires-clause-once c = let g = goal.at.merge_all-requires-clause-once c in (can g.After-deref-2 (are_due g.After-partition_point-due)).1
 
 -- the calendar after the merges
 done : (c : After-drop) → AreDue c.self.inside.waiting.items c.args.t c.partition_point-due.result →
-    IsCalendarAfter c.merge_all.new.heaps c.self.inside.ready c.drop.new.self.0.items c.merge_all.new.aside.items c.self.inside.held c.self.inside.limit
+    IsCalendarAfter c.merge_all.new.heaps c.drop.new.self.0.items c.merge_all.new.aside.items c.self.inside.held c.self.inside.limit
     (vec_capacity c.self.inside.waiting) (vec_capacity c.self.inside.unused)
     (record c.args.self.now { ready = set.union c.args.self.now.ready (due c.args.t c.args.self.now.waiting); waiting = later c.args.t c.args.self.now.waiting })
 done c due =
     let n = c.partition_point-due.result in
-    let merges = subst (λ l. MergesAll c.self.inside.heaps c.merge_all.new.heaps c.self.inside.ready (names_of (take n l))) c.deref-2.ensures.value c.merge_all.ensures.merged in
+    let merges = subst (λ l. MergesAll c.self.inside.heaps c.merge_all.new.heaps (names_of (take n l))) c.deref-2.ensures.value c.merge_all.ensures.merged in
     advanced c.self.invariant.0.laid due c.merge_all.new.heaps merges c.self.view_is (c.drop.ensures.items ∙ c.drain.ensures.kept)
     (c.merge_all.ensures.aside ∙ ap (λ l. c.self.inside.unused.items ++ names_of (take n l)) c.deref-2.ensures.value) c.self.invariant.0.some
 
@@ -79,7 +75,7 @@ returns-clause-comparisons c =
     let heaps = c.self.inside.heaps in
     let cost = merges_cost c.self.invariant.0.laid (are_due (goal.at.returns-clause-comparisons c).After-partition_point-due) c.self.view_is in
     compares_within cost
-    (subst (λ (l : List WaitingList). Compares (length (take c.partition_point-due.result l) * digits (set.len (list_of heaps c.self.inside.ready)
+    (subst (λ (l : List WaitingList). Compares (length (take c.partition_point-due.result l) * digits (set.len heaps.main
     + sum_by (λ (e : WaitingList). set.len (list_of heaps e.heap)) (take c.partition_point-due.result l))) c.args.meter.now c.merge_all.new.meter)
     c.deref-2.ensures.value c.merge_all.ensures.comparisons)
 

@@ -9,7 +9,7 @@ use Rattle.pf_calendar.proofs.calendar.Calendar.copy.Goals as goal
 
 pub returns : goal.returns
 returns c =
-    copied_seen c.self.inside.heaps c.in_ok-heaps.heaps c.self.inside.ready c.self.inside.waiting.items c.reserve.new.self.items
+    copied_seen c.self.inside.heaps c.in_ok-heaps.heaps c.self.inside.waiting.items c.reserve.new.self.items
     (c.self.inside.limit - c.self.inside.held) (c.self.inside.held - c.self.inside.held) c.in_ok-heaps.ensures
     (c.reserve.ensures.items ∙ c.in_ok-waiting.ensures.items ∙ c.deref.ensures.value) (omega arith)
     ∙ ap (λ (q : Queues). record q { spare = 0 }) c.self.view_is
@@ -36,7 +36,7 @@ invariant_of-result c = (
       )),
   subst (λ (g : Grown ℕ). NotesSlots g c.in_ok-heaps.heaps.tasks (waiting_in c.in_ok-heaps.heaps c.reserve.new.self.items)) (sym c.in_ok-slots.ensures)
       (notes_same
-      (ap (λ (q : Queues). q.waiting) (copied_seen c.self.inside.heaps c.in_ok-heaps.heaps c.self.inside.ready c.self.inside.waiting.items c.reserve.new.self.items 0 0 c.in_ok-heaps.ensures
+      (ap (λ (q : Queues). q.waiting) (copied_seen c.self.inside.heaps c.in_ok-heaps.heaps c.self.inside.waiting.items c.reserve.new.self.items 0 0 c.in_ok-heaps.ensures
       (c.reserve.ensures.items ∙ c.in_ok-waiting.ensures.items ∙ c.deref.ensures.value) refl))
       (ap (λ (h : Heaps). h.tasks) c.in_ok-heaps.ensures) c.self.invariant.1),
 )

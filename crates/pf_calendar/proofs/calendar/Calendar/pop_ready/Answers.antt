@@ -3,16 +3,12 @@ use Rattle.pf_order.proofs.Comparing.{compares_within}
 use Rattle.pf_heap.specs.Keys.{Heaps, IsFirst}
 use Rattle.pf_calendar.specs.Invariant.{waiting_in}
 use Rattle.pf_calendar.specs.Queues.{Queues, EachTaskOnce, NoneEmpty}
-use Rattle.pf_calendar.proofs.Arranged.{ready_listed}
 use Rattle.pf_calendar.proofs.Whole.{none_empty, each_task_once, ready_digits, popped, one_fewer}
 use Rattle.pf_calendar.proofs.Notes.{notes_after}
 use Rattle.pf_calendar.proofs.calendar.Calendar.pop_ready.Goals as goal
 
-pub pop-requires : goal.pop-requires
-pop-requires c = ready_listed c.self.invariant.0.laid
-
 pub returns-in_err-key-clause-comparisons : goal.returns-in_err-key-clause-comparisons
-returns-in_err-key-clause-comparisons c = compares_within (omega (arith, ready_digits c.self.invariant.0.laid c.self.view_is)) c.pop.ensures.comparisons
+returns-in_err-key-clause-comparisons c = compares_within (omega (arith, ready_digits c.self.invariant.0.laid c.self.view_is)) c.pop_main.ensures.comparisons
 
 pub overflow_sub-self : goal.overflow_sub-self
 overflow_sub-self c = (popped c.self.invariant.0 c.self.view_is c.in_ok-key.key c.in_ok-key.ensures.popped.0.0 c.in_ok-key.ensures.popped.1).0
@@ -32,7 +28,7 @@ returns-clause-popped c = (
 )
 
 pub returns-clause-comparisons : goal.returns-clause-comparisons
-returns-clause-comparisons c = compares_within (omega (arith, ready_digits c.self.invariant.0.laid c.self.view_is)) c.pop.ensures.comparisons
+returns-clause-comparisons c = compares_within (omega (arith, ready_digits c.self.invariant.0.laid c.self.view_is)) c.pop_main.ensures.comparisons
 
 pub returns-in_err-key-clause-some : goal.returns-in_err-key-clause-some
 returns-in_err-key-clause-some c =

@@ -49,7 +49,7 @@ insert-requires-clause-absent c = absent_from c.self.invariant.0.laid c.self.vie
 
 -- the calendar after the put
 done : (c : After-index_mut) →
-    IsCalendarAfter c.insert.new.self c.self.inside.ready
+    IsCalendarAfter c.insert.new.self
     (set_item c.open-at.new.entries.items c.open-at.result
     (record { slot = c.index_mut.result.now.slot; heap = c.index_mut.result.now.heap; count = c.index-entry.result.now.count + 1 })) c.open-at.new.unused.items
     (c.self.inside.held + 1) c.self.inside.limit (vec_capacity c.self.inside.waiting) (vec_capacity c.self.inside.unused)

@@ -1,32 +1,29 @@
-use Rattle.std.proofs.Common.{◌≡◌, ℕ, ◌+◌, ◌-◌, ◌^◌, ◌≤◌, length, ◌++◌, sym, ap, ◌∙◌, arith, OnErr, Result, Ok, Err, rules}
+use Rattle.std.proofs.Common.{◌≡◌, ℕ, ◌+◌, ◌-◌, ◌^◌, ◌≤◌, length, ◌++◌, sym, ap, ◌∙◌, arith, rules}
 use Rattle.std.specs.Prelude.{replicate}
 use Rattle.std.specs.FinSet as set
 use Rattle.std.specs.Vec.{vec_capacity}
+use Rattle.std.proofs.lemmas.List.{append-nil}
+use Rattle.pf_facts.proofs.Options.{anyway}
 use Rattle.pf_calendar.specs.Queues.{Queues, key_count}
 use Rattle.pf_calendar.specs.Invariant.{waiting_in, IsCalendar, NotesSlots}
 use Rattle.pf_calendar.specs.Steps.{AddsHeaps}
-use Rattle.pf_calendar.proofs.Merging.{append_none}
 use Rattle.pf_calendar.proofs.Whole.{seen, count_is}
 use Rattle.pf_calendar.proofs.Notes.{notes_same}
 use Rattle.pf_calendar.proofs.Growing.{reserved_seen, reserved}
 use Rattle.pf_calendar.proofs.calendar.Calendar.reserve.Goals.{After-reserve-2, After-add_heaps}
 use Rattle.pf_calendar.proofs.calendar.Calendar.reserve.Goals as goal
 
-on_err : {T E : Type 0} (r : Result T E) (P : Type 0) → P → OnErr r P
-on_err (Ok x) P p = tt
-on_err (Err e) P p = p
-
 -- what contracts see is as before, with more room and with more empty heaps
-roomier : (c : After-reserve-2) → seen c.reserve.new.self c.self.inside.ready c.reserve-2.new.self.items (c.self.inside.limit - c.self.inside.held) ≡ c.args.self.now
+roomier : (c : After-reserve-2) → seen c.reserve.new.self c.reserve-2.new.self.items (c.self.inside.limit - c.self.inside.held) ≡ c.args.self.now
 roomier c =
     reserved_seen c.self.invariant.0.laid c.reserve.new.self c.reserve-2.new.self.items 0 (c.self.inside.limit - c.self.inside.held)
-    (c.in_ok-reserve.ensures.lists ∙ sym (append_none c.self.inside.heaps.lists)) c.in_ok-reserve.ensures.tasks c.reserve-2.ensures.items ∙ c.self.view_is
+    c.in_ok-reserve.ensures.main (c.in_ok-reserve.ensures.lists ∙ sym (append-nil c.self.inside.heaps.lists)) c.in_ok-reserve.ensures.tasks c.reserve-2.ensures.items ∙ c.self.view_is
 
-grown : (c : After-add_heaps) → seen c.add_heaps.new.heaps c.self.inside.ready c.reserve-2.new.self.items (c.self.inside.limit - c.self.inside.held) ≡ c.args.self.now
+grown : (c : After-add_heaps) → seen c.add_heaps.new.heaps c.reserve-2.new.self.items (c.self.inside.limit - c.self.inside.held) ≡ c.args.self.now
 grown c =
     let a = c.add_heaps.ensures.added in
     reserved_seen c.self.invariant.0.laid c.add_heaps.new.heaps c.reserve-2.new.self.items a.0 (c.self.inside.limit - c.self.inside.held)
-    (a.2.lists ∙ ap (λ l. l ++ replicate a.0 set.empty) c.in_ok-reserve.ensures.lists) (a.2.tasks ∙ c.in_ok-reserve.ensures.tasks)
+    (a.2.main ∙ c.in_ok-reserve.ensures.main) (a.2.lists ∙ ap (λ l. l ++ replicate a.0 set.empty) c.in_ok-reserve.ensures.lists) (a.2.tasks ∙ c.in_ok-reserve.ensures.tasks)
     c.reserve-2.ensures.items ∙ c.self.view_is
 
 roomier_notes : (c : After-reserve-2) → NotesSlots c.self.inside.slots c.reserve.new.self.tasks (waiting_in c.reserve.new.self c.reserve-2.new.self.items)
@@ -47,12 +44,12 @@ fits c =
 -- the calendar with n more heaps, under a limit that they are enough for
 enough : (c : After-add_heaps) (n limit : ℕ) → n ≤ c.saturating_sub-more.result → AddsHeaps c.reserve.new.self c.add_heaps.new.heaps c.reserve-3.new.self.items c.add_heaps.new.names.items n →
     c.self.inside.held ≤ limit → limit ≤ length c.self.inside.waiting.items + length c.self.inside.unused.items + n → limit ≤ c.self.inside.held + c.reserve.new.self.spare →
-    IsCalendar c.add_heaps.new.heaps c.self.inside.ready c.reserve-2.new.self.items c.add_heaps.new.names.items c.self.inside.held limit
+    IsCalendar c.add_heaps.new.heaps c.reserve-2.new.self.items c.add_heaps.new.names.items c.self.inside.held limit
     (vec_capacity c.reserve-2.new.self) (vec_capacity c.add_heaps.new.names)
 enough c n limit made adds within few spare =
     let laid = c.self.invariant.0.laid in
     reserved c.self.invariant.0 c.reserve.new.self c.add_heaps.new.heaps c.reserve-2.new.self.items c.reserve-3.new.self.items c.add_heaps.new.names.items n limit _ _
-    c.in_ok-reserve.ensures.lists c.reserve-2.ensures.items c.reserve-3.ensures.items adds within few spare
+    c.in_ok-reserve.ensures.main c.in_ok-reserve.ensures.lists c.reserve-2.ensures.items c.reserve-3.ensures.items adds within few spare
     (omega (arith, made, c.self.inside.waiting.ok.0, c.self.inside.unused.ok.0, c.len.ensures, c.len-2.ensures, c.saturating_sub-more.ensures, laid.small, laid.within, fits c))
     (omega (arith, made, c.self.inside.waiting.ok.0, c.self.inside.unused.ok.0, c.len.ensures, c.len-2.ensures, c.saturating_sub-more.ensures, c.len-3.ensures, c.in_ok-reserve-2.ensures.ok, c.reserve-2.ensures.len))
     (omega (arith, made, c.self.inside.waiting.ok.0, c.self.inside.unused.ok.0, c.len.ensures, c.len-2.ensures, c.saturating_sub-more.ensures, c.len-4.ensures, c.in_ok-reserve-3.ensures.ok, c.reserve-3.ensures.len, c.reserve-2.ensures.len, c.add_heaps.ensures.capacity))
@@ -61,13 +58,13 @@ pub returns-in_err-reserve-2-clause-waiting : goal.returns-in_err-reserve-2-clau
 returns-in_err-reserve-2-clause-waiting c = ap (λ (q : Queues). q.waiting) (roomier (goal.at.returns-in_err-reserve-2-clause-waiting c).After-reserve-2)
 
 pub returns-in_err-reserve-2-clause-err : goal.returns-in_err-reserve-2-clause-err
-returns-in_err-reserve-2-clause-err c = on_err _ _ (roomier (goal.at.returns-in_err-reserve-2-clause-err c).After-reserve-2)
+returns-in_err-reserve-2-clause-err c = anyway _ _ (roomier (goal.at.returns-in_err-reserve-2-clause-err c).After-reserve-2)
 
 pub returns-in_err-reserve-3-clause-waiting : goal.returns-in_err-reserve-3-clause-waiting
 returns-in_err-reserve-3-clause-waiting c = ap (λ (q : Queues). q.waiting) (roomier (goal.at.returns-in_err-reserve-3-clause-waiting c).After-reserve-2)
 
 pub returns-in_err-reserve-3-clause-err : goal.returns-in_err-reserve-3-clause-err
-returns-in_err-reserve-3-clause-err c = on_err _ _ (roomier (goal.at.returns-in_err-reserve-3-clause-err c).After-reserve-2)
+returns-in_err-reserve-3-clause-err c = anyway _ _ (roomier (goal.at.returns-in_err-reserve-3-clause-err c).After-reserve-2)
 
 pub invariant_of-self-in_err-reserve-2 : goal.invariant_of-self-in_err-reserve-2
 invariant_of-self-in_err-reserve-2 c =
@@ -89,7 +86,7 @@ pub returns-in_err-add_heaps-clause-waiting : goal.returns-in_err-add_heaps-clau
 returns-in_err-add_heaps-clause-waiting c = ap (λ (q : Queues). q.waiting) (grown (goal.at.returns-in_err-add_heaps-clause-waiting c).After-add_heaps)
 
 pub returns-in_err-add_heaps-clause-err : goal.returns-in_err-add_heaps-clause-err
-returns-in_err-add_heaps-clause-err c = on_err _ _ (grown (goal.at.returns-in_err-add_heaps-clause-err c).After-add_heaps)
+returns-in_err-add_heaps-clause-err c = anyway _ _ (grown (goal.at.returns-in_err-add_heaps-clause-err c).After-add_heaps)
 
 pub invariant_of-self-2 : goal.invariant_of-self-2
 invariant_of-self-2 c =

@@ -9,7 +9,7 @@ use Rattle.pf_calendar.proofs.calendar.Calendar.reserve_task.Goals as goal
 
 pub returns-clause-ok : goal.returns-clause-ok
 returns-clause-ok c =
-    tasks_seen c.self.inside.heaps c.reserve_task.new.self c.self.inside.ready c.self.inside.waiting.items (c.self.inside.limit - c.self.inside.held)
+    tasks_seen c.self.inside.heaps c.reserve_task.new.self c.self.inside.waiting.items (c.self.inside.limit - c.self.inside.held)
     (max c.self.inside.heaps.tasks (c.args.task + 1)) c.in_ok-reserve_task.ensures.ok
     ∙ ap (λ (q : Queues). record q { tasks = max q.tasks (c.args.task + 1) }) c.self.view_is
 
@@ -17,7 +17,7 @@ pub invariant_of-self-2 : goal.invariant_of-self-2
 invariant_of-self-2 c = (
   search rules,
   notes_grown
-      (ap (λ (q : Queues). q.waiting) (tasks_seen c.self.inside.heaps c.reserve_task.new.self c.self.inside.ready c.self.inside.waiting.items 0
+      (ap (λ (q : Queues). q.waiting) (tasks_seen c.self.inside.heaps c.reserve_task.new.self c.self.inside.waiting.items 0
       (max c.self.inside.heaps.tasks (c.args.task + 1)) c.in_ok-reserve_task.ensures.ok))
       c.in_ok-reserve.ensures.same
       (omega (

@@ -6,7 +6,7 @@ use Rattle.std.specs.List.Sorted.{IsNonDecreasingBy}
 use Rattle.std.proofs.lemmas.List.{get_or_default}
 use Rattle.pf_order.specs.Counts.{Counts, Compares}
 use Rattle.pf_order.proofs.Comparing.{compares_none, compares_within}
-use Rattle.pf_heap.specs.Keys.{Heaps, list_of, with_list, other_keys, HasNone}
+use Rattle.pf_heap.specs.Keys.{Heaps, list_of, other_keys, HasNone}
 use Rattle.pf_table.specs.Grown.{value_of}
 use Rattle.pf_heap.specs.Digits.{digits}
 use Rattle.pf_heap.proofs.Digits.{digits-mono}
@@ -15,7 +15,7 @@ use Rattle.pf_calendar.specs.declared.waiting_list.WaitingList.{WaitingList}
 use Rattle.pf_calendar.specs.Queues.{Queues, key_count, IsQueued, TakesOut, EachTaskOnce, NoneEmpty}
 use Rattle.pf_calendar.specs.Steps.{HasNoneFor, RemovesAt}
 use Rattle.pf_calendar.proofs.Naming.{no_entry}
-use Rattle.pf_calendar.proofs.Arranged.{ready_listed, entry_listed}
+use Rattle.pf_calendar.proofs.Arranged.{entry_listed}
 use Rattle.pf_calendar.proofs.Whole.{none_empty, each_task_once, IsCalendarAfter, ready_digits, waiting_within, slots_rise, popped, seen, with_room, one_fewer}
 use Rattle.pf_calendar.proofs.Notes.{notes_after, waited_taken, none_waits}
 use Rattle.pf_calendar.proofs.Leaving.{ready_removed, not_held, some_held, discounted_calendar, takes_out}
@@ -71,7 +71,7 @@ pub returns-in-Some-clause-taken : goal.returns-in-Some-clause-taken
 returns-in-Some-clause-taken c =
     let r = removes (goal.at.returns-in-Some-clause-taken c).In-Some in (
       r.of_task,
-      subst (λ (q : Queues). TakesOut q (seen c.remove_waiting.new.heaps c.self.inside.ready c.discount.new.entries.items (c.self.inside.limit - (c.self.inside.held - 1)))
+      subst (λ (q : Queues). TakesOut q (seen c.remove_waiting.new.heaps c.discount.new.entries.items (c.self.inside.limit - (c.self.inside.held - 1)))
           c.in-Some.found.1) c.self.view_is
           (takes_out c.self.invariant.0.laid c.remove_waiting.new.heaps c.args.task c.in-Some.found.0 c.in-Some.found.1 r
           c.discount.new.entries.items c.discount.new.unused.items c.discount.ensures.discounted),
@@ -94,10 +94,6 @@ returns-in-Some-clause-once c = subst EachTaskOnce c.self.view_is (each_task_onc
 
 -- ---- the key was ready, or is not held
 
-pub remove-requires : goal.remove-requires
-remove-requires c =
-    subst (λ (h : Heaps). c.self.inside.ready < length h.lists) (sym c.in_default.ensures.removed.0) (ready_listed c.self.invariant.0.laid)
-
 -- no list has the task
 none_held : (c : In_err-key) → ¬ (IsQueued c.args.self.now c.args.task)
 none_held c =
@@ -107,20 +103,20 @@ none_held c =
     let none_for : HasNoneFor heaps es (value_of c.self.inside.slots c.args.task) c.args.task =
     subst (λ (n : ℕ). HasNoneFor heaps es n c.args.task) c.get-slot.ensures
     (subst (λ (l : List WaitingList). HasNoneFor heaps l c.get-slot.result c.args.task) c.deref.ensures.value c.in_default.ensures.removed.1) in
-    let none_ready : HasNone (list_of heaps c.self.inside.ready) c.args.task =
-    subst (λ (h : Heaps). HasNone (list_of h c.self.inside.ready) c.args.task) c.in_default.ensures.removed.0 c.in_err-key.ensures.removed.0 in
+    let none_ready : HasNone heaps.main c.args.task =
+    subst (λ (h : Heaps). HasNone h.main c.args.task) c.in_default.ensures.removed.0 c.in_err-key.ensures.removed.0 in
     subst (λ (q : Queues). ¬ (IsQueued q c.args.task)) c.self.view_is
     (not_held laid (c.self.inside.limit - c.self.inside.held) c.args.task none_ready (none_waits laid c.self.invariant.1 c.args.task none_for))
 
 -- nothing changed
-all_same : (c : In_err-key) → c.remove.new.self ≡ c.self.inside.heaps
+all_same : (c : In_err-key) → c.remove_main.new.self ≡ c.self.inside.heaps
 all_same c = c.in_err-key.ensures.removed.1 ∙ c.in_default.ensures.removed.0
 
 pub returns-in_err-key-clause-taken : goal.returns-in_err-key-clause-taken
 returns-in_err-key-clause-taken c =
     let g = (goal.at.returns-in_err-key-clause-taken c).In_err-key in
     match_none c.from_residual.result _ _ c.from_residual.ensures
-    (none_held g, ap (λ h. seen h c.self.inside.ready c.self.inside.waiting.items (c.self.inside.limit - c.self.inside.held)) (all_same g) ∙ c.self.view_is)
+    (none_held g, ap (λ h. seen h c.self.inside.waiting.items (c.self.inside.limit - c.self.inside.held)) (all_same g) ∙ c.self.view_is)
 
 pub returns-in_err-key-clause-comparisons : goal.returns-in_err-key-clause-comparisons
 returns-in_err-key-clause-comparisons c =
@@ -135,20 +131,20 @@ pub returns-in_err-key-clause-once : goal.returns-in_err-key-clause-once
 returns-in_err-key-clause-once c = subst EachTaskOnce c.self.view_is (each_task_once c.self.invariant.0 (c.self.inside.limit - c.self.inside.held))
 
 -- what was removed from the ready list
-removed_ready : (c : In_ok-key) → (set.contains (list_of c.self.inside.heaps c.self.inside.ready) c.in_ok-key.key ≡ true) × (c.in_ok-key.key.task ≡ c.args.task)
-    × (c.remove.new.self ≡ record (with_list c.self.inside.heaps c.self.inside.ready (other_keys (list_of c.self.inside.heaps c.self.inside.ready) c.args.task)) { spare = c.self.inside.heaps.spare + 1 })
+removed_ready : (c : In_ok-key) → (set.contains c.self.inside.heaps.main c.in_ok-key.key ≡ true) × (c.in_ok-key.key.task ≡ c.args.task)
+    × (c.remove_main.new.self ≡ record c.self.inside.heaps { main = other_keys c.self.inside.heaps.main c.args.task; spare = c.self.inside.heaps.spare + 1 })
 removed_ready c =
-    subst (λ (h : Heaps). (set.contains (list_of h c.self.inside.ready) c.in_ok-key.key ≡ true) × (c.in_ok-key.key.task ≡ c.args.task)
-    × (c.remove.new.self ≡ record (with_list h c.self.inside.ready (other_keys (list_of h c.self.inside.ready) c.args.task)) { spare = h.spare + 1 }))
+    subst (λ (h : Heaps). (set.contains h.main c.in_ok-key.key ≡ true) × (c.in_ok-key.key.task ≡ c.args.task)
+    × (c.remove_main.new.self ≡ record h { main = other_keys h.main c.args.task; spare = h.spare + 1 }))
     c.in_default.ensures.removed.0 c.in_ok-key.ensures.removed
 
 -- the calendar after a removal from the ready list
-from_ready : (c : In_ok-key) → (1 ≤ c.self.inside.held) × IsCalendarAfter c.remove.new.self c.self.inside.ready c.self.inside.waiting.items c.self.inside.unused.items
+from_ready : (c : In_ok-key) → (1 ≤ c.self.inside.held) × IsCalendarAfter c.remove_main.new.self c.self.inside.waiting.items c.self.inside.unused.items
     (c.self.inside.held - 1) c.self.inside.limit (vec_capacity c.self.inside.waiting) (vec_capacity c.self.inside.unused)
     (record c.args.self.now { ready = set.remove c.args.self.now.ready c.in_ok-key.key; spare = c.args.self.now.spare + 1 })
 from_ready c =
     let r = removed_ready c in
-    popped c.self.invariant.0 c.self.view_is c.in_ok-key.key r.0 (ready_removed c.self.invariant.0.laid c.remove.new.self c.args.task c.in_ok-key.key r.1 r.0 r.2)
+    popped c.self.invariant.0 c.self.view_is c.in_ok-key.key r.0 (ready_removed c.self.invariant.0.laid c.remove_main.new.self c.args.task c.in_ok-key.key r.1 r.0 r.2)
 
 pub overflow_sub-self-2 : goal.overflow_sub-self-2
 overflow_sub-self-2 c = (from_ready (goal.at.overflow_sub-self-2 c).In_ok-key).0
@@ -176,8 +172,8 @@ returns-clause-some c = none_empty (from_ready (goal.at.returns-clause-some c).I
 
 pub returns-clause-comparisons : goal.returns-clause-comparisons
 returns-clause-comparisons c =
-    let start : Compares (2 * digits (set.len (list_of c.self.inside.heaps c.self.inside.ready))) c.args.meter.now c.remove.new.meter =
-    subst (λ (a : Counts × Heaps). Compares (2 * digits (set.len (list_of a.1 c.self.inside.ready))) a.0 c.remove.new.meter)
+    let start : Compares (2 * digits (set.len c.self.inside.heaps.main)) c.args.meter.now c.remove_main.new.meter =
+    subst (λ (a : Counts × Heaps). Compares (2 * digits (set.len a.1.main)) a.0 c.remove_main.new.meter)
     (λ i. (c.in_default.ensures.unfound i, c.in_default.ensures.removed.0 i)) c.in_ok-key.ensures.comparisons in
     compares_within (omega (arith, ready_digits c.self.invariant.0.laid c.self.view_is)) start
 

@@ -1,6 +1,7 @@
 use Rattle.std.proofs.Common.{◌≡◌, ◌++◌, ap, ◌∙◌, refl, sym}
 use Rattle.std.proofs.lemmas.List.{append-nil}
-use Rattle.pf_stream.proofs.Sending.{anyway, none_written}
+use Rattle.pf_facts.proofs.Options.{anyway}
+use Rattle.pf_stream.proofs.Sending.{none_written}
 use Rattle.pf_check.specs.Reports.{fault_shown, report_text}
 use Rattle.pf_check.proofs.Written.{front_of}
 use Rattle.pf_check.proofs.checker.Checker.put_report.Goals as goal

@@ -1,5 +1,6 @@
 use Rattle.std.proofs.Common.{◌≡◌, ◌++◌, ap, ◌∙◌, refl}
-use Rattle.pf_stream.proofs.Sending.{anyway, none_written, so-far-unfinished}
+use Rattle.pf_facts.proofs.Options.{anyway}
+use Rattle.pf_stream.proofs.Sending.{none_written, so-far-unfinished}
 use Rattle.pf_check.specs.Reports.{totals_text}
 use Rattle.pf_check.proofs.Written.{front_of}
 use Rattle.pf_check.proofs.checker.Checker.write_totals.Goals as goal

@@ -1,4 +1,4 @@
-use Rattle.std.proofs.Common.{subst, true, arith}
+use Rattle.std.proofs.Common.{subst, true}
 use Rattle.pf_desk.specs.Recorded.{Recorded, HasNoLessRoom}
 use Rattle.pf_desk.specs.Laid.{recorded_by}
 use Rattle.pf_desk.proofs.Laying.{laid_with_room, room_made}
@@ -10,7 +10,7 @@ invariant_of-self-2 c =
     rw (c.in_ok-reserve.ensures.items, c.in_ok-reserve-2.ensures.items)
     (laid_with_room inside.processors inside.slots inside.has_room inside.briefs.items inside.settled.items inside.rows _ _ c.self.invariant
     c.lay_row.new.rows _ _ c.in_ok-lay_row.ensures.ok
-    (omega (arith, c.in_ok-reserve.ensures.ok, inside.briefs.ok.0)) c.in_ok-reserve-2.ensures.ok)
+    c.in_ok-reserve.ensures.ok c.in_ok-reserve-2.ensures.ok)
 
 pub returns-clause-same : goal.returns-clause-same
 returns-clause-same c =

@@ -1,4 +1,4 @@
-use Rattle.std.proofs.Common.{sym, ap, ◌∙◌}
+use Rattle.std.proofs.Common.{Some, sym, ap, ◌∙◌, arith}
 use Rattle.pf_scenario.specs.Scenario.{number_of_change, plan_after}
 use Rattle.pf_desk.proofs.Changes.{agrees_changed}
 use Rattle.pf_desk.proofs.Metered.{counts_replayed}
@@ -11,7 +11,7 @@ pub returns-in_err-changed-clause-at_most : goal.returns-in_err-changed-clause-a
 returns-in_err-changed-clause-at_most c = counts_none _ _
 
 pub make-requires : goal.make-requires
-make-requires c = rw c.in_ok-changed.ensures.value c.requires.faultless
+make-requires c = rw c.in_ok-changed.ensures.value c.requires.checked
 
 pub returns-in_err-id-clause-at_most : goal.returns-in_err-id-clause-at_most
 returns-in_err-id-clause-at_most c = counts_none _ _
@@ -19,18 +19,19 @@ returns-in_err-id-clause-at_most c = counts_none _ _
 pub rewritten-requires-clause-agrees : goal.rewritten-requires-clause-agrees
 rewritten-requires-clause-agrees c =
     rw (c.in_ok-id.ensures.ok.1, c.in_ok-changed.ensures.value)
-    (agrees_changed _ _ _ _ c.requires.stands.run c.requires.faultless c.requires.touched c.requires.below)
+    (agrees_changed _ _ _ _ c.requires.stands.run c.requires.checked.faultless (c.requires.checked.touched ∙ ap Some (sym c.first_slot-from.ensures)) (omega (arith, c.requires.below, c.first_slot-from.ensures)))
 
 pub returns-in_err-timeline-clause-at_most : goal.returns-in_err-timeline-clause-at_most
 returns-in_err-timeline-clause-at_most c =
-    counts_replayed _ _ _ _ _ _ c.requires.below c.rewritten.ensures.at_most c.rewritten.ensures.close c.requires.stands.near c.rewritten.ensures.within
+    rw (← c.first_slot-from.ensures)
+    (counts_replayed _ _ _ _ _ _ (omega (arith, c.requires.below, c.first_slot-from.ensures)) c.rewritten.ensures.at_most c.rewritten.ensures.close c.requires.stands.near c.rewritten.ensures.within)
 
 changes : (c : In_ok-timeline) →
-    Changes c.args.self.now c.args.change c.in_ok-id.id (record { scenario = c.make.new.self; timeline = c.in_ok-timeline.timeline })
+    Changes c.args.self.now c.args.checked.change c.in_ok-id.id (record { scenario = c.make.new.self; timeline = c.in_ok-timeline.timeline })
 changes c = record {
-  faultless = c.requires.faultless;
-  id_is = c.in_ok-id.ensures.ok.0 ∙ ap (λ plan. number_of_change plan c.args.change) c.in_ok-changed.ensures.value;
-  scenario = c.in_ok-id.ensures.ok.1 ∙ ap (λ plan. plan_after plan c.args.change) c.in_ok-changed.ensures.value;
+  faultless = c.requires.checked.faultless;
+  id_is = c.in_ok-id.ensures.ok.0 ∙ ap (λ plan. number_of_change plan c.args.checked.change) c.in_ok-changed.ensures.value;
+  scenario = c.in_ok-id.ensures.ok.1 ∙ ap (λ plan. plan_after plan c.args.checked.change) c.in_ok-changed.ensures.value;
   stands = c.in_ok-timeline.ensures.stands;
   near = reaches_rewritten _ _ _ _ c.requires.stands.near c.in_ok-timeline.ensures.near c.in_ok-timeline.ensures.stands.slots;
   every = c.in_ok-timeline.ensures.every;
@@ -44,7 +45,8 @@ returns-in-Some-clause-ok c =
 
 pub returns-in-Some-clause-at_most : goal.returns-in-Some-clause-at_most
 returns-in-Some-clause-at_most c =
-    counts_replayed _ _ _ _ _ _ c.requires.below c.rewritten.ensures.at_most c.rewritten.ensures.close c.requires.stands.near c.rewritten.ensures.within
+    rw (← c.first_slot-from.ensures)
+    (counts_replayed _ _ _ _ _ _ (omega (arith, c.requires.below, c.first_slot-from.ensures)) c.rewritten.ensures.at_most c.rewritten.ensures.close c.requires.stands.near c.rewritten.ensures.within)
 
 pub returns-clause-ok : goal.returns-clause-ok
 returns-clause-ok c =
@@ -53,4 +55,5 @@ returns-clause-ok c =
 
 pub returns-clause-at_most : goal.returns-clause-at_most
 returns-clause-at_most c =
-    counts_replayed _ _ _ _ _ _ c.requires.below c.rewritten.ensures.at_most c.rewritten.ensures.close c.requires.stands.near c.rewritten.ensures.within
+    rw (← c.first_slot-from.ensures)
+    (counts_replayed _ _ _ _ _ _ (omega (arith, c.requires.below, c.first_slot-from.ensures)) c.rewritten.ensures.at_most c.rewritten.ensures.close c.requires.stands.near c.rewritten.ensures.within)

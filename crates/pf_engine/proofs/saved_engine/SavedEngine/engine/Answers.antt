@@ -66,7 +66,6 @@ reserve_task-requires c =
     let g = (goal.at.reserve_task-requires c).After-deref-saved-items in
     omega (
       arith,
-      c.from-task.ensures,
       (next_inside _ _ c.deref-saved-items.result.now c.loop-saved.saved-index (is_engine g) (over g) (are g) (omega arith)).task_within,
     )
 
@@ -83,7 +82,8 @@ returns-in_err-reserve_task-2-clause-comparisons c =
 pub push-requires-clause-absent : goal.push-requires-clause-absent
 push-requires-clause-absent c =
     let g = (goal.at.push-requires-clause-absent c).After-deref-saved-items in
-    ap₂ (λ tasks t. member_in tasks t) (c.in_ok-reserve_task.ensures.tasks ∙ c.loop-saved.invariant.tasks) c.from-task.ensures
+    ap (λ tasks. member_in tasks (get_or c.deref-saved-items.result.now c.loop-saved.saved-index no_task).task)
+    (c.in_ok-reserve_task.ensures.tasks ∙ c.loop-saved.invariant.tasks)
     ∙ next_absent _ _ c.deref-saved-items.result.now c.loop-saved.saved-index (is_engine g) (over g) (are g) (omega arith)
 
 pub push-requires-clause-room : goal.push-requires-clause-room
@@ -106,7 +106,6 @@ put_next-requires-clause-some c =
     let g = (goal.at.put_next-requires-clause-some c).After-deref-saved-items in
     omega (
       arith,
-      c.from-task.ensures,
       (next_inside _ _ c.deref-saved-items.result.now c.loop-saved.saved-index (is_engine g) (over g) (are g) (omega arith)).task_some,
     )
 
@@ -141,8 +140,9 @@ pub put_next-requires-clause-absent : goal.put_next-requires-clause-absent
 put_next-requires-clause-absent c =
     let at = goal.at.put_next-requires-clause-absent c in
     let g = at.After-deref-saved-items in
-    absent_task c.from-task.result
-    (ap₂ (λ tasks t. member_in tasks t) c.loop-saved.invariant.tasks c.from-task.ensures
+    let task = (get_or c.deref-saved-items.result.now c.loop-saved.saved-index no_task).task in
+    absent_task task
+    (ap (λ tasks. member_in tasks task) c.loop-saved.invariant.tasks
     ∙ next_absent _ _ c.deref-saved-items.result.now c.loop-saved.saved-index (is_engine g) (over g) (are g) (omega arith))
     (roomy at.In_ok-reserve_task-2 c.in_ok-reserve_task-2.ensures.ok)
 
@@ -152,21 +152,22 @@ loop-saved-preserved c =
     let g = at.After-deref-saved-items in
     let i = c.loop-saved.saved-index in
     let within : i < length c.deref-saved-items.result.now = omega arith in
-    let new : KeptTask = record { task = c.from-task.result; member = c.member-member.result } in
+    let task = (get_or c.deref-saved-items.result.now c.loop-saved.saved-index no_task).task in
+    let new : KeptTask = record { task = task; member = c.member-member.result } in
     let pushed = c.push.ensures.tasks ∙ ap (λ ts. ts ++ new ∷ []) c.in_ok-reserve_task.ensures.tasks in
     let ok = c.in_ok-reserve_task-2.ensures.ok in
     let before = roomy at.In_ok-reserve_task-2 ok in
     let now : c.self.inside.slots ≡ c.args.self.now.now = ap (λ (k : Kept). k.now) c.self.view_is in
     record {
       tasks = pushed
-          ∙ ap₂ (λ ts k. ts ++ k ∷ []) c.loop-saved.invariant.tasks (λ j. record { task = c.from-task.ensures j; member = member_is at.After-member-member j })
+          ∙ ap₂ (λ ts k. ts ++ k ∷ []) c.loop-saved.invariant.tasks (λ j. record { task = task; member = member_is at.After-member-member j })
           ∙ sym (next_comes _ _ c.deref-saved-items.result.now i (is_engine g) (over g) (are g) within);
       agenda = subst (λ ts. IsAgenda c.put_next.new.calendar c.args.self.now.now ts []) (sym pushed)
           (agenda_joined c.reserve_task-in-loop-saved.new.self c.put_next.new.calendar c.args.self.now.now _ c.loop-saved.tasks.tasks new refl
           (c.put_next.ensures.put
-          ∙ ap (λ n. with_put c.reserve_task-in-loop-saved.new.self (max (eligible_from c.member-member.result) n) (next_key c.from-task.result c.member-member.result)) now)
+          ∙ ap (λ n. with_put c.reserve_task-in-loop-saved.new.self (max (eligible_from c.member-member.result) n) (next_key task c.member-member.result)) now)
           c.put_next.ensures.counted c.put_next.ensures.some
-          (omega (arith, c.from-task.ensures, ap (λ (q : Queues). q.tasks) ok)) before);
+          (omega (arith, ap (λ (q : Queues). q.tasks) ok)) before);
       spare = omega (arith, c.push.ensures.spare, c.in_ok-reserve_task.ensures.spare, c.loop-saved.invariant.spare);
       key_spare = omega (
         arith,

@@ -1,62 +1,55 @@
-use Rattle.std.proofs.Common.{◌≡◌, ℕ, ◌∙◌, ◌+◌, ◌-◌, length, ap, arith, set, take, drop, ◌++◌}
-use Rattle.std.specs.Vec.{vec_capacity}
+use Rattle.std.proofs.Common.{◌≡◌, ◌+◌, ◌-◌, ◌++◌, length, set, take, drop, ap, ◌∙◌, arith}
+use Rattle.std.proofs.Math.ListN.{length-set}
 use Rattle.std.specs.FinSet as fin
-use Rattle.pf_table.specs.Grown.{Grown}
 use Rattle.pf_heap.specs.Keys.{list_of, with_list}
 use Rattle.pf_heap.specs.Digits.{digits}
 use Rattle.pf_heap.proofs.Lists.{written_back}
-use Rattle.pf_heap.proofs.Whole.{name_within, now_spare, now_tasks, few, IsArenaAfter, arena_as}
-use Rattle.pf_heap.proofs.Changes.{has_spares, all_used, insert_heaps, inserted}
+use Rattle.pf_heap.proofs.Whole.{name_within, now_tasks}
+use Rattle.pf_heap.proofs.Changes.{IsArenaAfter, arena_as, fresh}
+use Rattle.pf_heap.proofs.Inserting.{inserted}
+use Rattle.pf_heap.proofs.Inserting.{insert_heaps}
+use Rattle.pf_heap.proofs.arena.Arena.insert.Goals.{After-add-heap}
 use Rattle.pf_heap.proofs.arena.Arena.insert.Goals as goal
-use Rattle.pf_heap.proofs.arena.Arena.insert.Goals.{After-set}
 
-pub settle-at-requires-clause-can : goal.settle-at-requires-clause-can
-settle-at-requires-clause-can c = has_spares c.self.invariant.0
-
-pub settle-at-requires-clause-room : goal.settle-at-requires-clause-room
-settle-at-requires-clause-room c = λ e.
-    let a = c.self.invariant.0 in
-    omega (arith, all_used a e, a.fits, c.requires.room, now_spare a c.self.view_is, c.self.inside.nodes.ok.0)
-
-pub settle-at-requires-clause-low : goal.settle-at-requires-clause-low
-settle-at-requires-clause-low c = λ e.
-    let a = c.self.invariant.0 in
-    omega (arith, all_used a e, few a, a.places_few, c.self.inside.nodes.ok.0)
-
-pub index-requires : goal.index-requires
-index-requires c = name_within c.self.invariant.0 c.self.view_is c.h.view_is c.self.inside.heads.ok.0 c.requires.heap
+pub index-head-requires : goal.index-head-requires
+index-head-requires c = name_within c.self.invariant c.self.view_is c.h.view_is c.self.inside.heads.ok.0 c.requires.heap
 
 pub index_mut-requires : goal.index_mut-requires
-index_mut-requires c = name_within c.self.invariant.0 c.self.view_is c.h.view_is c.self.inside.heads.ok.0 c.requires.heap
+index_mut-requires c = omega (arith, now_tasks c.self.invariant c.self.view_is, c.requires.placed, c.task-task.ensures.value, c.self.inside.nodes.ok.0)
 
 pub add-heap-requires : goal.add-heap-requires
 add-heap-requires c = record {
-  can = insert_heaps c.self.invariant.0 c.self.view_is c.h.view_is c.requires.heap c.index.ensures c.requires.placed c.requires.absent
-      c.requires.room c.settle-at.ensures.settled c.deref_mut.ensures.value;
+  can = insert_heaps c.self.invariant c.self.view_is c.args.key c.h.view_is c.requires.heap c.index-head.ensures c.requires.placed c.requires.absent c.requires.room
+      (c.deref_mut.ensures.value ∙ ap (λ x. set c.self.inside.nodes.items x (fresh c.args.key)) c.task-task.ensures.value) c.task-task.ensures.value;
 }
 
-pub set-requires : goal.set-requires
-set-requires c = omega (arith, now_tasks c.self.invariant.0 c.self.view_is, c.requires.placed, c.task-task.ensures.value)
+pub index_mut-requires-2 : goal.index_mut-requires-2
+index_mut-requires-2 c = name_within c.self.invariant c.self.view_is c.h.view_is c.self.inside.heads.ok.0 c.requires.heap
 
 -- the arena after the insert
-done : (c : After-set) →
-    IsArenaAfter (take c.settle-at.new.nodes.len (c.add-heap.new.nodes ++ drop (length c.add-heap.new.nodes) c.settle-at.new.nodes.items))
-    (set c.self.inside.heads.items c.h.inside.index c.add-heap.result) c.set.new.self.0
-    c.settle-at.result.1 (c.self.inside.room - 1) (vec_capacity c.settle-at.new.nodes)
+done : (c : After-add-heap) →
+    IsArenaAfter (take c.self.inside.nodes.len (c.add-heap.new.nodes ++ drop (length c.add-heap.new.nodes) (set c.self.inside.nodes.items c.task-task.result (fresh c.args.key))))
+    (set c.self.inside.heads.items c.h.inside.index c.add-heap.result) c.self.inside.main (c.self.inside.room - 1)
     (record (with_list c.args.self.now c.args.h (fin.insert (list_of c.args.self.now c.args.h) c.args.key)) { spare = c.args.self.now.spare - 1 })
     (digits (fin.len (list_of c.args.self.now c.args.h) + 1)) c.args.meter.now c.add-heap.new.meter
 done c =
-    let long : length c.add-heap.new.nodes ≡ length c.settle-at.new.nodes.items = omega (arith, ap length c.deref_mut.ensures.value) in
-    arena_as (written_back c.add-heap.new.nodes c.settle-at.new.nodes.items c.settle-at.new.nodes.len long (omega (arith, c.settle-at.new.nodes.ok.0)))
-    (ap (λ x. set c.self.inside.heads.items x c.add-heap.result) c.h.view_is) (ap (λ (p : Grown ℕ). p.0) c.set.ensures ∙ ap (λ x. set c.self.inside.places.0 x c.settle-at.result.0) c.task-task.ensures.value)
-    (inserted c.self.invariant.0 c.self.view_is c.h.view_is c.requires.heap c.index.ensures c.requires.placed c.requires.absent
-    c.requires.room c.settle-at.ensures.settled c.deref_mut.ensures.value c.add-heap.ensures long c.settle-at.ensures.capacity)
+    let a = c.self.invariant in
+    let e = c.deref_mut.ensures.value ∙ ap (λ x. set c.self.inside.nodes.items x (fresh c.args.key)) c.task-task.ensures.value in
+    let long : length c.add-heap.new.nodes ≡ length c.self.inside.nodes.items =
+    omega (arith, ap length c.deref_mut.ensures.value, length-set c.self.inside.nodes.items c.task-task.result (fresh c.args.key)) in
+    let same : length c.add-heap.new.nodes ≡ length (set c.self.inside.nodes.items c.task-task.result (fresh c.args.key)) = omega (arith, ap length c.deref_mut.ensures.value) in
+    let m = c.add-heap.ensures (insert_heaps a c.self.view_is c.args.key c.h.view_is c.requires.heap c.index-head.ensures c.requires.placed c.requires.absent c.requires.room
+    e c.task-task.ensures.value) in
+    arena_as (written_back c.add-heap.new.nodes (set c.self.inside.nodes.items c.task-task.result (fresh c.args.key)) c.self.inside.nodes.len same
+    (omega (arith, c.self.inside.nodes.ok.0, length-set c.self.inside.nodes.items c.task-task.result (fresh c.args.key))))
+    (ap (λ x. set c.self.inside.heads.items x c.add-heap.result) c.h.view_is)
+    (inserted a c.self.view_is c.args.key c.h.view_is c.requires.heap c.index-head.ensures c.requires.placed c.requires.absent c.requires.room m long)
 
 pub invariant_of-self : goal.invariant_of-self
-invariant_of-self c = ((done (goal.at.invariant_of-self c).After-set).arena, ap (λ (p : Grown ℕ). p.1) c.set.ensures ∙ c.self.invariant.1)
+invariant_of-self c = (done (goal.at.invariant_of-self c).After-add-heap).arena
 
 pub returns-clause-inserted : goal.returns-clause-inserted
-returns-clause-inserted c = (done (goal.at.returns-clause-inserted c).After-set).view
+returns-clause-inserted c = (done (goal.at.returns-clause-inserted c).After-add-heap).view
 
 pub returns-clause-comparisons : goal.returns-clause-comparisons
-returns-clause-comparisons c = (done (goal.at.returns-clause-comparisons c).After-set).counted
+returns-clause-comparisons c = (done (goal.at.returns-clause-comparisons c).After-add-heap).counted

@@ -1,28 +1,23 @@
 use Rattle.std.proofs.Common.{◌≡◌, ◌+◌, ◌*◌, ◌/◌, ◌%◌, ◌-◌, ◌≤◌, length, ap, ap₂, sym, ◌∙◌, arith}
 use Rattle.std.specs.List.{slice_get}
-use Rattle.pf_place.specs.Filed.{rows_of_each}
-use Rattle.pf_place.proofs.Filed.{got_in_full, got_in_last, count_blocks, block_at, none_within}
+use Rattle.pf_place.proofs.Filed.{got_in_full, got_in_last, none_within}
 use Rattle.pf_place.proofs.rows.Rows.get.Goals as goal
 
 pub returns-in-Some : goal.returns-in-Some
 returns-in-Some c =
     let inside = c.self.inside in
-    let full = rows_of_each inside.full in
     let q = c.args.t / 256 in
     let r = c.args.t % 256 in
     let at : q * 256 + r ≡ c.args.t = omega arith in
-    let block = c.in-Some.block.now in
     c.row.ensures
-    ∙ sym (got_in_full full inside.last.rows block.rows q r c.self.invariant.whole (block_at inside.full q block c.in-Some.ensures) (omega arith))
+    ∙ sym (got_in_full inside.full inside.last.rows c.in-Some.block.now q r c.self.invariant.whole c.in-Some.ensures (omega arith))
     ∙ ap₂ slice_get c.self.view_is at
 
 pub returns-in-None : goal.returns-in-None
 returns-in-None c =
     let inside = c.self.inside in
-    let full = rows_of_each inside.full in
-    let count : c.len.result ≡ length full = omega (arith, c.len.ensures, count_blocks inside.full) in
     let past : length inside.full ≤ c.args.t / 256 = none_within inside.full (c.args.t / 256) c.in-None.ensures in
     c.row-in-None.ensures
-    ∙ ap (λ n. slice_get inside.last.rows (c.args.t - n * 256)) count
-    ∙ sym (got_in_last full inside.last.rows c.args.t c.self.invariant.whole (omega (arith, count_blocks inside.full)))
+    ∙ ap (λ n. slice_get inside.last.rows (c.args.t - n * 256)) c.len.ensures
+    ∙ sym (got_in_last inside.full inside.last.rows c.args.t c.self.invariant.whole (omega arith))
     ∙ ap (λ rows. slice_get rows c.args.t) c.self.view_is

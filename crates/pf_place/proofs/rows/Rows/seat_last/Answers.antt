@@ -1,5 +1,4 @@
 use Rattle.std.proofs.Common.{◌++◌, [], ◌∷◌, length, ap, ◌∙◌, arith}
-use Rattle.pf_place.specs.Filed.{rows_of_each}
 use Rattle.pf_place.specs.Blocks.{all_rows_of}
 use Rattle.pf_place.specs.Occupancy.{row_of}
 use Rattle.pf_place.specs.RunRows.{last_row, but_last, row_before}
@@ -11,16 +10,16 @@ use Rattle.pf_place.proofs.rows.Rows.seat_last.Goals as goal
 pub seat_last-requires-clause-in_use : goal.seat_last-requires-clause-in_use
 seat_last-requires-clause-in_use c =
     let inside = c.self.inside in
-    let front = all_rows_of (rows_of_each inside.full) in
-    let some = some_in_last (rows_of_each inside.full) inside.last c.self.invariant (omega (arith, ap length c.self.view_is, c.requires.some)) in
+    let front = all_rows_of inside.full in
+    let some = some_in_last inside.full inside.last c.self.invariant (omega (arith, ap length c.self.view_is, c.requires.some)) in
     omega (arith, c.requires.turn.in_use, ap length (last_is front inside.last.rows c.args.self.now some c.self.view_is))
 
 pub returns-clause-rows : goal.returns-clause-rows
 returns-clause-rows c =
     let inside = c.self.inside in
-    let front = all_rows_of (rows_of_each inside.full) in
-    let some = some_in_last (rows_of_each inside.full) inside.last c.self.invariant (omega (arith, ap length c.self.view_is, c.requires.some)) in
-    let above = c.last_places-above.ensures in
+    let front = all_rows_of inside.full in
+    let some = some_in_last inside.full inside.last c.self.invariant (omega (arith, ap length c.self.view_is, c.requires.some)) in
+    let above = c.last_row-above.ensures in
     ap (λ rows. front ++ rows)
     (c.seat_last.ensures.rows ∙ ap (λ above. but_last inside.last.rows ++ row_of (length (last_row [] inside.last.rows)) c.args.count (last_row above (but_last inside.last.rows)) c.args.picks.now ∷ []) above)
     ∙ row_seated front inside.last.rows c.args.self.now some c.self.view_is c.args.count c.args.picks.now c.requires.turn.in_use

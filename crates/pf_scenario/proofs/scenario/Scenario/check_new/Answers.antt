@@ -6,8 +6,8 @@ use Rattle.pf_scenario.specs.declared.event.Numbered.{Numbered}
 use Rattle.pf_scenario.proofs.Keeping.{without_nothing}
 use Rattle.pf_scenario.proofs.scenario.Scenario.check_new.Goals as goal
 
-pub returns : goal.returns
-returns c =
+pub returns-clause-value : goal.returns-clause-value
+returns-clause-value c =
     let events = c.self.inside.events in
     let same = without_nothing events c.self.inside.next c.self.invariant.given in
     let E : List Numbered → Type 0 = λ others. result_err c.check_event.result ≡ event_fault c.args.self.now.settings others c.args.event.now in

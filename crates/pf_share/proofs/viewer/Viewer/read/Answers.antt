@@ -1,7 +1,7 @@
 use Rattle.std.proofs.Common.{◌++◌, ◌∷◌, [], length, ap, ◌∙◌, refl, inl, inr}
 use Rattle.left_right.specs.Sides.{view}
+use Rattle.pf_facts.proofs.Prefixes.{prefix_self}
 use Rattle.pf_share.proofs.Growing.{enters, prefix_into, viewed}
-use Rattle.pf_share.proofs.Prefixes.{prefix_self}
 use Rattle.pf_share.proofs.viewer.Viewer.read.Goals as goal
 
 pub enter_as-requires : goal.enter_as-requires

@@ -1,7 +1,8 @@
 use Rattle.std.proofs.Common.{◌≡◌, ◌≤◌, ◌∙◌, ◌++◌, length, ap, subst, rules, tests}
+use Rattle.pf_facts.proofs.Lists.{none_long}
 use Rattle.pf_text.specs.Pieces.{TakesPiece}
 use Rattle.pf_task_lines.specs.Lines.{shown_line}
-use Rattle.pf_task_lines.proofs.Shown.{behind_last, last_is, last_shown, none_of}
+use Rattle.pf_task_lines.proofs.Shown.{behind_last, last_is, last_shown}
 use Rattle.pf_task_lines.proofs.listed_lines.ListedLinesPieces.next_piece.Goals as goal
 
 pub returns-then-is_empty-clause-text : goal.returns-then-is_empty-clause-text
@@ -13,7 +14,7 @@ returns-then-is_empty-clause-text g c =
     let zero : length c.take_line.new.shown.items ≡ 0 = search (rules, tests) in (
       last_is was.tasks was.column was.line.items c.take_line.new.line.items c.take_line.new.shown.items (left was.pieces) (left c.next_piece.new.self) _ taken
           c.pieces.invariant shows c.in_ok-take_line.ensures.line
-          ∙ none_of c.take_line.new.shown.items zero,
+          ∙ none_long c.take_line.new.shown.items zero,
       behind_last was.tasks was.column was.line.items c.take_line.new.line.items c.take_line.new.shown.items (left was.pieces) (left c.next_piece.new.self) _ taken
           c.pieces.invariant shows c.in_ok-take_line.ensures.line,
     )

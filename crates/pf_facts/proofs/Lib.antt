@@ -1,0 +1,9 @@
+pub mod Digits
+pub mod Filters
+pub mod Finding
+pub mod Lists
+pub mod Options
+pub mod Orders
+pub mod Prefixes
+pub mod Ranges
+pub mod Sums
