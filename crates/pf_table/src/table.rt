@@ -1,5 +1,7 @@
-ghost use Rattle.std.specs.Prelude.{◌≡◌, ℕ, ◌+◌, ◌<◌, [], length, IfOk, OnOk, OnErr};
+ghost use Rattle.std.specs.Prelude.{◌≡◌, ℕ, ◌+◌, ◌<◌, ◌↔◌, [], length, IsSome, IfSome, IfOk, OnOk, OnErr};
+ghost use Rattle.std.specs.Borrow.{sem};
 ghost use Rattle.pf_table.specs.Grown.{value_of, size_of, with_value, grown_to};
+ghost use Rattle.pf_table.specs.Lends.{lends_value};
 
 use std::alloc::{AllocError, Global};
 use std::marker::Model;
@@ -56,6 +58,15 @@ impl<T: Copy> Table<T> {
             Some(value) => *value,
             None => self.fill,
         }
+    }
+
+    /// The number's own value, for writing: none, where no room was made for it.
+    pub fn get_mut(&mut self, task: u32) -> Option<&mut T>
+        ensures* writes_back { sem 𝓛 (lends_value T.row self.entry task result) }
+        ensures room { IsSome result ↔ (task < size_of self.old) }
+        ensures value { IfSome result (λ x. x.now ≡ value_of self.old task) }
+    {
+        self.values.get_mut(task as usize)
     }
 
     /// Sets the value of the number, for which there must be room.

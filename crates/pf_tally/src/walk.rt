@@ -97,12 +97,13 @@ impl Walk {
         requires slot { t < WIDE_HORIZON }
         ensures { OnOk result (HaveRun self.old self.new (λ n. task == n) t) }
     {
-        if let Some(mut progress) = self.progress.get(task) {
-            if progress.is_due(t) {
-                self.late.note(u64::from(task), progress.ran_late(task, t))?;
+        if let Some(place) = self.progress.get_mut(task) {
+            if let Some(progress) = place {
+                if progress.is_due(t) {
+                    self.late.note(u64::from(task), progress.ran_late(task, t))?;
+                }
+                progress.received += 1;
             }
-            progress.received += 1;
-            self.progress.set(task, Some(progress));
         }
         Ok(())
     }
@@ -155,15 +156,16 @@ impl Walk {
         ensures { OnOk result (IsHeldBack self.old self.new task by) }
     {
         let number = number_of(task);
-        if let Some(mut progress) = self.progress.get(number) {
-            let held = Held {
-                sub: u64::from(progress.received) + 1,
-                shift: progress.shift,
-                by,
-            };
-            self.delays.note(task, held)?;
-            progress.shift += by;
-            self.progress.set(number, Some(progress));
+        if let Some(place) = self.progress.get_mut(number) {
+            if let Some(progress) = place {
+                let held = Held {
+                    sub: u64::from(progress.received) + 1,
+                    shift: progress.shift,
+                    by,
+                };
+                self.delays.note(task, held)?;
+                progress.shift += by;
+            }
         }
         Ok(())
     }
