@@ -174,6 +174,19 @@ keys_differ keys one i j d before within same =
 
 -- ---- one key after another is taken out
 
+pub takes_none : (q : Queues) → TakesFirst q q []
+takes_none q = record {
+  split = λ k h. inr h;
+  taken = λ k at. absurd (contains_none k at);
+  left = λ k h. h;
+  in_order = λ i j d before within. absurd (omega arith);
+  ahead = λ x y at h. absurd (contains_none x at);
+  waiting = refl;
+  tasks = refl;
+  spare = omega arith;
+  counted = omega arith;
+}
+
 pub takes_more : (old q q' : Queues) (keys : List Priority) (k : Priority) → TakesFirst old q keys → IsFirst q.ready k →
     q' ≡ record q { ready = set.remove q.ready k; spare = q.spare + 1 } → EachTaskOnce q → key_count q' + 1 ≡ key_count q → TakesFirst old q' (keys ++ k ∷ [])
 takes_more old q q' keys k t first is once fewer =

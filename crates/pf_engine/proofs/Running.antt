@@ -1,32 +1,47 @@
 -- One turn of the loop that runs the chosen subtasks.
-use Rattle.std.proofs.Common.{◌≡◌, ◌≢◌, ℕ, ◌+◌, ◌^◌, ◌<◌, ◌≤◌, None, Some, Option, List, [], ◌∷◌, ◌++◌, length, map, take, drop, get_or, fold, All, Contains, refl, sym, ap, ◌∙◌, subst, arith}
-use Rattle.std.proofs.lemmas.List.{take_more, drop_more, map-append}
+use Rattle.std.proofs.Common.{◌≡◌, ◌≢◌, ℕ, zero, suc, ◌+◌, ◌^◌, ◌<◌, ◌≤◌, None, Some, Option, List, [], ◌∷◌, length, map, take, drop, get_or, fold, All, Contains, refl, sym, ap, ◌∙◌, subst, arith}
+use Rattle.std.proofs.lemmas.List.{take_more, drop_more}
 use Rattle.std.proofs.lemmas.List.Sums.{fold_push}
 use Rattle.std.proofs.lemmas.List.Elements.{All-contains}
+use Rattle.pf_weight.specs.declared.task.TheConstants.{LARGEST_TASK}
 use Rattle.pf_order.specs.Priority.{Priority}
+use Rattle.pf_order.specs.declared.pick.Pick.{Pick}
 use Rattle.pf_calendar.specs.Queues.{Queues}
 use Rattle.pf_admit.specs.declared.member.Member.{Member}
 use Rattle.pf_run.specs.Run.{pick_of_key}
 use Rattle.pf_engine.specs.Fits.{KeptTask}
 use Rattle.pf_engine.specs.Kept.{member_in, tasks_after_pick}
+use Rattle.pf_engine.specs.Engines.{IsInside}
 use Rattle.pf_engine.specs.Agenda.{IsAgenda}
 use Rattle.pf_engine.specs.Taking.{CanRun}
 use Rattle.pf_engine.proofs.Places.{has_no_task}
 use Rattle.pf_engine.proofs.Agendas.{found_in, others_apart}
 
-pub picks_more : (keys : List Priority) (i : ℕ) (k : Priority) → i < length keys → k ≡ get_or keys i k →
-    map pick_of_key (take (i + 1) keys) ≡ map pick_of_key (take i keys) ++ pick_of_key k ∷ []
-picks_more keys i k within is =
-    ap (map pick_of_key) (take_more keys i k within ∙ ap (λ x. take i keys ++ x ∷ []) (sym is)) ∙ map-append pick_of_key (take i keys) (k ∷ [])
+-- the key at place i, whose pick this is
+pub record IsKeyOf (keys : List Priority) (i : ℕ) (p : Pick) : Type 0 where
+  pub key : Priority
+  pub is : key ≡ get_or keys i key
+  pub within : i < length keys
+  pub pick : pick_of_key key ≡ p
 
-pub tasks_more : (start tasks tasks' : List KeptTask) (keys : List Priority) (i : ℕ) (k : Priority) → i < length keys → k ≡ get_or keys i k →
-    tasks ≡ fold tasks_after_pick start (map pick_of_key (take i keys)) → tasks' ≡ tasks_after_pick tasks (pick_of_key k) →
-    tasks' ≡ fold tasks_after_pick start (map pick_of_key (take (i + 1) keys))
-tasks_more start tasks tasks' keys i k within is so_far more =
+key_at : (keys : List Priority) (i : ℕ) (d : Pick) → i < length (map pick_of_key keys) → IsKeyOf keys i (get_or (map pick_of_key keys) i d)
+key_at [] i d within = absurd (omega arith)
+key_at (k ∷ ks) zero d within = record { key = k; is = refl; within = omega arith; pick = refl }
+key_at (k ∷ ks) (suc i) d within =
+    let at = key_at ks i d (omega arith) in
+    record { key = at.key; is = at.is; within = omega (arith, at.within); pick = at.pick }
+
+pub key_of : (picks : List Pick) (keys : List Priority) (i : ℕ) (d : Pick) → picks ≡ map pick_of_key keys → i < length picks → IsKeyOf keys i (get_or picks i d)
+key_of picks keys i d are within =
+    subst (λ ps. IsKeyOf keys i (get_or ps i d)) (sym are) (key_at keys i d (omega (arith, within, ap length are)))
+
+pub tasks_more : (start tasks tasks' : List KeptTask) (picks : List Pick) (i : ℕ) (d : Pick) → i < length picks →
+    tasks ≡ fold tasks_after_pick start (take i picks) → tasks' ≡ tasks_after_pick tasks (get_or picks i d) → tasks' ≡ fold tasks_after_pick start (take (i + 1) picks)
+tasks_more start tasks tasks' picks i d within so_far more =
     more
-    ∙ ap (λ ts. tasks_after_pick ts (pick_of_key k)) so_far
-    ∙ sym (fold_push tasks_after_pick start (map pick_of_key (take i keys)) (pick_of_key k))
-    ∙ ap (fold tasks_after_pick start) (sym (picks_more keys i k within is))
+    ∙ ap (λ ts. tasks_after_pick ts (get_or picks i d)) so_far
+    ∙ sym (fold_push tasks_after_pick start (take i picks) (get_or picks i d))
+    ∙ ap (fold tasks_after_pick start) (sym (take_more picks i d within))
 
 -- the first key that is away, and those behind it
 pub next_away : (q : Queues) (now : ℕ) (tasks : List KeptTask) (keys : List Priority) (i : ℕ) (k : Priority) → i < length keys → k ≡ get_or keys i k →
@@ -69,3 +84,12 @@ number_placed {q} tasks task a some =
 -- each is inside at first
 pub all_stay : (tasks : List KeptTask) (k : KeptTask) → Contains tasks k → member_in tasks k.task ≡ None → ⊥
 all_stay tasks k at none = All-contains (λ (x : KeptTask). x.task ≢ k.task) tasks k (has_no_task tasks k.task none) at refl
+
+-- a key is of a task with a number
+pub key_numbered : (slot : ℕ) (tasks : List KeptTask) (keys : List Priority) (i : ℕ) (k : Priority) → CanRun slot tasks keys → i < length keys → k ≡ get_or keys i k →
+    (1 ≤ k.task) × (k.task ≤ LARGEST_TASK)
+key_numbered slot tasks keys i k can within is =
+    let n = can.next k (i, within, sym is) in
+    let inside = All-contains IsInside tasks n.0 can.inside n.1 in
+    let task = ap (λ (x : Priority). x.task) n.2 in
+    (omega (arith, task, inside.task_some), omega (arith, task, inside.task_within))

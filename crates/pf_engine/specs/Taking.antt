@@ -1,7 +1,9 @@
 -- What a slot asks of an engine, and what it makes of it, from what it keeps alone.
-use Rattle.std.specs.Prelude.{◌≡◌, ◌≢◌, ℕ, ◌<◌, ◌≤◌, true, None, List, length, map, All, AllPairs, Contains}
+use Rattle.std.specs.Prelude.{◌≡◌, ◌≢◌, ℕ, ◌+◌, ◌<◌, ◌≤◌, true, None, List, length, map, drop, All, AllPairs, Contains}
 use Rattle.pf_order.specs.Priority.{Priority}
 use Rattle.pf_order.specs.First.{AreFirst}
+use Rattle.pf_order.specs.declared.pick.Pick.{Pick}
+use Rattle.pf_calendar.specs.Queues.{Queues}
 use Rattle.pf_scenario.specs.Event.{is_join_of}
 use Rattle.pf_scenario.specs.Edit.{IsEvent}
 use Rattle.pf_scenario.specs.declared.scenario.TheConstants.{MOST_EVENTS}
@@ -13,6 +15,7 @@ use Rattle.pf_run.specs.Run.{pick_of_key}
 use Rattle.pf_engine.specs.Fits.{KeptTask, Kept, Taken}
 use Rattle.pf_engine.specs.Kept.{member_in, kept_after_event, kept_after_events, denials_of_slot, ready_keys, kept_after_picks}
 use Rattle.pf_engine.specs.Engines.{tasks_of, IsInside, IsEngine}
+use Rattle.pf_engine.specs.Agenda.{TakesFirst, IsAgenda}
 
 -- this event can be taken: it is within its limits, a task that it joins isn't inside, one more task finds a place, and
 -- what is kept afterwards is within its limits, too
@@ -40,3 +43,17 @@ pub record CanRun (slot : ℕ) (tasks : List KeptTask) (keys : List Priority) : 
   pub done : All (λ k. k.member.done ≤ slot) tasks
   pub next : (q : Priority) → Contains keys q → (k : KeptTask) × Contains tasks k × (q ≡ next_key k.task k.member)
   pub differ : AllPairs (λ x y. x.task ≢ y.task) keys
+
+-- these are the picks of the first ready keys, in order, which were taken out
+pub record Chooses (old new : Queues) (picks : List Pick) : Type 0 where
+  pub keys : List Priority
+  pub are : picks ≡ map pick_of_key keys
+  pub first : TakesFirst old new keys
+
+-- these picks are those of keys that could be run in the slot when there were the tasks `start`; so many of them were run
+-- since, and the keys of the others are away still
+pub record AreBeingRun (slot : ℕ) (start : List KeptTask) (picks : List Pick) (run : ℕ) (tasks : List KeptTask) (q : Queues) : Type 0 where
+  pub keys : List Priority
+  pub are : picks ≡ map pick_of_key keys
+  pub can : CanRun slot start keys
+  pub agenda : IsAgenda q (slot + 1) tasks (drop run keys)

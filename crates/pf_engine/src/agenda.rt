@@ -1,4 +1,4 @@
-ghost use Rattle.std.specs.Prelude.{◌≡◌, ◌+◌, ◌*◌, ◌<◌, ◌≤◌, ◌⊎◌, ◌++◌, [], max, length, fold, map, OnOk, vec_len, vec_capacity};
+ghost use Rattle.std.specs.Prelude.{◌≡◌, ◌+◌, ◌*◌, ◌<◌, ◌≤◌, ◌⊎◌, [], max, length, fold, OnOk, vec_capacity};
 ghost use Rattle.std.specs.FinSet as set;
 ghost use Rattle.pf_weight.specs.declared.task.TheConstants.{LARGEST_TASK};
 ghost use Rattle.pf_order.specs.Counts.{Compares};
@@ -6,11 +6,10 @@ ghost use Rattle.pf_heap.specs.Digits.{digits};
 ghost use Rattle.pf_calendar.specs.Queues.{IsQueued, NoneEmpty, key_count};
 ghost use Rattle.pf_admit.specs.Member.{IsMember};
 ghost use Rattle.pf_run.specs.Inside.{eligible_from, next_key};
-ghost use Rattle.pf_run.specs.Run.{pick_of_key};
 ghost use Rattle.pf_engine.specs.Kept.{tasks_after_pick};
-ghost use Rattle.pf_engine.specs.Agenda.{IsAgenda, with_put, TakesFirst};
+ghost use Rattle.pf_engine.specs.Agenda.{IsAgenda, with_put};
 ghost use Rattle.pf_engine.specs.Roll.{AllJoinBelow};
-ghost use Rattle.pf_engine.specs.Taking.{CanRun};
+ghost use Rattle.pf_engine.specs.Taking.{Chooses, AreBeingRun};
 
 use crate::roster::Roster;
 use pf_admit::member::Member;
@@ -68,51 +67,50 @@ pub(crate) fn put_next(
     calendar.put(meter, eligible_from(member).max(from), key);
 }
 
-/// Takes the first `count` ready keys out, in order, or all where there are fewer.
-pub(crate) fn choose(calendar: &mut Calendar, meter: &mut Meter, count: usize, keys: &mut Vec<Key>)
-    requires none { keys.old.items ≡ [] }
-    requires room { count ≤ vec_capacity keys.old }
-    ensures first { TakesFirst calendar.old calendar.new keys.new.items }
-    ensures enough { (length keys.new.items ≡ count) ⊎ (calendar.new.ready ≡ set.empty) }
-    ensures few { length keys.new.items ≤ count }
+/// Takes the first `count` ready keys out, in order, or all where there are fewer, and adds their subtasks.
+pub(crate) fn choose(
+    calendar: &mut Calendar,
+    meter: &mut Meter,
+    count: usize,
+    picks: &mut Vec<Pick>,
+)
+    requires none { picks.old.items ≡ [] }
+    requires room { count ≤ vec_capacity picks.old }
+    ensures first { Chooses calendar.old calendar.new picks.new.items }
+    ensures enough { (length picks.new.items ≡ count) ⊎ (calendar.new.ready ≡ set.empty) }
+    ensures few { length picks.new.items ≤ count }
     ensures comparisons { Compares (count * (2 * digits (key_count calendar.old))) meter.old meter.new }
 {
     for _ in 0..count {
         let Some(key) = calendar.pop_ready(meter) else {
             return;
         };
-        keys.push_reserved(key);
+        picks.push_reserved(Pick {
+            task: key.task(),
+            sub: key.sub(),
+        });
     }
 }
 
-/// Runs the subtasks of these keys, adds them, and puts the keys that come next for the slots after this one.
+/// Runs these subtasks, whose keys were taken out, and puts the keys that come next for the slots after this one.
 pub(crate) fn run(
     tasks: &mut Roster,
     calendar: &mut Calendar,
     meter: &mut Meter,
     slot: u64,
-    keys: &[Key],
-    picks: &mut Vec<Pick>,
+    picks: &[Pick],
 )
-    requires can { CanRun slot tasks.old.tasks keys.now }
-    requires agenda { IsAgenda calendar.old (slot + 1) tasks.old.tasks keys.now }
-    requires room { vec_len picks.old + length keys.now ≤ vec_capacity picks.old }
-    ensures tasks { tasks.new.tasks ≡ fold tasks_after_pick tasks.old.tasks (map pick_of_key keys.now) }
-    ensures picks { picks.new.items ≡ picks.old.items ++ map pick_of_key keys.now }
+    requires { AreBeingRun slot tasks.old.tasks picks.now 0 tasks.old.tasks calendar.old }
+    ensures tasks { tasks.new.tasks ≡ fold tasks_after_pick tasks.old.tasks picks.now }
     ensures agenda { IsAgenda calendar.new (slot + 1) tasks.new.tasks [] }
-    ensures comparisons { Compares (length keys.now * digits (length tasks.old.tasks)) meter.old meter.new }
+    ensures comparisons { Compares (length picks.now * digits (length tasks.old.tasks)) meter.old meter.new }
 {
     let next = slot + 1;
-    for key in keys {
-        let pick = Pick {
-            task: key.task(),
-            sub: key.sub(),
-        };
+    for pick in picks {
         let Some(member) = tasks.run(pick.task, u64::from(pick.sub)) else {
             unreachable!()
         };
         put_next(calendar, meter, pick.task, &member, next);
-        picks.push_reserved(pick);
     }
 }
 

@@ -1,6 +1,5 @@
 ghost use Rattle.std.specs.Prelude.{◌≡◌, ◌≤◌, [], IfOk, vec_capacity};
 
-use pf_order::key::Key;
 use pf_order::pick::Pick;
 use pf_run::denied::Denied;
 use std::alloc::{AllocError, Global};
@@ -10,8 +9,6 @@ use std::alloc::{AllocError, Global};
 pub(crate) struct Room {
     /// For the slot's denials.
     pub(crate) denials: Vec<Denied>,
-    /// For the keys of the subtasks that run.
-    pub(crate) keys: Vec<Key>,
     /// For the subtasks that run.
     pub(crate) picks: Vec<Pick>,
 }
@@ -19,7 +16,7 @@ pub(crate) struct Room {
 impl Room {
     ghost use Rattle.pf_engine.specs.Rooms.{HasSlotRoom};
 
-    /// Room for this many denials, and for the keys of this many picks.
+    /// Room for this many denials and picks.
     ///
     /// # Errors
     ///
@@ -29,7 +26,6 @@ impl Room {
     {
         Ok(Room {
             denials: Vec::with_capacity(alloc, denials)?,
-            keys: Vec::with_capacity(alloc, picks)?,
             picks: Vec::with_capacity(alloc, picks)?,
         })
     }

@@ -123,19 +123,17 @@ impl State {
     {
         let Room {
             mut denials,
-            mut keys,
             mut picks,
         } = room;
         self.take_events(meter, events, &mut denials);
         self.calendar.advance(meter, self.slots);
-        choose(&mut self.calendar, meter, self.count as usize, &mut keys);
+        choose(&mut self.calendar, meter, self.count as usize, &mut picks);
         run(
             &mut self.tasks,
             &mut self.calendar,
             meter,
             self.slots,
-            &keys,
-            &mut picks,
+            &picks,
         );
         self.slots += 1;
         Outcome {
