@@ -5,7 +5,7 @@ use pf_order::pick::Pick;
 use std::marker::Model;
 
 /// How many buckets the tasks fall into, by their numbers: some times as many as a slot has picks, so that few share one.
-const BUCKETS: usize = 512;
+pub(crate) const BUCKETS: usize = 512;
 
 /// How many picks are filed by bucket: as many as a byte can number. The others are looked for behind them.
 const MOST_FILED: usize = 255;
@@ -15,7 +15,7 @@ const MOST_FILED: usize = 255;
 #[derive(Drop)]
 pub(crate) struct PickIndex<'a> {
     picks: &'a [Pick],
-    starts: [u8; BUCKETS],
+    starts: &'a [u8; BUCKETS],
 }
 
 impl<'a> Model for PickIndex<'a> {
@@ -27,18 +27,16 @@ impl<'a> Model for PickIndex<'a> {
 
     ghost view = { λ index. index.picks.now };
 
-    ghost invariant = { λ index. AreStarts index.starts index.picks.now };
+    ghost invariant = { λ index. AreStarts index.starts.now index.picks.now };
 }
 
 impl<'a> PickIndex<'a> {
-    /// The index of these picks.
-    pub(crate) fn of(picks: &'a [Pick]) -> Self
+    /// The index of these picks, whose starts these are.
+    pub(crate) fn of(picks: &'a [Pick], starts: &'a [u8; BUCKETS]) -> Self
+        requires { AreStarts starts.now picks.now }
         ensures { result ≡ picks.now }
     {
-        PickIndex {
-            picks,
-            starts: starts_of(picks),
-        }
+        PickIndex { picks, starts }
     }
 
     /// The picks, in their order.
@@ -67,15 +65,14 @@ fn first_of(picks: &[Pick], task: u32) -> Option<usize>
     picks.iter().position(|pick| pick.task == task)
 }
 
-/// Where the search for a task begins, by its bucket: at the first of the picks filed there, else behind all that are
-/// filed.
-fn starts_of(picks: &[Pick]) -> [u8; BUCKETS]
-    ensures { AreStarts result picks.now }
+/// Notes where the search for a task begins, by its bucket: at the first of the picks filed there, else behind all that
+/// are filed.
+pub(crate) fn note_starts(starts: &mut [u8; BUCKETS], picks: &[Pick])
+    ensures { AreStarts starts.new picks.now }
 {
     let filed = picks.len().min(MOST_FILED);
-    let mut starts = [filed as u8; BUCKETS];
+    starts.fill(filed as u8);
     for k in (0..filed).rev() {
         starts[picks[k].task as usize % BUCKETS] = k as u8;
     }
-    starts
 }

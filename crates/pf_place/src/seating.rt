@@ -6,7 +6,7 @@ ghost use Rattle.pf_place.specs.Index.{number_of, with_mark, AreMarked};
 ghost use Rattle.pf_place.specs.Occupancy.{next_pick, sitter, is_seated, others, row_of};
 ghost use Rattle.pf_place.specs.Seating.{seats_filled_with};
 
-use crate::pick_index::PickIndex;
+use crate::pick_index::{BUCKETS, PickIndex, note_starts};
 use crate::place::Place;
 use crate::row_view::RowView;
 use pf_order::pick::Pick;
@@ -127,7 +127,9 @@ pub(crate) fn seat(places: &mut [Place], count: usize, before: RowView<'_>, pick
     requires numbered { All (λ pick. 1 ≤ pick.task) picks.now }
     ensures { places.new ≡ row_of (length places.old) count (lent_row before.entry) picks.now }
 {
-    let index = PickIndex::of(picks);
+    let mut starts = [0; BUCKETS];
+    note_starts(&mut starts, picks);
+    let index = PickIndex::of(picks, &starts);
     let earlier = before.first(count);
     let mut marks = [false; MARKS];
     keep(places, &mut marks, earlier, &index);

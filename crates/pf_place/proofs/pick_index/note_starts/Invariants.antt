@@ -1,7 +1,7 @@
 use Rattle.std.proofs.Common.{◌≡◌, ℕ, ◌≤◌, ◌<◌, ◌%◌, length, get_or}
 use Rattle.std.specs.List.{All}
 use Rattle.pf_order.specs.declared.pick.Pick.{Pick}
-use Rattle.pf_place.proofs.pick_index.starts_of.Given as goal
+use Rattle.pf_place.proofs.pick_index.note_starts.Given as goal
 
 abbrev pub invariant-loop-k : goal.invariant-loop-k
 invariant-loop-k l =
