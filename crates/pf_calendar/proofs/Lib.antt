@@ -6,6 +6,7 @@ pub mod Merging
 pub mod Maps
 pub mod Arranged
 pub mod Whole
+pub mod Putting
 pub mod Notes
 pub mod Growing
 pub mod Advancing
