@@ -4,9 +4,10 @@ ghost use Rattle.pf_formats.specs.Report.{tables_text};
 use pf_desk::snapshot::Snapshot;
 use pf_names::titles::Titles;
 use pf_report::denials::{DenialPieces, denial_pieces};
-use pf_report::lags::{LagPieces, lag_pieces};
-use pf_report::misses::{MissPieces, miss_pieces};
+use pf_report::lags::{LagPieces, pieces_of_lags};
+use pf_report::misses::{MissPieces, pieces_of_misses};
 use pf_report::schedule::{SchedulePieces, schedule_pieces};
+use pf_tally::tally::Tally;
 use pf_text::pieces::{Chain, Pieces, Whole};
 use std::alloc::{AllocError, Global};
 
@@ -36,9 +37,10 @@ pub(crate) fn tables_pieces<'a>(
 ) -> Result<TablesPieces<'a>, AllocError>
     ensures { IfOk result (λ pieces. pieces ≡ tables_text snapshot.now titles.now) }
 {
+    let Tally { lags, misses } = snapshot.tally()?;
     let schedule = titled(alloc, b"schedule\n", schedule_pieces(alloc, snapshot)?)?;
-    let lags = titled(alloc, b"lags\n", lag_pieces(alloc, snapshot, titles)?)?;
-    let misses = titled(alloc, b"misses\n", miss_pieces(alloc, snapshot)?)?;
+    let lags = titled(alloc, b"lags\n", pieces_of_lags(alloc, lags, titles)?)?;
+    let misses = titled(alloc, b"misses\n", pieces_of_misses(alloc, misses)?)?;
     let denials = titled(alloc, b"denials\n", denial_pieces(alloc, snapshot)?)?;
     Ok(Chain::new(Chain::new(Chain::new(schedule, lags), misses), denials))
 }

@@ -64,16 +64,22 @@ unfoldable pub schedule_text : Seen → List ℕ
 schedule_text seen =
     table_text (schedule_heading seen.state.plan.settings.processors ∷ schedule_records 0 seen.rows)
 
+-- a table of lags
+abbrev pub lags_table : List Lag → Titles → List ℕ
+lags_table lags titles = table_text (lags_heading titles ∷ map (named_lag_record titles) lags)
+
 -- the lags, by task
 unfoldable pub lags_text : Seen → Titles → List ℕ
-lags_text seen titles =
-    table_text (lags_heading titles ∷ map (named_lag_record titles) (lags_of seen.state.plan (run_of seen.state.plan seen.state.now)))
+lags_text seen titles = lags_table (lags_of seen.state.plan (run_of seen.state.plan seen.state.now)) titles
+
+-- a table of missed windows
+abbrev pub misses_table : List Miss → List ℕ
+misses_table misses =
+    table_text ((codes "task" ∷ codes "sub" ∷ codes "deadline" ∷ codes "ran" ∷ []) ∷ map miss_record misses)
 
 -- the missed windows, by deadline, then by task
 unfoldable pub misses_text : Seen → List ℕ
-misses_text seen =
-    table_text ((codes "task" ∷ codes "sub" ∷ codes "deadline" ∷ codes "ran" ∷ [])
-    ∷ map miss_record (misses_of seen.state.plan (run_of seen.state.plan seen.state.now)))
+misses_text seen = misses_table (misses_of seen.state.plan (run_of seen.state.plan seen.state.now))
 
 -- the denials, in run order
 unfoldable pub denials_text : Seen → List ℕ

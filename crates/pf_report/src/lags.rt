@@ -1,6 +1,6 @@
 ghost use Rattle.std.specs.Prelude.{◌≡◌, [], IfOk, OnOk};
 ghost use Rattle.pf_text.specs.Page.{with_record};
-ghost use Rattle.pf_report.specs.Tables.{lags_text, named_lag_record};
+ghost use Rattle.pf_report.specs.Tables.{lags_table, lags_text, named_lag_record};
 
 use pf_desk::snapshot::Snapshot;
 use pf_name_column::column::{push_heading, show_name};
@@ -116,11 +116,26 @@ pub fn lag_pieces<'a>(
 ) -> Result<LagPieces<'a>, AllocError>
     ensures { IfOk result (λ pieces. pieces ≡ lags_text snapshot.now titles.now) }
 {
+    pieces_of_lags(alloc, snapshot.lags()?, titles)
+}
+
+/// The table of these lags, as `lag_pieces` has it.
+///
+/// # Errors
+///
+/// Where memory is refused.
+pub fn pieces_of_lags<'a>(
+    alloc: Global,
+    lags: Vec<Lag>,
+    titles: &'a Titles,
+) -> Result<LagPieces<'a>, AllocError>
+    ensures { IfOk result (λ pieces. pieces ≡ lags_table lags.items titles.now) }
+{
     let mut table = Table::new(alloc);
     let texts = ["task", "cost", "period", "received", "lag"];
     push_heading(&mut table, &texts, titles)?;
     let heading = Whole::new(table.finish()?);
-    let rows = LagRows::of(snapshot.lags()?);
+    let rows = LagRows::of(lags);
     let named = NamedLagRows { rows, titles };
     Ok(Chain::new(heading, RecordPieces::new(named)))
 }

@@ -1,6 +1,6 @@
 ghost use Rattle.std.specs.Prelude.{◌≡◌, [], IfOk, OnOk};
 ghost use Rattle.pf_text.specs.Page.{with_record};
-ghost use Rattle.pf_report.specs.Tables.{miss_record, misses_text};
+ghost use Rattle.pf_report.specs.Tables.{miss_record, misses_table, misses_text};
 
 use pf_desk::snapshot::Snapshot;
 use pf_tally::miss::Miss;
@@ -94,10 +94,21 @@ pub type MissPieces = Chain<Whole, RecordPieces<MissRows>>;
 pub fn miss_pieces(alloc: Global, snapshot: &Snapshot) -> Result<MissPieces, AllocError>
     ensures { IfOk result (λ pieces. pieces ≡ misses_text snapshot.now) }
 {
+    pieces_of_misses(alloc, snapshot.misses()?)
+}
+
+/// The table of these missed windows, as `miss_pieces` has it.
+///
+/// # Errors
+///
+/// Where memory is refused.
+pub fn pieces_of_misses(alloc: Global, misses: Vec<Miss>) -> Result<MissPieces, AllocError>
+    ensures { IfOk result (λ pieces. pieces ≡ misses_table misses.items) }
+{
     let mut table = Table::new(alloc);
     table.push_texts(&["task", "sub", "deadline", "ran"])?;
     let heading = Whole::new(table.finish()?);
-    let rows = MissRows::of(snapshot.misses()?);
+    let rows = MissRows::of(misses);
     Ok(Chain::new(heading, RecordPieces::new(rows)))
 }
 

@@ -28,14 +28,14 @@ pub(crate) fn push_heading(table: &mut Table, processors: u32) -> Result<(), All
     table.end_record()
 }
 
-/// The text of who sits on a processor.
+/// Writes who sits on a processor.
 #[inline(always)]
-fn sitter_text(sitter: Option<Pick>) -> PairText
-    ensures { result ≡ sitter_field sitter }
+fn write_sitter(text: &mut PairText, sitter: Option<Pick>)
+    ensures { text.new ≡ sitter_field sitter }
 {
     match sitter {
-        Some(pick) => PairText::of(u64::from(pick.task), u64::from(pick.sub)),
-        None => PairText::empty(),
+        Some(pick) => text.set(u64::from(pick.task), u64::from(pick.sub)),
+        None => text.clear(),
     }
 }
 
@@ -67,13 +67,13 @@ impl Fields for SlotFields<'_> {
         self.processors as usize + 1
     }
 
-    fn field(&self, at: usize) -> PairText {
+    fn write(&self, at: usize, text: &mut PairText) {
         let processors = self.processors;
         prove!(at <= processors as usize);
         if at == 0 {
-            return PairText::of_one(self.slot);
+            return text.set_one(self.slot);
         }
-        sitter_text(self.row.get((at - 1) as u32))
+        write_sitter(text, self.row.get((at - 1) as u32));
     }
 }
 

@@ -2,7 +2,7 @@ ghost use Rattle.std.specs.Prelude.{◌≡◌, ◌<◌, ℕ, List, [], length, g
 
 use crate::pair_text::PairText;
 
-/// The fields of a record, each of which is made when its turn comes.
+/// The fields of a record, each of which is written when its turn comes.
 pub trait Fields {
     // the fields
     ghost texts: { Self → List (List ℕ) };
@@ -11,8 +11,8 @@ pub trait Fields {
     fn count(&self) -> usize
         ensures { result ≡ length (texts self.now) };
 
-    /// The field at a place.
-    fn field(&self, at: usize) -> PairText
+    /// Writes the field at a place in place of the text.
+    fn write(&self, at: usize, text: &mut PairText)
         requires { at < length (texts self.now) }
-        ensures { result ≡ get_or (texts self.now) at [] };
+        ensures { text.new ≡ get_or (texts self.now) at [] };
 }

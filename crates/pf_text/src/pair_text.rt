@@ -4,8 +4,8 @@ use std::marker::Model;
 /// The bytes of the longest text: a blank, two numbers of 20 digits and the slash between them.
 const LONGEST: usize = 42;
 
-/// The text of two numbers with a slash between them, as `12/3`, or of one number, or none. It takes no memory, and whoever
-/// adds it to a longer text adds it in one move.
+/// The text of two numbers with a slash between them, as `12/3`, or of one number, or none. It takes no memory, one after
+/// another is written in the same bytes, and whoever adds it to a longer text adds it in one move.
 #[derive(Drop)]
 pub struct PairText {
     /// The text stands at the end, and a blank before it.
@@ -40,28 +40,35 @@ impl PairText {
         }
     }
 
-    /// The text of this number.
+    /// Puts no text in place of what it is.
     #[inline(always)]
-    pub fn of_one(number: u64) -> Self
-        ensures { result ≡ decimal number }
+    pub fn clear(&mut self)
+        ensures { self.new ≡ [] }
     {
-        let mut bytes = [b' '; LONGEST];
-        let start = write_digits(number, &mut bytes, LONGEST);
-        bytes[start - 1] = b' ';
-        PairText { bytes, start }
+        self.bytes[LONGEST - 1] = b' ';
+        self.start = LONGEST;
     }
 
-    /// The text of these two numbers.
+    /// Puts the text of this number in place of what it is.
     #[inline(always)]
-    pub fn of(first: u64, second: u64) -> Self
-        ensures { result ≡ decimal first ++ codes "/" ++ decimal second }
+    pub fn set_one(&mut self, number: u64)
+        ensures { self.new ≡ decimal number }
     {
-        let mut bytes = [0; LONGEST];
-        let slash = write_digits(second, &mut bytes, LONGEST) - 1;
-        bytes[slash] = b'/';
-        let start = write_digits(first, &mut bytes, slash);
-        bytes[start - 1] = b' ';
-        PairText { bytes, start }
+        let start = write_digits(number, &mut self.bytes, LONGEST);
+        self.bytes[start - 1] = b' ';
+        self.start = start;
+    }
+
+    /// Puts the text of these two numbers in place of what it is.
+    #[inline(always)]
+    pub fn set(&mut self, first: u64, second: u64)
+        ensures { self.new ≡ decimal first ++ codes "/" ++ decimal second }
+    {
+        let slash = write_digits(second, &mut self.bytes, LONGEST) - 1;
+        self.bytes[slash] = b'/';
+        let start = write_digits(first, &mut self.bytes, slash);
+        self.bytes[start - 1] = b' ';
+        self.start = start;
     }
 
     /// The text.

@@ -74,7 +74,9 @@ impl Table {
     pub fn show_pair(&mut self, first: u64, second: u64) -> Result<(), AllocError>
         ensures { OnOk result (self.new ≡ with_field self.old (decimal first ++ codes "/" ++ decimal second)) }
     {
-        push_field(&mut self.fields, PairText::of(first, second).as_bytes())
+        let mut pair = PairText::empty();
+        pair.set(first, second);
+        push_field(&mut self.fields, pair.as_bytes())
     }
 
     /// Adds a field without text to the next record.
@@ -152,8 +154,10 @@ fn write_fields<F: Fields>(writer: &mut Writer<Vec<u8>>, fields: &F) -> bool
     ensures text { result ≡ true → text_given writer.new ≡ text_given writer.old ++ row_text default_writer (F.texts fields.now) }
     ensures between { result ≡ true → IsBetweenRecords writer.new }
 {
+    let mut text = PairText::empty();
     for at in 0..fields.count() {
-        if let Err(_) = writer.write_field(fields.field(at).as_bytes()) {
+        fields.write(at, &mut text);
+        if let Err(_) = writer.write_field(text.as_bytes()) {
             return false;
         }
     }

@@ -1,9 +1,9 @@
-use Rattle.std.proofs.Common.{◌≡◌, ◌∙◌, ◌++◌, ap, codes, map, rules}
+use Rattle.std.proofs.Common.{◌≡◌, ◌∙◌, ◌++◌, codes, map, rules}
 use Rattle.std.specs.Fmt.{decimal}
 use Rattle.serde_json.specs.Data.{array}
 use Rattle.serde_json.specs.View.{items_of}
 use Rattle.serde_json.specs.Written.{compact_text}
-use Rattle.pf_report.specs.Json.{array_data, denial_data, lag_data, miss_data, names_part, sitter_data, slot_part, report_data, report_object}
+use Rattle.pf_report.specs.Json.{array_data, denial_data, lag_data, miss_data, sitter_data, slot_part, report_data, report_object}
 use Rattle.pf_report.proofs.JsonParts.{keyed_parts}
 use Rattle.pf_report.proofs.json.json_pieces.Goals as goal
 

@@ -23,7 +23,7 @@ loop-at-preserved g c =
     let plain : (writer_setup c.loop-at.writer).style ≢ style.NonNumeric = rw inv.setup (λ z. cc z) in
     let within : at < length texts = omega (arith, c.loop-at-test.true, c.count-at-end.ensures) in
     let fits : at + 1 ≤ 2 ^ 64 - 1 = search rules in
-    let is : c.as_bytes.result.now ≡ get_or texts at [] = c.as_bytes.ensures ∙ c.field.ensures in
+    let is : c.as_bytes.result.now ≡ get_or texts at [] = c.as_bytes.ensures ∙ c.write.ensures in
     let more = next_sep default_writer at ++ field_text default_writer (get_or texts at []) in
     record {
       setup = e.same ∙ inv.setup;

@@ -1,8 +1,8 @@
 use Rattle.std.proofs.Common.{◌≡◌, ◌+◌, ◌-◌, ◌≤◌, length, arith, append-nil, append_assoc}
 use Rattle.std.specs.Fmt.{decimal}
-use Rattle.std.proofs.lemmas.List.{drop-set, drop-set-lt, length-set}
+use Rattle.std.proofs.lemmas.List.{drop_all, drop-set, drop-set-lt, length-set}
 use Rattle.pf_facts.proofs.Digits.{twenty_digits}
-use Rattle.pf_text.proofs.pair_text.PairText.of.Goals as goal
+use Rattle.pf_text.proofs.pair_text.PairText.set.Goals as goal
 
 pub write_digits-slash-requires : goal.write_digits-slash-requires
 write_digits-slash-requires c = (omega (arith, twenty_digits c.args.second c.ranges.second.fits), omega arith)
@@ -16,12 +16,12 @@ write_digits-start-requires c =
     let few_behind : length (decimal c.args.second) ≤ 20 = twenty_digits c.args.second c.ranges.second.fits in
     (omega arith, omega (arith, length-set c.write_digits-slash.new.buf (c.write_digits-slash.result - 1) 47))
 
-pub overflow_sub-bytes : goal.overflow_sub-bytes
-overflow_sub-bytes c =
+pub overflow_sub-self : goal.overflow_sub-self
+overflow_sub-self c =
     omega (arith, twenty_digits c.args.first c.ranges.first.fits, twenty_digits c.args.second c.ranges.second.fits)
 
-pub invariant_of-result : goal.invariant_of-result
-invariant_of-result c =
+pub invariant_of-self : goal.invariant_of-self
+invariant_of-self c =
     let w = c.write_digits-start in
     let few : length (decimal c.args.first) ≤ 20 = twenty_digits c.args.first c.ranges.first.fits in
     let few_behind : length (decimal c.args.second) ≤ 20 = twenty_digits c.args.second c.ranges.second.fits in
@@ -39,4 +39,4 @@ returns c =
     let few : length (decimal c.args.first) ≤ 20 = twenty_digits c.args.first c.ranges.first.fits in
     let few_behind : length (decimal c.args.second) ≤ 20 = twenty_digits c.args.second c.ranges.second.fits in
     let e : v.result - 1 + 1 ≡ v.result = omega arith in
-    rw (drop-set-lt w.result w.new.buf (w.result - 1) 32 (omega arith), w.ensures.written, drop-set v.new.buf (v.result - 1) 47 (omega arith), e, v.ensures.written, append-nil, append_assoc)
+    rw (drop-set-lt w.result w.new.buf (w.result - 1) 32 (omega arith), w.ensures.written, drop-set v.new.buf (v.result - 1) 47 (omega arith), e, v.ensures.written, drop_all 42 c.self.inside.bytes (omega (arith, c.self.told)), append-nil, append_assoc)
