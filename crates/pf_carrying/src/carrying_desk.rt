@@ -129,7 +129,7 @@ fn take_steps(desk: &mut Desk, meter: &mut Meter, count: u64) -> Result<(), Allo
     ensures { OnOk result (AnswersAll script_caller (replicate count Step) desk.old desk.new) }
 {
     for _turn in 0..count {
-        let _ = desk.apply(meter, CALLER, Command::Step)?;
+        desk.step(meter, CALLER)?;
     }
     Ok(())
 }

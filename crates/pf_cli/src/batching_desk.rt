@@ -117,8 +117,13 @@ impl BatchingDesk {
         requires { self.old.waiting ≡ [] }
         ensures { OnOk result (HasTaken command self.old self.new) }
     {
-        self.desk.apply(&mut self.meter, CALLER, command)?;
-        Ok(())
+        match command {
+            Command::Step => self.desk.step(&mut self.meter, CALLER),
+            Command::Edit { .. } => {
+                self.desk.apply(&mut self.meter, CALLER, command)?;
+                Ok(())
+            }
+        }
     }
 
     /// Answers the commands that wait, with one replay of the slots that they touch, and says whether there were any.

@@ -32,6 +32,11 @@ abbrev pub step_reply : State → Reply
 step_reply st =
     if st.now == st.plan.settings.horizon then Refused AtHorizon else Stepped st.now (row_at st.plan st.now)
 
+-- the reply to a step by the row of the slot that it took, where it took one
+abbrev pub reply_by_row : ℕ → Option (List (Option Pick)) → Reply
+reply_by_row slot None = Refused AtHorizon
+reply_by_row slot (Some row) = Stepped slot row
+
 -- a strict edit is refused with the first denial of the changed scenario's run so far, old or new
 abbrev pub strict_reply : State → Change → Option Denied → Reply
 strict_reply st change None = Edited (number_of_change st.plan change)

@@ -8,7 +8,7 @@ ghost use Rattle.pf_timeline.specs.Checkpoints.{largest_distance};
 ghost use Rattle.pf_timeline.specs.Comparisons.{most_comparisons_at};
 ghost use Rattle.pf_desk.specs.declared.fault.OpenFault.TheVariants.{BadSettings};
 ghost use Rattle.pf_desk.specs.declared.command.Command.TheVariants.{Step};
-ghost use Rattle.pf_desk.specs.Machine.{opening_state, IsStepped};
+ghost use Rattle.pf_desk.specs.Machine.{opening_state, reply_to, IsStepped};
 ghost use Rattle.pf_desk.specs.Desk.{IsDesk, IsAsBefore, AnswersCaller, LeavesRest, IsUncounted, most_slots, StandsForHistory, seen_of, IsReadyFor, MakesReady};
 
 use crate::command::Command;
@@ -108,6 +108,34 @@ impl Desk {
         let reply = self.run.apply(self.history.alloc(), meter, command)?;
         self.history.enter(caller, command, &reply);
         Ok(reply)
+    }
+
+    /// Answers the caller's step as `apply` does, and enters it, without a row of its own: what was answered is the
+    /// history's last entry.
+    ///
+    /// # Errors
+    ///
+    /// Where memory is refused: the desk is as before, but may have more room for entries.
+    pub fn step(&mut self, meter: &mut Meter, caller: u32) -> Result<(), AllocError>
+        ensures ok { OnOk result (AnswersCaller caller Step self.old (reply_to self.old.state Step) self.new) }
+        ensures err { OnErr result (IsAsBefore self.old self.new) }
+        ensures desk { IsDesk self.new }
+        ensures refused { OnOk result (LeavesRest (reply_to self.old.state Step) self.old self.new) }
+
+        // A slot that was taken counts one.
+        ensures counted { OnOk result (IsStepped (reply_to self.old.state Step) → meter.new.slots ≡ one_more meter.old.slots) }
+        ensures at_most { CountsAtMost 1 meter.old meter.new }
+        ensures uncounted { IsUncounted self.old.state Step → meter.new ≡ meter.old }
+        ensures wanting { OnErr result (meter.new ≡ meter.old) }
+        ensures compared { meter.old.compared ≤ meter.new.compared }
+        ensures comparisons { meter.new.compared ≤ meter.old.compared + most_comparisons_at self.old.state.plan self.old.state.now }
+    {
+        self.history.reserve(self.run.timeline.rows())?;
+        let slot = self.run.timeline.now();
+        self.run.take_slot(meter)?;
+        self.history
+            .enter_step(caller, slot, self.run.timeline.rows().get(slot));
+        Ok(())
     }
 
     /// Makes a caller's command ready for `commit`: the desk is as before, but has room for one entry at least. Counts as

@@ -1,8 +1,9 @@
 ghost use Rattle.std.specs.Prelude.{◌≡◌, ◌==◌, ◌<◌, ◌≤◌, ◌+◌, ◌-◌, ◌^◌, ◌++◌, [], length, map, All, OnOk, OnErr};
 ghost use Rattle.std.specs.List.{slice_get};
-ghost use Rattle.pf_place.specs.Lent.{lent_row};
+ghost use Rattle.pf_place.specs.Lent.{places_lent, lent_row};
 ghost use Rattle.pf_desk.specs.declared.command.Command.TheVariants.{Step};
 ghost use Rattle.pf_desk.specs.declared.reply.Reply.TheVariants.{Stepped};
+ghost use Rattle.pf_desk.specs.Machine.{reply_by_row};
 ghost use Rattle.pf_desk.specs.Desk.{entry_of};
 ghost use Rattle.pf_desk.specs.Recorded.{slots_of, slots_taken, CanFollow, entered_in, Gains, HasNoLessRoom};
 ghost use Rattle.pf_desk.specs.Settled.{HasRoomFor};
@@ -14,7 +15,7 @@ use crate::briefs::Briefs;
 use crate::command::Command;
 use crate::entry::Entry;
 use crate::entry_view::EntryView;
-use crate::reply::Reply;
+use crate::reply::{Fault, Reply};
 use crate::settled::{Answer, Settled};
 use crate::settlements::Settlements;
 use pf_place::row_view::RowView;
@@ -132,6 +133,18 @@ impl History {
         match reply {
             Reply::Stepped { slot, row } => self.enter_slot(caller, *slot, row.view()),
             _ => self.enter_settled(caller, command, Answer::of(reply)),
+        }
+    }
+
+    /// Enters a caller's step by the row of the slot that it took, where it took one, as `enter` does.
+    pub(crate) fn enter_step(&mut self, caller: u32, slot: u64, row: Option<RowView<'_>>)
+        requires room { 1 ≤ self.old.spare }
+        requires next { CanFollow self.old Step (reply_by_row slot (places_lent row)) }
+        ensures { self.new ≡ entered_in self.old (entry_of caller Step (reply_by_row slot (places_lent row.entry))) }
+    {
+        match row {
+            Some(row) => self.enter_slot(caller, slot, row),
+            None => self.enter_settled(caller, Command::Step, Answer::Refused(Fault::AtHorizon)),
         }
     }
 

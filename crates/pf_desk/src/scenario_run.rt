@@ -1,4 +1,4 @@
-ghost use Rattle.std.specs.Prelude.{◌≡◌, ◌<◌, ◌≤◌, ◌+◌, if◌then◌else◌, [], length, None, Some, IfOk, OnErr};
+ghost use Rattle.std.specs.Prelude.{◌≡◌, ◌<◌, ◌≤◌, ◌+◌, if◌then◌else◌, [], length, None, Some, IfOk, OnOk, OnErr};
 ghost use Rattle.std.specs.List.{slice_get, slice_index_or};
 ghost use Rattle.pf_order.specs.Counts.{one_more};
 ghost use Rattle.pf_order.specs.Counted.{CountsAtMost};
@@ -7,7 +7,7 @@ ghost use Rattle.pf_timeline.specs.Comparisons.{most_comparisons_at};
 ghost use Rattle.pf_desk.specs.declared.command.Command.TheVariants.{Edit, Step};
 ghost use Rattle.pf_desk.specs.declared.reply.Reply.TheVariants.{Refused};
 ghost use Rattle.pf_desk.specs.declared.reply.Fault.TheVariants.{WouldDeny};
-ghost use Rattle.pf_desk.specs.Machine.{IsStepped};
+ghost use Rattle.pf_desk.specs.Machine.{IsStepped, reply_by_row};
 ghost use Rattle.pf_desk.specs.Desk.{IsUncounted, most_replayed};
 ghost use Rattle.pf_desk.specs.Applied.{Stands, IsApplied, state_in, most_counted};
 
@@ -75,6 +75,29 @@ impl ScenarioRun {
             Command::Edit { change, strict } => self.edit(meter, change, strict),
             Command::Step => self.step(alloc, meter),
         }
+    }
+
+    /// Takes the next slot, where there is one. Counts as a step does.
+    ///
+    /// # Errors
+    ///
+    /// Where memory is refused: scenario and run are as before.
+    pub fn take_slot(&mut self, meter: &mut Meter) -> Result<(), AllocError>
+        requires { Stands self.old }
+        ensures ok { OnOk result (IsApplied Step self.old (reply_by_row self.old.timeline.now (slice_get self.new.timeline.rows self.old.timeline.now)) self.new) }
+        ensures err { OnErr result (self.new ≡ self.old) }
+        ensures counted { OnOk result (IsStepped (reply_by_row self.old.timeline.now (slice_get self.new.timeline.rows self.old.timeline.now)) → meter.new.slots ≡ one_more meter.old.slots) }
+        ensures at_most { CountsAtMost 1 meter.old meter.new }
+        ensures uncounted { self.old.timeline.now ≡ self.old.scenario.settings.horizon → meter.new ≡ meter.old }
+        ensures wanting { OnErr result (meter.new ≡ meter.old) }
+        ensures compared { meter.old.compared ≤ meter.new.compared }
+        ensures comparisons { meter.new.compared ≤ meter.old.compared + most_comparisons_at self.old.scenario self.old.timeline.now }
+    {
+        if self.timeline.now() == self.scenario.settings().horizon() {
+            return Ok(());
+        }
+        self.timeline.advance(meter, &self.scenario)?;
+        Ok(())
     }
 
     /// What a desk of these parts shows after so many entries.

@@ -3,4 +3,4 @@ use Rattle.pf_carrying.proofs.carrying_desk.take_steps.Goals as goal
 
 pub loop-turn-preserved : goal.loop-turn-preserved
 loop-turn-preserved c =
-    step_more c.loop-turn._turn c.args.desk.now c.loop-turn.desk c.apply.new.self c.in_ok-apply.field-0 c.loop-turn.invariant c.in_ok-apply.ensures.ok
+    step_more c.loop-turn._turn c.args.desk.now c.loop-turn.desk c.step.new.self _ c.loop-turn.invariant c.in_ok-step.ensures.ok
