@@ -118,7 +118,10 @@ impl BatchingDesk {
         ensures { OnOk result (HasTaken command self.old self.new) }
     {
         match command {
-            Command::Step => self.desk.step(&mut self.meter, CALLER),
+            Command::Step => {
+                self.desk.step(&mut self.meter, CALLER)?;
+                Ok(())
+            }
             Command::Edit { .. } => {
                 self.desk.apply(&mut self.meter, CALLER, command)?;
                 Ok(())
