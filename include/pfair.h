@@ -64,7 +64,7 @@ enum {
     PFAIR_BAD_SETTINGS = 33,       /* the numbers of a desk are out of their limits */
     PFAIR_NOT_OPEN = 64,           /* the handle has no desk */
     PFAIR_ALREADY_OPEN = 65,       /* the handle has a desk already */
-    PFAIR_NO_MEMORY = 66,          /* memory was refused: the desk is as before the call */
+    PFAIR_NO_MEMORY = 66,          /* memory was refused: all is as before, but the first of several commands may be answered */
     PFAIR_UNKNOWN_KIND = 67,       /* a kind that is none of those below, or a number that tells nothing */
     PFAIR_OUT_OF_RANGE = 68,       /* a slot that was not stepped, a range, a page or a look that cannot be shown */
     PFAIR_TOO_SHORT = 69,          /* the caller's room is too short: *count tells how long it must be */
@@ -87,7 +87,7 @@ enum {
     PFAIR_LIMIT = 0, /* from the slot on the processors below count are in use, until the next limit */
     PFAIR_LEAVE = 1, /* the task leaves */
     PFAIR_JOIN = 2,  /* the task joins with the weight cost/period; a subtask may run early slots before its release */
-    PFAIR_DELAY = 3  /* the task's subtasks that did not run are held back by so many slots */
+    PFAIR_DELAY = 3  /* the task's subtasks that did not run are held back by `by` slots */
 };
 
 /* The kinds of a change. */
@@ -99,7 +99,7 @@ enum {
 
 /*
  * The texts that a desk has of itself: each is what the program pfair writes in a format (docs/FORMATS.md), without reply
- * lines, which pfair_replies gives. Of those with a star a part can be had, by pfair_part. pfair_svg gives the picture. Of a
+ * lines, which pfair_replies gives. pfair_part gives a part of those with a star. pfair_svg gives the picture. Of a
  * desk that a script of version 3 opened they tell what the script named its tasks and how long a slot is.
  */
 enum {
@@ -121,7 +121,7 @@ enum {
     PFAIR_C = 15,         /* the schedule as a C array; its PFAIR_PROCESSORS keeps it out of files with this header */
     PFAIR_FULL = 16,      /* the report with settings, events, figures and refused commands, as a line of JSON */
     PFAIR_HTML = 17,      /* a page to look around in, one file, of at most 65,536 slots */
-    PFAIR_TABLES = 18     /* the tables schedule, lags, misses and denials, each behind a line with its name */
+    PFAIR_TABLES = 18     /* the tables schedule, lags, misses and denials, each after a line with its name */
 };
 
 /* How the tasks of a picture are drawn. */
@@ -222,7 +222,7 @@ typedef struct pfair_setup {
     uint64_t processors;
     uint64_t base;
     uint64_t cap;     /* in 1/base */
-    uint64_t every;   /* a checkpoint is kept each so many slots */
+    uint64_t every;   /* the distance of checkpoints in slots */
     uint64_t horizon; /* 2^20, or 2^22 of a wide desk */
 } pfair_setup;
 
@@ -248,8 +248,8 @@ typedef struct pfair_bad_record {
 
 /*
  * Opens a desk at a handle that has none: processors 1 to 64; base 1 to 2^30; cap, the most load, 1 to 2^44 in 1/base,
- * where processors * base fills the processors; every, a checkpoint each so many slots, 1 to 4,096 (64 does for most). It
- * has 2^20 slots. The plan is empty and no slot was stepped. The handle is as before at every status but PFAIR_OK:
+ * where processors * base fills the processors; every, the distance of checkpoints in slots, 1 to 4,096 (64 does for most).
+ * It has 2^20 slots. The plan is empty and no slot was stepped. The handle is as before at every status but PFAIR_OK:
  * PFAIR_ALREADY_OPEN, PFAIR_BAD_SETTINGS, PFAIR_NO_MEMORY.
  */
 uint32_t pfair_open(pfair_desk *desk, uint64_t processors, uint64_t base, uint64_t cap, uint64_t every);
@@ -259,7 +259,7 @@ uint32_t pfair_open_wide(pfair_desk *desk, uint64_t processors, uint64_t base, u
 
 /*
  * Opens a desk with the settings of a whole script of any version (docs/FORMATS.md) at a handle that has none, and asks it for
- * what the records behind them say, as pfair_run does, with the same statuses. The names of a script of version 3 and the
+ * what the records after them say, as pfair_run does, with the same statuses. The names of a script of version 3 and the
  * length of its slot stay with the desk until pfair_close, for its texts; labels do not, and no call gives a name or takes one.
  * PFAIR_BAD_RECORD: *bad tells where it is; where the settings were read the desk is open, and the records before it were
  * carried out, else the handle has no desk. PFAIR_NO_MEMORY: no desk, or one that answered the first commands.
@@ -281,7 +281,7 @@ void pfair_close(pfair_desk *desk);
 uint32_t pfair_edit(pfair_desk *desk, uint32_t caller, const pfair_change *change, bool strict, pfair_reply *reply);
 
 /*
- * Tells what a change would be answered, as pfair_edit does, but makes it not: the desk is as before. Where it would be
+ * Tells what a change would be answered, as pfair_edit does, without making it: the desk is as before. Where it would be
  * made, the room gets the text of this kind, PFAIR_SCHEDULE to PFAIR_TABLES, of the desk as it would then be, with *count as
  * for pfair_text. PFAIR_TOO_SHORT, PFAIR_OUT_OF_RANGE: *reply is told. PFAIR_NOT_OPEN, PFAIR_NO_MEMORY, PFAIR_UNKNOWN_KIND:
  * *reply is as before. The room is as before at every status but PFAIR_OK.
@@ -299,7 +299,7 @@ uint32_t pfair_step(pfair_desk *desk, uint32_t caller);
 uint32_t pfair_advance(pfair_desk *desk, uint32_t caller, uint64_t count, uint64_t *taken);
 
 /*
- * Asks for what records say, one after another, as they stand behind the settings in a script of version 2
+ * Asks for what records say, one after another, as they stand after the settings in a script of version 2
  * (docs/FORMATS.md): "join,0,1,2,3,0\nstrict,alter,1,join,4,1,2,3,0\nstep,8\n". Tasks and events go by number, of a desk that
  * a script of version 3 opened too: there are no names, labels, comments or blanks. PFAIR_OK where each of them is a record:
  * whether the desk refused what it asks for, pfair_replies tells. PFAIR_BAD_RECORD at the first one that is none: *bad tells

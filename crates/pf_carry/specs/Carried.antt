@@ -25,7 +25,7 @@ abbrev pub fault_number : Option FaultTold → Option ℕ
 fault_number None = None
 fault_number (Some fault) = Some fault.bad.number
 
--- a script with this fault was not carried out: its bad record stopped it, or want of memory
+-- a script with this fault was not carried out: its bad record stopped it, or running out of memory
 abbrev pub Stops : Option FaultTold → Fault → Type 0
 Stops told (why.BadRecord number) = fault_number told ≡ Some number
 Stops told why.NoMemory = ⊤

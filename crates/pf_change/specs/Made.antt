@@ -6,7 +6,7 @@ use Rattle.pf_script.specs.Told.{FaultTold}
 use Rattle.pf_cli.specs.Meaning.{fault_number}
 use Rattle.pf_change.specs.Difference.{DiffTold}
 
--- this was not told: the first bad record stopped it, or want of memory
+-- this was not told: the first bad record stopped it, or running out of memory
 abbrev pub Stops : Result DiffTold ℕ → Fault → Type 0
 Stops change (why.BadRecord number) = change ≡ Err number
 Stops change why.NoMemory = ⊤

@@ -20,8 +20,8 @@ fn count_after(count: u64, event: &Event) -> u64
     }
 }
 
-/// How many processors are in use behind those of these events that are not denied, where so many were before them. The
-/// numbers of the denied ones rise.
+/// The number of processors in use after the accepted ones of these events, starting from `count`. The numbers of the denied
+/// ones rise.
 fn count_behind(count: u64, events: &[Numbered], denied: &[u64]) -> u64
     requires { IsNonDecreasing denied.now }
     ensures { result ≡ fold (λ count x. count_after count x.event) count

@@ -254,7 +254,7 @@ of_memory t (why.BadRange range) none h = absurd h
 of_memory t why.NoReader none h = absurd h
 of_memory t why.GateShut none h = absurd h
 
--- Use: where a check finds no fault, nothing but want of memory stops the script of version 2.
+-- Use: where a check finds no fault, nothing but running out of memory stops the script of version 2.
 pub only_memory : (bytes : List ℕ) (p : Plain) (fault : Fault) → plain bytes ≡ Some p → faults (rows bytes) ≡ [] → Stops (told (table_text p.records)).rest.fault fault
     → fault ≡ why.NoMemory
 only_memory bytes p fault e h stops =

@@ -7,7 +7,7 @@ use Rattle.pf_fault.specs.declared.fault.Fault.TheVariants as why
 use Rattle.pf_cli.specs.Meaning.{Meaning, Done, BadRecord, TooLong, Outside}
 
 -- a fault is the script's end, and the writer took its text; a failing reader leaves the writer as it was, and after a failing
--- writer or want of memory the writer took the front of the text
+-- writer or running out of memory the writer took the front of the text
 abbrev pub AnswersFault : Meaning → Fault → Option (List ℕ) → Option (List ℕ) → Type 0
 AnswersFault m (why.BadRecord number) old new = (m.end ≡ BadRecord number) × Appends old new m.text
 AnswersFault m why.TooLong old new = (m.end ≡ TooLong) × Appends old new m.text

@@ -1,7 +1,8 @@
-ghost use Rattle.std.specs.Prelude.{◌≡◌, ◌<◌, ◌≤◌, ◌+◌, ◌^◌, ◌++◌, ◌∷◌, [], true, length, OnOk};
+ghost use Rattle.std.specs.Prelude.{◌≡◌, ◌<◌, ◌≤◌, ◌+◌, ◌^◌, ◌++◌, ◌∷◌, [], true, length, get_or, ℕ, OnOk};
 ghost use Rattle.std.specs.List.{All, slice_get};
 ghost use Rattle.std.specs.List.Sorted.{IsNonDecreasingBy};
 ghost use Rattle.pf_desk.specs.declared.brief.Brief.{Brief};
+ghost use Rattle.pf_desk.specs.declared.run.Run.{Run};
 ghost use Rattle.pf_desk.specs.Runs.{Begin, brief_in, brief_of_run};
 
 use crate::brief::Brief;
@@ -105,8 +106,21 @@ fn run_of(runs: &[Run], k: usize) -> Run
     ensures start { result.start ≤ k }
     ensures brief { (before : Brief) → brief_in before runs.now k ≡ brief_of_run result k }
 {
-    let count = runs.partition_point(|run| run.start <= k);
-    runs[count - 1]
+    runs[count_begun(runs, k) - 1]
+}
+
+/// How many runs begin with the k-th brief or before it. Mostly the last brief is asked for, so the last run is looked at
+/// before the others are searched.
+fn count_begun(runs: &[Run], k: usize) -> usize
+    requires { IsNonDecreasingBy (λ run. run.start) runs.now }
+    ensures within { result ≤ length runs.now }
+    ensures begun { (m : ℕ) → (d : Run) → m < result → (get_or runs.now m d).start ≤ k }
+    ensures later { (m : ℕ) → (d : Run) → result ≤ m → m < length runs.now → k < (get_or runs.now m d).start }
+{
+    match runs.last() {
+        Some(run) if run.start <= k => runs.len(),
+        _ => runs.partition_point(|run| run.start <= k),
+    }
 }
 
 /// Whether the brief is the next of the last run, behind so many briefs.

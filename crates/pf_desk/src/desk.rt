@@ -76,11 +76,11 @@ impl Desk {
         })
     }
 
-    /// Answers the caller's command as the machine does, and enters it. A step counts one slot, with want of memory and
-    /// at the horizon none. An edit whose least touched slot s is below now counts at most now - s slots and the distance
-    /// of two checkpoints, of which 32 slots at most lie between two of the last 256 slots, and at most now, refused or not, with want of memory too; any other edit counts none. A step of a
-    /// slot with c processors in use, n tasks inside before, and g events makes at most (4c + 2 + 4g) times as many
-    /// comparisons as n + g has binary digits.
+    /// Answers the caller's command as the machine does, and enters it. A step counts one slot; at the horizon and out of
+    /// memory it counts none. An edit whose least touched slot s is below now counts at most now - s slots and the distance
+    /// of two checkpoints, which is at most 32 slots where s is among the last 256. It never counts more than now, also where
+    /// it is refused or memory runs out; any other edit counts none. A step of a slot with c processors in use, n tasks
+    /// inside before, and g events makes at most (4c + 2 + 4g) times as many comparisons as n + g has binary digits.
     ///
     /// # Errors
     ///

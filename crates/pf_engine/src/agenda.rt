@@ -107,10 +107,11 @@ pub(crate) fn run(
 {
     let next = slot + 1;
     for pick in picks {
-        let Some(member) = tasks.run(pick.task, u64::from(pick.sub)) else {
+        tasks.run(pick.task, u64::from(pick.sub));
+        let Some(member) = tasks.get(pick.task) else {
             unreachable!()
         };
-        put_next(calendar, meter, pick.task, &member, next);
+        put_next(calendar, meter, pick.task, member, next);
     }
 }
 

@@ -140,21 +140,19 @@ impl Roster {
         Some(kept.member)
     }
 
-    /// Notes that this subtask of the task ran, and answers the member as it is then.
-    pub(crate) fn run(&mut self, task: u32, sub: u64) -> Option<Member>
+    /// Notes that this subtask of the task ran.
+    pub(crate) fn run(&mut self, task: u32, sub: u64)
         requires { task ≤ LARGEST_TASK }
         ensures tasks { self.new.tasks ≡ changed_tasks task (member_after_run sub) self.old.tasks }
-        ensures member { result ≡ member_in self.new.tasks task }
         ensures spare { self.new.spare ≡ self.old.spare }
         ensures numbers { self.new.numbers ≡ self.old.numbers }
     {
         let Some(place) = self.place_of(task) else {
-            return None;
+            return;
         };
         let kept = &mut self.tasks[place];
         kept.member.done = sub;
         kept.member.last = kept.member.shift;
-        Some(kept.member)
     }
 
     /// Takes the task out.

@@ -88,7 +88,7 @@ ended A caller (fault.Missing bad) fields whole old left first d way read = (
 )
 ended A caller fault.Memory fields whole old left first d way read = some_answered caller whole old first d way
 
--- Use: want of memory took none of the steps left.
+-- Use: running out of memory took none of the steps left.
 pub steps_stopped : {A E : Type 0} (r : Result A E) (caller taken count : ℕ) (first before after : Shown) → taken < count
     → AnswersAll caller (replicate taken Step) first before → IsAsBefore before after
     → OnErr r ((k : ℕ) × (k ≤ length (replicate count Step)) × AnswersAll caller (take k (replicate count Step)) first after)

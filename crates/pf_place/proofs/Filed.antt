@@ -27,37 +27,37 @@ module _ {X : Type 0} where
   slice_get-append_right (x ∷ xs) ys (suc k) l =
       slice_get-append_right xs ys k (omega arith) ∙ ap (slice_get ys) (omega arith)
 
-  -- full blocks of 256 each, one behind another
-  pub length-full : (full : List (List X)) → All (λ rows. length rows ≡ 256) full → length (all_rows_of full) ≡ length full * 256
+  -- full blocks of 64 each, one behind another
+  pub length-full : (full : List (List X)) → All (λ rows. length rows ≡ 64) full → length (all_rows_of full) ≡ length full * 64
   length-full [] whole = refl
   length-full (rows ∷ full) whole =
       omega (
         arith,
         length-append rows (all_rows_of full),
-        All-head (λ rows. length rows ≡ 256) rows full whole,
-        length-full full (All-tail (λ rows. length rows ≡ 256) rows full whole),
+        All-head (λ rows. length rows ≡ 64) rows full whole,
+        length-full full (All-tail (λ rows. length rows ≡ 64) rows full whole),
       )
 
-  -- the t-th stands in block t / 256
-  pub got_in_full : (full : List (List X)) (back rows : List X) (q r : ℕ) → All (λ rows. length rows ≡ 256) full
-      → Some rows ≡ slice_get full q → r < 256 → slice_get (all_rows_of full ++ back) (q * 256 + r) ≡ slice_get rows r
+  -- the t-th stands in block t / 64
+  pub got_in_full : (full : List (List X)) (back rows : List X) (q r : ℕ) → All (λ rows. length rows ≡ 64) full
+      → Some rows ≡ slice_get full q → r < 64 → slice_get (all_rows_of full ++ back) (q * 64 + r) ≡ slice_get rows r
   got_in_full [] back rows q r whole is small = absurd (let none : Some rows ≡ None = is in cc)
   got_in_full (first ∷ full) back rows zero r whole is small =
-      let long = All-head (λ rows. length rows ≡ 256) first full whole in
+      let long = All-head (λ rows. length rows ≡ 64) first full whole in
       let same : first ≡ rows = (let e : Some rows ≡ Some first = is in cc) in
       ap₂ slice_get (append_assoc first (all_rows_of full) back) (omega arith)
       ∙ slice_get-append_left first (all_rows_of full ++ back) r (omega arith)
       ∙ ap (λ rows. slice_get rows r) same
   got_in_full (first ∷ full) back rows (suc q) r whole is small =
-      let long = All-head (λ rows. length rows ≡ 256) first full whole in
+      let long = All-head (λ rows. length rows ≡ 64) first full whole in
       ap₂ slice_get (append_assoc first (all_rows_of full) back) refl
-      ∙ slice_get-append_right first (all_rows_of full ++ back) (suc q * 256 + r) (omega arith)
+      ∙ slice_get-append_right first (all_rows_of full ++ back) (suc q * 64 + r) (omega arith)
       ∙ ap (slice_get (all_rows_of full ++ back)) (omega arith)
-      ∙ got_in_full full back rows q r (All-tail (λ rows. length rows ≡ 256) first full whole) is small
+      ∙ got_in_full full back rows q r (All-tail (λ rows. length rows ≡ 64) first full whole) is small
 
   -- or behind the full ones
-  pub got_in_last : (full : List (List X)) (back : List X) (t : ℕ) → All (λ rows. length rows ≡ 256) full → length full * 256 ≤ t
-      → slice_get (all_rows_of full ++ back) t ≡ slice_get back (t - length full * 256)
+  pub got_in_last : (full : List (List X)) (back : List X) (t : ℕ) → All (λ rows. length rows ≡ 64) full → length full * 64 ≤ t
+      → slice_get (all_rows_of full ++ back) t ≡ slice_get back (t - length full * 64)
   got_in_last full back t whole past =
       slice_get-append_right (all_rows_of full) back t (omega (arith, length-full full whole))
       ∙ ap (slice_get back) (omega (arith, length-full full whole))
@@ -116,12 +116,12 @@ room_for_each old new full room fits = All-kept (HasRoomFor old) (HasRoomFor new
 
 -- the last full block was opened again
 pub filed_opened : (full : List (List (List (Option Pick)))) (rows : List (List (Option Pick))) (old new : Held)
-    → All (λ rows. length rows ≡ 256) (full ++ rows ∷ []) → length (full ++ rows ∷ []) ≤ 2 ^ 54 → All (HasRoomFor old) (full ++ rows ∷ [])
+    → All (λ rows. length rows ≡ 64) (full ++ rows ∷ []) → length (full ++ rows ∷ []) ≤ 2 ^ 54 → All (HasRoomFor old) (full ++ rows ∷ [])
     → KeepsRoom old new → new.rows ≡ rows → AreFiled full new
 filed_opened full rows old new whole few fits room is =
-    let long = All-end (λ rows. length rows ≡ 256) full rows whole in
+    let long = All-end (λ rows. length rows ≡ 64) full rows whole in
     record {
-      whole = All-front (λ rows. length rows ≡ 256) full rows whole;
+      whole = All-front (λ rows. length rows ≡ 64) full rows whole;
       part = omega (arith, ap length is);
       some = λ _. omega (arith, ap length is);
       room = room_for_each old new full room (All-front (HasRoomFor old) full rows fits);
@@ -129,7 +129,7 @@ filed_opened full rows old new whole few fits room is =
     }
 
 -- no full blocks
-pub filed_last : (full : List (List (List (Option Pick)))) (new : Held) → length full ≡ 0 → length new.rows ≤ 256 → AreFiled full new
+pub filed_last : (full : List (List (List (Option Pick)))) (new : Held) → length full ≡ 0 → length new.rows ≤ 64 → AreFiled full new
 filed_last full new none part = record {
   whole = λ k d l. absurd (omega arith);
   part = part;
@@ -139,12 +139,12 @@ filed_last full new none part = record {
 }
 
 -- the last row of the full blocks
-pub last_of_full : (full : List (List (List (Option Pick)))) (rows : List (List (Option Pick))) → All (λ rows. length rows ≡ 256) full
-    → 0 < length full → Some rows ≡ slice_get full (length full - 1) → slice_get rows 255 ≡ Some (last_row [] (all_rows_of full))
+pub last_of_full : (full : List (List (List (Option Pick)))) (rows : List (List (Option Pick))) → All (λ rows. length rows ≡ 64) full
+    → 0 < length full → Some rows ≡ slice_get full (length full - 1) → slice_get rows 63 ≡ Some (last_row [] (all_rows_of full))
 last_of_full full rows whole some is =
     let long = length-full full whole in
-    let at : (length full - 1) * 256 + 255 ≡ length (all_rows_of full) - 1 = omega arith in
-    sym (got_in_full full [] rows (length full - 1) 255 whole is (omega arith))
+    let at : (length full - 1) * 64 + 63 ≡ length (all_rows_of full) - 1 = omega arith in
+    sym (got_in_full full [] rows (length full - 1) 63 whole is (omega arith))
     ∙ ap₂ slice_get (append-nil (all_rows_of full)) at
     ∙ slice_get-get_or (all_rows_of full) (length (all_rows_of full) - 1) [] (omega arith)
     ∙ ap Some (sym (last_is_read [] [] (all_rows_of full) (omega arith)))

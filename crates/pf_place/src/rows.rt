@@ -18,12 +18,12 @@ use std::alloc::{AllocError, Global};
 use std::marker::Model;
 
 /// How many rows a full block has.
-const BLOCK: usize = 256;
+const BLOCK: usize = 64;
 
 /// The most full blocks, so that the rows can be counted: far beyond what a memory holds.
 const MOST_BLOCKS: usize = 0x40_0000_0000_0000;
 
-/// The rows of the slots from 0 on. Copies share the blocks of 256 rows that are full: a copy costs the same however many
+/// The rows of the slots from 0 on. Copies share the blocks of 64 rows that are full: a copy costs the same however many
 /// rows there are.
 #[derive(Debug, Drop)]
 pub struct Rows {
@@ -210,7 +210,7 @@ impl Rows {
 
 /// Puts the last full block, where there is one, in place of the last block, which has no rows; it takes no memory.
 fn reopen(full: &mut SharedList<ClosedBlock>, last: &mut Block)
-    requires whole { All (λ rows. length rows ≡ 256) full.old }
+    requires whole { All (λ rows. length rows ≡ 64) full.old }
     requires few { length full.old ≤ 2 ^ 54 }
     requires room { All (HasRoomFor last.old) full.old }
     requires empty { length last.old.rows ≡ 0 }
@@ -225,7 +225,7 @@ fn reopen(full: &mut SharedList<ClosedBlock>, last: &mut Block)
 
 /// The last row of these blocks; one of no places where there are none.
 fn last_row(full: &SharedList<ClosedBlock>) -> RowView<'_>
-    requires { All (λ rows. length rows ≡ 256) full.now }
+    requires { All (λ rows. length rows ≡ 64) full.now }
     ensures { lent_row result ≡ last_row [] (all_rows_of full.entry.now) }
 {
     match full.last() {

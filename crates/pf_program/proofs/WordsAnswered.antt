@@ -73,7 +73,7 @@ text_answers words text closed status old new told held asks input reads written
       memory = λ four. absurd (omega (arith, ended, four));
     })
 
--- the status of want of memory, whoever reads the output
+-- the status of running out of memory, whoever reads the output
 status_of_memory : (closed : Bool) (otherwise : Status) → 4 ≡ status_ended closed otherwise (Err stop.NoMemory)
 status_of_memory closed otherwise = refl
 
@@ -93,7 +93,7 @@ none_had : (file : Option (List ℕ)) (old : Streams) → IsSource file (Err sto
 none_had None old = record { bytes = unknown old.input; reads = refl; taken = none_taken old.input }
 none_had (Some name) old = (refl, refl)
 
--- want of memory, behind which nothing is told
+-- running out of memory, behind which nothing is told
 abbrev no_memory_noted : Noted
 no_memory_noted = record { outcome = Err stop.NoMemory; notes = Err stop.NoMemory }
 
@@ -212,7 +212,7 @@ untouched words fault.NoMemory closed old told held any is holds =
     memory_answers words old told held (task_asked words) (pair_asked words) (desk_asked words) (file_asked words) (telling_asked words).notes closed is
     (holds refl is)
 
--- words that ask for nothing, and want of memory, leave the streams as they were
+-- words that ask for nothing, and running out of memory, leave the streams as they were
 pub refusal_answers : (words : List (List ℕ)) (why : WordsFault) (closed : Bool) (status : ℕ) (old : Streams) (told : List ℕ → Type 0)
     (held : DeskNames → Type 0) → IsAsked words (Err why) → status ≡ status_of_words why → told (told_of why)
     → (status ≡ 4 → told (fault_line stop.NoMemory) → (d : DeskNames) → held d) → AnswersWords words closed status old old told held

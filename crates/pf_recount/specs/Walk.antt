@@ -33,7 +33,7 @@ TakesLine None old new = old ≡ []
 TakesLine (Some told) old new = old ≡ told ∷ new
 
 -- it went over a record of this number, which asks for this, where it is not stopped: it then stands behind it, and what the
--- records came to is what they come to with this one; and it is stopped by want of memory alone where the history has the
+-- records came to is what they come to with this one; and it is stopped by running out of memory alone where the history has the
 -- commands of the record, and then has those behind it
 pub record Walks (file : List ℕ) (names : List Named) (whole : Bool) (number : ℕ) (asks : Line) (r : Result (Unit {0}) Stop)
     (before : Course) (was : Recounted) (behind : Course) (now : Recounted) : Type 0 where

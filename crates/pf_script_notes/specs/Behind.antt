@@ -40,7 +40,7 @@ abbrev pub names_in : Option Plain → List Named
 names_in None = []
 names_in (Some p) = p.titles.names
 
--- the notes behind a run of a script of any version; it was carried out, or its first bad record stopped it, or want of memory
+-- the notes behind a run of a script of any version; it was carried out, or its first bad record stopped it, or running out of memory
 abbrev pub NotesBy : Option Plain → List ℕ → List ℕ → Result (Vec ℕ Global) Fault → Type 0
 NotesBy q file script (Ok text) = RunNotes file (origins_in q) (names_in q) (text_in q script) text.items
 NotesBy q file script (Err fault) = Stops (told (text_in q script)).rest.fault fault

@@ -10,7 +10,7 @@ abbrev pub longest_script : ℕ
 longest_script = 16777216
 
 -- the answer to an input of these bytes: the bytes themselves, or `TooLong` where they are more than a script may be;
--- a failing reader and want of memory come in between
+-- a failing reader and running out of memory come in between
 abbrev pub ReadsScript : List ℕ → Result (Vec ℕ Global) ReadingFault → Type 0
 ReadsScript bytes (Ok text) = (text.items ≡ bytes) × (length bytes ≤ longest_script)
 ReadsScript bytes (Err TooLong) = longest_script < length bytes

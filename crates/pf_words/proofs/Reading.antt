@@ -107,7 +107,7 @@ has_name name (Some p) here named = by here (is_named name (Some p)) named (byte
     by true false named tells = let same : p.0 ≡ name = let e = named.0 refl in cc in sym (tells.1 same)
     by false true named tells = named.1 (ap (λ (t : Text). Some t) (tells.0 refl))
 
--- want of memory shows nothing
+-- running out of memory shows nothing
 not_shown : (kind : ErrorKind) → kind ≡ OutOfMemory → ¬ IsShown kind
 not_shown kind memory (inl help) = cc
 not_shown kind memory (inr version) = cc

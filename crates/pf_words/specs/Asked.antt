@@ -395,7 +395,7 @@ IsRefused words = (kind : ErrorKind) × ¬ IsShown kind × IsAmong kind (kinds_o
 abbrev pub AreMistaken : List Text → Mistake → Type 0
 AreMistaken words mistake = (kinds_of words ≡ []) × (mistake_found (subcommand_of program words) ≡ Some mistake)
 
--- this answer is what the words ask for; want of memory may stand in place of any
+-- this answer is what the words ask for; running out of memory may stand in place of any
 abbrev pub IsAsked : List Text → Result Request WordsFault → Type 0
 IsAsked words (Ok (Do task file telling)) = (task_asked words ≡ Some task) × (name_of file ≡ file_asked words) × (telling ≡ telling_asked words)
 IsAsked words (Ok (Compare pair telling)) = (task_asked words ≡ None) × (pair_asked words ≡ Some (names_of pair)) × (telling ≡ telling_asked words)

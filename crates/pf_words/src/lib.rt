@@ -1,6 +1,6 @@
 //! What the program's words ask for: to run the script in a format, to check it, to tell what its last records changed, to
 //! tell what differs between two, to drill it, to sit at a desk, or to show help. The words are read by clap's grammar of one command line. The
-//! one contract of this crate: what `read_words` answers is what the words ask for, for all words; want of memory may come in
+//! one contract of this crate: what `read_words` answers is what the words ask for, for all words; running out of memory may come in
 //! its place.
 #![tactic(auto)]
 

@@ -1,4 +1,5 @@
 use Rattle.std.proofs.Common.{◌≡◌, ◌+◌, ◌≤◌, ◌∷◌, max, get_or, All, None, Some, Contains, length, drop, refl, sym, ap, ap₂, ◌∙◌, subst, arith}
+use Rattle.std.specs.Option.{option_copied}
 use Rattle.std.proofs.lemmas.List.{length-map}
 use Rattle.pf_weight.specs.declared.task.TheConstants.{LARGEST_TASK}
 use Rattle.pf_order.specs.Priority.{Priority}
@@ -56,6 +57,11 @@ run-requires c =
       (key_numbered c.args.slot c.args.tasks.now.tasks run.keys c.loop-pick.pick-index k.key run.can k.within k.is).1,
     )
 
+pub get-requires : goal.get-requires
+get-requires c =
+    let g = (goal.at.get-requires c).After-run in
+    omega (arith, number g, (numbered g).1)
+
 pub put_next-requires-clause-some : goal.put_next-requires-clause-some
 put_next-requires-clause-some c =
     let g = (goal.at.put_next-requires-clause-some c).After-run in
@@ -85,13 +91,13 @@ unreachable-requires c =
     let g = (goal.at.unreachable-requires c).After-run in
     let key = (key_here g).key in
     stays g (none_changed c.loop-pick.tasks.tasks key.task key.task (member_after_run key.sub)
-    (ap₂ (λ ts t. member_in ts t) (sym (ran g)) (sym (number g)) ∙ sym c.run.ensures.member ∙ c.in_default.is))
+    (ap₂ (λ ts t. member_in ts t) (sym (ran g)) (sym (number g)) ∙ sym c.get.ensures ∙ ap option_copied c.in_default.is))
 
 -- its member, now that it ran
 found : (c : In-Some) → (key : Priority) → c.run.new.self.tasks ≡ changed_tasks key.task (member_after_run key.sub) c.loop-pick.tasks.tasks →
     (get_or c.args.picks.now c.loop-pick.pick-index (record { task = 0; sub = 0 })).task ≡ key.task →
-    member_in (changed_tasks key.task (member_after_run key.sub) c.loop-pick.tasks.tasks) key.task ≡ Some c.in-Some.member
-found c key tasks task = ap₂ (λ ts t. member_in ts t) (sym tasks) (sym task) ∙ sym c.in-Some.ensures.member
+    member_in (changed_tasks key.task (member_after_run key.sub) c.loop-pick.tasks.tasks) key.task ≡ Some c.in-Some.member.now
+found c key tasks task = ap₂ (λ ts t. member_in ts t) (sym tasks) (sym task) ∙ sym c.in-Some.ensures
 
 pub put_next-requires-clause-member : goal.put_next-requires-clause-member
 put_next-requires-clause-member c =
@@ -99,7 +105,7 @@ put_next-requires-clause-member c =
     let g = at.After-run in
     let k = key_here g in
     let run = c.loop-pick.invariant.run in
-    member_among (changed_tasks k.key.task (member_after_run k.key.sub) c.loop-pick.tasks.tasks) k.key.task c.in-Some.member
+    member_among (changed_tasks k.key.task (member_after_run k.key.sub) c.loop-pick.tasks.tasks) k.key.task c.in-Some.member.now
     (inside_changed c.loop-pick.tasks.tasks k.key.task k.key.sub
     (key_small c.args.slot c.args.tasks.now.tasks run.keys c.loop-pick.pick-index k.key run.can k.within k.is) c.loop-pick.invariant.members)
     (found at.In-Some (key_here g).key (ran g) (number g))
@@ -142,9 +148,9 @@ loop-pick-preserved c =
         are = run.are;
         can = run.can;
         agenda = subst (λ ts. IsAgenda c.put_next.new.calendar (c.args.slot + 1) ts (drop (i + 1) run.keys)) (sym (ran g))
-            (agenda_put c.loop-pick.calendar c.put_next.new.calendar (c.args.slot + 1) _ tasks key (drop (i + 1) run.keys) f c.in-Some.member
+            (agenda_put c.loop-pick.calendar c.put_next.new.calendar (c.args.slot + 1) _ tasks key (drop (i + 1) run.keys) f c.in-Some.member.now
             c.loop-pick.invariant.differ (found at.In-Some (key_here g).key (ran g) (number g)) (behind_apart c.args.slot start run.keys i key run.can k.within k.is) refl
-            (c.put_next.ensures.put ∙ ap (λ t. with_put c.loop-pick.calendar (max (eligible_from c.in-Some.member) (c.args.slot + 1)) (next_key t c.in-Some.member)) (number g))
+            (c.put_next.ensures.put ∙ ap (λ t. with_put c.loop-pick.calendar (max (eligible_from c.in-Some.member.now) (c.args.slot + 1)) (next_key t c.in-Some.member.now)) (number g))
             c.put_next.ensures.counted c.put_next.ensures.some away);
       };
       members = subst (All IsInside) (sym (ran g)) (inside_changed tasks key.task key.sub small c.loop-pick.invariant.members);

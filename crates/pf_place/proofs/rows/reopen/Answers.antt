@@ -12,7 +12,7 @@ returns-in-Some-clause-filed c =
     let front = take (length full - 1) full in
     let is : full ≡ front ++ rows ∷ [] = sym (blocks_less full rows c.in-Some.ensures) in
     rw c.pop.ensures
-    (filed_opened front rows c.args.last.now c.open_on.new.block (subst (All (λ rows. length rows ≡ 256)) is c.requires.whole)
+    (filed_opened front rows c.args.last.now c.open_on.new.block (subst (All (λ rows. length rows ≡ 64)) is c.requires.whole)
     (omega (arith, ap length is, c.requires.few)) (subst (All (HasRoomFor c.args.last.now)) is c.requires.room)
     c.open_on.ensures.room c.open_on.ensures.rows)
 

@@ -1,7 +1,7 @@
 use Rattle.std.proofs.Common.{ap, ◌∙◌, refl}
 use Rattle.pf_engine.specs.Roll.{Roll}
 use Rattle.pf_engine.specs.Kept.{changed_tasks, member_after_run}
-use Rattle.pf_engine.proofs.Places.{unchanged, edited, member_edited, no_member}
+use Rattle.pf_engine.proofs.Places.{unchanged, edited}
 use Rattle.pf_engine.proofs.roster.Roster.run.Goals as goal
 
 pub returns-in_default-clause-tasks : goal.returns-in_default-clause-tasks
@@ -12,11 +12,3 @@ returns-clause-tasks c =
     edited c.self.inside.tasks.items c.args.task c.in-Some.place c.index_mut-kept.result.now _
     (member_after_run c.args.sub) (rw (← c.self.view_is) at c.in-Some.ensures) c.index_mut-kept.ensures.value refl
     ∙ ap (λ (r : Roll). changed_tasks c.args.task (member_after_run c.args.sub) r.tasks) c.self.view_is
-
-pub returns-in_default-clause-member : goal.returns-in_default-clause-member
-returns-in_default-clause-member c = no_member c.args.self.now.tasks c.args.task c.in_default.ensures
-
-pub returns-clause-member : goal.returns-clause-member
-returns-clause-member c =
-    member_edited c.self.inside.tasks.items c.args.task c.in-Some.place c.index_mut-kept.result.now _
-    (member_after_run c.args.sub) (rw (← c.self.view_is) at c.in-Some.ensures) c.index_mut-kept.ensures.value refl
