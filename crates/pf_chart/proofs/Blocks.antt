@@ -8,7 +8,7 @@ use Rattle.std.proofs.lemmas.List.Concat.{flat_map-cons}
 use Rattle.std.proofs.lemmas.List.FromFn.{get_or-map-range_with_len}
 use Rattle.pf_order.specs.declared.pick.Pick.{Pick}
 use Rattle.pf_tally.proofs.Noting.{got_at}
-use Rattle.pf_report.specs.Desk.{Seen}
+use Rattle.pf_desk.specs.Desk.{Seen}
 use Rattle.pf_chart.specs.Listing.{Listing, count_in, counts_of}
 use Rattle.pf_chart.specs.Labels.{Labels, block_length}
 use Rattle.pf_chart.specs.Chart.{block_of, block_text, blocks_text, processor_cell}

@@ -10,8 +10,8 @@ use Rattle.pf_run.specs.Inside.{count_after, count_of}
 use Rattle.pf_run.specs.RunRows.{AreOfRun, denials_in}
 use Rattle.pf_tally.specs.Standing.{AreNumbersOf}
 use Rattle.pf_tally.proofs.InForce.{kept_in_force, in_force-append}
-use Rattle.pf_report.proofs.Places.{length-rows}
-use Rattle.pf_report.specs.Desk.{Seen}
+use Rattle.pf_desk.proofs.Places.{length-rows}
+use Rattle.pf_desk.specs.Desk.{Seen}
 use Rattle.pf_chart.specs.Built.{count_by_denials}
 use Rattle.pf_chart.specs.Listing.{counts_of}
 

@@ -1,4 +1,3 @@
-pub use Rattle.pf_report.proofs.Places
 pub mod Cuts
 pub mod Drawn
 pub mod Built

@@ -22,8 +22,8 @@ use Rattle.pf_run.specs.RunRows.{AreOfRun}
 use Rattle.pf_table.specs.Lists.{noted_of}
 use Rattle.pf_tally.specs.Own.{is_own, AreDiaries}
 use Rattle.pf_tally.specs.Standing.{AreNumbersOf}
-use Rattle.pf_report.proofs.Places.{length-rows}
-use Rattle.pf_report.specs.Desk.{Seen}
+use Rattle.pf_desk.proofs.Places.{length-rows}
+use Rattle.pf_desk.specs.Desk.{Seen}
 use Rattle.pf_chart.specs.Built.{is_listed_by, listing_by, listings_by}
 use Rattle.pf_chart.specs.Course.{Track, tracks_of}
 use Rattle.pf_chart.specs.Listing.{Listing, is_listed, listings_of}

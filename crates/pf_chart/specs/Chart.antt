@@ -10,7 +10,7 @@ use Rattle.pf_names.specs.Slots.{slot_text}
 use Rattle.pf_names.specs.declared.slot_length.SlotLength.{SlotLength}
 use Rattle.pf_names.specs.declared.titles.Titles.{Titles}
 use Rattle.pf_scenario.specs.System.{System}
-use Rattle.pf_report.specs.Desk.{Seen}
+use Rattle.pf_desk.specs.Desk.{Seen}
 use Rattle.pf_chart.specs.Course.{Track}
 use Rattle.pf_chart.specs.Cells.{task_cell, window_cell, lag_cell, mark_cell}
 use Rattle.pf_chart.specs.Listing.{Listing, listings_of, count_in}

@@ -4,7 +4,7 @@ use Rattle.pf_scenario.specs.Scenario.{Plan}
 use Rattle.pf_scenario.specs.declared.event.Event.TheVariants.{Join, Leave, Delay, Limit}
 use Rattle.pf_run.specs.RunRows.{rows_in, denials_in}
 use Rattle.pf_run.specs.Examples.{plan_with}
-use Rattle.pf_report.specs.Desk.{Seen}
+use Rattle.pf_desk.specs.Desk.{Seen}
 use Rattle.pf_names.specs.Titled.{untitled}
 use Rattle.pf_chart.specs.Chart.{chart_text_of, legend_text, task_chart_text_of, task_legend_text}
 

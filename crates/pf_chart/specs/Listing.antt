@@ -11,7 +11,7 @@ use Rattle.pf_run.specs.Inside.{count_of}
 use Rattle.pf_run.specs.Run.{events_in_force}
 use Rattle.pf_run.specs.Computed.{run_of}
 use Rattle.pf_tally.specs.Own.{is_own}
-use Rattle.pf_report.specs.Desk.{Seen}
+use Rattle.pf_desk.specs.Desk.{Seen}
 use Rattle.pf_chart.specs.Course.{Track, tracks_of}
 
 -- a listed task: its course, if it was admitted, and the slots of its denied events

@@ -10,7 +10,7 @@ use crate::labels::Labels;
 use crate::listed::Listed;
 use crate::listings::listings;
 use pf_names::titles::Titles;
-use pf_report::snapshot::Snapshot;
+use pf_desk::snapshot::Snapshot;
 use pf_tasks::task_list::TaskList;
 use pf_text::pieces::{Chain, Pieces, Whole};
 use std::alloc::{AllocError, Global};

@@ -22,5 +22,3 @@ pub mod symbols;
 pub mod track_row;
 pub mod window;
 pub mod windows;
-
-pub use pf_report::rows;

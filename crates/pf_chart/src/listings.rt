@@ -11,7 +11,7 @@ ghost use Rattle.pf_chart.specs.Listing.{listings_of};
 use crate::course::Course;
 use crate::courses::courses;
 use crate::listed::Listed;
-use pf_report::snapshot::Snapshot;
+use pf_desk::snapshot::Snapshot;
 use pf_scenario::event::Numbered;
 use pf_table::lists::Lists;
 use pf_tally::diary::diaries_by_task;

@@ -14,3 +14,4 @@ pub mod Runs
 mod Uncounted
 pub mod Rooms
 mod Fits
+pub mod Places

@@ -17,6 +17,7 @@ mod never_misses;
 pub mod prepared;
 pub mod reply;
 pub mod reply_view;
+pub mod rows;
 mod run;
 mod scenario_run;
 mod settled;

@@ -12,7 +12,7 @@ use crate::shapes::push_field;
 use crate::task_drawings::TaskDrawings;
 use crate::turn::Turn;
 use pf_chart::quantum::Quantum;
-use pf_chart::rows::row_at;
+use pf_desk::rows::row_at;
 use pf_chart::window::Window;
 use pf_desk::snapshot::Snapshot;
 use pf_order::pick::Pick;

@@ -1,6 +1,6 @@
 pub mod Examples
 pub mod Recorded
-pub mod Places
+pub use Rattle.pf_desk.proofs.Places
 pub mod Arrays
 pub mod Floats
 pub mod JsonParts

@@ -12,10 +12,10 @@ pub mod misses;
 mod names;
 pub mod quanta;
 pub mod reply;
-pub mod rows;
 pub mod schedule;
 pub mod schedule_part;
 pub mod script;
 mod tail_text;
 
+pub use pf_desk::rows;
 pub use pf_desk::snapshot;

@@ -7,7 +7,7 @@ use crate::book::Book;
 use crate::slot_lines::{push_row, push_units};
 use crate::task_trace::TaskTrace;
 use crate::title::Title;
-use pf_chart::rows::row_at;
+use pf_desk::rows::row_at;
 use pf_desk::snapshot::Snapshot;
 use pf_fit::level::Level;
 use pf_table::lists::Lists;

@@ -1,5 +1,5 @@
 use Rattle.std.proofs.Common.{◌∙◌, ◌++◌, sym, ap, ap₂, append_assoc, arith}
-use Rattle.pf_report.proofs.Places.{length-rows}
+use Rattle.pf_desk.proofs.Places.{length-rows}
 use Rattle.pf_chart.specs.Chart.{blocks_text}
 use Rattle.pf_chart.specs.Labels.{labels_of}
 use Rattle.pf_chart.proofs.chart.pieces_between.Goals as goal

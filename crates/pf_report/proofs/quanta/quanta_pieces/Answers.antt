@@ -1,6 +1,6 @@
 use Rattle.std.proofs.Common.{arith, rules}
 use Rattle.pf_report.specs.Quanta.{quanta_text}
-use Rattle.pf_report.proofs.Places.{length-rows}
+use Rattle.pf_desk.proofs.Places.{length-rows}
 use Rattle.pf_report.proofs.quanta.quanta_pieces.Goals as goal
 
 pub invariant_of-rows : goal.invariant_of-rows

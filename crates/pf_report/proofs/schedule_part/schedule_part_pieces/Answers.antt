@@ -1,6 +1,6 @@
 use Rattle.std.proofs.Common.{arith, rules}
 use Rattle.pf_report.specs.Part.{schedule_part_text}
-use Rattle.pf_report.proofs.Places.{length-rows}
+use Rattle.pf_desk.proofs.Places.{length-rows}
 use Rattle.pf_report.proofs.schedule_part.schedule_part_pieces.Goals as goal
 
 pub invariant_of-rows : goal.invariant_of-rows

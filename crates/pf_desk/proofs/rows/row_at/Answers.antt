@@ -1,7 +1,7 @@
 use Rattle.std.proofs.Common.{arith}
 use Rattle.pf_tally.proofs.Noting.{got_none}
-use Rattle.pf_report.proofs.Places.{length-rows, length-row}
-use Rattle.pf_report.proofs.rows.row_at.Goals as goal
+use Rattle.pf_desk.proofs.Places.{length-rows, length-row}
+use Rattle.pf_desk.proofs.rows.row_at.Goals as goal
 
 pub prove-unreachable-requires : goal.prove-unreachable-requires
 prove-unreachable-requires c =

@@ -2,7 +2,7 @@ ghost use Rattle.std.specs.Prelude.{◌≡◌, ◌<◌, Some, length};
 ghost use Rattle.std.specs.List.{slice_get};
 ghost use Rattle.pf_place.specs.Lent.{lent_row};
 
-use pf_desk::snapshot::Snapshot;
+use crate::snapshot::Snapshot;
 use pf_place::row_view::RowView;
 
 /// How many slots have a row.

@@ -1,6 +1,6 @@
 use Rattle.std.proofs.Common.{◌∙◌, sym}
-use Rattle.pf_report.proofs.Places.{length-rows}
-use Rattle.pf_report.proofs.rows.row_count.Goals as goal
+use Rattle.pf_desk.proofs.Places.{length-rows}
+use Rattle.pf_desk.proofs.rows.row_count.Goals as goal
 
 pub returns : goal.returns
 returns c =
