@@ -6,7 +6,7 @@ use pf_desk::snapshot::Snapshot;
 use std::alloc::AllocError;
 
 /// How many lines the tables of missed windows and of denials have.
-#[derive(Clone, Copy, Debug, PartialEq, Eq)]
+#[derive(Clone, Copy)]
 pub struct Counts {
     /// Missed windows.
     pub misses: u64,

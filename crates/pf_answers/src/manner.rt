@@ -1,5 +1,5 @@
 /// How a session answers.
-#[derive(Clone, Copy, Debug, PartialEq, Eq)]
+#[derive(Clone, Copy)]
 pub struct Manner {
     /// Each answer is one JSON object on one line.
     pub json: bool,

@@ -14,7 +14,7 @@ use pf_report::reply::push_reply;
 use std::alloc::{AllocError, Global};
 
 /// Steps of one record: the slot that the first of them takes, the horizon, how many there are, and how many of them are refused there.
-#[derive(Clone, Copy, Debug, PartialEq, Eq)]
+#[derive(Clone, Copy)]
 pub struct StepsAsked {
     /// The slot.
     pub first: u64,

@@ -9,9 +9,9 @@ use crate::labels::Labels;
 use crate::line::push_line;
 use crate::listed::{Listed, symbol_of};
 use crate::ruler::push_rulers;
-use pf_place::row_view::RowView;
 use pf_desk::rows::row_at;
 use pf_desk::snapshot::Snapshot;
+use pf_place::row_view::RowView;
 use std::alloc::{AllocError, Global};
 
 /// The cell of a slot with this row in the line of a processor, where so many are in use in it.

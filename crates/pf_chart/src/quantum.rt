@@ -1,5 +1,5 @@
 /// Where a subtask ran.
-#[derive(Clone, Copy, Debug, PartialEq, Eq)]
+#[derive(Clone, Copy)]
 pub struct Quantum {
     /// Its slot.
     pub slot: u64,

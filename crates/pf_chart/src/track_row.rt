@@ -1,5 +1,5 @@
 /// A line of a listed task.
-#[derive(Clone, Copy, Debug, PartialEq, Eq)]
+#[derive(Clone, Copy)]
 pub enum TrackRow {
     /// Where it runs and waits.
     Runs,

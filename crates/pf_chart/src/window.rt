@@ -1,7 +1,7 @@
 use crate::quantum::Quantum;
 
 /// A subtask that a chart draws: its window, with its shift, and where it ran. Times are slots.
-#[derive(Clone, Copy, Debug, PartialEq, Eq)]
+#[derive(Clone, Copy)]
 pub struct Window {
     /// The number of the subtask, from 1.
     pub sub: u64,

@@ -9,7 +9,7 @@ use pf_text::numbers::push_number;
 use std::alloc::AllocError;
 
 /// A part of a line.
-#[derive(Clone, Copy, Debug)]
+#[derive(Clone, Copy)]
 pub enum Part<'a> {
     /// These words.
     Words(&'a str),

@@ -17,7 +17,7 @@ use pf_task_list::lines::Lines;
 use std::alloc::{AllocError, Global};
 
 /// What the lines of several quanta are told by.
-#[derive(Clone, Copy, Debug)]
+#[derive(Clone, Copy)]
 pub struct Series {
     /// The unit of times.
     pub unit: Unit,

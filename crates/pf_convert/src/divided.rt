@@ -1,5 +1,5 @@
 /// A base with its divisors.
-#[derive(Debug, Drop)]
+#[derive(Drop)]
 pub struct Divided {
     pub base: u64,
     /// In no order.

@@ -1,5 +1,5 @@
 /// How long a quantum is, and how many processors its plan needs.
-#[derive(Clone, Copy, Debug, PartialEq, Eq)]
+#[derive(Clone, Copy)]
 pub struct Outcome {
     /// In nanoseconds.
     pub quantum: u64,

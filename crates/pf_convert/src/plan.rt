@@ -1,7 +1,7 @@
 use crate::slotted::Slotted;
 
 /// What tasks come to in slots of one quantum.
-#[derive(Debug, Drop)]
+#[derive(Drop)]
 pub struct Plan {
     /// The base, 1 to 2^30, of which each period is a divisor.
     pub base: u64,

@@ -2,7 +2,7 @@
 pub const LONGEST_QUANTUM: u64 = 1_000_000_000;
 
 /// How long a slot is, and what a switch takes of it.
-#[derive(Clone, Copy, Debug, PartialEq, Eq)]
+#[derive(Clone, Copy)]
 pub struct Quantum {
     /// In nanoseconds, 1 to `LONGEST_QUANTUM`.
     pub length: u64,

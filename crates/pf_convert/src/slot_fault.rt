@@ -1,5 +1,5 @@
 /// Why a task in time is none in slots of a quantum, in the order in which the tests are made.
-#[derive(Clone, Copy, Debug, PartialEq, Eq)]
+#[derive(Clone, Copy)]
 pub enum SlotFault {
     /// The period would be 0 slots.
     EveryBelowQuantum,

@@ -1,5 +1,5 @@
 /// A task in slots: `cost` quanta in each `period` slots, from the slot `join` on.
-#[derive(Clone, Copy, Debug, PartialEq, Eq)]
+#[derive(Clone, Copy)]
 pub struct Slotted {
     /// The quanta of a job, 1 to the period.
     pub cost: u64,

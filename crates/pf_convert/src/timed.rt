@@ -12,7 +12,7 @@ use pf_scenario::settings::WIDE_HORIZON;
 pub const TIME_LIMIT: u64 = 1_000_000_000_000_000_000;
 
 /// A task as it is told in time. All times are in nanoseconds and below `TIME_LIMIT`.
-#[derive(Clone, Copy, Debug, PartialEq, Eq)]
+#[derive(Clone, Copy)]
 pub struct Timed {
     /// The processor time of a job at most, above 0.
     pub work: u64,

@@ -2,7 +2,7 @@ use crate::quanta::Quanta;
 use pf_names::unit::Unit;
 
 /// What a list of tasks is made into.
-#[derive(Clone, Copy, Debug, PartialEq, Eq)]
+#[derive(Clone, Copy)]
 pub enum ConvertFormat {
     /// A script in slots of one quantum.
     Script,

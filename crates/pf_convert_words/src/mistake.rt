@@ -7,7 +7,7 @@ use pf_task_list::time::places_of;
 use std::alloc::AllocError;
 
 /// Which word of a conversion is mistaken, in the order in which they are looked at.
-#[derive(Clone, Copy, Debug, PartialEq, Eq)]
+#[derive(Clone, Copy)]
 pub enum ConvertMistake {
     /// `--format` names none of `script`, `table` and `json`.
     Format,

@@ -13,7 +13,7 @@ use pf_scenario::settings::MOST_PROCESSORS;
 use pf_task_list::time::{parse_digits, parse_time};
 
 /// The texts of a conversion's words.
-#[derive(Clone, Copy, Debug)]
+#[derive(Clone, Copy)]
 pub struct ConvertWords<'a> {
     pub format: Option<&'a [u8]>,
     pub unit: Option<&'a [u8]>,

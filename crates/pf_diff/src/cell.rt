@@ -1,7 +1,7 @@
 use crate::finding::Finding;
 
 /// A cell of a table: a key of two numbers, and what is found there. A table whose keys are one number has 0 as the second.
-#[derive(Clone, Copy, Debug, PartialEq, Eq)]
+#[derive(Clone, Copy)]
 pub struct Cell {
     /// A task, or an event's number.
     pub first: u64,

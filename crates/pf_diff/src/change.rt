@@ -1,7 +1,7 @@
 use crate::finding::Finding;
 
 /// What is found at a key in two tables.
-#[derive(Clone, Copy, Debug, PartialEq, Eq)]
+#[derive(Clone, Copy)]
 pub struct Change {
     /// The first number of the key: a task, or an event's number.
     pub first: u64,

@@ -4,7 +4,7 @@ ghost use Rattle.pf_diff.specs.Changes.{same_finding};
 use pf_admit::denial::Denial;
 
 /// What is found at a key of a table.
-#[derive(Clone, Copy, Debug, PartialEq, Eq)]
+#[derive(Clone, Copy)]
 pub enum Finding {
     /// A task's lag, times its period.
     Lag(i64),

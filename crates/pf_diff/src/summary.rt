@@ -7,7 +7,7 @@ use pf_tally::miss::Miss;
 use std::alloc::AllocError;
 
 /// What a snapshot comes to.
-#[derive(Clone, Copy, Debug)]
+#[derive(Clone, Copy)]
 pub struct Summary {
     /// How many processors there are.
     pub processors: u64,

@@ -7,7 +7,7 @@ use std::alloc::{AllocError, Global};
 use std::io::ErrorKind;
 
 /// Why a file can't be read.
-#[derive(Clone, Copy, Debug, PartialEq, Eq)]
+#[derive(Clone, Copy)]
 pub enum FileFault {
     /// There is none of this name.
     Missing,

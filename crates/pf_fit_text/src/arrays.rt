@@ -1,7 +1,7 @@
 use std::marker::Model;
 
 /// What was refused, denied and missed, each as a JSON array.
-#[derive(Debug, Drop)]
+#[derive(Drop)]
 pub struct Arrays {
     /// The denied events.
     pub denied: Vec<u8>,

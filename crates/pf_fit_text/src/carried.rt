@@ -1,5 +1,5 @@
 /// What a script that was carried out came to.
-#[derive(Clone, Copy, Debug, PartialEq, Eq)]
+#[derive(Clone, Copy)]
 pub struct Carried {
     /// The base h of the weights.
     pub base: u64,

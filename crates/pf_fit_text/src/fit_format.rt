@@ -1,5 +1,5 @@
 /// How a fit is told.
-#[derive(Clone, Copy, Debug, PartialEq, Eq)]
+#[derive(Clone, Copy)]
 pub enum FitFormat {
     /// As text.
     Text,

@@ -1,7 +1,7 @@
 ghost use Rattle.std.specs.Prelude.{◌≡◌, None, Some};
 
 /// The numbers that an event has beside its own and its slot, as far as its kind has them.
-#[derive(Clone, Copy, Debug, PartialEq, Eq)]
+#[derive(Clone, Copy)]
 pub struct EventNumbers {
     /// The task that joins, leaves or is delayed.
     pub task: Option<u64>,

@@ -1,7 +1,7 @@
 use pf_shown::wanted::Wanted;
 
 /// What a word asks for.
-#[derive(Debug, Drop)]
+#[derive(Drop)]
 pub enum Asked {
     /// That this is shown.
     Shown(Wanted),

@@ -5,7 +5,7 @@ use pf_script::fields::Fields;
 use pf_version3::fault::Reason;
 
 /// Why a line is bad.
-#[derive(Clone, Copy, Debug, PartialEq, Eq)]
+#[derive(Clone, Copy)]
 pub enum LineReason {
     /// As a record would be.
     OfRecord(Reason),
@@ -18,7 +18,7 @@ pub enum LineReason {
 }
 
 /// What is wrong with a line.
-#[derive(Clone, Copy, Debug, PartialEq, Eq)]
+#[derive(Clone, Copy)]
 pub struct LineFault {
     /// The field that is at fault, counted from 1.
     pub field: usize,

@@ -3,7 +3,7 @@ use pf_shown::wanted::Wanted;
 use pf_version3::said::Said;
 
 /// What a line is.
-#[derive(Debug, Drop)]
+#[derive(Drop)]
 pub enum Heard {
     /// It has no record and no answer.
     Nothing,

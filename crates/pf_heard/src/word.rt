@@ -6,7 +6,7 @@ use pf_options::format::Format;
 use pf_script::fields::Fields;
 
 /// A word that is no record.
-#[derive(Clone, Copy, Debug, PartialEq, Eq)]
+#[derive(Clone, Copy)]
 pub enum Word {
     /// The name of a format without replies.
     Shows(Format),

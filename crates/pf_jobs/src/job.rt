@@ -1,5 +1,5 @@
 /// A job of a task: as many of its subtasks, one after another, as its cost says. Times are slots.
-#[derive(Clone, Copy, Debug, PartialEq, Eq)]
+#[derive(Clone, Copy)]
 pub struct Job {
     /// The task's number.
     pub task: u64,

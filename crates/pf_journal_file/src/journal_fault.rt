@@ -12,7 +12,7 @@ use std::alloc::{AllocError, Global};
 use std::io::ErrorKind;
 
 /// Why a file keeps no session's records, or keeps them no longer.
-#[derive(Clone, Copy, Debug, PartialEq, Eq)]
+#[derive(Clone, Copy)]
 pub enum JournalFault {
     /// Another process has it open.
     InUse,

@@ -10,7 +10,7 @@ use std::alloc::Global;
 use std::io::ErrorKind;
 
 /// Why the file of a journal was not opened.
-#[derive(Clone, Copy, Debug, PartialEq, Eq)]
+#[derive(Clone, Copy)]
 pub enum OpenFault {
     /// Another process has it open.
     Busy,

@@ -8,7 +8,7 @@ use pf_text::numbers::push_number;
 use std::alloc::{AllocError, Global};
 
 /// How much a journal has that was opened.
-#[derive(Clone, Copy, Debug, PartialEq, Eq)]
+#[derive(Clone, Copy)]
 pub struct Sizes {
     /// The records behind its heading.
     pub records: u64,

@@ -2,7 +2,7 @@ use pf_fault::fault::Fault;
 use pf_journal_file::journal_fault::JournalFault;
 
 /// Why no session began on a file.
-#[derive(Debug, Drop)]
+#[derive(Drop)]
 pub enum Unopened {
     /// The file keeps none.
     Journal(JournalFault),

@@ -13,7 +13,7 @@ pub const WIDEST: u64 = 40;
 pub const USUAL: u64 = 20;
 
 /// How wide each slot of a picture is: 6 to 40, in the picture's own units.
-#[derive(Clone, Copy, Debug, PartialEq, Eq)]
+#[derive(Clone, Copy)]
 pub struct Cell {
     width: u64,
 }

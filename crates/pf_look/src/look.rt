@@ -6,7 +6,7 @@ use crate::style::Style;
 use crate::wrap::Wrap;
 
 /// How a picture looks.
-#[derive(Clone, Copy, Debug, PartialEq, Eq)]
+#[derive(Clone, Copy)]
 pub struct Look {
     /// How wide each slot is.
     pub cell: Cell,

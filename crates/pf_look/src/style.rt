@@ -2,7 +2,7 @@ ghost use Rattle.std.specs.Prelude.{◌≡◌};
 ghost use Rattle.pf_look.specs.Looks.{style_named};
 
 /// How the tasks of a picture are drawn.
-#[derive(Clone, Copy, Debug, PartialEq, Eq)]
+#[derive(Clone, Copy)]
 pub enum Style {
     /// The windows of a task in two rows in turn, over a strip of its lag.
     Strips,

@@ -7,7 +7,7 @@ use std::marker::Model;
 pub const MOST_SLOTS: u64 = 4_096;
 
 /// How many slots of a picture stand side by side, in a block: 1 to 4,096.
-#[derive(Clone, Copy, Debug, PartialEq, Eq)]
+#[derive(Clone, Copy)]
 pub struct Wrap {
     slots: u64,
 }

@@ -4,7 +4,7 @@ ghost use Rattle.pf_names.specs.declared.fault.NameFault.TheVariants as why;
 use std::alloc::AllocError;
 
 /// Why a task is given no name.
-#[derive(Clone, Copy, Debug, PartialEq, Eq)]
+#[derive(Clone, Copy)]
 pub enum NameFault {
     /// The task has a name already.
     HasName,

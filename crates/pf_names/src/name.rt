@@ -9,7 +9,7 @@ const LONGEST: usize = 24;
 
 /// A name: 1 to 24 bytes of `A`-`Z` `a`-`z` `0`-`9` `_` `-` `.` `+` and space, a letter first and no space last. Nothing of it
 /// needs escaping in CSV, JSON, SVG or HTML. Contracts see it as its bytes.
-#[derive(Debug, Drop)]
+#[derive(Drop)]
 pub struct Name {
     bytes: [u8; LONGEST],
     length: usize,

@@ -1,7 +1,7 @@
 use crate::name::Name;
 
 /// A task and the name that it has.
-#[derive(Debug, Drop)]
+#[derive(Drop)]
 pub struct Named {
     /// The task's number.
     pub task: u64,

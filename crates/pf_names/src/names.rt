@@ -6,7 +6,7 @@ use std::marker::Model;
 
 /// The names of tasks. A task has one at most, and a name one task. Contracts see them as the tasks with their names, in the
 /// order of the tasks.
-#[derive(Debug, Drop)]
+#[derive(Drop)]
 pub struct Names {
     named: Vec<Named>,
 }

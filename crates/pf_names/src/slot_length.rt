@@ -5,7 +5,7 @@ use std::fmt;
 pub const LARGEST_LENGTH: u64 = 1_000_000_000;
 
 /// How long a slot is: so many of a unit. It is shown as `500us`.
-#[derive(Clone, Copy, Debug, PartialEq, Eq)]
+#[derive(Clone, Copy)]
 pub struct SlotLength {
     /// How many, 1 to `LARGEST_LENGTH`.
     pub length: u64,

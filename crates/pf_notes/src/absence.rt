@@ -8,7 +8,7 @@ use crate::words::push_two;
 use std::alloc::AllocError;
 
 /// Why a task is not inside at a point of a run.
-#[derive(Clone, Copy, Debug, PartialEq, Eq)]
+#[derive(Clone, Copy)]
 pub enum Absence {
     /// No event held joins it.
     NoJoin,

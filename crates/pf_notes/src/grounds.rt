@@ -8,7 +8,7 @@ use crate::words::{push_between, push_two, push_word};
 use std::alloc::AllocError;
 
 /// What the denial of an event rests on.
-#[derive(Clone, Copy, Debug, PartialEq, Eq)]
+#[derive(Clone, Copy)]
 pub enum Grounds {
     /// Of a join, in units of 1/h.
     OverCapacity {

@@ -1,5 +1,5 @@
 /// A quantum of a task.
-#[derive(Clone, Copy, Debug, PartialEq, Eq)]
+#[derive(Clone, Copy)]
 pub(crate) struct Quantum {
     /// Its slot.
     pub slot: u64,

@@ -1,5 +1,5 @@
 /// How a diff is told, and how it ends.
-#[derive(Clone, Copy, Debug, PartialEq, Eq)]
+#[derive(Clone, Copy)]
 pub struct DiffOptions {
     /// Whether a table of what each desk comes to stands before the four tables.
     pub summary: bool,

@@ -2,7 +2,7 @@ ghost use Rattle.std.specs.Prelude.{◌≡◌};
 ghost use Rattle.pf_options.specs.FailLists.{fail_on_named, is_listed, is_word_of_list, on_nothing};
 
 /// What a run fails on, where it is met.
-#[derive(Clone, Copy, Debug, PartialEq, Eq)]
+#[derive(Clone, Copy)]
 pub struct FailOn {
     /// A command of the script was refused.
     pub refused: bool,

@@ -9,7 +9,7 @@ use pf_look::style::Style;
 use pf_look::wrap::{MOST_SLOTS, Wrap};
 
 /// What stands behind the replies.
-#[derive(Clone, Copy, Debug, PartialEq, Eq)]
+#[derive(Clone, Copy)]
 pub enum Format {
     /// The schedule of these slots alone, without replies.
     Schedule(SlotRange),

@@ -2,7 +2,7 @@ ghost use Rattle.std.specs.Prelude.{◌≡◌};
 ghost use Rattle.pf_options.specs.Ranges.{end_of, first_of, is_whole, is_within, slots_of, whole};
 
 /// A range of slots, by its ends, each of which may be left out.
-#[derive(Clone, Copy, Debug, PartialEq, Eq)]
+#[derive(Clone, Copy)]
 pub struct SlotRange {
     /// The first slot; 0 where it is left out.
     pub from: Option<u64>,

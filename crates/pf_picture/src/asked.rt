@@ -1,5 +1,5 @@
 /// What a join asks for.
-#[derive(Clone, Copy, Debug, PartialEq, Eq)]
+#[derive(Clone, Copy)]
 pub struct Asked {
     /// In quanta, 1 to the period.
     pub cost: u64,

@@ -1,5 +1,5 @@
 /// Where a record of a script of version 2 comes from: a record of the script of version 3.
-#[derive(Clone, Copy, Debug, PartialEq, Eq)]
+#[derive(Clone, Copy)]
 pub struct Origin {
     /// Its number, counted from 1: the heading is 1.
     pub number: u64,

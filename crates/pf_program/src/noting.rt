@@ -10,7 +10,7 @@ use pf_options::slot_range::SlotRange;
 use pf_words::task::Task;
 
 /// What is to be told of a script behind what a task answers to it.
-#[derive(Clone, Copy, Debug, PartialEq, Eq)]
+#[derive(Clone, Copy)]
 pub(crate) struct Noting {
     /// Whether anything is.
     pub(crate) asked: bool,

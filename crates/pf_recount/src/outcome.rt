@@ -1,7 +1,7 @@
 use pf_desk::reply::Fault;
 
 /// What a command came to.
-#[derive(Clone, Copy, Debug, PartialEq, Eq)]
+#[derive(Clone, Copy)]
 pub(crate) enum Outcome {
     /// It was done.
     Done,

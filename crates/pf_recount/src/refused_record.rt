@@ -2,7 +2,7 @@ use pf_desk::reply::Fault;
 use pf_run_notes::place::Place;
 
 /// A record with a refused command.
-#[derive(Clone, Copy, Debug, PartialEq, Eq)]
+#[derive(Clone, Copy)]
 pub struct RefusedRecord {
     /// Where it stands.
     pub place: Place,

@@ -4,7 +4,7 @@ ghost use Rattle.pf_recount.specs.declared.stop.Stop.TheVariants as stop;
 use std::alloc::AllocError;
 
 /// Why records were not counted.
-#[derive(Clone, Copy, Debug, PartialEq, Eq)]
+#[derive(Clone, Copy)]
 pub(crate) enum Stop {
     /// The history is not that of the script.
     Foreign,

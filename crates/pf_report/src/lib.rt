@@ -17,5 +17,4 @@ pub mod schedule_part;
 pub mod script;
 mod tail_text;
 
-pub use pf_desk::rows;
-pub use pf_desk::snapshot;
+pub use pf_desk::{rows, snapshot};

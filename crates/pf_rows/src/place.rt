@@ -3,7 +3,7 @@ ghost use Rattle.csv.specs.Machine.{step, in_field, start_field, start_record};
 ghost use Rattle.pf_rows.specs.Places.{is_between, row_config, state_of};
 
 /// Where in a record a text is behind one of its bytes.
-#[derive(Clone, Copy, Debug, PartialEq, Eq)]
+#[derive(Clone, Copy)]
 pub enum Place {
     /// Between two records, or before the first one.
     Between,

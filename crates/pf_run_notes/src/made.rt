@@ -4,7 +4,7 @@ use std::alloc::{AllocError, Global};
 use std::marker::Model;
 
 /// By the number of each event the place of the record that made it as it stands: its insert, or the last alter of it.
-#[derive(Debug, Drop)]
+#[derive(Drop)]
 pub struct Made {
     places: Vec<Place>,
 }

@@ -1,5 +1,5 @@
 /// Where a record of a script stands.
-#[derive(Clone, Copy, Debug, PartialEq, Eq)]
+#[derive(Clone, Copy)]
 pub struct Place {
     /// Its number, from 1.
     pub record: u64,

@@ -34,7 +34,7 @@ pub fn fault_name(fault: Fault) -> &'static str
 }
 
 /// A record of the file whose change was refused.
-#[derive(Clone, Copy, Debug)]
+#[derive(Clone, Copy)]
 pub struct RefusedChange {
     /// Where it stands.
     pub place: Place,
@@ -89,7 +89,7 @@ fn push_steps_line(
 }
 
 /// What is kept of refused commands: the lines of the first records that had one, and how many there were.
-#[derive(Debug, Drop)]
+#[derive(Drop)]
 pub struct Refusals {
     /// Of how many records the lines are kept.
     most: u64,

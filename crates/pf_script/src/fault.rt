@@ -7,7 +7,7 @@ use pf_fault::fault::Fault;
 use std::alloc::AllocError;
 
 /// Why a record is none of a script's.
-#[derive(Clone, Copy, Debug, PartialEq, Eq)]
+#[derive(Clone, Copy)]
 pub enum Reason {
     /// Its word names no record of this version.
     NoRecord(Version),
@@ -37,7 +37,7 @@ pub enum Reason {
 }
 
 /// What is wrong with a record.
-#[derive(Clone, Copy, Debug, PartialEq, Eq)]
+#[derive(Clone, Copy)]
 pub struct RecordFault {
     /// The field that is at fault, counted from 1. The first one names the record.
     pub field: usize,
@@ -46,7 +46,7 @@ pub struct RecordFault {
 }
 
 /// A record that is none of a script's, or that a script lacks.
-#[derive(Clone, Copy, Debug, PartialEq, Eq)]
+#[derive(Clone, Copy)]
 pub struct BadRecord {
     /// Its number, counted from 1.
     pub number: u64,
@@ -57,7 +57,7 @@ pub struct BadRecord {
 }
 
 /// Why a script gave no next record.
-#[derive(Clone, Copy, Debug, PartialEq, Eq)]
+#[derive(Clone, Copy)]
 pub enum ScriptFault {
     /// The next record is none of a script's.
     Bad(BadRecord),

@@ -1,7 +1,7 @@
 use pf_scenario::change::Change;
 
 /// What a record behind the settings asks for.
-#[derive(Clone, Copy, Debug, PartialEq, Eq)]
+#[derive(Clone, Copy)]
 pub enum Line {
     /// A change to the events.
     Edit {
@@ -15,7 +15,7 @@ pub enum Line {
 }
 
 /// The settings that a script opens with. Numbers are as they are written: none is tried against its limits.
-#[derive(Clone, Copy, Debug, PartialEq, Eq)]
+#[derive(Clone, Copy)]
 pub struct Opening {
     /// The number of processors.
     pub processors: u64,

@@ -4,7 +4,7 @@ ghost use Rattle.csv.specs.Reading.{default_config};
 ghost use Rattle.pf_script.specs.Places.{state_of, is_between};
 
 /// Where in a record a text is behind one of its bytes.
-#[derive(Clone, Copy, Debug, PartialEq, Eq)]
+#[derive(Clone, Copy)]
 pub enum Place {
     /// Between two records, or before the first one.
     Between,

@@ -3,7 +3,7 @@ use crate::version::Version;
 use pf_scenario::settings::Settings;
 
 /// The settings that a script opens with.
-#[derive(Clone, Copy, Debug, PartialEq, Eq)]
+#[derive(Clone, Copy)]
 pub struct ScriptSettings {
     /// The version of the script.
     pub version: Version,
@@ -14,7 +14,7 @@ pub struct ScriptSettings {
 }
 
 /// What a record of a script says.
-#[derive(Clone, Copy, Debug, PartialEq, Eq)]
+#[derive(Clone, Copy)]
 pub enum Record {
     /// The script is of the second version.
     Heading,
@@ -25,7 +25,7 @@ pub enum Record {
 }
 
 /// A record that was read.
-#[derive(Clone, Copy, Debug, PartialEq, Eq)]
+#[derive(Clone, Copy)]
 pub struct RecordTold {
     /// Its number, counted from 1.
     pub number: u64,
@@ -34,7 +34,7 @@ pub struct RecordTold {
 }
 
 /// A record after the settings.
-#[derive(Clone, Copy, Debug, PartialEq, Eq)]
+#[derive(Clone, Copy)]
 pub struct LineTold {
     /// Its number, counted from 1.
     pub number: u64,

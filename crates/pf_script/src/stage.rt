@@ -5,7 +5,7 @@ use crate::record::Record;
 use crate::version::Version;
 
 /// What a script may go on with.
-#[derive(Clone, Copy, Debug, PartialEq, Eq)]
+#[derive(Clone, Copy)]
 pub enum Stage {
     /// The heading or the settings.
     Beginning,

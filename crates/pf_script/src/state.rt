@@ -7,7 +7,7 @@ use crate::version::Version;
 use std::marker::Model;
 
 /// How far a script is: what its next record may be.
-#[derive(Clone, Copy, Debug, PartialEq, Eq)]
+#[derive(Clone, Copy)]
 pub struct ScriptState {
     stage: Stage,
 }

@@ -4,7 +4,7 @@ ghost use Rattle.pf_script.specs.Grammar.{horizon_of, has_limits};
 use pf_scenario::settings::{NEAR_HORIZON, WIDE_HORIZON};
 
 /// Which records a script may have, and how far it may step.
-#[derive(Clone, Copy, Debug, PartialEq, Eq)]
+#[derive(Clone, Copy)]
 pub enum Version {
     /// A script without a heading.
     First,

@@ -12,7 +12,7 @@ use pf_scenario::scenario::Scenario;
 use std::alloc::AllocError;
 
 /// A change that was made, as it is taken back.
-#[derive(Clone, Copy, Debug, PartialEq, Eq)]
+#[derive(Clone, Copy)]
 pub enum Made {
     /// The event of this number was inserted.
     Inserted(u64),

@@ -4,7 +4,7 @@ ghost use Rattle.pf_session.specs.declared.stop.Stop.TheVariants as stop;
 use std::alloc::AllocError;
 
 /// Why a line was not answered.
-#[derive(Clone, Copy, Debug, PartialEq, Eq)]
+#[derive(Clone, Copy)]
 pub enum Stop {
     /// Out of memory: nothing has changed, and the session goes on.
     NoMemory,

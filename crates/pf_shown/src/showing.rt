@@ -1,5 +1,5 @@
 /// What came of what was asked to be shown.
-#[derive(Debug, Drop)]
+#[derive(Drop)]
 pub enum Showing {
     /// It is this text.
     Text(Vec<u8>),

@@ -2,7 +2,7 @@ use pf_options::format::Format;
 use pf_why_words::question::Question;
 
 /// What is asked to be shown of a script.
-#[derive(Debug, Drop)]
+#[derive(Drop)]
 pub enum Wanted {
     /// What a run of it gives in this format, whose slots are those of its range.
     Report(Format),

@@ -2,7 +2,7 @@ ghost use Rattle.std.specs.Prelude.{◌≡◌, ◌++◌, ℕ, List, IfOk, OnErr,
 ghost use Rattle.pf_sitting.specs.declared.answers.Going.{Going};
 
 /// Whether more lines are wanted behind one.
-#[derive(Clone, Copy, Debug, PartialEq, Eq)]
+#[derive(Clone, Copy)]
 pub enum Going {
     /// They are.
     On,
@@ -11,11 +11,11 @@ pub enum Going {
 }
 
 /// Memory was refused, and no further line can be answered.
-#[derive(Clone, Copy, Debug, PartialEq, Eq)]
+#[derive(Clone, Copy)]
 pub struct Stopped;
 
 /// What was answered could not be kept, and no further line can be answered.
-#[derive(Clone, Copy, Debug, PartialEq, Eq)]
+#[derive(Clone, Copy)]
 pub struct Unkept;
 
 /// What answers lines, and keeps what it answered.

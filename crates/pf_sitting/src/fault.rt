@@ -6,7 +6,7 @@ use crate::dialogue::{Deaf, Mute};
 use std::alloc::AllocError;
 
 /// Why a sitting did not come to its end.
-#[derive(Clone, Copy, Debug, PartialEq, Eq)]
+#[derive(Clone, Copy)]
 pub enum SitFault {
     /// Nothing more could be heard.
     Deaf,

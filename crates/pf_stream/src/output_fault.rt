@@ -7,7 +7,7 @@ use pf_fault::fault::Fault;
 use std::alloc::AllocError;
 
 /// Why a text was not put or written.
-#[derive(Clone, Copy, Debug, PartialEq, Eq)]
+#[derive(Clone, Copy)]
 pub enum OutputFault {
     /// The writer failed, or took none of the bytes offered.
     Write,

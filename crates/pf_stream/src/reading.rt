@@ -13,7 +13,7 @@ pub const LONGEST_SCRIPT: usize = 16_777_216;
 const PIECE: usize = 8192;
 
 /// Why no script was read.
-#[derive(Clone, Copy, Debug, PartialEq, Eq)]
+#[derive(Clone, Copy)]
 pub enum ReadingFault {
     /// The reader failed. An interruption is a failure too.
     Read,

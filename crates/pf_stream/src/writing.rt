@@ -8,7 +8,7 @@ use pf_text::pieces::Pieces;
 use std::alloc::Global;
 
 /// The writer failed, or took none of the bytes offered.
-#[derive(Clone, Copy, Debug, PartialEq, Eq)]
+#[derive(Clone, Copy)]
 pub struct WriteFault;
 
 /// Writes a whole text, by as many writes as the writer needs. Its count of failures must be below `u64::MAX` before the

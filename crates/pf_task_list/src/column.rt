@@ -2,7 +2,7 @@ ghost use Rattle.std.specs.Prelude.{◌≡◌};
 ghost use Rattle.pf_task_list.specs.Heading.{column_named, column_word};
 
 /// A column of a list of tasks, in the order in which a record's fields are looked at.
-#[derive(Clone, Copy, Debug, PartialEq, Eq)]
+#[derive(Clone, Copy)]
 pub enum Column {
     /// The task's name.
     Name,

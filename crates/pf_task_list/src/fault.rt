@@ -2,7 +2,7 @@ use crate::column::Column;
 use crate::time::TimeFault;
 
 /// Why a row is no heading.
-#[derive(Clone, Copy, Debug, PartialEq, Eq)]
+#[derive(Clone, Copy)]
 pub enum HeadingFault {
     /// The field at this place, counted from 1, names no column.
     NoColumn(usize),
@@ -13,7 +13,7 @@ pub enum HeadingFault {
 }
 
 /// Why a row is no task.
-#[derive(Clone, Copy, Debug, PartialEq, Eq)]
+#[derive(Clone, Copy)]
 pub enum TaskFault {
     /// It has not as many fields as the heading, which has so many.
     Fields(usize),
@@ -26,7 +26,7 @@ pub enum TaskFault {
 }
 
 /// What is wrong on a line of a list.
-#[derive(Clone, Copy, Debug, PartialEq, Eq)]
+#[derive(Clone, Copy)]
 pub enum ListFault {
     /// The list has no rows.
     NoHeading,

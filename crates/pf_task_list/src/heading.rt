@@ -7,7 +7,7 @@ use crate::fault::HeadingFault;
 use csv::ByteRecord;
 
 /// The heading of a list: at which place, counted from 0, each column is.
-#[derive(Clone, Copy, Debug, PartialEq, Eq)]
+#[derive(Clone, Copy)]
 pub struct Heading {
     /// How many columns there are.
     pub count: usize,

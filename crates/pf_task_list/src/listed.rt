@@ -2,7 +2,7 @@ use pf_convert::timed::Timed;
 use pf_names::name::Name;
 
 /// A task of a list.
-#[derive(Debug, Drop)]
+#[derive(Drop)]
 pub struct Listed {
     /// The line on which its record begins, counted from 1.
     pub line: u64,

@@ -11,7 +11,7 @@ use std::alloc::AllocError;
 const MOST_DIGITS: usize = 9;
 
 /// Why a field is no time.
-#[derive(Clone, Copy, Debug, PartialEq, Eq)]
+#[derive(Clone, Copy)]
 pub enum TimeFault {
     /// It isn't 1 to 9 digits, and up to 9 more behind a point.
     NoTime,

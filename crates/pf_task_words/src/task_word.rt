@@ -8,7 +8,7 @@ use pf_tasks::task_range::TaskRange;
 use pf_weight::task::LARGEST_TASK;
 
 /// An item of a list of tasks.
-#[derive(Debug, Drop)]
+#[derive(Drop)]
 pub enum TaskWord {
     /// The tasks of these numbers.
     Numbers(TaskRange),

@@ -10,7 +10,7 @@ use std::alloc::{AllocError, Global};
 use std::marker::Model;
 
 /// A list of tasks, as words tell it: by numbers and ranges of them, and by names.
-#[derive(Debug, Drop)]
+#[derive(Drop)]
 pub struct TaskWords {
     words: Vec<TaskWord>,
 }

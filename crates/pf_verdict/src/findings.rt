@@ -16,7 +16,7 @@ use std::alloc::{AllocError, Global};
 use std::marker::Model;
 
 /// What a fit rests on, and its verdict.
-#[derive(Debug, Drop)]
+#[derive(Drop)]
 pub struct Findings {
     /// The verdict.
     pub verdict: Verdict,

@@ -8,7 +8,7 @@ use crate::stretch::Stretch;
 use pf_fit::level::Level;
 
 /// How tight the slots of a run were. The free units of a slot are its room less its load, and may be below 0.
-#[derive(Clone, Copy, Debug, PartialEq, Eq)]
+#[derive(Clone, Copy)]
 pub struct Strain {
     /// The slot with the least free units, the first of several, and its load and room; none where there is no slot.
     pub tightest: Option<Level>,

@@ -1,5 +1,5 @@
 /// Some slots one after another in which load and room stay as they are. Both are in units of 1/h of a processor.
-#[derive(Clone, Copy, Debug, PartialEq, Eq)]
+#[derive(Clone, Copy)]
 pub struct Stretch {
     /// The first of the slots.
     pub from: u64,

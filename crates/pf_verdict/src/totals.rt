@@ -4,7 +4,7 @@ ghost use Rattle.pf_verdict.specs.Totals.{totals_of, totals_with};
 use pf_tally::figures::Figures;
 
 /// Sums over the tasks.
-#[derive(Clone, Copy, Debug, PartialEq, Eq)]
+#[derive(Clone, Copy)]
 pub struct Totals {
     /// The missed windows.
     pub missed: u128,

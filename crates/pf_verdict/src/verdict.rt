@@ -4,7 +4,7 @@ ghost use Rattle.pf_verdict.specs.Verdict.{unreached_of, verdict_of};
 use pf_scenario::scenario::Scenario;
 
 /// Whether a script fits.
-#[derive(Clone, Copy, Debug, PartialEq, Eq)]
+#[derive(Clone, Copy)]
 pub enum Verdict {
     /// Nothing was refused, denied or missed, no slot asked for more than its processors, and each event was reached.
     Fits,
@@ -16,7 +16,7 @@ pub enum Verdict {
 
 /// What a verdict rests on: how many commands were refused, events denied and windows missed; how many slots asked for more
 /// than their processors in use; and how many events were not reached.
-#[derive(Clone, Copy, Debug, PartialEq, Eq)]
+#[derive(Clone, Copy)]
 pub struct Grounds {
     /// The refused commands.
     pub refused: u64,

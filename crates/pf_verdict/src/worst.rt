@@ -4,7 +4,7 @@ ghost use Rattle.pf_verdict.specs.Worst.{exceeds, lag_of, response_of, worse, wo
 use pf_tally::figures::Figures;
 
 /// A value of a task in its period.
-#[derive(Clone, Copy, Debug, PartialEq, Eq)]
+#[derive(Clone, Copy)]
 pub struct Rated {
     /// The task's number.
     pub task: u32,

@@ -1,5 +1,5 @@
 /// Why a record is none of a script's of version 3.
-#[derive(Clone, Copy, Debug, PartialEq, Eq)]
+#[derive(Clone, Copy)]
 pub enum Reason {
     /// Its word names no record.
     NoRecord,
@@ -51,7 +51,7 @@ pub enum Reason {
 }
 
 /// What is wrong with a record.
-#[derive(Clone, Copy, Debug, PartialEq, Eq)]
+#[derive(Clone, Copy)]
 pub struct RecordFault {
     /// The field that is at fault, counted from 1. The first one names the record.
     pub field: usize,
@@ -60,7 +60,7 @@ pub struct RecordFault {
 }
 
 /// A record that is none of a script's, or that a script lacks.
-#[derive(Clone, Copy, Debug, PartialEq, Eq)]
+#[derive(Clone, Copy)]
 pub struct BadRecord {
     /// Its number, counted from 1: the heading is 1.
     pub number: u64,

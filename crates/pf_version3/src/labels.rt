@@ -3,7 +3,7 @@ use std::alloc::{AllocError, Global};
 use std::marker::Model;
 
 /// A label, and the number that its event was given.
-#[derive(Debug, Drop)]
+#[derive(Drop)]
 pub struct Labelled {
     /// The label.
     pub name: Name,
@@ -12,7 +12,7 @@ pub struct Labelled {
 }
 
 /// The labels of events. Contracts see them as a list, in the order in which they were given.
-#[derive(Debug, Drop)]
+#[derive(Drop)]
 pub struct Labels {
     all: Vec<Labelled>,
 }

@@ -4,7 +4,7 @@ use pf_script::line::Line;
 use pf_script::record::ScriptSettings;
 
 /// What a record behind the heading says: names of tasks and labels of events are put in place of by their numbers.
-#[derive(Debug, Drop)]
+#[derive(Drop)]
 pub enum Said {
     /// The settings.
     Settings(ScriptSettings),

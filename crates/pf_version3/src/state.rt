@@ -8,7 +8,7 @@ use pf_script::fields::Fields;
 use std::alloc::{AllocError, Global};
 
 /// How far a script of version 3 is behind its heading: what came before the next record.
-#[derive(Debug, Drop)]
+#[derive(Drop)]
 pub struct Progress {
     /// Whether the settings came.
     pub opened: bool,

@@ -11,7 +11,7 @@ use pf_tally::held::slots_below;
 use pf_window::release;
 
 /// A stop of a task's clock. Times are slots.
-#[derive(Clone, Copy, Debug, PartialEq, Eq)]
+#[derive(Clone, Copy)]
 pub struct Halt {
     /// The number of the delay that stops it.
     pub event: u64,

@@ -12,7 +12,7 @@ use pf_scenario::scenario::Scenario;
 use std::alloc::{AllocError, Global};
 
 /// A slot at its choice.
-#[derive(Clone, Copy, Debug, PartialEq, Eq)]
+#[derive(Clone, Copy)]
 pub struct Point {
     /// The slot.
     pub slot: u64,

@@ -4,7 +4,7 @@ ghost use Rattle.pf_why.specs.Rule.{rule_of, rule_word};
 use crate::subtask::Subtask;
 
 /// The first component of the order of PD2 in which two subtasks differ.
-#[derive(Clone, Copy, Debug, PartialEq, Eq)]
+#[derive(Clone, Copy)]
 pub enum Rule {
     /// Their deadlines.
     Deadline,

@@ -7,7 +7,7 @@ ghost use Rattle.pf_why.specs.Seat.{choice_of, seat_of, sits};
 use pf_place::row_view::RowView;
 
 /// Why a subtask that runs sits on its processor.
-#[derive(Clone, Copy, Debug, PartialEq, Eq)]
+#[derive(Clone, Copy)]
 pub enum Choice {
     /// Its task ran on it in the slot before.
     Kept,
@@ -18,7 +18,7 @@ pub enum Choice {
 }
 
 /// Where a subtask runs, and why there.
-#[derive(Clone, Copy, Debug, PartialEq, Eq)]
+#[derive(Clone, Copy)]
 pub struct Seat {
     /// The processor.
     pub processor: u64,

@@ -1,5 +1,5 @@
 /// The next subtask of a task at a slot's choice, with its windows as they are shifted there. Times are slots.
-#[derive(Clone, Copy, Debug, PartialEq, Eq)]
+#[derive(Clone, Copy)]
 pub struct Subtask {
     /// The task's number, 1 to 4,095.
     pub task: u64,

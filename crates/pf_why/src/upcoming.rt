@@ -19,7 +19,7 @@ use pf_tally::ledger::make_ledger;
 use std::alloc::{AllocError, Global};
 
 /// What a task has before it at a slot's choice.
-#[derive(Clone, Copy, Debug, PartialEq, Eq)]
+#[derive(Clone, Copy)]
 pub struct Upcoming {
     /// Its next subtask.
     pub next: Subtask,

@@ -11,7 +11,7 @@ use pf_why::upcoming::{Upcoming, upcoming_at};
 use std::alloc::{AllocError, Global};
 
 /// Where a task is at a slot's choice.
-#[derive(Clone, Copy, Debug, PartialEq, Eq)]
+#[derive(Clone, Copy)]
 pub enum Whereabouts {
     /// In the ranking.
     Ranked {

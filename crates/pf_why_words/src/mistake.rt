@@ -1,5 +1,5 @@
 /// Why words ask for no slot.
-#[derive(Clone, Copy, Debug, PartialEq, Eq)]
+#[derive(Clone, Copy)]
 pub enum WhyMistake {
     /// The slot is no number.
     Slot,

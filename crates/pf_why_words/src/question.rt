@@ -1,7 +1,7 @@
 use crate::task_asked::TaskAsked;
 
 /// How the answer is written.
-#[derive(Clone, Copy, Debug, PartialEq, Eq)]
+#[derive(Clone, Copy)]
 pub enum WhyFormat {
     /// As lines.
     Text,
@@ -10,7 +10,7 @@ pub enum WhyFormat {
 }
 
 /// What is asked of a slot.
-#[derive(Debug, Drop)]
+#[derive(Drop)]
 pub struct Question {
     /// The slot.
     pub slot: u64,

@@ -1,7 +1,7 @@
 use pf_names::name::Name;
 
 /// A task that is asked for.
-#[derive(Debug, Drop)]
+#[derive(Drop)]
 pub enum TaskAsked {
     /// By its number, 1 to 4,095.
     Number(u64),

@@ -1,5 +1,5 @@
 /// How many slots were stepped, and which of them are shown.
-#[derive(Clone, Copy, Debug, PartialEq, Eq)]
+#[derive(Clone, Copy)]
 pub struct Slots {
     /// How many were stepped.
     pub now: u64,

@@ -9,7 +9,7 @@ use clap::ArgMatches;
 use std::alloc::{AllocError, Global};
 
 /// What words ask a desk for.
-#[derive(Debug, Drop)]
+#[derive(Drop)]
 pub struct DeskWords {
     /// The file of the script whose records come first; none where there is no such script.
     pub script: Option<String>,

@@ -6,7 +6,7 @@ use pf_why_words::mistake::WhyMistake;
 use std::alloc::AllocError;
 
 /// Why words that the grammar takes ask for nothing.
-#[derive(Clone, Copy, Debug, PartialEq, Eq)]
+#[derive(Clone, Copy)]
 pub enum Mistake {
     /// The text of `--format` names no format.
     UnknownFormat,

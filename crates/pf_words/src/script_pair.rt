@@ -1,7 +1,7 @@
 use pf_options::diff_options::DiffOptions;
 
 /// Two scripts that are compared. At most one of them is that of standard input.
-#[derive(Debug, Drop)]
+#[derive(Drop)]
 pub struct ScriptPair {
     /// The file of the first; none where it is that of standard input.
     pub first: Option<String>,

@@ -1,5 +1,5 @@
 /// What is told on standard error beside answers and faults.
-#[derive(Clone, Copy, Debug, PartialEq, Eq)]
+#[derive(Clone, Copy)]
 pub struct Telling {
     /// Whether notes are told: of the script of a file, and where `--notes` is there; never where `--quiet` is.
     pub notes: bool,

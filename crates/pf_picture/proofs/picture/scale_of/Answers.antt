@@ -1,5 +1,5 @@
 use Rattle.std.proofs.Common.{ap, arith}
-use Rattle.pf_chart.proofs.Places.{length-rows}
+use Rattle.pf_desk.proofs.Places.{length-rows}
 use Rattle.pf_picture.proofs.picture.scale_of.Goals as goal
 
 pub returns-clause-within : goal.returns-clause-within
