@@ -148,7 +148,7 @@ fn sees_again(rt: &(impl Abort + Print), seen: &Snapshot) {
     is_behind(rt, &lags, &misses);
 }
 
-/// What the desk and its snapshot show behind a step.
+/// What the desk and its snapshot show after a step.
 fn answers_again(rt: &(impl Abort + Print), desk: &mut Desk) {
     step_again(rt, desk);
     shows_again(rt, desk);

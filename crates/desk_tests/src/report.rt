@@ -143,7 +143,7 @@ fn tells_again(rt: &(impl Abort + AllocGlobal + Print), before: &Snapshot, after
     }
 }
 
-/// The snapshots of a desk before and behind a step.
+/// The snapshots of a desk before and after a step.
 fn snapshots(rt: &(impl Abort + AllocGlobal + Print)) -> (Snapshot, Snapshot) {
     let mut desk = overload(rt, rt.alloc());
     let before = snapshot_again(rt, &desk);

@@ -35,7 +35,7 @@ weight_member (BadEdit fault) = weight_of fault
 weight_member (WouldDeny id denial) = []
 weight_member AtHorizon = []
 
--- the object up to the name, behind it, and the whole
+-- the object up to the name, after it, and the whole
 unfoldable pub refusal_front : Fault → List ℕ
 refusal_front fault =
     code_key ++ (decimal (fault_code fault) ++ (denied_members fault

@@ -44,11 +44,11 @@ abbrev pub step_text : Bool → ℕ → Reply → List ℕ
 step_text false first reply = reply_line reply
 step_text true first reply = step_json first reply
 
--- how many of so many steps are refused: those behind the horizon
+-- how many of so many steps are refused: those after the horizon
 abbrev pub refused_of : State → ℕ → ℕ
 refused_of st count = count - (st.plan.settings.horizon - st.now)
 
--- before them and behind them, where so many of them are refused
+-- before them and after them, where so many of them are refused
 abbrev pub horizon_refusal : ℕ → ℕ → ℕ → List ℕ
 horizon_refusal horizon refused count =
     if refused == 0 then [] else codes "\"refused\":" ++ refusal_object AtHorizon (horizon_text horizon refused count)

@@ -57,7 +57,7 @@ fn push_front(text: &mut Vec<u8>, fault: Fault) -> Result<(), AllocError>
     text.extend_from_slice(b"\"")
 }
 
-/// Appends it behind its name.
+/// Appends it after its name.
 #[tactic(auto, unfolding(crate::specs::Refused::refusal_end))]
 fn push_end(text: &mut Vec<u8>, fault: Fault, why: &[u8]) -> Result<(), AllocError>
     ensures { OnOk result (text.new.items ≡ text.old.items ++ refusal_end fault why.now) }

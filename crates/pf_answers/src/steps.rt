@@ -68,7 +68,7 @@ pub fn push_steps_front(
     text.extend_from_slice(b"\"rows\":[")
 }
 
-/// Appends what stands behind the slots of steps.
+/// Appends what stands after the slots of steps.
 ///
 /// # Errors
 ///

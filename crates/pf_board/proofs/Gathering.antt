@@ -12,7 +12,7 @@ module _ {E T : Type 0} where
       let here = subst (λ (l : List (Passing E T)). AreOf board l) e of in
       (here zero p refl, λ k q there. here (suc k) q there)
 
-  -- its hand goes behind those before it
+  -- its hand goes after those before it
   pub one_more : (gs hs : List (Hand E)) (p : Passing E T) (ps all : List (Passing E T)) (sum : List (Hand E)) → all ≡ p ∷ ps → hs ≡ gs ++ hand_in p ∷ [] → gs ++ hands_in all ≡ sum → hs ++ hands_in ps ≡ sum
   one_more gs hs p ps all sum e more before =
       ap (λ l. l ++ hands_in ps) more ∙ (append_assoc gs (hand_in p ∷ []) (hands_in ps) ∙ (ap (λ (l : List (Passing E T)). gs ++ hands_in l) (sym e) ∙ before))

@@ -59,7 +59,7 @@ module _ {E T : Type 0} where
   abbrev pub guests_of : View E T → View E T
   guests_of v = record (blank v.terms) { guests = v.guests }
 
-  -- v without what its loads found, a new seat with it alone, and v with what those of w found behind its own
+  -- v without what its loads found, a new seat with it alone, and v with what those of w found after its own
   abbrev pub without_loads : View E T → View E T
   without_loads v = record v { loads = [] }
 

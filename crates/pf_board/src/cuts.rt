@@ -51,7 +51,7 @@ impl<E, T> Join<View<E, T>> for Lend {
     ghost spent = { spent };
 }
 
-/// A seat hands what its loads found to a new one, or lists what another's found behind its own.
+/// A seat hands what its loads found to a new one, or lists what another's found after its own.
 pub struct Report;
 
 impl<E, T> Split<View<E, T>> for Report {

@@ -48,7 +48,7 @@ opening_stops t fields (script.Bad bad) h = rw h.1 refl
 opening_stops t fields (script.Missing bad) h = rw h.1 refl
 opening_stops t fields script.Memory h = tt
 
--- Use: the lines behind the settings were carried out.
+-- Use: the lines after the settings were carried out.
 module _ (t : Told) (opening : ScriptSettings) (lines : LinesTold) (is : t ≡ record { opening = Some opening; rest = lines }) where
   carried : (start : Carrying) (desk : Shown) → start ≡ opened opening.settings opening.every start.desk.spare
       → AnswersAll script_caller (start.waiting ++ commands_in lines.lines) start.desk desk → IsOf t desk

@@ -22,7 +22,7 @@ opened settings every spare = record {
   waiting = [];
 }
 
--- it took these commands: of those that waited and these behind them it answered the first ones, and the others wait
+-- it took these commands: of those that waited and these after them it answered the first ones, and the others wait
 pub record HasTaken (commands : List Command) (before after : Carrying) : Type 0 where
   pub answered : List Command
   pub in_order : answered ++ after.waiting ≡ before.waiting ++ commands

@@ -62,7 +62,7 @@ impl CarryingDesk {
         })
     }
 
-    /// Lets an edit wait behind the others, or answers those that wait and takes the steps.
+    /// Lets an edit wait after the others, or answers those that wait and takes the steps.
     ///
     /// # Errors
     ///

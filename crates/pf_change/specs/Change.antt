@@ -32,7 +32,7 @@ lines_before since lines = take (count_before since lines) lines
 abbrev pub change_behind : DiffOptions → Option ℕ → ScriptCourse → List LineTold → DiffTold
 change_behind options since c lines = difference options (seen_behind c (lines_before since lines)) (seen_behind c lines)
 
--- what lines behind these settings changed; a script without settings has a fault, at this record
+-- what lines after these settings changed; a script without settings has a fault, at this record
 abbrev pub change_of : DiffOptions → Option ℕ → Option ScriptSettings → List LineTold → Result DiffTold ℕ
 change_of options since None lines = Err 1
 change_of options since (Some s) lines = Ok (change_behind options since (opening_course s.every s.settings) lines)

@@ -17,7 +17,7 @@ difference_text summary before after = (if summary then summary_text before afte
 abbrev pub difference_status : Bool → Seen → Seen → Status
 difference_status exit_code before after = if exit_code && is_different before after then BadScript else Done
 
--- a text, and the status behind it
+-- a text, and the status after it
 pub record DiffTold : Type 0 where
   pub text : List ℕ
   pub status : Status

@@ -11,8 +11,8 @@ use pf_fault::status::Status;
 use pf_options::diff_options::DiffOptions;
 use std::alloc::{AllocError, Global};
 
-/// What differs between two desks, as four tables, each behind its title, of what differs alone; where the options have a
-/// summary, behind a table of what each desk comes to. The status is `BadScript`, which is 1, where they have a status and
+/// What differs between two desks, as four tables, each after its title, of what differs alone; where the options have a
+/// summary, after a table of what each desk comes to. The status is `BadScript`, which is 1, where they have a status and
 /// something differs, else `Done`.
 ///
 /// # Errors
@@ -35,7 +35,7 @@ pub fn compare(
     })
 }
 
-/// The tables of what differs, behind that of the sums where they are asked for.
+/// The tables of what differs, after that of the sums where they are asked for.
 fn difference_text(
     alloc: Global,
     before: &Snapshot,
@@ -52,7 +52,7 @@ fn difference_text(
     Ok(text)
 }
 
-/// The status behind them.
+/// The status after them.
 fn difference_status(
     alloc: Global,
     before: &Snapshot,

@@ -67,7 +67,7 @@ fn diff_script(
     }
 }
 
-/// What these lines changed behind these settings.
+/// What these lines changed after these settings.
 fn diff_lines(
     alloc: Global,
     opening: ScriptSettings,

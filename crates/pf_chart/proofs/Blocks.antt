@@ -50,7 +50,7 @@ module _ (seen : Seen) (labels : Labels) (listed : List Listing) (from to : ℕ)
   abbrev size : ℕ
   size = size_of wide
 
-  -- Use: one block, and those behind it.
+  -- Use: one block, and those after it.
   pub blocks_next : (end : ℕ) → from < to → end ≡ from + min (to - from) (block_length labels.places) →
       blocks_text seen labels listed from to
       ≡ block_of seen labels listed from (range_with_len from (end - from)) ++ blocks_text seen labels listed end to

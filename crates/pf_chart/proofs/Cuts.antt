@@ -125,7 +125,7 @@ module _ {X : Type 0} where
       skip false w x o f = refl
       skip true w x o f = cc
 
-  -- the first of them is the one behind the second cut
+  -- the first of them is the one after the second cut
   pub find_behind : (p q : X → Bool) (xs : List X) (b : ℕ) → IsPartitionedBy p xs → IsCut q b xs → find (λ x. p x && not (q x)) xs ≡ kept (λ x. p x && not (q x)) (slice_get xs b)
   find_behind p q [] b parted second = refl
   find_behind p q (x ∷ xs) zero parted second = ⊎_elim

@@ -30,6 +30,6 @@ all_left_out xs end none same =
     let z : end ≡ 0 = omega arith in
     ap (λ k. take k xs) z ∙ sym (ap (λ k. trimmed (take k xs)) z) ∙ same
 
--- three words, each with a number, one behind another
+-- three words, each with a number, one after another
 pub three_words : (old a p b q c r : List ℕ) → ((old ++ (a ++ p)) ++ (b ++ q)) ++ (c ++ r) ≡ old ++ (a ++ p ++ b ++ q ++ c ++ r)
 three_words old a p b q c r = simp append_assoc refl

@@ -28,7 +28,7 @@ is_behind track t = list_any (λ w. nat_le w.deadline t && not (ran_below t w)) 
 abbrev pub is_waiting : Track → ℕ → Bool
 is_waiting track t = list_any (λ w. covers track t w && not (ran_below (t + 1) w)) track.windows
 
--- its processor where it runs, `!` where it waits behind a deadline, `.` where it waits
+-- its processor where it runs, `!` where it waits after a deadline, `.` where it waits
 abbrev pub task_cell : Track → ℕ → ℕ
 task_cell track t =
     option_map_or processor_symbol (option_and_then (processor_in t) (running_in track t))

@@ -162,7 +162,7 @@ blocks_by size seen labels listed from to =
 abbrev pub blocks_text : Seen → Labels → List Listing → ℕ → ℕ → List ℕ
 blocks_text seen labels listed from to = blocks_by (block_length labels.places) seen labels listed from to
 
--- behind this head and before this legend, the blocks of these tasks
+-- after this head and before this legend, the blocks of these tasks
 abbrev pub text_between : Seen → Titles → ℕ → ℕ → List ℕ → List ℕ → List Listing → List ℕ
 text_between seen titles from to head legend shown =
     head ++ blocks_text seen (labels_of titles.names shown) shown from to ++ legend

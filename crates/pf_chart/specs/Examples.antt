@@ -47,7 +47,7 @@ pub record WorkedCharts : Type 0 where
       ++ codes "  lag       =--+=-++=+++\n  marks     >\n2 task 2    1.00.11.00.1\n  windows   [XX][XX][XX]\n"
       ++ codes "  lag       =-++=+++1++1\n  marks     >       ^  ^\n3 task 3    .11.00.11.00\n  windows   [XX][XX][XX]\n"
       ++ codes "  lag       =+++1++11+11\n  marks     >   ^  ^^ ^^\n" ++ legend_text
-  -- processors go out of use, and subtasks run behind their deadlines
+  -- processors go out of use, and subtasks run after their deadlines
   pub out_of_use : chart_text_of (seen_after 18 (plan_with 3 6 18 (Join 0 1 2 3 0 ∷ Join 0 2 2 3 0 ∷ Join 0 3 1 2 0 ∷ Join 0 4 1 1 0 ∷ Limit 4 1 ∷ Limit 7 3 ∷ [])) 12) untitled 0 12 ≡
       codes "slots 0 to 12 of 12; processors 3; base 6; cap 18\n\n            0         10\n            |....:....|.\n"
       ++ codes "p0          444441233111\np1          1122###44444\np2          2331###12232\n1 task 1    11 2.0.2.000\n"

@@ -81,7 +81,7 @@ pub fn counts(alloc: Global, snapshot: &Snapshot) -> Result<Vec<u64>, AllocError
 /// A chart in pieces: its head, its blocks, and the legend.
 pub type ChartPieces<'a> = Chain<Whole, Chain<Blocks<'a>, Whole>>;
 
-/// The chart of these tasks in pieces, behind this head and before this legend.
+/// The chart of these tasks in pieces, after this head and before this legend.
 fn pieces_between<'a>(
     alloc: Global,
     snapshot: &'a Snapshot,

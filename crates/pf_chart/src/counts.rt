@@ -10,7 +10,7 @@ use pf_scenario::scenario::Scenario;
 use pf_tally::standing::{denied_numbers, is_among};
 use std::alloc::{AllocError, Global};
 
-/// How many processors are in use behind an event, where so many were before it.
+/// How many processors are in use after an event, where so many were before it.
 fn count_after(count: u64, event: &Event) -> u64
     ensures { result ≡ count_after count event.now }
 {

@@ -209,7 +209,7 @@ impl Course {
         }
     }
 
-    /// Whether a subtask of it waits behind its deadline in slot t.
+    /// Whether a subtask of it waits after its deadline in slot t.
     pub fn is_behind(&self, t: u64) -> bool
         ensures { result ≡ is_behind self.now t }
     {

@@ -22,7 +22,7 @@ pub fn are_blank(cells: &[u8]) -> bool
     cells.iter().all(|cell| *cell == BLANK)
 }
 
-/// Appends a line: its label in so many places, and its cells behind them, without the blanks at its end. Where memory is
+/// Appends a line: its label in so many places, and its cells after them, without the blanks at its end. Where memory is
 /// refused a part of it may stand there.
 pub fn push_line(
     text: &mut Vec<u8>,

@@ -14,7 +14,7 @@ use std::marker::Model;
 pub struct Pause {
     /// The first of them.
     pub start: u64,
-    /// The first slot behind them.
+    /// The first slot after them.
     pub end: u64,
 }
 

@@ -62,7 +62,7 @@ fn tick_cells(alloc: Global, from: u64, to: u64) -> Result<Vec<u8>, AllocError>
     Ok(cells)
 }
 
-/// Appends the two rulers over the slots from `from` on, below `to`, behind so many places. Where memory is refused a part of them may stand
+/// Appends the two rulers over the slots from `from` on, below `to`, after so many places. Where memory is refused a part of them may stand
 /// there.
 ///
 /// # Errors

@@ -7,7 +7,7 @@ pub struct Window {
     pub sub: u64,
     /// The first slot of its window.
     pub release: u64,
-    /// The first slot behind its window.
+    /// The first slot after its window.
     pub deadline: u64,
     /// 1 where its window overlaps the next one, else 0.
     pub bit: u64,

@@ -36,7 +36,7 @@ is_read Beginning fields = is_heading fields || is_settings fields
 is_read Headed fields = is_settings fields
 is_read (Opened version) fields = is_some (line_of version fields)
 
--- of the records behind the settings, the first of them of this number: the number of the first bad one
+-- of the records after the settings, the first of them of this number: the number of the first bad one
 abbrev pub bad_line : Version → ℕ → List (List (List ℕ)) → Option ℕ
 bad_line version number [] = None
 bad_line version number (fields ∷ records) =

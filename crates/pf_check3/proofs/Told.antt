@@ -38,7 +38,7 @@ few_at_end : (number end : ℕ) (fault : Option RecordFault) → length (faults_
 few_at_end number end None = omega arith
 few_at_end number end (Some fault) = omega arith
 
--- Use: the faults behind the heading can be counted.
+-- Use: the faults after the heading can be counted.
 pub few_from : (p : Progress) (number end : ℕ) (rows : List Row) → length (faults_from p number end rows) ≤ length rows + 1
 few_from p number end [] = few_at_end number end (end_fault p)
 few_from p number end (row ∷ rows) =

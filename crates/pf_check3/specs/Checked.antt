@@ -34,7 +34,7 @@ abbrev pub faults_from : Progress → ℕ → ℕ → List Row → List FaultSho
 faults_from p number end [] = faults_at_end number end (end_fault p)
 faults_from p number end (row ∷ rows) = faults_next (λ q. faults_from q (number + 1) end rows) p number row (said_at p row.fields)
 
--- behind the heading, which is the first row
+-- after the heading, which is the first row
 abbrev pub faults_of : ℕ → List Row → List FaultShown
 faults_of end [] = []
 faults_of end (heading ∷ rows) = faults_from at_heading 2 end rows

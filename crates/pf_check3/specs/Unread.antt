@@ -22,7 +22,7 @@ abbrev pub with_fault : Option BadRecord → List (List ℕ) → List FaultShown
 with_fault None fields faults = faults
 with_fault (Some bad) fields faults = shown bad fields ∷ faults
 
--- the next of the faults that were left, of a record with these fields. One behind the last record is behind those that were read
+-- the next of the faults that were left, of a record with these fields. One after the last record is after those that were read
 pub record IsNext (bad : BadRecord) (fields : List (List ℕ)) (old new : Unread) : Type 0 where
   pub faults : old.faults ≡ shown bad fields ∷ new.faults
   pub records : new.records ≡ old.records

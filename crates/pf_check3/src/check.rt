@@ -37,7 +37,7 @@ pub fn third_check(alloc: Global, script: &[u8]) -> Result<Answer, AllocError>
     })
 }
 
-/// The status behind so many faults.
+/// The status after so many faults.
 fn status_of(faults: u64) -> Status
     ensures { result ≡ (if faults == 0 then Done else BadScript) }
 {

@@ -65,7 +65,7 @@ impl<'a> ThirdFaults<'a> {
         }
     }
 
-    /// Those behind the heading, where so many records were read.
+    /// Those after the heading, where so many records were read.
     fn at(alloc: Global, rows: Rows<'a>, number: u64, ended: bool) -> Self
         requires { ended ≡ false → number + length rows.rows < 2 ^ 64 - 2 }
         ensures { result ≡ unread ended at_heading number rows.entry }
@@ -78,7 +78,7 @@ impl<'a> ThirdFaults<'a> {
         }
     }
 
-    /// The next fault, and the fields of its record in `row`; `None` after the last one. Behind the last record a script may lack
+    /// The next fault, and the fields of its record in `row`; `None` after the last one. After the last record a script may lack
     /// one, which has no fields.
     ///
     /// # Errors

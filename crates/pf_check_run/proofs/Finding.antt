@@ -1,4 +1,4 @@
--- What was found behind all faults of a script.
+-- What was found after all faults of a script.
 use Rattle.std.proofs.Common.{◌≡◌, ◌<◌, ◌≤◌, ◌+◌, ◌-◌, ◌^◌, ◌==◌, ℕ, Bool, true, false, cond, List, [], ◌∷◌, ◌∙◌, fold, refl, ap, arith}
 use Rattle.std.specs.Prelude.{nat_le, not, if◌then◌else◌}
 use Rattle.std.proofs.lemmas.Bool.{ne_eqb}
@@ -10,7 +10,7 @@ use Rattle.pf_check_run.specs.Found.{Finds, is_empty}
 use Rattle.pf_check_run.specs.Lines.{Lines, behind, behind_end, behind_fault, behind_lacking, behind_own, count_of, no_lines, text_of}
 use Rattle.pf_check_run.proofs.Told.{before_first, lines_more}
 
--- these are faults of so many records, but the last one may be that settings are lacking behind them
+-- these are faults of so many records, but the last one may be that settings are lacking after them
 abbrev pub IsOf : Bool → FaultLine → List FaultLine → Type 0 → Type 0
 IsOf true f fs Rest = Rest
 IsOf false f fs Rest = (f.lacks ≡ true) × (fs ≡ [])
@@ -19,11 +19,11 @@ abbrev pub AreOf : ℕ → List FaultLine → Type 0
 AreOf records [] = Unit {0}
 AreOf records (f ∷ fs) = IsOf (nat_le f.place.record records) f fs (AreOf records fs)
 
--- Use: the place behind the last record.
+-- Use: the place after the last record.
 pub behind_all : (records number : ℕ) → number ≡ records + 1 → nat_le number records ≡ false
 behind_all records number is = grind (arith, nat_tests, is)
 
--- there is a line behind each fault
+-- there is a line after each fault
 some_line : (file : List ℕ) (s : Lines) (f : FaultLine) → 0 < count_of (behind file s f)
 some_line file s f = by f.lacks
   where

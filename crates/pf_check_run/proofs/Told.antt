@@ -16,7 +16,7 @@ lacking_more f fs = count_by-cons (λ (g : FaultLine). g.lacks) f fs
 own_more : (f : FaultLine) (fs : List FaultLine) → count_by (λ (g : FaultLine). not g.lacks) (f ∷ fs) ≡ cond (not f.lacks) 1 0 + count_by (λ (g : FaultLine). not g.lacks) fs
 own_more f fs = count_by-cons (λ (g : FaultLine). not g.lacks) f fs
 
--- where some lack settings, with so many more of them and these lines behind
+-- where some lack settings, with so many more of them and these lines after
 abbrev text_with : Lines → ℕ → List ℕ → List ℕ
 text_with s more lines = s.head ++ others_text (s.lacking - 1 + more) ++ codes "\n" ++ (s.tail ++ lines)
 
@@ -41,7 +41,7 @@ later_own s f fs some lacks =
     (omega (arith, lacking_more f fs, ap {B = ℕ} (λ b. cond b 1 0) lacks))
     (append_assoc s.tail f.text (own_lines fs)))
 
--- behind the first record that lacks settings
+-- after the first record that lacks settings
 first_by : (file : List ℕ) (s : Lines) (f : FaultLine) (fs : List FaultLine) (b : Bool) → f.lacks ≡ b → 0 < s.lacking
     → ((t : Lines) → 0 < t.lacking → text_of (fold (behind file) t fs) ≡ text_with t (count_lacking fs) (own_lines fs))
     → text_of (fold (behind file) (if b then behind_lacking file f.place s else behind_own f.text s) fs) ≡ text_with s (count_lacking (f ∷ fs)) (own_lines (f ∷ fs))
@@ -60,7 +60,7 @@ four a b c d = simp append_assoc refl
 no_more : (n : ℕ) → 0 + 1 - 1 + n ≡ n
 no_more n = omega arith
 
--- four texts behind one
+-- four texts after one
 pub appended : (old a b c d : List ℕ) → (((old ++ a) ++ b) ++ c) ++ d ≡ old ++ (((a ++ b) ++ c) ++ d)
 appended old a b c d = simp append_assoc refl
 

@@ -198,7 +198,7 @@ record_read p ks fields h =
     (either LeadOn (is_word fields 0 (codes "name")) _ _ _ _ (both_same LeadOn (name_at p.names fields) said_leads)
     (edit_read p ks false NoRecord fields 0 h)))))
 
--- a record is read behind both
+-- a record is read after both
 read_alike : (p q : Progress) (fields : List (List ℕ)) → AreAlike p q → BothRead LeadOn (said_at p fields) (said_at q fields)
 read_alike p q fields alike =
     subst (λ (r : Progress). BothRead LeadOn (said_at p fields) (said_at r fields)) (sym alike.same)

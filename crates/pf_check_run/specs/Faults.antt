@@ -67,7 +67,7 @@ fault_lines file (f ∷ faults) =
 abbrev pub count_lines : List FaultLine → ℕ
 count_lines faults = count_by (λ f. not f.lacks) faults + min (count_lacking faults) 1
 
--- the faults of the records of a script, which are so many; that it ends without settings is told of a record behind the last one,
+-- the faults of the records of a script, which are so many; that it ends without settings is told of a record after the last one,
 -- and that only where no record is bad
 abbrev pub of_records : ℕ → List FaultLine → List FaultLine
 of_records records faults = filter (λ f. nat_le f.place.record records) faults

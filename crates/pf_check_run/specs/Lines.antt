@@ -3,7 +3,7 @@ use Rattle.std.specs.Prelude.{ℕ, ◌+◌, ◌-◌, ◌==◌, min, nat_le, if�
 use Rattle.pf_check_run.specs.Faults.{FaultLine, lacking_text, others_text}
 use Rattle.pf_run_notes.specs.declared.place.Place.{Place}
 
--- the lines up to the first record that lacks settings, and that one without its end; those behind it; how many records lack
+-- the lines up to the first record that lacks settings, and that one without its end; those after it; how many records lack
 -- settings, and how many lines there are beside
 pub record Lines : Type 0 where
   pub head : List ℕ
@@ -14,7 +14,7 @@ pub record Lines : Type 0 where
 abbrev pub no_lines : Lines
 no_lines = record { head = []; tail = []; lacking = 0; others = 0 }
 
--- behind a record that lacks settings, and behind one with another fault
+-- after a record that lacks settings, and after one with another fault
 abbrev pub behind_lacking : List ℕ → Place → Lines → Lines
 behind_lacking file place s =
     record s { head = if s.lacking == 0 then s.head ++ lacking_text file place else s.head; lacking = s.lacking + 1 }
@@ -33,11 +33,11 @@ behind file s f = if f.lacks then behind_lacking file f.place s else behind_own 
 abbrev pub count_of : Lines → ℕ
 count_of s = s.others + min s.lacking 1
 
--- behind the end of a script, which lacks settings there
+-- after the end of a script, which lacks settings there
 abbrev pub behind_end : List ℕ → Place → Lines → Lines
 behind_end file place s = if count_of s == 0 then behind_lacking file place s else s
 
--- behind a fault of a script with so many records, or of its end
+-- after a fault of a script with so many records, or of its end
 abbrev pub behind_fault : List ℕ → ℕ → Lines → FaultLine → Lines
 behind_fault file records s f = if nat_le f.place.record records then behind file s f else behind_end file f.place s
 

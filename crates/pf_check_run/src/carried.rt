@@ -110,7 +110,7 @@ fn lists_of(
     )
 }
 
-/// The status behind these lines.
+/// The status after these lines.
 fn status_of_lines(lines: &[u8]) -> Status
     ensures { result ≡ status_of_lines lines.now }
 {

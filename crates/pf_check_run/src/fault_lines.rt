@@ -13,7 +13,7 @@ use std::marker::Model;
 pub(crate) struct FaultLines {
     // The lines up to the first record that lacks settings, and that one without its end.
     head: Vec<u8>,
-    // Those behind it.
+    // Those after it.
     tail: Vec<u8>,
     // How many records lack settings.
     lacking: u64,

@@ -58,7 +58,7 @@ pub(crate) fn third_faults(alloc: Global, file: &[u8], script: &[u8]) -> Result<
     Ok(Found { lines, records })
 }
 
-/// Takes a fault of a script of which so many records were read: one that it lacks lies behind them.
+/// Takes a fault of a script of which so many records were read: one that it lacks lies after them.
 fn take_third(
     alloc: Global,
     file: &[u8],

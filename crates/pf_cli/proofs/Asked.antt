@@ -13,7 +13,7 @@ use Rattle.pf_script.specs.declared.record.ScriptSettings.{ScriptSettings}
 use Rattle.pf_cli.specs.Carried.{EndsBy}
 use Rattle.pf_cli.specs.Meaning.{ScriptCourse, course_after, course_at, course_behind, fault_number, opening_course, outcome_of, outcome_told}
 
--- no command changes the settings, and each is asked behind those before it
+-- no command changes the settings, and each is asked after those before it
 settings_kept : (c : ScriptCourse) (cs : List Command) → (course_behind c cs).state.plan.settings ≡ c.state.plan.settings
 settings_kept c [] = refl
 settings_kept c (command ∷ cs) = settings_kept (course_after c command) cs ∙ settings_after c.state command (reply_to c.state command)

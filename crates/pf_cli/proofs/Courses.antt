@@ -1,4 +1,4 @@
--- How far a desk is behind commands, and the lines of its replies to them.
+-- How far a desk is after commands, and the lines of its replies to them.
 use Rattle.std.proofs.Common.{◌≡◌, ◌≤◌, ℕ, ◌+◌, Bool, List, [], ◌∷◌, ◌++◌, All, length, map, drop, refl, sym, ap, ap₂, subst, ◌∙◌, arith, append_assoc}
 use Rattle.std.specs.Prelude.{◌||◌, false}
 use Rattle.std.specs.List.{list_any}
@@ -34,11 +34,11 @@ reply_lines-append c (x ∷ xs) ys =
 abbrev pub has_refusal : List Entry → Bool
 has_refusal entries = list_any (λ e. is_refusal e.reply) entries
 
--- a course behind these commands, one of them refused or not, where the checkpoints lie so far apart
+-- a course after these commands, one of them refused or not, where the checkpoints lie so far apart
 abbrev course_of : ℕ → List Command → Bool → State → ScriptCourse
 course_of every asked refused st = record { state = st; asked = asked; refused = refused; every = every }
 
--- the course behind the entries of a legal history
+-- the course after the entries of a legal history
 entered_course : (every : ℕ) (st : State) (asked : List Command) (refused : Bool) (es : List Entry) → IsLegalFrom st es
     → course_of every (asked ++ asked_in es) (refused || has_refusal es) (state_behind st es) ≡ course_behind (course_of every asked refused st) (asked_in es)
 entered_course every st asked refused [] h = ap₂ (λ cs b. course_of every cs b st) (append-nil asked) (or-false refused)
@@ -70,7 +70,7 @@ one_answered caller command a b reply h = record {
   every = h.every;
 }
 
--- Use: the course behind commands that a desk answered, their lines, and how many they are, where some of the lines before
+-- Use: the course after commands that a desk answered, their lines, and how many they are, where some of the lines before
 -- them were taken.
 module _ (caller : ℕ) (commands : List Command) (a b : Shown) (h : AnswersAll caller commands a b) where
   pub answered_course : course_at b ≡ course_behind (course_at a) commands

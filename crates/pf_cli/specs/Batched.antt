@@ -41,14 +41,14 @@ pub record HasAnswered (before after : Batched) : Type 0 where
   pub lines : entry_lines after.unshown ≡ lines_to_be before
   pub entries : length after.unshown ≡ length before.unshown + length before.waiting
 
--- its next line was put behind a text
+-- its next line was put after a text
 pub record HasShown (text more : List ℕ) (before after : Batched) : Type 0 where
   pub answered : after.answered ≡ before.answered
   pub waiting : after.waiting ≡ before.waiting
   pub lines : text ++ entry_lines before.unshown ≡ more ++ entry_lines after.unshown
   pub entries : length before.unshown ≡ length after.unshown + 1
 
--- whether it has a line, and it was put behind a text
+-- whether it has a line, and it was put after a text
 abbrev pub ShowsLine : Bool → List ℕ → List ℕ → Batched → Batched → Type 0
 ShowsLine true text more before after = HasShown text more before after
 ShowsLine false text more before after = (before.unshown ≡ []) × (after ≡ before) × (more ≡ text)

@@ -52,7 +52,7 @@ abbrev pub CarriesOn : Bool → ScriptReplies → ScriptReplies → Type 0
 CarriesOn true before after = GoesOn before after
 CarriesOn false before after = IsAtEnd before after
 
--- a line was put behind a text
+-- a line was put after a text
 pub record ShowsLine (was now : List ℕ) (before after : ScriptReplies) : Type 0 where
   pub text : was ++ text_left before ≡ now ++ text_left after
   pub outcome : outcome_left after ≡ outcome_left before

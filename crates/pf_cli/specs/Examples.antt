@@ -31,7 +31,7 @@ pub record WholeScripts : Type 0 where
       (three_tasks_replies ++ codes "schedule\n" ++ three_tasks_schedule ++ codes "lags\n" ++ three_tasks_lags
       ++ codes "misses\ntask,sub,deadline,ran\ndenials\nslot,event,code,reason\n") Done
   pub schedule : Means (Schedule whole) three_tasks_script three_tasks_schedule Done
-  -- behind the heading the same script
+  -- after the heading the same script
   pub second_version : Means (Schedule whole) (codes "pfair,2\n" ++ three_tasks_script) three_tasks_schedule Done
 
 -- the format of some of these slots
@@ -61,7 +61,7 @@ pub record BadScripts : Type 0 where
   pub empty : Means Tables [] [] (BadRecord 1)
   -- a refused command is no bad record
   pub refused : Means Tables (codes "settings,1,2,2,1\nstrict,strike,7\nstep,0\n") (codes "ready\nrefused 10 EventNotFound\n") (BadRecord 3)
-  -- no record lies behind the heading, or a second heading
+  -- no record lies after the heading, or a second heading
   pub heading_alone : Means Tables (codes "pfair,2\n") [] (BadRecord 2)
   pub heading_twice : Means Tables (codes "pfair,2\npfair,2\n") [] (BadRecord 2)
   -- a limit is a record of version 2 alone

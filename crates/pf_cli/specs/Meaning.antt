@@ -135,7 +135,7 @@ replies_told t = replies_to t.opening (commands_in t.rest.lines)
 abbrev pub outcome_told : Told → Result ScriptCourse ℕ
 outcome_told t = outcome_of t.opening (commands_in t.rest.lines) (fault_number t.rest.fault)
 
--- behind the replies: the report at the course where the script ends well, else nothing
+-- after the replies: the report at the course where the script ends well, else nothing
 abbrev pub ended_meaning : Format → Titles → List Refusal → Result ScriptCourse ℕ → Meaning
 ended_meaning format titles refusals (Ok c) = report_meaning format titles refusals c
 ended_meaning format titles refusals (Err number) = bad_record number

@@ -14,7 +14,7 @@ const CALLER: u32 = 0;
 /// The edits of a batch: so many replays of the past become one, and so many commands are in memory.
 const MOST_EDITS: usize = 1_024;
 
-/// A desk and plain edits that wait. An edit of the past waits, and so do the plain edits behind it, until another command
+/// A desk and plain edits that wait. An edit of the past waits, and so do the plain edits after it, until another command
 /// or the end of the script needs what they make: they are then answered together, with one replay of the slots that they
 /// touch. The lines of its replies are taken one after another. After an error nothing more may be asked of it.
 #[derive(Drop)]
@@ -76,7 +76,7 @@ impl BatchingDesk {
         self.answer(command)
     }
 
-    /// Whether a command is a plain edit that touches the past, or that stands behind one that waits.
+    /// Whether a command is a plain edit that touches the past, or that stands after one that waits.
     fn may_wait(&self, command: &Command) -> bool
         ensures { IsTrue result → IsPlain command.now }
     {

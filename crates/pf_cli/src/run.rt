@@ -44,7 +44,7 @@ use std::alloc::Global;
 ///
 /// # Errors
 ///
-/// `BadRecord` at a record that is none of the script's, behind the replies to the records before it. `BadRange` where no
+/// `BadRecord` at a record that is none of the script's, after the replies to the records before it. `BadRange` where no
 /// record is bad and the range of the format can't be shown of the slots stepped, and it tells why: nothing was written, as
 /// a format with a range has no replies. `Write` where the writer fails or takes nothing, and `NoMemory` where memory
 /// is refused: a front of the text was written, the whole where memory is refused for the missed windows in the end.

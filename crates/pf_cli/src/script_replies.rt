@@ -8,7 +8,7 @@ use pf_script::opened::OpenedScript;
 use pf_text::pieces::{LONG_PIECE, Pieces};
 use std::alloc::{AllocError, Global};
 
-// The bytes of a piece behind its greatest length: room for a last line.
+// The bytes of a piece after its greatest length: room for a last line.
 const ROOM: usize = 4_096;
 
 /// The replies to a script, which is carried out on the way: a line for the settings and one for each command, where the

@@ -43,7 +43,7 @@ row_some m row old new is =
     let seats = flat_map (λ p. seat_with p (sitter row p)) (range_with_len 0 m) in
     omega (arith, ap length is, length-append old (row_text m row), length-append seats (codes "},\n"))
 
--- words, each with a number, one behind another
+-- words, each with a number, one after another
 pub two_words : (old a p b q end : List ℕ) → ((old ++ (a ++ p)) ++ (b ++ q)) ++ end ≡ old ++ (a ++ p ++ b ++ q ++ end)
 two_words old a p b q end = simp append_assoc refl
 
@@ -51,6 +51,6 @@ pub three_words : (old a p b q c r end : List ℕ) →
     (((old ++ (a ++ p)) ++ (b ++ q)) ++ (c ++ r)) ++ end ≡ old ++ (a ++ p ++ b ++ q ++ c ++ r ++ end)
 three_words old a p b q c r end = simp append_assoc refl
 
--- texts, one behind another
+-- texts, one after another
 pub three_texts : (old a b c : List ℕ) → ((old ++ a) ++ b) ++ c ≡ old ++ (a ++ b ++ c)
 three_texts old a b c = simp append_assoc refl

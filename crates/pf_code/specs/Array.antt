@@ -9,7 +9,7 @@ use Rattle.pf_report.specs.Desk.{Seen}
 use Rattle.pf_names.specs.declared.named.Named.{Named}
 use Rattle.pf_names.specs.declared.titles.Titles.{Titles}
 
--- what stands for processor p: the task that sits on it, 0 for nobody, behind a brace or a comma
+-- what stands for processor p: the task that sits on it, 0 for nobody, after a brace or a comma
 abbrev pub seat_with : ℕ → Option Pick → List ℕ
 seat_with p sitter = (if p == 0 then codes "    {" else codes ", ") ++ decimal (option_map_or (λ pick. pick.task) sitter 0)
 
@@ -51,7 +51,7 @@ unfoldable pub c_text : Seen → Titles → List ℕ
 c_text seen titles =
     array_text titles.names seen.state.plan.settings.processors seen.state.now seen.state.plan.settings.base seen.rows
 
--- what stands before the rows; behind it, where there is no slot, the row with nobody
+-- what stands before the rows; after it, where there is no slot, the row with nobody
 abbrev pub head_text : List Named → ℕ → ℕ → ℕ → List ℕ
 head_text names m n base =
     front_text names m n base ++ constants_text m n ++ declaration_text m n ++ (if n == 0 then row_text m [] else [])

@@ -122,7 +122,7 @@ fn push_declaration(text: &mut Vec<u8>, processors: u64, slots: u64) -> Result<(
     text.extend_from_slice(b"] = {\n")
 }
 
-/// What stands before the first row; of no slot a row with nobody stands behind it.
+/// What stands before the first row; of no slot a row with nobody stands after it.
 pub(crate) fn head(
     alloc: Global,
     names: &Names,

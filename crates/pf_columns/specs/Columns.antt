@@ -16,7 +16,7 @@ width_of (row ∷ rows) column = max (length (cell_at row column)) (width_of row
 abbrev pub AreWidths : List (List (List ℕ)) → List ℕ → Type 0
 AreWidths rows widths = widths ≡ map (width_of rows) (range_with_len 0 (length widths))
 
--- a cell with blanks behind it up to the width of its column, and two more
+-- a cell with blanks after it up to the width of its column, and two more
 abbrev pub padded : ℕ → List ℕ → List ℕ
 padded width cell = cell ++ replicate (width - length cell) 32 ++ codes "  "
 

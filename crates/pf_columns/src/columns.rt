@@ -79,7 +79,7 @@ fn width_of(rows: &[Row], column: usize) -> usize
     width
 }
 
-/// Adds a cell with blanks behind it up to a width, and two more.
+/// Adds a cell with blanks after it up to a width, and two more.
 fn push_padded(line: &mut Vec<u8>, width: usize, cell: &[u8]) -> Result<(), AllocError>
     ensures { OnOk result (line.new.items ≡ line.old.items ++ padded width cell.now) }
 {

@@ -15,6 +15,6 @@ part_text (Wide number) = decimal number
 part_text (Decimal unit time) = with_fewest_places (places_of unit) time
 part_text (Time unit time) = time_text unit time
 
--- these texts, one behind another
+-- these texts, one after another
 abbrev pub joined : List (List ℕ) → List ℕ
 joined texts = flat_map (λ text. text) texts

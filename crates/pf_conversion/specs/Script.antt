@@ -23,7 +23,7 @@ unfoldable pub last_join : List Slotted → ℕ
 last_join [] = 0
 last_join (task ∷ tasks) = max task.join (last_join tasks)
 
--- one base behind the last join, where so many slots can be stepped
+-- one base after the last join, where so many slots can be stepped
 abbrev pub steps_of : ℕ → List Slotted → ℕ
 steps_of base tasks = min (last_join tasks + base) WIDE_HORIZON
 

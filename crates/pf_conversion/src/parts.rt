@@ -21,11 +21,11 @@ pub enum Part<'a> {
     Wide(u128),
     /// A time in nanoseconds, as a decimal in a unit.
     Decimal(Unit, u128),
-    /// The same with the unit behind it.
+    /// The same with the unit after it.
     Time(Unit, u128),
 }
 
-/// Adds parts to a text, one behind another.
+/// Adds parts to a text, one after another.
 ///
 /// # Errors
 ///

@@ -39,7 +39,7 @@ fn last_join(tasks: &[Slotted]) -> u64
     last
 }
 
-/// How many slots are stepped: one base behind the last join, where so many can be.
+/// How many slots are stepped: one base after the last join, where so many can be.
 fn steps_of(base: u64, tasks: &[Slotted]) -> u64
     requires { base ≤ LARGEST_BASE }
     ensures { result ≡ steps_of base tasks.now }

@@ -20,7 +20,7 @@ IsNoWorseQuantum processors a b =
 abbrev pub NoneFits : Option ℕ → List Outcome → Type 0
 NoneFits processors outcomes = All (λ o. Fits processors o → ⊥) outcomes
 
--- the one at a place, one without a plan behind the last
+-- the one at a place, one without a plan after the last
 abbrev pub outcome_at : List Outcome → ℕ → Outcome
 outcome_at outcomes i = get_or outcomes i (record { quantum = 0; needed = None })
 

@@ -47,7 +47,7 @@ pub record AreDivisors (n : ℕ) (divisors : List ℕ) : Type 0 where
   pub sound : All (λ d. n % d ≡ 0) divisors
   pub complete : (d : ℕ) → 1 ≤ d → n % d ≡ 0 → Contains divisors d
 
--- a divisor and its counterpart behind these, where it is one
+-- a divisor and its counterpart after these, where it is one
 abbrev pub with_pair : ℕ → ℕ → List ℕ → List ℕ
 with_pair n d divisors = if n % d == 0 then (divisors ++ d ∷ []) ++ n / d ∷ [] else divisors
 

@@ -5,7 +5,7 @@ ghost use Rattle.pf_convert.specs.Rounding.{rounded};
 
 use std::alloc::{AllocError, Global};
 
-/// Puts the number and its counterpart behind the divisors, where it divides.
+/// Puts the number and its counterpart after the divisors, where it divides.
 fn push_pair(divisors: &mut Vec<u64>, number: u64, low: u64) -> Result<(), AllocError>
     requires { 1 ≤ low }
     ensures { OnOk result (divisors.new.items ≡ with_pair number low divisors.old.items) }

@@ -10,7 +10,7 @@ pub enum SlotFault {
         /// The slots of a period.
         period: u64,
     },
-    /// The first job would come at the horizon of a wide desk or behind it.
+    /// The first job would come at the horizon of a wide desk or after it.
     JoinBeyondHorizon {
         /// The slot of the join.
         join: u64,

@@ -37,7 +37,7 @@ abbrev pub unit_given : Option (List ℕ) → Result Unit ConvertMistake
 unit_given None = Ok Millisecond
 unit_given (Some name) = unit_or_mistake (unit_named name)
 
--- the words of a text that commas join, behind a word so far
+-- the words of a text that commas join, after a word so far
 unfoldable pub words_from : List ℕ → List ℕ → List (List ℕ)
 words_from word [] = word ∷ []
 words_from word (byte ∷ bytes) = if byte == 44 then word ∷ words_from [] bytes else words_from (word ++ byte ∷ []) bytes
@@ -57,7 +57,7 @@ time_added quanta (Err fault) = Err Quantum
 abbrev pub quantum_added : Unit → List ℕ → List ℕ → Result (List ℕ) ConvertMistake
 quantum_added unit quanta text = time_added quanta (time_in unit text)
 
--- the quanta with those of these words behind them
+-- the quanta with those of these words after them
 unfoldable pub quanta_from : Unit → List ℕ → List (List ℕ) → Result (List ℕ) ConvertMistake
 quanta_from unit quanta [] = Ok quanta
 quanta_from unit quanta (word ∷ words) = quantum_added unit quanta word >>= λ more. quanta_from unit more words

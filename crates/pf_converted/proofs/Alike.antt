@@ -9,7 +9,7 @@ use Rattle.csv.specs.declared.parser.State.TheVariants as st
 use Rattle.csv.proofs.RoundTrip.{record-same}
 use Rattle.pf_rows.specs.Places.{row_config}
 
--- in a record, and not behind an escape
+-- in a record, and not after an escape
 abbrev IsInside : State → Type 0
 IsInside st.StartField = ⊤
 IsInside st.InField = ⊤

@@ -21,7 +21,7 @@ use Rattle.pf_converted.proofs.Plain.{name_plain, number_plain, number_trimmed}
 abbrev pub IsPlainField : List ℕ → Type 0
 IsPlainField x = (list_any (needs_byte default_writer) x ≡ false) × (trimmed x ≡ x)
 
--- what stands behind the first field of a line, and then a text
+-- what stands after the first field of a line, and then a text
 abbrev pub fields_then : List (List ℕ) → List ℕ → List ℕ
 fields_then [] tail = 10 ∷ tail
 fields_then (x ∷ xs) tail = 44 ∷ (x ++ fields_then xs tail)

@@ -38,7 +38,7 @@ none_below (n ∷ names) number below =
     let other : (n.task == number) ≡ false = grind (arith, nat_tests, less) in
     rw other (none_below names number (All-tail (λ m. m.task < number) n names below))
 
--- and its name comes behind theirs
+-- and its name comes after theirs
 pub named_last : (names : List Named) (number : ℕ) (name : List ℕ) → All (λ n. n.task < number) names
     → with_name names number name ≡ names ++ record { task = number; name = name } ∷ []
 named_last [] number name below = refl
@@ -68,7 +68,7 @@ below_next names number name below =
     (λ k d lt. omega (arith, below k d lt))
     (All-cons (λ n. n.task < number + 1) (record { task = number; name = name }) [] (omega arith) (λ k d lt. absurd (omega (arith, lt))))
 
--- behind the name of one task the others can be given
+-- after the name of one task the others can be given
 given_next : (number : ℕ) (task : Listed) (tasks : List Listed) (names : List Named) → All (λ other. bytes_eq task.name other.name ≡ false) tasks
     → AreGiven number (task ∷ tasks) names → AreGiven (number + 1) tasks (with_name names number task.name)
 given_next number task tasks names apart given =

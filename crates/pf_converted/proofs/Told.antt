@@ -39,7 +39,7 @@ pub unless_ok : {A E : Type 0} (b : Bool) (r : Result A E) (fault : E) (y : A) �
 unless_ok true r fault y e = cc
 unless_ok false r fault y e = (refl, e)
 
--- a task that can stand behind these
+-- a task that can stand after these
 pub record IsNext (tasks : List Listed) (t : Listed) : Type 0 where
   pub text : is_text t.name ≡ true
   pub apart : All (λ other. bytes_eq other.name t.name ≡ false) tasks
@@ -115,7 +115,7 @@ is_next unit h tasks line fields t e =
     let read = named tasks (field_in Name h fields) t.name parts.0 in
     record { text = read.0; apart = read.1; works = worked unit h fields t.times parts.1 }
 
--- these tasks can be told one behind the other
+-- these tasks can be told one after the other
 pub record AreTold (tasks : List Listed) : Type 0 where
   pub names : AreNames tasks
   pub works : All (λ t. 1 ≤ t.times.work) tasks

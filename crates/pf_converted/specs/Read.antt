@@ -54,7 +54,7 @@ plan_said processors quantum tasks plan =
     settings_said processors plan.base ∷ slot_said (slot_of quantum)
     ∷ (each_numbered name_said 1 tasks ++ (each_numbered join_said 1 plan.tasks.items ++ Asks (Steps (steps_of plan.base plan.tasks.items)) None ∷ []))
 
--- names that a script may give: none is that of a task behind it
+-- names that a script may give: none is that of a task after it
 unfoldable pub AreNames : List Listed → Type 0
 AreNames [] = ⊤
 AreNames (task ∷ tasks) = (is_text task.name ≡ true) × All (λ other. bytes_eq task.name other.name ≡ false) tasks × AreNames tasks
@@ -73,7 +73,7 @@ pub record IsWritten (processors quantum : ℕ) (tasks : List Listed) (plan : Pl
   pub slotted : All IsSlotted plan.tasks.items
   pub periods : All (λ s. s.period ≤ plan.base) plan.tasks.items
 
--- behind the heading the script of a plan says the plan
+-- after the heading the script of a plan says the plan
 abbrev pub ScriptsSayTheirPlans : Type 0
 ScriptsSayTheirPlans =
     (processors quantum : ℕ) (tasks : List Listed) (plan : Plan) → IsWritten processors quantum tasks plan

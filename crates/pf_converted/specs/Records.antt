@@ -33,7 +33,7 @@ each_numbered f number (x ∷ xs) = f number x ∷ each_numbered f (number + 1) 
 abbrev pub heading_record : List (List ℕ)
 heading_record = codes "pfair" ∷ codes "3" ∷ []
 
--- the records behind the heading
+-- the records after the heading
 abbrev pub script_records : ℕ → ℕ → List Listed → Plan → List (List (List ℕ))
 script_records processors quantum tasks plan =
     settings_record processors plan.base ∷ slot_record (slot_of quantum)

@@ -200,7 +200,7 @@ take_then i k xs =
     sym (take-append-drop i (take (i + k) xs))
     ∙ ap₂ (λ us vs. us ++ vs) (take-take i (i + k) xs (omega arith)) (drop-take i k xs)
 
--- Use: the first of the commands behind those that were answered.
+-- Use: the first of the commands after those that were answered.
 pub answers_then : (caller : ℕ) (commands : List Command) (i k : ℕ) (before between after : Shown) →
     AnswersAll caller (take i commands) before between → AnswersFirst k caller (drop i commands) between after →
     AnswersAll caller (take (i + k) commands) before after

@@ -136,7 +136,7 @@ settled_laid settled slots index [] within = All-nil (IsLaid settled slots)
 settled_laid settled slots index (e ∷ es) within =
     All-cons (IsLaid settled slots) (OfCommand e.caller index) (briefs_from (index + 1) es) (omega arith) (settled_laid settled slots (index + 1) es (omega arith))
 
--- an idle row is laid behind the rows of the slots that were taken
+-- an idle row is laid after the rows of the slots that were taken
 pub idle_row_laid : (processors slots : ℕ) (rows rows' : List (List (Option Pick))) → rows' ≡ rows ++ idle_row processors ∷ [] → length rows ≡ slots →
     IsRowLaid processors slots rows rows'
 idle_row_laid processors slots rows rows' is long =
@@ -202,7 +202,7 @@ length-row_put slots rows row long =
     length_push (but_last rows) row ∙ ap (λ n. n + 1) (length-take-le (length rows - 1) rows (omega arith) ∙ ap (λ n. n - 1) long ∙ omega arith)
 
 module _ (slots : ℕ) (briefs : List Brief) (settled : List Settled) (rows : List (List (Option Pick))) (laid : All (IsLaid settled slots) briefs) where
-  -- Use: a step with its slot's row is the entry behind the others.
+  -- Use: a step with its slot's row is the entry after the others.
   pub slot_entered : (caller slot : ℕ) (row : List (Option Pick)) → length rows ≡ slots + 1 → slot ≡ slots →
       entries_laid settled (but_last rows ++ row ∷ []) (briefs ++ OfSlot caller slot ∷ []) ≡ entries_laid settled rows briefs ++ entry_of caller Step (Stepped slot row) ∷ []
   slot_entered caller slot row long is =
@@ -212,7 +212,7 @@ module _ (slots : ℕ) (briefs : List Brief) (settled : List Settled) (rows : Li
       (entries_kept settled settled slots rows rows' briefs (keeps_with_rows settled slots rows rows' (same_below slots rows row long)) laid)
       (ap (λ k. slice_index_or rows' k []) is ∙ row_there slots rows row long)
 
-  -- Use: a command that took no slot is the entry behind the others.
+  -- Use: a command that took no slot is the entry after the others.
   pub settled_entered : (caller index : ℕ) (s : Settled) → length settled ≡ index →
       entries_laid (settled ++ s ∷ []) rows (briefs ++ OfCommand caller index ∷ []) ≡ entries_laid settled rows briefs ++ entry_of_settled caller s ∷ []
   settled_entered caller index s at =
@@ -221,7 +221,7 @@ module _ (slots : ℕ) (briefs : List Brief) (settled : List Settled) (rows : Li
       (entries_kept settled (settled ++ s ∷ []) slots rows rows briefs (keeps_with_commands settled (s ∷ []) slots rows) laid)
       (get_or_push settled s nothing_settled index at)
 
-  -- Use: entries that took no slot are the entries behind the others.
+  -- Use: entries that took no slot are the entries after the others.
   pub all_entered : (index : ℕ) (es : List Entry) → length settled ≡ index → All (λ e. slots_of e.reply ≡ 0) es →
       entries_laid (settled ++ map settled_of es) rows (briefs ++ briefs_from index es) ≡ entries_laid settled rows briefs ++ es
   all_entered index es at none =

@@ -25,7 +25,7 @@ in_front : (before : Brief) (runs : List Run) (k : ℕ) (d : Run) → (0 < lengt
 in_front before [] k d l = refl
 in_front before (run ∷ runs) k d l = ap (λ b. if b then before else brief_in (brief_of_run run k) runs k) (lt-ltb k run.start (l (omega arith)))
 
--- a run not behind k is looked at, and the next ones decide
+-- a run not after k is looked at, and the next ones decide
 past : (before : Brief) (run : Run) (runs : List Run) (k : ℕ) → run.start ≤ k → brief_in before (run ∷ runs) k ≡ brief_in (brief_of_run run k) runs k
 past before run runs k l = ap (λ b. if b then before else brief_in (brief_of_run run k) runs k) (le-ltb k run.start l)
 
@@ -45,7 +45,7 @@ brief_of_last before (run ∷ runs) k (suc (suc n)) d at behind some within =
     ∙ ap (λ m. brief_of_run (get_or runs m d) k) (let e : suc n - 1 ≡ n = omega arith in e)
     ∙ ap (λ m. brief_of_run (get_or (run ∷ runs) m d) k) (let e : suc n ≡ suc (suc n) - 1 = omega arith in e)
 
--- a run behind k does not matter
+-- a run after k does not matter
 without_later : (before : Brief) (runs : List Run) (run : Run) (k : ℕ) → k < run.start → brief_in before (runs ++ run ∷ []) k ≡ brief_in before runs k
 without_later before [] run k l = ap (λ b. if b then before else brief_of_run run k) (lt-ltb k run.start l)
 without_later before (first ∷ runs) run k l =
@@ -82,7 +82,7 @@ first_begins : (runs : List Run) (d : Run) → Begin runs → (0 < length runs) 
 first_begins [] d begin = absurd begin
 first_begins (run ∷ runs) d begin = (omega arith, begin)
 
--- so a run is not behind the k-th brief
+-- so a run is not after the k-th brief
 pub some_begins : (runs : List Run) (k count : ℕ) (d : Run) → Begin runs → ((m : ℕ) → count ≤ m → m < length runs → k < (get_or runs m d).start) → 1 ≤ count
 some_begins runs k count d begin behind =
     let first = first_begins runs d begin in

@@ -22,7 +22,7 @@ all_kept wide s (k ∷ kept) within =
     let P : Kept → Type 0 = IsWithin (length wide) in
     ap₂ (λ x xs. x ∷ xs) (one_kept wide s k (All-head P k kept within)) (all_kept wide s kept (All-tail P k kept within))
 
--- Use: it stands behind the others.
+-- Use: it stands after the others.
 pub kept_apart : (wide : List Settled) (s : Settled) (kept : List Kept) (index : ℕ) → All (IsWithin (length wide)) kept → length wide ≡ index →
     map (settled_at (wide ++ s ∷ [])) (kept ++ Wide index ∷ []) ≡ map (settled_at wide) kept ++ s ∷ []
 kept_apart wide s kept index within at =

@@ -7,7 +7,7 @@ use Rattle.pf_desk.specs.declared.command.Command.{Command}
 use Rattle.pf_desk.specs.History.{IsLegalFrom, state_behind}
 use Rattle.pf_desk.specs.Desk.{Shown, AnswersAll}
 
--- the batch is of edits of this desk: each is answered as the machine does behind those before it, the scenario is then
+-- the batch is of edits of this desk: each is answered as the machine does after those before it, the scenario is then
 -- that of the machine, and it agrees with the desk's on the slots below `from`, which is not after now
 pub record IsBatch (d : Shown) (b : Batch) : Type 0 where
   pub callers : All (λ e. e.caller ≡ b.caller) b.entries.items

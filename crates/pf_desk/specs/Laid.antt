@@ -1,5 +1,5 @@
 -- How a history lies in memory: a brief for each entry, kept by runs (Runs), the commands that took no slot apart, and the
--- rows of the slots that were taken one behind another.
+-- rows of the slots that were taken one after another.
 use Rattle.std.specs.Prelude.{◌≡◌, ◌⊎◌, ℕ, ◌<◌, ◌≤◌, ◌+◌, Bool, true, if◌then◌else◌, Option, List, [], ◌∷◌, length, map, All}
 use Rattle.std.specs.List.{slice_index_or}
 use Rattle.pf_order.specs.declared.pick.Pick.{Pick}
@@ -56,7 +56,7 @@ abbrev pub IsLaid : List Settled → ℕ → Brief → Type 0
 IsLaid settled slots (OfSlot caller slot) = slot < slots
 IsLaid settled slots (OfCommand caller index) = index < length settled
 
--- there is a row for each slot that was taken, and behind them at most the one that is laid for the next step, of all
+-- there is a row for each slot that was taken, and after them at most the one that is laid for the next step, of all
 -- processors
 abbrev pub AreKept : ℕ → ℕ → List (List (Option Pick)) → Type 0
 AreKept processors slots rows =

@@ -23,7 +23,7 @@ abbrev pub slots_taken : List Entry → ℕ
 slots_taken [] = 0
 slots_taken (e ∷ es) = slots_of e.reply + slots_taken es
 
--- the command with its reply can be the next entry: if it took a slot, it was a step, it took the one behind all that
+-- the command with its reply can be the next entry: if it took a slot, it was a step, it took the one after all that
 -- were taken before, and its row has all processors
 abbrev pub CanFollow : Recorded → Command → Reply → Type 0
 CanFollow h command (Edited id) = ⊤
@@ -34,7 +34,7 @@ CanFollow h command (Refused fault) = ⊤
 abbrev pub entered_in : Recorded → Entry → Recorded
 entered_in h e = record { entries = h.entries ++ e ∷ []; processors = h.processors; spare = h.spare - 1 }
 
--- the history has these entries behind its own, with whatever room
+-- the history has these entries after its own, with whatever room
 abbrev pub Gains : Recorded → List Entry → Recorded → Type 0
 Gains before es after = after ≡ record { entries = before.entries ++ es; processors = before.processors; spare = after.spare }
 

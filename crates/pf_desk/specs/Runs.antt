@@ -6,7 +6,7 @@ use Rattle.pf_desk.specs.declared.brief.Brief.{Brief}
 use Rattle.pf_desk.specs.declared.brief.Brief.TheVariants.{OfSlot, OfCommand}
 use Rattle.pf_desk.specs.declared.run.Run.{Run}
 
--- the brief of the slot, or the command, so many behind
+-- the brief of the slot, or the command, so many after
 abbrev pub brief_behind : Brief → ℕ → Brief
 brief_behind brief zero = brief
 brief_behind (OfSlot caller slot) (suc by) = OfSlot caller ((slot + suc by) % 2 ^ 64)
@@ -16,7 +16,7 @@ brief_behind (OfCommand caller index) (suc by) = OfCommand caller ((index + suc 
 abbrev pub brief_of_run : Run → ℕ → Brief
 brief_of_run run k = brief_behind run.first (k - run.start)
 
--- the k-th brief of all: that of the last run not behind it
+-- the k-th brief of all: that of the last run not after it
 abbrev pub brief_in : Brief → List Run → ℕ → Brief
 brief_in before [] k = before
 brief_in before (run ∷ runs) k = if nat_lt k run.start then before else brief_in (brief_of_run run k) runs k

@@ -75,7 +75,7 @@ impl Desk {
         Ok(1)
     }
 
-    /// Answers the caller's plain edits one after another: each is judged behind those before it, and the slots are replayed
+    /// Answers the caller's plain edits one after another: each is judged after those before it, and the slots are replayed
     /// once.
     fn edit_all(
         &mut self,

@@ -40,7 +40,7 @@ impl Batch {
         }
     }
 
-    /// Judges one plain edit more, as the machine does behind those before it.
+    /// Judges one plain edit more, as the machine does after those before it.
     ///
     /// # Errors
     ///

@@ -33,7 +33,7 @@ pub(crate) enum Brief {
 const _: () = prove!(size_of::<Brief>() == 16);
 
 impl Brief {
-    /// The brief of the slot, or the command, so many behind this one's.
+    /// The brief of the slot, or the command, so many after this one's.
     pub(crate) fn behind(self, by: u64) -> Self
         ensures { result ≡ brief_behind self by }
     {

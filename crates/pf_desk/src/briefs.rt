@@ -123,7 +123,7 @@ fn count_begun(runs: &[Run], k: usize) -> usize
     }
 }
 
-/// Whether the brief is the next of the last run, behind so many briefs.
+/// Whether the brief is the next of the last run, after so many briefs.
 fn goes_on(runs: &[Run], count: usize, brief: Brief) -> bool
     requires { All (λ run. run.start < count) runs.now }
     ensures some { result ≡ true → 0 < length runs.now }

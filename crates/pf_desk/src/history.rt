@@ -32,7 +32,7 @@ pub struct History {
     briefs: Briefs,
     settled: Settlements,
 
-    /// The row of each slot that was taken, and behind them at most the one that is laid for the next step.
+    /// The row of each slot that was taken, and after them at most the one that is laid for the next step.
     rows: Rows,
     slots: u64,
     has_room: bool,
@@ -123,7 +123,7 @@ impl History {
 
     /// Enters what a caller asked and was answered; it takes no memory.
     ///
-    /// There must be room. A command that took a slot must be a step, its slot the one behind those taken before, and its
+    /// There must be room. A command that took a slot must be a step, its slot the one after those taken before, and its
     /// row one of all processors.
     pub(crate) fn enter(&mut self, caller: u32, command: Command, reply: &Reply)
         requires room { 1 ≤ self.old.spare }
@@ -191,7 +191,7 @@ impl History {
     }
 }
 
-/// Lays a row for the next step behind those of the slots that were taken, unless one lies there.
+/// Lays a row for the next step after those of the slots that were taken, unless one lies there.
 ///
 /// # Errors
 ///

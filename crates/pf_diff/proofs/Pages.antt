@@ -1,4 +1,4 @@
--- Records behind records on a page.
+-- Records after records on a page.
 use Rattle.std.proofs.Common.{◌≡◌, ◌∙◌, ℕ, List, [], ◌∷◌, ◌++◌, Result, Ok, Err, ap, append_assoc, sym}
 use Rattle.std.specs.Prelude.{OnOk}
 use Rattle.std.proofs.lemmas.List.{append-nil}
@@ -13,7 +13,7 @@ records_more page xs ys =
     ap (λ text. let p : Page = record { text = text; fields = [] } in p)
     (append_assoc page.text (table_text xs) (table_text ys) ∙ ap (λ text. page.text ++ text) (sym (table_append xs ys)))
 
--- five lots of records, one behind another
+-- five lots of records, one after another
 pub five_lots : {A E : Type 0} (r : Result A E) (p0 p1 p2 p3 p4 p5 : Page) (a b c d e : List (List (List ℕ))) →
     p1 ≡ with_records p0 a → p2 ≡ with_records p1 b → p3 ≡ with_records p2 c → p4 ≡ with_records p3 d → OnOk r (p5 ≡ with_records p4 e) →
     OnOk r (p5 ≡ with_records p0 (a ++ (b ++ (c ++ (d ++ e)))))
@@ -29,7 +29,7 @@ one_record page a =
     ap (λ text. let p : Page = record { text = page.text ++ text; fields = [] } in p)
     (sym (flat_map-cons (row_text default_writer) a [] ∙ append-nil (row_text default_writer a)))
 
--- three records, one behind another
+-- three records, one after another
 pub three_records : {A E : Type 0} (r : Result A E) (p0 p1 p2 p3 : Page) (a b c : List (List ℕ)) →
     p1 ≡ with_record p0 a → p2 ≡ with_record p1 b → OnOk r (p3 ≡ with_record p2 c) → OnOk r (p3 ≡ with_records p0 (a ∷ b ∷ c ∷ []))
 three_records (Err x) p0 p1 p2 p3 a b c h1 h2 h3 = tt
@@ -38,7 +38,7 @@ three_records (Ok x) p0 p1 p2 p3 a b c h1 h2 h3 =
     ∙ ap (λ p. with_records p (c ∷ [])) (h2 ∙ one_record p1 b) ∙ records_more p1 (b ∷ []) (c ∷ [])
     ∙ ap (λ p. with_records p (b ∷ c ∷ [])) (h1 ∙ one_record p0 a) ∙ records_more p0 (a ∷ []) (b ∷ c ∷ [])
 
--- a table behind its head
+-- a table after its head
 pub behind_head : (text rest head : List ℕ) (title heading : List (List ℕ)) (records : List (List (List ℕ))) →
     text ≡ head ++ rest → head ≡ table_text (title ∷ heading ∷ []) → rest ≡ table_text records →
     text ≡ table_text (title ∷ heading ∷ records)

@@ -15,7 +15,7 @@ use Rattle.pf_text.specs.Page.{table_text}
 use Rattle.pf_diff.specs.Diff.{row_changes, slot_changes}
 use Rattle.pf_diff.specs.Written.{with_records, AddsSlot}
 
--- the text of records behind others
+-- the text of records after others
 pub table_append : (xs ys : List (List (List ℕ))) → table_text (xs ++ ys) ≡ table_text xs ++ table_text ys
 table_append xs ys = flat_map-append (row_text default_writer) xs ys
 
@@ -44,7 +44,7 @@ pub row_done : (text before : List ℕ) (t p : ℕ) (xs ys : List (Option Pick))
 row_done text before t p xs ys over h =
     sym (append-nil text) ∙ sym (ap (λ records. text ++ table_text records) (row_end t p xs ys over)) ∙ h
 
--- the slots from t on: t, and those behind it
+-- the slots from t on: t, and those after it
 pub slot_more : (t : ℕ) (xs ys : List (List (Option Pick))) (x y : List (Option Pick)) → t < length xs → t < length ys
     → Some x ≡ slice_get xs t → Some y ≡ slice_get ys t
     → slot_changes t (drop t xs) (drop t ys) ≡ row_changes t 0 x y ++ slot_changes (t + 1) (drop (t + 1) xs) (drop (t + 1) ys)

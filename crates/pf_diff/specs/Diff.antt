@@ -84,7 +84,7 @@ pub record ChangeTable : Type 0 where
   pub changes : List Change
   pub paired : Bool
 
--- a table behind its title and its heading
+-- a table after its title and its heading
 abbrev pub titled : List ℕ → List (List ℕ) → List (List (List ℕ)) → List ℕ
 titled title heading records = table_text ((title ∷ []) ∷ heading ∷ records)
 

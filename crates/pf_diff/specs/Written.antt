@@ -9,7 +9,7 @@ use Rattle.pf_diff.specs.Diff.{slot_changes}
 abbrev pub with_records : Page → List (List (List ℕ)) → Page
 with_records page records = record { text = page.text ++ table_text records; fields = [] }
 
--- what differs in slot t was added to a page: with what differs in the slots behind it, the text is as it was with slot t
+-- what differs in slot t was added to a page: with what differs in the slots after it, the text is as it was with slot t
 pub record AddsSlot (t : ℕ) (before after : List (List (Option Pick))) (old new : Page) : Type 0 where
   pub text : new.text ++ table_text (slot_changes (t + 1) (drop (t + 1) before) (drop (t + 1) after))
       ≡ old.text ++ table_text (slot_changes t (drop t before) (drop t after))

@@ -14,7 +14,7 @@ use pf_text::records::RecordPieces;
 use pf_text::table::Table;
 use std::alloc::{AllocError, Global};
 
-/// A table behind its title and its heading.
+/// A table after its title and its heading.
 type Titled<A> = Chain<Whole, A>;
 
 /// A table of changes, in pieces.
@@ -119,7 +119,7 @@ fn denial_pieces(
     Ok(Chain::new(head, change_pieces(alloc, &first, &second, true)?))
 }
 
-/// What differs between two snapshots, in pieces: four tables, each behind a line with its name, of what differs alone. They
+/// What differs between two snapshots, in pieces: four tables, each after a line with its name, of what differs alone. They
 /// compare who sits on each processor in the slots and on the processors that both have; the lags of the tasks inside, by
 /// task; the missed windows, by task and subtask, with the slot in which the subtask ran, or that it never did; the denials,
 /// by event and slot, with the reason. What is in one alone has an empty field for the other. What differs in all but the

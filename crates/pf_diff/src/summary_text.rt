@@ -246,7 +246,7 @@ fn records_text(
     table.finish()
 }
 
-/// What two snapshots come to, side by side, as a table behind its title: the settings, the slots, the tasks, the denials and
+/// What two snapshots come to, side by side, as a table after its title: the settings, the slots, the tasks, the denials and
 /// the misses, the first missed window, the worst lag, preemptions and migrations, and how many cells of the schedule differ,
 /// of the slots and on the processors that both have. What there is none of is empty.
 ///

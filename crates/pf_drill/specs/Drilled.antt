@@ -25,7 +25,7 @@ use Rattle.pf_drill.specs.Taken.{taken_text_of}
 abbrev pub seen_in : ℕ → State → Seen
 seen_in entries st = record { version = entries; state = st; rows = rows_in st.plan st.now; denials = denials_in st.plan st.now }
 
--- the schedule that was seen and what was taken, each behind a line with its name
+-- the schedule that was seen and what was taken, each after a line with its name
 abbrev pub drill_text : Seen → List Quantum → List ℕ
 drill_text seen taken = (codes "schedule\n" ++ schedule_text seen) ++ (codes "taken\n" ++ taken_text_of taken)
 

@@ -7,7 +7,7 @@ use Rattle.pf_text.specs.Page.{table_text}
 abbrev pub taken_record : Quantum → List (List ℕ)
 taken_record q = decimal q.slot ∷ decimal q.processor ∷ decimal q.task ∷ decimal q.sub ∷ []
 
--- a line for each of these quanta, in their order, behind the heading
+-- a line for each of these quanta, in their order, after the heading
 unfoldable pub taken_text_of : List Quantum → List ℕ
 taken_text_of quanta =
     table_text ((codes "slot" ∷ codes "processor" ∷ codes "task" ∷ codes "sub" ∷ []) ∷ map taken_record quanta)

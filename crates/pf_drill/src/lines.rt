@@ -30,7 +30,7 @@ use std::alloc::Global;
 use std::sync::{Arc, Wait};
 use std::thread::Threads;
 
-/// Carries out the records behind the settings on a desk that was just opened, and gives the text of the drill. Each record
+/// Carries out the records after the settings on a desk that was just opened, and gives the text of the drill. Each record
 /// is read into `row`.
 pub(crate) fn drill_lines<
     N: Naming + Send + Sync,

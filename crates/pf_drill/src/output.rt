@@ -8,7 +8,7 @@ use pf_report::schedule::schedule_pieces;
 use pf_text::pieces::{Chain, Whole, gathered};
 use std::alloc::{AllocError, Global};
 
-/// The text of a drill: the schedule that a snapshot shows, and what was taken, each behind a line with its name.
+/// The text of a drill: the schedule that a snapshot shows, and what was taken, each after a line with its name.
 ///
 /// # Errors
 ///

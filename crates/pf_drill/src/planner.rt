@@ -99,7 +99,7 @@ impl Planner {
     }
 }
 
-/// Puts the quanta of a reply behind those issued before.
+/// Puts the quanta of a reply after those issued before.
 ///
 /// # Errors
 ///
@@ -113,7 +113,7 @@ fn note_issued(issued: &mut Vec<Quantum>, reply: &Reply) -> Result<(), AllocErro
     }
 }
 
-/// Puts the quanta of a slot's row behind those issued before.
+/// Puts the quanta of a slot's row after those issued before.
 ///
 /// # Errors
 ///

@@ -43,7 +43,7 @@ tasks_more start tasks tasks' picks i d within so_far more =
     ∙ sym (fold_push tasks_after_pick start (take i picks) (get_or picks i d))
     ∙ ap (fold tasks_after_pick start) (sym (take_more picks i d within))
 
--- the first key that is away, and those behind it
+-- the first key that is away, and those after it
 pub next_away : (q : Queues) (now : ℕ) (tasks : List KeptTask) (keys : List Priority) (i : ℕ) (k : Priority) → i < length keys → k ≡ get_or keys i k →
     IsAgenda q now tasks (drop i keys) → IsAgenda q now tasks (k ∷ drop (i + 1) keys)
 next_away q now tasks keys i k within is a =

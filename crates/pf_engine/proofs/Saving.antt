@@ -66,7 +66,7 @@ module _ (e : Kept) (base : ℕ) (saved : List SavedTask) (i : ℕ) (engine : Is
   stands : get_or e.tasks i next ≡ next
   stands = ap (λ tasks. get_or tasks i next) (sym are) ∙ get_or-map (task_of base) saved i no_task next within
 
-  -- Use: it comes behind those before it.
+  -- Use: it comes after those before it.
   pub next_comes : take (i + 1) e.tasks ≡ take i e.tasks ++ next ∷ []
   next_comes = take_more e.tasks i next inside ∙ ap (λ k. take i e.tasks ++ k ∷ []) stands
 

@@ -66,7 +66,7 @@ first_of e x xs at =
     (subst (λ k. length k.tasks < MOST_EVENTS) at.keeps (omega (arith, few_at e (x ∷ xs) at)))
     (subst (λ k. IsEngine (kept_after_event k x.event)) at.keeps (engine_at (kept_after_event e x.event) xs (at_more e x xs at))))
 
--- the events behind the first i, and those behind one more
+-- the events after the first i, and those after one more
 pub events_more : (e e' : Kept) (events : List Numbered) (i : ℕ) (d : Numbered) → i < length events →
     e' ≡ kept_after_event e (get_or events i d).event → kept_after_events e' (drop (i + 1) events) ≡ kept_after_events e (drop i events)
 events_more e e' events i d within after =

@@ -51,7 +51,7 @@ from_e = key_e ∷ from_b
 abbrev from_f : List Priority
 from_f = key_f ∷ from_e
 
--- each key precedes those behind it
+-- each key precedes those after it
 order : AllPairs Precedes in_order
 unfolding deadline_of bit_of group_of
 order =

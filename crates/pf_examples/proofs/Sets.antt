@@ -114,7 +114,7 @@ only_of_task task k ks all q has of_task =
     (λ same. tied_keys q k same)
     (or_cases (not (q.task == task)) (eq_by_cmp key_cmp q k) passes)
 
--- each key precedes all behind it: a test that computes
+-- each key precedes all after it: a test that computes
 abbrev pub are_in_order : List Priority → Bool
 are_in_order [] = true
 are_in_order (k ∷ ks) = list_all (precedes k) ks && are_in_order ks

@@ -55,7 +55,7 @@ pub record WorkedOrder : Type 0 where
   -- the group deadline 3 of G's subtask doesn't count beside the bit 0
   pub g : Shows key_g 3 0 0
   pub group_of_g : group_of (weight 2 3) 2 ≡ 3
-  -- the order is C, F, E, B, A, G: each precedes all behind it, and so they are found
+  -- the order is C, F, E, B, A, G: each precedes all after it, and so they are found
   pub order : AllPairs Precedes in_order
   pub found : first_keys 6 by_name ≡ in_order
   -- C precedes F by its task number, and A precedes G by its bit; F doesn't precede C, nor C itself

@@ -38,7 +38,7 @@ pub extern "C" fn pfair_script_faults(
     }
 }
 
-/// The same of records as they stand behind the settings in a script of the second version, which have no names and no labels.
+/// The same of records as they stand after the settings in a script of the second version, which have no names and no labels.
 #[unsafe(no_mangle)]
 pub extern "C" fn pfair_record_faults(
     alloc: Global,

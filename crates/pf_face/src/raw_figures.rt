@@ -25,7 +25,7 @@ pub struct RawFigures {
     pub response_greatest: i64,
     /// The missed windows.
     pub missed: u64,
-    /// The greatest number of slots by which a subtask ran behind the last slot of its window.
+    /// The greatest number of slots by which a subtask ran after the last slot of its window.
     pub tardiness: u64,
     /// The least lag, times the period.
     pub lag_least: i64,

@@ -27,7 +27,7 @@ use pf_script::version::Version;
 use pf_version3::fault::BadRecord;
 use std::alloc::{AllocError, Global};
 
-/// Has the desk answer the commands of records, as they stand behind the settings in a script of the second version, one
+/// Has the desk answer the commands of records, as they stand after the settings in a script of the second version, one
 /// after another up to the first bad one. Names and labels are none of them: the titles of the desk are as before.
 ///
 /// # Errors
@@ -62,7 +62,7 @@ pub extern "C" fn pfair_run(
 ///
 /// # Errors
 ///
-/// `BAD_RECORD` where a record is bad: `bad` tells where it is. Behind the settings, those before it were carried out; else
+/// `BAD_RECORD` where a record is bad: `bad` tells where it is. After the settings, those before it were carried out; else
 /// the handle stays closed. `NO_MEMORY`: it stays closed, or the first commands were answered. `ALREADY_OPEN` where it has a
 /// desk. With these two `bad` is as before.
 #[unsafe(no_mangle)]
@@ -163,7 +163,7 @@ fn open_text(
     }
 }
 
-/// Opens a desk with the settings of a script and these titles at a handle that is closed, and has it answer the lines behind the
+/// Opens a desk with the settings of a script and these titles at a handle that is closed, and has it answer the lines after the
 /// settings.
 fn open_lines(
     alloc: Global,

@@ -148,7 +148,7 @@ fn tell_ready(
     }
 }
 
-/// A text of a desk as it would be behind what was made ready for it.
+/// A text of a desk as it would be after what was made ready for it.
 fn text_ready(
     alloc: Global,
     held: &Held,

@@ -18,7 +18,7 @@ is_equal Less e = cc
 is_equal Equal e = refl
 is_equal Greater e = cc
 
--- what comes before the other doesn't come behind it
+-- what comes before the other doesn't come after it
 pub not_both : (o : Ordering) → is_lt o ≡ true → is_lt (ordering_reverse o) ≡ false
 not_both Less e = refl
 not_both Equal e = refl

@@ -14,7 +14,7 @@ number_of NoMemory = 4
 number_of GateShut = 5
 number_of FailedOn = 6
 
--- the status behind a fault
+-- the status after a fault
 abbrev pub status_behind : Fault → Status
 status_behind (fault.BadRecord number) = BadScript
 status_behind fault.TooLong = BadScript

@@ -1,4 +1,4 @@
--- What stands behind the place of a record in a report of a check.
+-- What stands after the place of a record in a report of a check.
 use Rattle.std.proofs.Common.{◌≡◌, ◌+◌, ◌++◌, ◌∙◌, ℕ, List, length, drop, ap, sym, append_assoc, Result, Ok, Err, codes}
 use Rattle.std.specs.Prelude.{OnOk, if◌then◌else◌}
 use Rattle.std.specs.Result.{is_ok}
@@ -21,7 +21,7 @@ behind_four a b c d why n e =
     let same : n ≡ length (a ++ b ++ c ++ d) = e ∙ sym (length_four a b c d) in
     ap (λ k. drop k (a ++ b ++ c ++ d ++ why)) same ∙ drop-append_seam (a ++ b ++ c ++ d) why
 
--- four texts behind another
+-- four texts after another
 four_behind : (p e f g h : List ℕ) → p ++ e ++ f ++ g ++ h ≡ p ++ (e ++ f ++ g ++ h)
 four_behind p e f g h =
     ap (λ t. t ++ g ++ h) (append_assoc p e f) ∙ ap (λ t. t ++ h) (append_assoc p (e ++ f) g) ∙ append_assoc p (e ++ f ++ g) h

@@ -1,4 +1,4 @@
--- What is told of a bad record of a file: what a check tells of it, behind its place.
+-- What is told of a bad record of a file: what a check tells of it, after its place.
 use Rattle.std.specs.Prelude.{ℕ, if◌then◌else◌, List, [], ◌∷◌, ◌++◌, codes}
 use Rattle.std.specs.Fmt.{decimal}
 use Rattle.pf_check.specs.Reports.{field_text, reason_text}

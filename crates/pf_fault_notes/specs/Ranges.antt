@@ -4,11 +4,11 @@ use Rattle.std.specs.Fmt.{decimal}
 use Rattle.pf_options.specs.Ranges.{first_of}
 use Rattle.pf_options.specs.declared.slot_range.SlotRange.{SlotRange}
 
--- an end of a range, behind its word, is above the slots stepped
+-- an end of a range, after its word, is above the slots stepped
 abbrev pub above_text : List ℕ → ℕ → ℕ → List ℕ
 above_text word end now = word ++ decimal end ++ codes " is above " ++ decimal now ++ codes ", the slots stepped\n"
 
--- a range begins behind its end
+-- a range begins after its end
 abbrev pub order_note : ℕ → ℕ → List ℕ
 order_note from to = codes "--from " ++ decimal from ++ codes " is above --to " ++ decimal to ++ codes "\n"
 

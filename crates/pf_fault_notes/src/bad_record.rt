@@ -66,7 +66,7 @@ fn push_place(text: &mut Vec<u8>, file: &[u8], line: u64, number: u64) -> Result
     push_number(text, number)
 }
 
-/// What a report of a check tells behind the line and the number of its record.
+/// What a report of a check tells after the line and the number of its record.
 fn behind_place(report: &[u8], line: u64, number: u64) -> &[u8]
     ensures { (why : List ℕ) → report.now ≡ report_behind line number why → result.now ≡ why }
 {

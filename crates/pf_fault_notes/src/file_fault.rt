@@ -40,7 +40,7 @@ impl FileFault {
         }
     }
 
-    /// What is told of it behind the file's name.
+    /// What is told of it after the file's name.
     fn text(self) -> &'static str
         ensures { result.now ≡ file_fault_text self }
     {

@@ -1,4 +1,4 @@
-//! What is told behind the line of a fault: of a file that can't be read, which fault; of a bad record, what a check tells of it;
+//! What is told after the line of a fault: of a file that can't be read, which fault; of a bad record, what a check tells of it;
 //! of a range that can't be shown, which end is beyond. The one contract of this crate: each call gives its text.
 #![tactic(auto)]
 

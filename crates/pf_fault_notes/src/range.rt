@@ -17,7 +17,7 @@ fn push_above(text: &mut Vec<u8>, word: &[u8], end: u64, now: u64) -> Result<(),
     text.extend_from_slice(b", the slots stepped\n")
 }
 
-/// Appends that a range begins behind its end.
+/// Appends that a range begins after its end.
 fn push_turned(text: &mut Vec<u8>, from: u64, to: u64) -> Result<(), AllocError>
     ensures { OnOk result (text.new.items ≡ text.old.items ++ order_note from to) }
 {
@@ -28,7 +28,7 @@ fn push_turned(text: &mut Vec<u8>, from: u64, to: u64) -> Result<(), AllocError>
     text.extend_from_slice(b"\n")
 }
 
-/// Which end of a range is not within the slots stepped, which are so many: it begins behind its end, or ends or begins behind
+/// Which end of a range is not within the slots stepped, which are so many: it begins after its end, or ends or begins after
 /// them. The range is not within them.
 ///
 /// # Errors

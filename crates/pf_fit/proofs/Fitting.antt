@@ -186,7 +186,7 @@ module _ (s : Plan) (n : ℕ) (ledger : Ledger) (known : IsLedger s n ledger) wh
         (omega (arith, known.slots))
         (λ i d le less. absurd (omega (arith, le, less, all, ap (λ zs. length zs) events_are)))
 
-    -- load and room of the slots behind all events
+    -- load and room of the slots after all events
     pub last_same : (xs : List Numbered) → xs ≡ ledger.events.items → length xs ≤ k → (base : ℕ) → base ≡ ledger.settings.base →
         (lent : List Asking) → lent ≡ asking → (u : ℕ) → from ≤ u → u < n →
         (load_in s r u ≡ units_of lent) × (room_in s r u ≡ base * count)

@@ -32,7 +32,7 @@ last_got front x =
     slice_get-get_or levels (length levels - 1) x (omega (arith, long))
     ∙ ap Some (get_or_push front x x (length levels - 1) (omega (arith, long)))
 
--- behind these levels that of a slot, where the last one is another
+-- after these levels that of a slot, where the last one is another
 abbrev pushed : List Level → ℕ → ℕ → ℕ → List Level
 pushed levels t load room =
     cond (option_map_or (has_level load room) (slice_get levels (length levels - 1)) false) levels
@@ -127,7 +127,7 @@ module _ (s : Plan) (r : List Slot) (from : ℕ) where
             subst (λ ls. AreLevels s r from (t + 1) ls) (sym (is_pushed false e))
             (goes_on t levels behind (ap₂ (λ a b. a || not b) (ne_eqb t from (λ z. omega (arith, z, more))) e) so_far)
 
-  -- the slots behind it with the same level
+  -- the slots after it with the same level
   rest : (n t load room : ℕ) (levels : List Level) → from < t → ((u : ℕ) → t - 1 ≤ u → u < t + n → (load_in s r u ≡ load) × (room_in s r u ≡ room)) →
       AreLevels s r from t levels → AreLevels s r from (t + n) levels
   rest zero t load room levels behind same so_far = subst (λ u. AreLevels s r from u levels) (let z : t ≡ t + 0 = omega arith in z) so_far

@@ -23,7 +23,7 @@ abbrev pub levels_of : Plan → List Slot → ℕ → ℕ → List Level
 levels_of s r from to =
     filter (λ level. level.slot == from || not (is_as_before s r level)) (map (level_in s r) (range_with_len from (to - from)))
 
--- behind these levels the slots from `from` on and below `to`, each with this load and room
+-- after these levels the slots from `from` on and below `to`, each with this load and room
 abbrev pub with_level : List Level → ℕ → ℕ → ℕ → ℕ → List Level
 with_level levels from to load room =
     if nat_le to from || option_map_or (has_level load room) (slice_get levels (length levels - 1)) false then levels

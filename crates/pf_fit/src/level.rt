@@ -1,4 +1,4 @@
-/// The load and the room of a slot and of those behind it, until one of the two changes. Both are in units of 1/h of a
+/// The load and the room of a slot and of those after it, until one of the two changes. Both are in units of 1/h of a
 /// processor.
 #[derive(Clone, Copy, Debug, PartialEq, Eq)]
 pub struct Level {

@@ -43,7 +43,7 @@ fn push_level(
 }
 
 /// The levels of the slots from `from` on and below `to`, of those of these rows: that of slot `from`, and one for each slot
-/// behind it in which load or room changes. The rows and the denials must be those of the scenario's run. It passes over the
+/// after it in which load or room changes. The rows and the denials must be those of the scenario's run. It passes over the
 /// events in force once.
 ///
 /// # Errors

@@ -20,7 +20,7 @@ use pf_scenario::scenario::Scenario;
 use pf_tally::miss::Miss;
 use std::alloc::{AllocError, Global};
 
-/// Appends an item, behind a comma where others stand before it.
+/// Appends an item, after a comma where others stand before it.
 fn push_item(items: &mut Vec<u8>, item: &[u8]) -> Result<(), AllocError>
     ensures { OnOk result (items.new.items ≡ with_item items.old.items item.now) }
 {

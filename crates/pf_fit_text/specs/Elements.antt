@@ -39,7 +39,7 @@ released_of (NotInside task absence) = None
 released_of (TooEarly task sub slot bound from last) = None
 released_of (Released task sub slot) = Some slot
 
--- a name of the tables of reasons, behind its key
+-- a name of the tables of reasons, after its key
 abbrev pub reason_json : List ℕ → List ℕ
 reason_json name = codes ",\"reason\":\"" ++ (name ++ codes "\"")
 

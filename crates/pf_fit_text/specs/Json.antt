@@ -42,7 +42,7 @@ abbrev pub name_json : Option (List ℕ) → List ℕ
 name_json None = codes ",\"name\":null"
 name_json (Some name) = codes ",\"name\":\"" ++ name ++ codes "\""
 
--- the keys of a task up to `migrations`, behind them those up to `preemptions`, and the others
+-- the keys of a task up to `migrations`, after them those up to `preemptions`, and the others
 abbrev pub task_front : Figures → Option ℕ → List ℕ
 task_front f grow =
     key (codes "{\"cost\":") f.cost ++ key_or_null (codes ",\"grow\":") grow ++ key (codes ",\"jobs\":") f.jobs
@@ -131,7 +131,7 @@ pub record Lists : Type 0 where
   pub missed : List ℕ
   pub refused : List ℕ
 
--- the keys up to `now`; behind them those up to `processors`, up to `refused`, the tasks, and the others
+-- the keys up to `now`; after them those up to `processors`, up to `refused`, the tasks, and the others
 abbrev pub front_json : Carried → Lists → List ℕ
 front_json carried arrays =
     key (codes "{\"base\":") carried.base ++ key (codes ",\"cap\":") carried.cap ++ key (codes ",\"commands\":") carried.commands

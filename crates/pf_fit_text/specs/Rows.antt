@@ -25,7 +25,7 @@ front_cells named names slot f =
     decimal f.task ∷ [] ++ name_cells named names f.task ++ ratio_cell f.cost f.period ∷ [] ++ up f.cost f.period 4 ∷ []
     ++ response_cell f.response f.period ∷ [] ++ time_cells slot f
 
--- behind these cells its lag, how it moved, and the greatest cost that it may have
+-- after these cells its lag, how it moved, and the greatest cost that it may have
 abbrev pub with_rates : List (List ℕ) → Figures → Option ℕ → List (List ℕ)
 with_rates cells f grow =
     cells ++ lag_cell f.lag f.period ∷ [] ++ rate_cell f.preemptions f.jobs ∷ [] ++ rate_cell f.migrations f.jobs ∷ []

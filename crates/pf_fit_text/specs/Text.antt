@@ -19,7 +19,7 @@ abbrev pub tasks_text : Titles → Found → List Figures → List ℕ
 tasks_text titles found [] = []
 tasks_text titles found (f ∷ fs) = table_text titles found
 
--- what was found of n slots over the base; the lists of what was refused, denied and missed stand behind the counts
+-- what was found of n slots over the base; the lists of what was refused, denied and missed stand after the counts
 unfoldable pub fit_text : ℕ → ℕ → Titles → Found → List ℕ → List ℕ
 fit_text base n titles found lists =
     headline base found.verdict found.strain.tightest

@@ -193,7 +193,7 @@ fn front_json(alloc: Global, carried: Carried, arrays: &Arrays) -> Result<Vec<u8
     Ok(text)
 }
 
-/// Behind them those up to `processors`.
+/// After them those up to `processors`.
 fn with_overload(
     alloc: Global,
     front: Vec<u8>,
@@ -223,7 +223,7 @@ fn with_overload(
     Ok(text)
 }
 
-/// Behind them what is proved, and what was refused.
+/// After them what is proved, and what was refused.
 fn with_proofs(
     alloc: Global,
     front: Vec<u8>,
@@ -255,7 +255,7 @@ fn with_proved(
     with_proofs(alloc, front, run, findings.carries, &arrays.refused)
 }
 
-/// Behind them the length of a slot and the tasks.
+/// After them the length of a slot and the tasks.
 fn with_tasks(
     alloc: Global,
     front: Vec<u8>,
@@ -274,7 +274,7 @@ fn with_tasks(
     Ok(text)
 }
 
-/// Behind them the tightest slot, and how many events are not reached.
+/// After them the tightest slot, and how many events are not reached.
 fn with_slots(
     alloc: Global,
     front: Vec<u8>,
@@ -304,7 +304,7 @@ fn with_tightest(
     with_slots(alloc, front, &tightest, findings.unreached)
 }
 
-/// And behind them the last two.
+/// And after them the last two.
 fn with_verdict(alloc: Global, front: Vec<u8>, findings: &Findings) -> Result<Vec<u8>, AllocError>
     ensures { IfOk result (λ text. text.items ≡ with_verdict front.items findings.now) }
 {
@@ -318,7 +318,7 @@ fn with_verdict(alloc: Global, front: Vec<u8>, findings: &Findings) -> Result<Ve
     Ok(text)
 }
 
-/// All that stands behind `refused`.
+/// All that stands after `refused`.
 fn with_findings(
     alloc: Global,
     front: Vec<u8>,

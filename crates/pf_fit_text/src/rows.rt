@@ -106,7 +106,7 @@ fn front_cells(
     Ok(row)
 }
 
-/// Behind these cells its lag, how it moved, and the greatest cost that it may have.
+/// After these cells its lag, how it moved, and the greatest cost that it may have.
 fn with_rates(
     alloc: Global,
     cells: Row,

@@ -44,7 +44,7 @@ fn task_front(alloc: Global, f: Figures, grow: Option<u64>) -> Result<Vec<u8>, A
     Ok(text)
 }
 
-/// Behind them those up to `quanta`.
+/// After them those up to `quanta`.
 fn with_middle(
     alloc: Global,
     front: Vec<u8>,
@@ -84,7 +84,7 @@ fn least_of(response: Option<Extremes>) -> Option<i64>
     Some(response.least)
 }
 
-/// Behind them the others.
+/// After them the others.
 fn with_end(alloc: Global, front: Vec<u8>, f: Figures) -> Result<Vec<u8>, AllocError>
     ensures { IfOk result (λ text. text.items ≡ with_end front.items f) }
 {

@@ -26,7 +26,7 @@ use Rattle.pf_options.specs.declared.format.Format.{Format}
 use Rattle.pf_options.specs.declared.format.Format.TheVariants.{Schedule, Tables, Json, Report, Replies, Lags, Misses, Denials, Events, Script, Processors, Stats, Chart, Svg, Quanta, Windows, Jobs, Load, Trace, C, Full, Html}
 use Rattle.pf_options.specs.Ranges.{end_of, first_of}
 
--- a table behind a line with its name
+-- a table after a line with its name
 abbrev pub text_under_title : List ℕ → List ℕ → List ℕ
 text_under_title title table = title ++ line_end ++ table
 
@@ -38,7 +38,7 @@ tables_text seen titles =
     ++ text_under_title (codes "misses") (misses_text seen)
     ++ text_under_title (codes "denials") (denials_text seen)
 
--- what stands behind all replies, where the checkpoints lie so far apart, and the script has these titles and refused records
+-- what stands after all replies, where the checkpoints lie so far apart, and the script has these titles and refused records
 unfoldable pub report_text : Format → ℕ → Seen → Titles → List Refusal → List ℕ
 report_text (Schedule range) every seen titles refusals = schedule_part_text seen (first_of range) (end_of range seen.state.now)
 report_text Tables every seen titles refusals = tables_text seen titles

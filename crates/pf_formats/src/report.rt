@@ -49,7 +49,7 @@ use pf_trace::trace::trace_pieces;
 use pf_trace::windows::{WindowPieces, window_pieces};
 use std::alloc::{AllocError, Global};
 
-/// What stands behind all replies in a format, in pieces. The format can be shown of the slots stepped, `every` is the distance
+/// What stands after all replies in a format, in pieces. The format can be shown of the slots stepped, `every` is the distance
 /// of checkpoints in slots, and of a script of version 1 or 2 there are no titles. Of the refused records `full` and `html` alone
 /// tell.
 ///

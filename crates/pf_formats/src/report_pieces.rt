@@ -25,7 +25,7 @@ pub enum ReportPieces<'a> {
     Whole(Whole),
     /// The schedule of a range.
     Part(PartPieces<'a>),
-    /// The four tables, each behind a line with its name.
+    /// The four tables, each after a line with its name.
     Tables(TablesPieces<'a>),
     /// The JSON object, as a line.
     Json(Chain<JsonPieces<'a>, Whole>),

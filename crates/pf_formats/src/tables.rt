@@ -14,13 +14,13 @@ use std::alloc::{AllocError, Global};
 /// A line with a name, and a table.
 type Titled<T> = Chain<Whole, T>;
 
-/// The four tables, each behind a line with its name, in pieces.
+/// The four tables, each after a line with its name, in pieces.
 pub type TablesPieces<'a> = Chain<
     Chain<Chain<Titled<SchedulePieces<'a>>, Titled<LagPieces<'a>>>, Titled<MissPieces>>,
     Titled<DenialPieces<'a>>,
 >;
 
-/// A table behind a line.
+/// A table after a line.
 fn titled<T: Pieces + Drop>(alloc: Global, line: &[u8], table: T) -> Result<Titled<T>, AllocError>
     ensures { IfOk result (λ pieces. pieces ≡ line.now ++ T.left table) }
 {
@@ -28,7 +28,7 @@ fn titled<T: Pieces + Drop>(alloc: Global, line: &[u8], table: T) -> Result<Titl
     Ok(Chain::new(line, table))
 }
 
-/// The four tables, each behind a line with its name, in pieces. The lags and the missed windows are in memory until they
+/// The four tables, each after a line with its name, in pieces. The lags and the missed windows are in memory until they
 /// are written.
 pub(crate) fn tables_pieces<'a>(
     alloc: Global,

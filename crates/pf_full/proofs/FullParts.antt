@@ -45,7 +45,7 @@ module _ (denials : Items) (entries : ℕ) (events figures lags misses : Items) 
       by true names slot = refl
       by false names slot = refl
 
-  -- Use: the text by its keys, of which two stand behind a number, and one of these behind the names.
+  -- Use: the text by its keys, of which two stand after a number, and one of these after the names.
   pub by_keys : (titles : Titles) → codes "{\"denials\":" ++ (compact_text (array denials)
       ++ ((codes ",\"entries\":" ++ (decimal entries ++ codes ",\"events\":")) ++ (compact_text (array events)
       ++ (codes ",\"figures\":" ++ (compact_text (array figures)

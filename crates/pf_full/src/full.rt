@@ -61,7 +61,7 @@ impl Pieces for Tail<'_> {
     }
 }
 
-/// An array behind its key, and what follows.
+/// An array after its key, and what follows.
 fn keyed<E: Elements, B: Pieces>(key: Vec<u8>, elements: E, behind: B) -> Keyed<E, B>
     ensures { result ≡ key.items ++ (compact_text (array (items_of (E.rest elements 0))) ++ B.left behind) }
 {
@@ -71,7 +71,7 @@ fn keyed<E: Elements, B: Pieces>(key: Vec<u8>, elements: E, behind: B) -> Keyed<
     )
 }
 
-/// A key, its number, and the key behind it.
+/// A key, its number, and the key after it.
 fn numbered_key(alloc: Global, front: &[u8], number: u64, key: &[u8]) -> Result<Vec<u8>, AllocError>
     ensures { IfOk result (λ text. text.items ≡ front.now ++ (decimal number ++ key.now)) }
 {
@@ -91,7 +91,7 @@ fn refusals_key(alloc: Global, titles: &Titles, now: u64) -> Result<Vec<u8>, All
     Ok(text)
 }
 
-/// What stands behind the settings: the length of a slot, where the script is of version 3, and the object's end.
+/// What stands after the settings: the length of a slot, where the script is of version 3, and the object's end.
 fn end_text(alloc: Global, titles: &Titles) -> Result<Vec<u8>, AllocError>
     ensures { IfOk result (λ text. text.items ≡ slot_part titles.now ++ codes "}") }
 {

@@ -176,7 +176,7 @@ module _ {nodes : List Node} {table : Roots} {rank : ℕ} {added : Forest} {tree
 
 -- ---- all trees of a list are added
 
--- a part goes behind the trees, and back in front of them
+-- a part goes after the trees, and back in front of them
 pub behind : (nodes : List Node) (p q : Part) (fs : List Part) (others : List Part) → Parts nodes (p ∷ q ∷ (fs ++ others)) → Parts nodes (p ∷ (fs ++ (q ∷ others)))
 behind nodes p q fs others parts = record {
   stand = (parts.stand.0, stand_append nodes fs (q ∷ others) (stand_front nodes fs others parts.stand.1.1) (parts.stand.1.0, stand_back nodes fs others parts.stand.1.1));

@@ -21,7 +21,7 @@ use Rattle.pf_heap.proofs.Lists.{idle_weight}
 use Rattle.pf_heap.proofs.Whole.{trees_stand, heaps_stand, idles_stand, all_weigh, lists_are, main_is_keys, node_low, now_main, now_lists, now_spare}
 use Rattle.pf_heap.proofs.Changes.{grouped}
 
--- ---- more nodes behind those that there are
+-- ---- more nodes after those that there are
 
 stands-longer : (nodes more : List Node) (up : ℕ) (f : Forest) → Stands nodes up f → Stands (nodes ++ more) up f
 stands-longer nodes more up none s = tt

@@ -3,7 +3,7 @@ use Rattle.std.specs.Prelude.{◌≡◌, ℕ, ◌+◌, ◌-◌, ◌≤◌, ◌^�
 use Rattle.std.specs.Ordering.{eq_by_cmp}
 use Rattle.pf_order.specs.Priority.{Priority, precedes, key_cmp}
 
--- trees side by side: the first one's node, key and rank, its children, and the trees behind it
+-- trees side by side: the first one's node, key and rank, its children, and the trees after it
 pub data Forest : Type 0 where
   none : Forest
   tree : (at : ℕ) (key : Priority) (rank : ℕ) (kids : Forest) (rest : Forest) → Forest

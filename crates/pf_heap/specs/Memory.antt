@@ -50,7 +50,7 @@ all_roots fs = map root fs
 abbrev pub nodes_with_sibling : List Node → ℕ → ℕ → List Node
 nodes_with_sibling nodes at to = slice_set nodes at (record (node_at nodes at) { parent = nowhere; sibling = to })
 
--- the root `below` has the parent `above`, whose children are behind it
+-- the root `below` has the parent `above`, whose children are after it
 abbrev pub lowered_root : List Node → ℕ → ℕ → List Node
 lowered_root nodes above below =
     slice_set nodes below (record (node_at nodes below) { parent = above; sibling = (node_at nodes above).child })

@@ -21,7 +21,7 @@ IsEarlier nodes x y result =
     ((result ≡ x) × (precedes (node_at nodes y).key (node_at nodes x).key ≡ false))
     ⊎ ((result ≡ y) × (precedes (node_at nodes y).key (node_at nodes x).key ≡ true))
 
--- the best of the roots that were seen: a key that isn't behind it nor behind those that are left is behind none
+-- the best of the roots that were seen: a key that isn't after it nor after those that are left is after none
 pub record IsSeeking (nodes : List Node) (heap : Forest) (best rest_link steps : ℕ) (before after : Counts) : Type 0 where
   pub rest : Forest
   pub rest_is : rest_link ≡ head rest

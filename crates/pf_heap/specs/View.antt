@@ -12,7 +12,7 @@ abbrev pub keys : Forest → Keys
 keys none = set.empty
 keys (tree at key rank kids rest) = set.insert (set.union (keys kids) (keys rest)) key
 
--- the forest behind a link, n links deep
+-- the forest after a link, n links deep
 abbrev pub forest_from : ℕ → List Node → ℕ → Forest
 forest_from zero nodes link = none
 forest_from (suc n) nodes link =
@@ -34,7 +34,7 @@ abbrev pub side_by_side : List Forest → Forest
 side_by_side [] = none
 side_by_side (f ∷ fs) = with_trees f (side_by_side fs)
 
--- the trees of the ranks that the mask has, behind these links
+-- the trees of the ranks that the mask has, after these links
 abbrev pub trees_from : ℕ → List Node → ℕ → List ℕ → Forest
 trees_from n nodes mask [] = none
 trees_from n nodes mask (link ∷ links) =

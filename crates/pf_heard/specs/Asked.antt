@@ -48,7 +48,7 @@ ranged_at format fields = do
   range ← range_at fields
   Ok (unwrap_or (format_within format range) format)
 
--- a format, and behind some of them F, or F and T
+-- a format, and after some of them F, or F and T
 unfoldable pub format_at : Format → List (List ℕ) → Result Format LineFault
 format_at format fields =
     if has_range format then ranged_at format fields else (of_length fields 1 1 OneField >>= λ _. Ok format)
@@ -97,7 +97,7 @@ word_asked names Save fields = of_length fields 2 2 (OfRecord (Fields 2)) >>= λ
 word_asked names Help fields = alone fields asks.Help
 word_asked names Quit fields = alone fields asks.Quit
 
--- behind the settings, but for words that may come before them
+-- after the settings, but for words that may come before them
 unfoldable pub asked_at : Progress → Word → List (List ℕ) → Result Asked LineFault
 asked_at p word fields =
     if p.opened || is_early word then word_asked p.names word fields else Err (fault_at 0 (OfRecord NoSettings))

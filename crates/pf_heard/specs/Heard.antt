@@ -1,4 +1,4 @@
--- What a line is behind the lines before it.
+-- What a line is after the lines before it.
 use Rattle.std.specs.Prelude.{ℕ, ◌-◌, ◌&&◌, Bool, nat_lt, if◌then◌else◌, Option, None, Some, Result, Ok, Err, List, length}
 use Rattle.std.specs.Str.Lines.{strip_carriage_return}
 use Rattle.pf_script.specs.Fields.{field}
@@ -24,7 +24,7 @@ use Rattle.pf_heard.specs.declared.word.Word.{Word}
 abbrev pub bad : List (List ℕ) → LineFault → Heard
 bad fields fault = Bad fault.field (line_reason_text (field fields (fault.field - 1)) fault.reason)
 
--- what a record says goes behind the script as a line of its fields
+-- what a record says goes after the script as a line of its fields
 abbrev pub heard_record : List (List ℕ) → Result Said RecordFault → Heard
 heard_record fields (Ok said) = Record said (line_of fields)
 heard_record fields (Err fault) = bad fields (record { field = fault.field; reason = OfRecord fault.reason })

@@ -24,7 +24,7 @@ is_comment (byte ∷ bytes) = byte == 35
 abbrev pub within_row : ℕ → List ℕ
 within_row byte = (if is_end byte then 32 else byte) ∷ []
 
--- a byte, behind a comma where it comes behind blanks that part fields
+-- a byte, after a comma where it comes after blanks that part fields
 abbrev pub parted_byte : Bool → ℕ → List ℕ
 parted_byte is_behind byte = (if is_behind then codes "," else []) ++ within_row byte
 
@@ -32,7 +32,7 @@ parted_byte is_behind byte = (if is_behind then codes "," else []) ++ within_row
 abbrev pub in_quotes : Bool → ℕ → Bool
 in_quotes quoted byte = if byte == 34 then not quoted else quoted
 
--- a comma in place of the blanks between two fields, but not of those in quotes; `is_behind`: the next byte comes behind such blanks
+-- a comma in place of the blanks between two fields, but not of those in quotes; `is_behind`: the next byte comes after such blanks
 unfoldable pub parted : Bool → Bool → List ℕ → List ℕ
 parted quoted is_behind [] = []
 parted quoted is_behind (byte ∷ bytes) =

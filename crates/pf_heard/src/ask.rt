@@ -16,7 +16,7 @@ use pf_weight::task::LARGEST_TASK;
 use pf_why_words::question::{Question, WhyFormat};
 use pf_why_words::task_asked::TaskAsked;
 
-/// What a word asks for behind the lines before it, or the first thing that is wrong with its fields: whether the settings came is
+/// What a word asks for after the lines before it, or the first thing that is wrong with its fields: whether the settings came is
 /// first, then their number, then the fields from left to right.
 #[tactic(auto, unfolding(crate::specs::Asked::asked_at))]
 pub(crate) fn ask(progress: &Progress, word: Word, fields: &Fields) -> Result<Asked, LineFault>
@@ -99,7 +99,7 @@ fn ask_ranged(format: Format, fields: &Fields) -> Result<Format, LineFault>
     }
 }
 
-/// A format, and behind some of them F, or F and T.
+/// A format, and after some of them F, or F and T.
 #[tactic(auto, unfolding(crate::specs::Asked::format_at))]
 fn ask_format(format: Format, fields: &Fields) -> Result<Format, LineFault>
     ensures { result ≡ format_at format fields.now }

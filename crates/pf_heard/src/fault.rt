@@ -11,9 +11,9 @@ pub enum LineReason {
     OfRecord(Reason),
     /// One field is expected.
     OneField,
-    /// A format may have a range behind it.
+    /// A format may have a range after it.
     RangeFields,
-    /// `why` has a slot behind it, and perhaps a task.
+    /// `why` has a slot after it, and perhaps a task.
     WhyFields,
 }
 

@@ -22,7 +22,7 @@ use std::alloc::{AllocError, Global};
 /// The most bytes that a line may have, without its end.
 pub const LONGEST_LINE: usize = 65_536;
 
-/// What a line is behind what came before it, without its line feed; a carriage return at its end is no part of it. `is_first`: no
+/// What a line is after what came before it, without its line feed; a carriage return at its end is no part of it. `is_first`: no
 /// record was good so far, so the heading may come.
 ///
 /// # Errors

@@ -9,7 +9,7 @@ pub enum Heard {
     Nothing,
     /// The heading `pfair,3`.
     Heading,
-    /// A record, and the line that goes behind the script: its fields joined by commas, and a line feed.
+    /// A record, and the line that goes after the script: its fields joined by commas, and a line feed.
     Record(Said, Bytes),
     /// A word that asks for this to be shown.
     Shown(Wanted),

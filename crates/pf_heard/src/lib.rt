@@ -1,4 +1,4 @@
-//! What the lines of a session are. The one contract of this crate: a line is heard as the definitions read its fields behind the
+//! What the lines of a session are. The one contract of this crate: a line is heard as the definitions read its fields after the
 //! lines before it: a record, a word that asks for something, nothing, or a bad line with its text.
 #![tactic(auto)]
 

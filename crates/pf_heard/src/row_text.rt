@@ -21,7 +21,7 @@ pub(crate) fn row_text(alloc: Global, line: &[u8]) -> Result<Vec<u8>, AllocError
     Ok(text)
 }
 
-/// The record of a line that is no comment; `rest` is what stands behind its first blanks.
+/// The record of a line that is no comment; `rest` is what stands after its first blanks.
 fn push_record(text: &mut Vec<u8>, line: &[u8], rest: &[u8]) -> Result<(), AllocError>
     requires { rest.now ≡ skip_blanks line.now }
     ensures { OnOk result (text.new.items ≡ text.old.items ++ record_text line.now) }
@@ -48,7 +48,7 @@ fn push_within(text: &mut Vec<u8>, line: &[u8]) -> Result<(), AllocError>
 struct Place {
     /// The next byte lies in quotes.
     quoted: bool,
-    /// It comes behind blanks that part fields.
+    /// It comes after blanks that part fields.
     is_behind: bool,
 }
 
@@ -66,7 +66,7 @@ fn push_parted(text: &mut Vec<u8>, line: &[u8]) -> Result<(), AllocError>
     Ok(())
 }
 
-/// What one byte adds, and the place behind it.
+/// What one byte adds, and the place after it.
 #[tactic(auto, unfolding(crate::specs::Lines::parted))]
 fn push_next(text: &mut Vec<u8>, place: Place, byte: u8) -> Result<Place, AllocError>
     ensures { IfOk result (λ next. (rest : List ℕ) →
@@ -86,7 +86,7 @@ fn push_next(text: &mut Vec<u8>, place: Place, byte: u8) -> Result<Place, AllocE
     })
 }
 
-/// A byte, behind a comma where it comes behind blanks.
+/// A byte, after a comma where it comes after blanks.
 fn push_byte(text: &mut Vec<u8>, is_behind: bool, byte: u8) -> Result<(), AllocError>
     ensures { OnOk result (text.new.items ≡ text.old.items ++ parted_byte is_behind byte) }
 {
@@ -125,7 +125,7 @@ fn push_row_byte(text: &mut Vec<u8>, byte: u8) -> Result<(), AllocError>
     Ok(())
 }
 
-/// What stands behind the first blanks.
+/// What stands after the first blanks.
 fn skip_blanks(line: &[u8]) -> &[u8]
     ensures { result.now ≡ skip_blanks line.now }
 {
@@ -159,7 +159,7 @@ pub fn line_of(alloc: Global, fields: &Fields) -> Result<Vec<u8>, AllocError>
     Ok(line)
 }
 
-/// Fields, each behind a comma.
+/// Fields, each after a comma.
 fn push_fields(line: &mut Vec<u8>, fields: &Fields) -> Result<(), AllocError>
     ensures { OnOk result (line.new.items ≡ line.old.items ++ flat_map (λ f. codes "," ++ f) fields.now) }
 {

@@ -16,7 +16,7 @@ pub enum Word {
     Fit,
     /// `undo`.
     Undo,
-    /// `save`, with something behind it.
+    /// `save`, with something after it.
     Save,
     /// `help`.
     Help,

@@ -1,5 +1,5 @@
 -- The subtasks that the overdue ones rest on, found by going back from the end, slot by slot. At each border between two
--- slots some subtasks are members, which run behind it or are overdue, and the keys up to some bound count.
+-- slots some subtasks are members, which run after it or are overdue, and the keys up to some bound count.
 use Rattle.std.proofs.Common.{ℕ, zero, suc, ◌-◌, ◌==◌, Bool, ◌&&◌, ◌||◌, nat_le, if◌then◌else◌, count_by}
 use Rattle.std.specs.List.{list_any}
 use Rattle.pf_ideal.specs.Schedule.{Schedule, is_overdue}

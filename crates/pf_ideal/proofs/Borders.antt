@@ -22,7 +22,7 @@ module _ (s : Schedule) (ok : IsByReach s) where
     waits = λ t i h next early. le-leb (s.deadline t i) s.end (overdue_is s t i h).1;
   }
 
-  -- the border before the slot v from the one behind it
+  -- the border before the slot v from the one after it
   module _ (v : ℕ) (b : Border) (sound : IsSound s (suc v) b) (below : v < s.end) where
     -- the key comes no later than one that is chosen in the slot
     unfoldable pub IsUnder : ℕ → ℕ → Type 0
@@ -67,7 +67,7 @@ module _ (s : Schedule) (ok : IsByReach s) where
         cond-true (is_full s v b) (b.bound t i)
         (list_any (λ u. is_chosen s v b u && s.no_later t i u (s.done u v)) s.tasks) full
 
-    -- the members before the slot are those behind it and those that are chosen in it
+    -- the members before the slot are those after it and those that are chosen in it
 
     pub member_before : (t i : ℕ) → (border_before s v b).member t i ≡ true →
         (b.member t i ≡ true) ⊎ ((is_chosen s v b t ≡ true) × (i ≡ s.done t v))

@@ -32,7 +32,7 @@ abbrev pub first_of : ℕ → ℕ → ℕ
 first_of cost k = last_of cost k + 1 - cost
 
 -- job k of a task, after the record r with the events xs in force: from the release of its first subtask, due when its last
--- one is, finished behind the slot in which this runs
+-- one is, finished after the slot in which this runs
 abbrev pub job_of : List Slot → List Numbered → Joined → ℕ → Job
 job_of r xs j k = record {
   task = j.task;
@@ -100,7 +100,7 @@ job_with j slots held k = record {
 abbrev pub job_by : Ran → ℕ → Job
 job_by ran k = job_with ran.task ran.slots ran.held k
 
--- the lines of the jobs behind the first k
+-- the lines of the jobs after the first k
 abbrev pub records_behind_job : Ran → ℕ → List (List (List ℕ))
 records_behind_job ran k = flat_map (λ i. job_records ran.end (job_by ran i)) (range_with_len (k + 1) (job_count ran - k))
 

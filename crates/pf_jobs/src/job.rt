@@ -9,6 +9,6 @@ pub struct Job {
     pub release: u64,
     /// The deadline of its last subtask.
     pub deadline: u64,
-    /// The slot behind that in which its last subtask ran, if it did.
+    /// The slot after that in which its last subtask ran, if it did.
     pub finish: Option<u64>,
 }

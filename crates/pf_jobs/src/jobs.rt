@@ -82,7 +82,7 @@ impl Sheet for JobSheet<'_> {
     }
 
     fn push_place(&self, table: &mut Table, at: u64) -> Result<(), AllocError> {
-        // That a place behind this one can be counted is known from the count alone.
+        // That a place after this one can be counted is known from the count alone.
         let _ = self.run.job_count();
         let job = self.run.job(at + 1);
         if self.run.tells(job) {
@@ -128,7 +128,7 @@ fn job_sheets<'a>(
 pub type JobPieces<'a> = Chain<Whole, SheetPieces<JobSheet<'a>>>;
 
 /// The jobs of the tasks of a list as a table, in pieces, by task number, then by their own: of each job that is finished, or
-/// whose deadline the task did not leave before, its release and its deadline, the slot behind the one in which it was
+/// whose deadline the task did not leave before, its release and its deadline, the slot after the one in which it was
 /// finished, how long it took from its release to there, 0 or less where it worked ahead of it, and by how many slots it was
 /// overdue. In version 3 the name of the task stands last, or nothing where it has none.
 ///

@@ -84,7 +84,7 @@ fn levels_of(
 pub type LoadPieces = Chain<Whole, RecordPieces<LevelRows>>;
 
 /// The load and the room of the slots from `from` on and below `to` as a table, in pieces: a line for slot `from`, and one
-/// for each slot behind it in which one of the two is another than in the slot before. Both are in units of 1/h of a
+/// for each slot after it in which one of the two is another than in the slot before. Both are in units of 1/h of a
 /// processor: what the tasks inside ask for, and what the processors in use have.
 ///
 /// # Errors

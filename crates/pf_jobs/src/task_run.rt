@@ -53,7 +53,7 @@ fn last_slot(events: &[Numbered], task: Admitted, now: u64) -> u64
     task.slot.max(left)
 }
 
-/// The slot behind that in which subtask `last` ran, if it did, of a task that ran in these slots.
+/// The slot after that in which subtask `last` ran, if it did, of a task that ran in these slots.
 fn finish_of(ran: &[u64], last: u64) -> Option<u64>
     requires first { 1 ≤ last }
     requires slots { All (λ q. q < WIDE_HORIZON) ran.now }

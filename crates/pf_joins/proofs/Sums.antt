@@ -99,7 +99,7 @@ all_below n (x ∷ xs) all =
 pub past_is_all : (f : Numbered → ℕ) (s : Plan) (n : ℕ) → All (λ x. slot_of x.event < n) s.events → sum_by f (past s n) ≡ sum_by f s.events
 past_is_all f s n all = sum_past f s n ∙ ap (sum_by f) (all_below n s.events all)
 
--- the load behind joins is what they ask for
+-- the load after joins is what they ask for
 none_left : (xs : List Numbered) (task : ℕ) → AreJoins xs → has_left xs task ≡ false
 none_left [] task joins = refl
 none_left (x ∷ xs) task joins = by x.event (All-head (λ y. IsJoin y.event) x xs joins) (none_left xs task (All-tail (λ y. IsJoin y.event) x xs joins))

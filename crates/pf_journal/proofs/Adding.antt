@@ -11,7 +11,7 @@ use Rattle.pf_journal.specs.Lines.{records_of}
 use Rattle.pf_journal.specs.Texts.{whole_behind, whole_lines}
 use Rattle.pf_journal.proofs.Pushing.{but_first}
 
--- some lines were put, and some stand in a batch: behind these records, where P holds
+-- some lines were put, and some stand in a batch: after these records, where P holds
 pub record Midway (P : Type 0) (before after lines batch : List (List ℕ)) (line rest : List ℕ) : Type 0 where
   pub done : List (List ℕ)
   pub parts : lines ≡ (done ++ batch) ++ whole_behind line rest

@@ -112,7 +112,7 @@ module _ (file : List ℕ) (short : length file ≤ 1) where
     written 0 (32 ∷ []) file c (omega arith) torn holds ∙ ap (λ (l : List ℕ). (32 ∷ []) ++ l) (drop_all 1 file short),
   )
 
--- behind a blank
+-- after a blank
 module _ (rest : List ℕ) (few : length rest ≤ 9) where
   abbrev behind : List ℕ
   behind = drop 1 (journal_of (heading ∷ []))
@@ -190,7 +190,7 @@ module _ (file : List ℕ) (size : ℕ) (is_size : size ≡ length (lines_of (te
       pub is_shut : (new : List ℕ) → Torn size 1 (lines ++ slice_index file size ∷ []) new → Holds new size (35 ∷ []) → new ≡ journal_of texts
       is_shut new torn holds = written_byte lines (slice_index file size) [] size is_size 35 new torn holds
 
-    -- it is opened, and the line behind it has no end: the gate is shut first
+    -- it is opened, and the line after it has no end: the gate is shut first
     module _ (opened : slice_index file size ≡ 32) where
       end_nothing : texts_of (32 ∷ past) ≡ []
       end_nothing =
@@ -229,7 +229,7 @@ module _ (file : List ℕ) (size : ℕ) (is_size : size ≡ length (lines_of (te
     pub none_shut : (new : List ℕ) → Torn size 1 file new → Holds new size (35 ∷ []) → new ≡ lines ++ 35 ∷ []
     none_shut new torn holds = written_end size (35 ∷ []) file new size_file torn holds ∙ ap (λ (l : List ℕ). l ++ 35 ∷ []) file_lines
 
-  -- what lies behind its lines, once their gate was shut
+  -- what lies after its lines, once their gate was shut
   pub shut_first : (size < length file → slice_index file size ≡ 32) → (new : List ℕ) → Torn size 1 file new → Holds new size (35 ∷ [])
       → (rest : List ℕ) × (new ≡ lines ++ 35 ∷ rest)
   shut_first opened new torn holds = elim (cases_lt size (length file)) [
@@ -243,7 +243,7 @@ module _ (file : List ℕ) (size : ℕ) (is_size : size ≡ length (lines_of (te
     | inr ends ↦ none_crash ends c torn
   ]
 
-  -- behind a gate that was shut first the rest is cut
+  -- after a gate that was shut first the rest is cut
   module _ (rest : List ℕ) where
     pub last_crash : (c : List ℕ) → Cut (size + 1) (lines ++ 35 ∷ rest) c → records_of c ≡ records_of file
     last_crash c cut =

@@ -9,7 +9,7 @@ use Rattle.pf_journal.specs.Lines.{is_text, line_of, lines_of, journal_of, texts
 use Rattle.pf_journal.proofs.Reading.{journal_texts}
 
 module _ (texts : List (List ℕ)) (text : List ℕ) where
-  -- its gate is opened, and the next one is behind it
+  -- its gate is opened, and the next one is after it
   pub pushed : (bytes : List ℕ) (gate : ℕ) → bytes ≡ journal_of texts ++ (text ++ 10 ∷ 35 ∷ []) → gate ≡ length (lines_of texts) → slice_set bytes gate 32 ≡ journal_of (texts ++ text ∷ [])
   pushed bytes gate is at =
       let lines = lines_of texts in

@@ -1,4 +1,4 @@
--- What a crash leaves while lines are added behind a shut gate.
+-- What a crash leaves while lines are added after a shut gate.
 use Rattle.std.proofs.Common.{◌≡◌, ◌≢◌, inl, inr, ℕ, ◌+◌, true, List, [], ◌∷◌, ◌++◌, length, take, drop, refl, sym, ◌∙◌, ap, subst, arith, append_assoc, length-append}
 use Rattle.std.proofs.lemmas.List.{length-take, take_at}
 use Rattle.std.proofs.lemmas.Grind.{flat_map-append}
@@ -38,7 +38,7 @@ module _ (file : List ℕ) (gate : ℕ) (added : List ℕ) (shut : IsShutAt gate
   pub gate_done : (new : List ℕ) → Torn gate 1 (front ++ 35 ∷ added) new → Holds new gate (32 ∷ []) → new ≡ front ++ 32 ∷ added
   gate_done new torn holds = written_byte front 35 added gate size 32 new torn holds
 
--- a batch of some lines behind those of a journal
+-- a batch of some lines after those of a journal
 module _ (records : List (List ℕ)) (first : List ℕ) (others : List (List ℕ)) (texts : list_all is_text records ≡ true) (batch_texts : list_all is_text (first ∷ others) ≡ true) where
   abbrev newer : List (List ℕ)
   newer = first ∷ others
@@ -80,7 +80,7 @@ module _ (records : List (List ℕ)) (first : List ℕ) (others : List (List ℕ
     | inr shut ↦ inl (records_are c records (ap texts_of gate.1 ∙ lines_then headed (gate.0 ∷ tail) all (shuts gate.0 tail shut)))
   ]
 
--- the front of a journal at rest is its lines, behind which is its gate
+-- the front of a journal at rest is its lines, after which is its gate
 module _ (file : List ℕ) (gate : ℕ) (rest : IsAtRest file gate) where
   pub rest_lines : take gate file ≡ lines_of (heading ∷ rest.records)
   rest_lines = ap (λ (l : List ℕ). take gate l) rest.is ∙ take_at (lines_of (heading ∷ rest.records)) (35 ∷ []) gate (sym rest.size)
@@ -89,7 +89,7 @@ module _ (file : List ℕ) (gate : ℕ) (rest : IsAtRest file gate) where
   rest_records = records_are file rest.records (ap texts_of rest.is ∙ journal_texts (heading ∷ rest.records) (both_true refl rest.texts))
 
 module _ (file : List ℕ) (gate : ℕ) (rest : IsAtRest file gate) (added : List ℕ) where
-  -- a batch that has lines, and its bytes behind the first gate
+  -- a batch that has lines, and its bytes after the first gate
   pub put_records : (batch : List (List ℕ)) → list_all is_text batch ≡ true → batch ≢ [] → added ≡ drop 1 (journal_of batch)
       → (new : List ℕ) → new ≡ take gate file ++ 32 ∷ added → records_of new ≡ records_of file ++ batch
   put_records [] texts some is new done = absurd (some refl)

@@ -144,6 +144,6 @@ short_nothing (gate ∷ []) short = elim (cases_eq gate 32) [
 ]
 short_nothing (gate ∷ byte ∷ bytes) short = absurd (omega arith)
 
--- lines behind any gate, and a shut one behind them, stand all or not at all
+-- lines after any gate, and a shut one after them, stand all or not at all
 pub journal_texts : (texts : List (List ℕ)) → list_all is_text texts ≡ true → texts_of (journal_of texts) ≡ texts
 journal_texts texts all = lines_then texts (35 ∷ []) all refl

@@ -100,7 +100,7 @@ module _ (front_bytes : List ℕ) (byte : ℕ) (rest : List ℕ) (at : ℕ) (is 
       ∙ ap (λ (l : List ℕ). front_bytes ++ (value ∷ []) ++ l) behind
       ∙ append_assoc front_bytes (value ∷ []) rest
 
-  -- a cut behind a byte leaves what was before it, the byte, and anything within the old length
+  -- a cut after a byte leaves what was before it, the byte, and anything within the old length
   pub torn_cut : (new : List ℕ) → Cut (at + 1) file new → (more : List ℕ) × (length more ≤ length rest) × (new ≡ front_bytes ++ byte ∷ more)
   torn_cut new c = (
     drop (at + 1) new,

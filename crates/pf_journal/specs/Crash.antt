@@ -7,7 +7,7 @@ use Rattle.pf_journal.specs.Lines.{is_text, lines_of, journal_of, heading, recor
 abbrev pub IsShutAt : ℕ → List ℕ → Type 0
 IsShutAt gate file = file ≡ take gate file ++ 35 ∷ []
 
--- while bytes are added behind the gate that ends these lines: the gate is shut, or all of them stand behind it
+-- while bytes are added after the gate that ends these lines: the gate is shut, or all of them stand after it
 abbrev pub IsAdding : List ℕ → List ℕ → List ℕ → Type 0
 IsAdding lines added file =
     ((rest : List ℕ) × (file ≡ lines ++ 35 ∷ rest))
@@ -25,7 +25,7 @@ IsBeforeOrAfter records more file = (records_of file ≡ records) ⊎ (records_o
 abbrev pub IsWithFront : List (List ℕ) → List (List ℕ) → List ℕ → Type 0
 IsWithFront records more file = (front : List (List ℕ)) × (rest : List (List ℕ)) × (more ≡ front ++ rest) × (records_of file ≡ records ++ front)
 
--- where P holds: a line was added to a batch behind these records, which it had room for; or the batch was put, and the next one has it
+-- where P holds: a line was added to a batch after these records, which it had room for; or the batch was put, and the next one has it
 abbrev pub IsAdded : Type 0 → List (List ℕ) → List (List ℕ) → List ℕ → List (List ℕ) → List (List ℕ) → Type 0
 IsAdded P records batch line new_records new_batch =
     ((new_batch ≡ batch ++ line ∷ []) × (P → new_records ≡ records))

@@ -1,5 +1,5 @@
 -- What the bytes of a journal stand for. Each line is a gate, a text without LF, and LF. The gate of a line that stands is a blank;
--- behind the last one is a shut gate, `#`.
+-- after the last one is a shut gate, `#`.
 use Rattle.std.specs.Prelude.{ℕ, ◌+◌, ◌-◌, Bool, not, ◌&&◌, ◌||◌, Option, None, Some, List, [], ◌∷◌, ◌++◌, length, codes, flat_map, nat_eq, nat_le, slice_index, drop, if◌then◌else◌, ◌==◌}
 use Rattle.std.specs.List.{list_all, starts_with}
 use Rattle.pf_journal.specs.declared.state.State.{State}
@@ -42,7 +42,7 @@ is_new file = nat_le (length file) 1 || (nat_le (length file) 10 && slice_index 
 abbrev pub state_of : List ℕ → State
 state_of file = if is_new file then New else (if starts_with nat_eq file (line_of heading) then Journal else Other)
 
--- the records that a file stands for: the texts behind its heading
+-- the records that a file stands for: the texts after its heading
 abbrev pub records_of : List ℕ → List (List ℕ)
 records_of file = if is_new file then [] else drop 1 (texts_of file)
 
@@ -50,7 +50,7 @@ records_of file = if is_new file then [] else drop 1 (texts_of file)
 abbrev pub script_of : List ℕ → List ℕ
 script_of file = if is_new file then [] else lines_of (texts_of file)
 
--- the bytes behind the gate that ends the lines of a file
+-- the bytes after the gate that ends the lines of a file
 abbrev pub torn_size : List ℕ → ℕ
 torn_size file = if is_new file then 0 else length file - (length (lines_of (texts_of file)) + 1)
 

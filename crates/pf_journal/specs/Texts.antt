@@ -1,7 +1,7 @@
 -- The lines of a text, each with an LF at its end.
 use Rattle.std.specs.Prelude.{ℕ, List, [], ◌∷◌, ◌++◌, if◌then◌else◌, ◌==◌}
 
--- the lines that end in a text, behind the front of one; what stands behind the last of them is left out
+-- the lines that end in a text, after the front of one; what stands after the last of them is left out
 abbrev pub whole_behind : List ℕ → List ℕ → List (List ℕ)
 whole_behind line [] = []
 whole_behind line (byte ∷ bytes) = if byte == 10 then line ∷ whole_behind [] bytes else whole_behind (line ++ byte ∷ []) bytes

@@ -10,7 +10,7 @@ const MOST_BYTES: usize = 65_538;
 /// Lines that are put into a journal together. Contracts see them as their texts.
 #[derive(Drop)]
 pub struct Batch {
-    /// The lines with open gates, and a shut gate behind them.
+    /// The lines with open gates, and a shut gate after them.
     bytes: Vec<u8>,
     lines: usize,
 }
@@ -73,7 +73,7 @@ impl Batch {
         Ok(())
     }
 
-    /// Its lines with open gates, and a shut gate behind them.
+    /// Its lines with open gates, and a shut gate after them.
     pub(crate) fn bytes(&self) -> &[u8]
         ensures bytes { result.now ≡ journal_of self.now }
         ensures texts { list_all is_text self.now ≡ true }

@@ -75,7 +75,7 @@ impl<D: Disk + Drop> Found<D> {
         ends_in(self.script()).saturating_sub(1)
     }
 
-    /// How many bytes opening it cuts: those behind the gate that ends its lines. Of a new file it is none.
+    /// How many bytes opening it cuts: those after the gate that ends its lines. Of a new file it is none.
     pub fn torn_bytes(&self) -> usize
         requires { IsFound D.Disk.seen D.Disk.may_leave D.Disk.is_usable D.Disk.is_clean self.now }
         ensures { result ≡ torn_size (found_bytes self.now) }

@@ -14,7 +14,7 @@ use std::alloc::Global;
 /// The bytes that a journal has at most before a batch is put.
 const MOST_BYTES: usize = 1 << 60;
 
-/// A journal at rest: a file that ends with a shut gate, behind which lines are added.
+/// A journal at rest: a file that ends with a shut gate, after which lines are added.
 #[derive(Drop)]
 pub struct Journal<D: Disk> {
     pub(crate) disk: D,
@@ -53,7 +53,7 @@ impl<D: Disk> Journal<D> {
         Ok(())
     }
 
-    /// Adds the lines of a text, each of which ends with an LF, in batches as large as they may be; what stands behind the last of
+    /// Adds the lines of a text, each of which ends with an LF, in batches as large as they may be; what stands after the last of
     /// them is left out. At `Ok` all are acknowledged. At `Err` the journal has a front of them, and each crash leaves one; open
     /// the file again.
     ///

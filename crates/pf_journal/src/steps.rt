@@ -42,7 +42,7 @@ fn cut<D: Disk>(disk: &mut D, len: usize) -> io::Result<()>
     disk.sync()
 }
 
-/// Adds bytes behind the shut gate that ends the file, and opens that gate.
+/// Adds bytes after the shut gate that ends the file, and opens that gate.
 pub(crate) fn add<D: Disk>(disk: &mut D, gate: usize, added: &[u8]) -> io::Result<()>
     requires settled { IsSettled D.seen D.may_leave D.is_usable D.is_clean disk.old }
     requires room { gate < 2 ^ 60 }
@@ -72,7 +72,7 @@ fn begin_heading<D: Disk>(disk: &mut D, bytes: &[u8]) -> io::Result<()>
     write(disk, 0, b" ")
 }
 
-/// Writes the rest of a heading behind its gate, and a shut gate.
+/// Writes the rest of a heading after its gate, and a shut gate.
 fn end_heading<D: Disk>(disk: &mut D) -> io::Result<()>
     requires settled { IsSettled D.seen D.may_leave D.is_usable D.is_clean disk.old }
     requires begun { IsTrue (D.is_clean disk.old) → IsBegun (D.seen disk.old) }
@@ -103,7 +103,7 @@ fn begin<D: Disk>(disk: &mut D, bytes: &[u8]) -> io::Result<()>
     end_heading(disk)
 }
 
-/// Mends a journal whose lines end with a shut gate: what lies behind it is cut, and then it is written anew, as a crash may have left
+/// Mends a journal whose lines end with a shut gate: what lies after it is cut, and then it is written anew, as a crash may have left
 /// any byte there.
 fn cut_behind_gate<D: Disk>(disk: &mut D, bytes: &[u8], size: usize) -> io::Result<()>
     requires settled { IsSettled D.seen D.may_leave D.is_usable D.is_clean disk.old }
@@ -121,7 +121,7 @@ fn cut_behind_gate<D: Disk>(disk: &mut D, bytes: &[u8], size: usize) -> io::Resu
     write(disk, size, b"#")
 }
 
-/// Mends a journal whose lines end with no shut gate: one is put there before what lies behind is cut, of which a crash might
+/// Mends a journal whose lines end with no shut gate: one is put there before what lies after is cut, of which a crash might
 /// make a line.
 #[tactic(auto, using(crate::proofs::Sizes::size_within))]
 fn shut_gate<D: Disk>(disk: &mut D, bytes: &[u8], size: usize) -> io::Result<()>

@@ -66,7 +66,7 @@ fault_text file NoMemory = codes "out of memory\n"
 abbrev pub no_heading_line : List ℕ → List ℕ
 no_heading_line file = named_line [] file (codes ":1: record 1: a journal begins with \" pfair,3\"\n")
 
--- behind it, where notes are told: why the file can't be read, or what a journal begins with
+-- after it, where notes are told: why the file can't be read, or what a journal begins with
 abbrev pub note_behind : List ℕ → Bool → JournalFault → List ℕ
 note_behind file true (Unread kind) = file_fault_line file (file_fault_of kind)
 note_behind file true NoHeading = no_heading_line file

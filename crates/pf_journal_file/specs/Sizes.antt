@@ -7,7 +7,7 @@ use Rattle.pf_run_notes.specs.File.{file_text}
 use Rattle.pf_session.specs.Session.{SessionState}
 use Rattle.pf_journal_file.specs.declared.sizes.Sizes.{Sizes}
 
--- behind the heading of its script; the events that its desk holds, and the slots that it stepped
+-- after the heading of its script; the events that its desk holds, and the slots that it stepped
 abbrev pub sizes_of : SessionState → ℕ → Sizes
 sizes_of s cut = record {
   records = ends_in s.script - 1;

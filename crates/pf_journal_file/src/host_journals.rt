@@ -5,7 +5,7 @@ use crate::journals::{Journals, OpenFault};
 use sqlite_std_file::{FileFrom, OpenError, Wary, open};
 use std::io::ErrorKind;
 
-/// The files of the operating system. One is locked while it is open. An empty file is made beside it, whose name has `-wal` behind,
+/// The files of the operating system. One is locked while it is open. An empty file is made beside it, whose name has `-wal` after,
 /// since the ported opening is one of databases with their logs.
 #[derive(Drop)]
 pub struct HostJournals<'r> {

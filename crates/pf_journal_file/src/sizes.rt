@@ -10,7 +10,7 @@ use std::alloc::{AllocError, Global};
 /// How much a journal has that was opened.
 #[derive(Clone, Copy)]
 pub struct Sizes {
-    /// The records behind its heading.
+    /// The records after its heading.
     pub records: u64,
     /// The events that its desk holds.
     pub events: u64,
@@ -21,7 +21,7 @@ pub struct Sizes {
 }
 
 impl Sizes {
-    /// Of a session that has its records, behind so many bytes that were cut.
+    /// Of a session that has its records, after so many bytes that were cut.
     pub fn of(session: &Session, cut: u64) -> Self
         ensures { result ≡ sizes_of session.now cut }
     {
@@ -37,7 +37,7 @@ impl Sizes {
         }
     }
 
-    /// The line that tells of them, behind the name of the file.
+    /// The line that tells of them, after the name of the file.
     ///
     /// # Errors
     ///

@@ -31,12 +31,12 @@ refused_at file.Other has_script records = Some NoHeading
 abbrev pub refused_file : Bool → List ℕ → Option JournalFault
 refused_file has_script bytes = refused_at (state_of bytes) has_script (records_of bytes)
 
--- a session without a line, or behind these lines of a file
+-- a session without a line, or after these lines of a file
 abbrev pub behind_file : Manner → List (List ℕ) → List ℕ → Result SessionState ℕ
 behind_file manner [] lines = Ok (at_start manner)
 behind_file manner (first ∷ rest) lines = opened manner lines
 
--- a session on a file with these bytes: behind a script where one is named, else behind the records of the file
+-- a session on a file with these bytes: after a script where one is named, else after the records of the file
 abbrev pub session_on : Manner → Option (List ℕ) → List ℕ → Result SessionState ℕ
 session_on manner None bytes = behind_file manner (records_of bytes) (script_of bytes)
 session_on manner (Some script) bytes = opened manner script

@@ -29,7 +29,7 @@ pub struct Opened<S: Saver, D: Disk> {
     pub sizes: Sizes,
 }
 
-/// Begins a session on a file as it was found: behind the records of the file, without answers; where it has none, behind those of a
+/// Begins a session on a file as it was found: after the records of the file, without answers; where it has none, after those of a
 /// script, if one is given, which then go into the file. There is nothing to take back yet.
 ///
 /// # Errors
@@ -92,7 +92,7 @@ fn refusal<D: Disk + Drop>(found: &Found<D>, has_script: bool) -> Option<Journal
     None
 }
 
-/// The session that begins on a file, behind a script where one is given.
+/// The session that begins on a file, after a script where one is given.
 ///
 /// # Errors
 ///

@@ -62,7 +62,7 @@ module _ (s : Plan) (scenario : IsScenario s) (r : List Slot) (run : IsRun s (le
         (λ ge. let same : i ≡ k = omega (arith, le, ge) in omega (arith, ap (λ m. due_of r end_now j m) same))
         (cases_lt i k)
 
-    -- behind its overdue subtasks the next one is not due yet
+    -- after its overdue subtasks the next one is not due yet
     next_due : (t : ℕ) → leaves_after end_now j t ≡ true →
         t < due_of r end_now j (suc (done r j.task t + overdue_of_task r end_now j t))
     next_due t after = ⊎_elim (λ later. later)

@@ -68,7 +68,7 @@ module _ {X : Type 0} where
       ∙ ap (slice_get (grouped full last)) (omega arith)
       ∙ got_in_full full last group q r (All-tail (λ group. length group ≡ 128) first full whole) is small
 
-  -- or behind the full ones
+  -- or after the full ones
   pub got_in_last : (full : List (List X)) (last : List X) (k : ℕ) → All (λ group. length group ≡ 128) full
       → length full * 128 ≤ k → slice_get (grouped full last) k ≡ slice_get last (k - length full * 128)
   got_in_last full last k whole past =

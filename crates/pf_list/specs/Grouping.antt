@@ -1,9 +1,9 @@
--- A list in groups: full ones, and a last one behind them.
+-- A list in groups: full ones, and a last one after them.
 use Rattle.std.specs.Prelude.{◌≡◌, ℕ, ◌^◌, ◌≤◌, List, ◌++◌, length}
 use Rattle.std.specs.List.{All, flat_map}
 
 module _ {X : Type 0} where
-  -- the items of the full groups, and behind them those of the last one
+  -- the items of the full groups, and after them those of the last one
   abbrev pub grouped : List (List X) → List X → List X
   grouped full last = flat_map (λ group. group) full ++ last
 

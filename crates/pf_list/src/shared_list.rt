@@ -16,7 +16,7 @@ const GROUP: usize = 128;
 const MOST_GROUPS: usize = 0x40_0000_0000_0000;
 
 /// A list that grows and shrinks at its end. A copy shares the items, and costs the same however many there are. The first
-/// item that is then appended to either of the two costs an owner more of each item behind the last full group of 128, and
+/// item that is then appended to either of the two costs an owner more of each item after the last full group of 128, and
 /// the first that opens a new group an owner more of each full group.
 ///
 /// Items that are taken off, or that `first` leaves out, are kept in memory until the next one is appended.
@@ -209,7 +209,7 @@ fn trim<T: Drop>(
     }
 }
 
-/// Puts the last group behind the full ones where it is full, and goes on with another. Where memory is refused, both are
+/// Puts the last group after the full ones where it is full, and goes on with another. Where memory is refused, both are
 /// as before.
 fn close<T: Drop>(full: &mut Group<Group<T>>, last: &mut Group<T>) -> Result<(), AllocError>
     requires { AreGroups full.old last.old }

@@ -1,4 +1,4 @@
--- The tasks inside behind events in force, by their joins and leaves.
+-- The tasks inside after events in force, by their joins and leaves.
 use Rattle.std.proofs.Common.{◌≡◌, ℕ, ◌+◌, ◌≤◌, ◌==◌, ◌||◌, Bool, true, false, not, Option, None, Some, List, [], ◌∷◌, ◌++◌, ◌<◌, get_or, cond, find, filter, filter_map, sum_by, take, length, refl, sym, ap, ◌∙◌, arith}
 use Rattle.std.specs.List.{list_any, cons_option}
 use Rattle.std.specs.Option.{option_and_then}

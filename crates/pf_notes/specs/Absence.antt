@@ -22,7 +22,7 @@ leave_among task xs = find (λ x. is_leave_of task x.event) xs
 abbrev pub left_by : Numbered → Absence
 left_by x = Left (slot_of x.event) x.id
 
--- why the task is not inside behind the events `before`, of which those are denied, where this is its join
+-- why the task is not inside after the events `before`, of which those are denied, where this is its join
 abbrev pub absent_by : List Denied → List Numbered → ℕ → Option Numbered → Option Absence
 absent_by denials before task None = Some NoJoin
 absent_by denials before task (Some x) =

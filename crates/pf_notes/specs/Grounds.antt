@@ -47,7 +47,7 @@ abbrev pub late_delay : List Slot → List Numbered → ℕ → Joined → Groun
 late_delay r xs slot j =
     Released j.task ((member_of (take slot r) xs j).done + 1) (next_release (member_of (take slot r) xs j))
 
--- what the denial of an event behind the events `before` rests on, in the record r of the scenario with these denials
+-- what the denial of an event after the events `before` rests on, in the record r of the scenario with these denials
 abbrev pub grounds_for : Plan → List Slot → List Denied → List Numbered → Event → Denial → Option Grounds
 grounds_for s r denials before (Join slot task cost period early) denied.OverCapacity =
     option_map (over_capacity s denials before) (joined_by s.settings.base (Join slot task cost period early))
@@ -61,7 +61,7 @@ grounds_for s r denials before (Delay slot task by) denied.Released =
     option_map (late_delay r (in_force denials before) slot) (joined_at s.settings.base (in_force denials before) task)
 grounds_for s r denials before event denial = None
 
--- what a denial of the record rests on: the point of an event is behind those of the record's slots that come before it in run order
+-- what a denial of the record rests on: the point of an event is after those of the record's slots that come before it in run order
 abbrev pub grounds_of : Plan → List Slot → Denied → Option Grounds
 grounds_of s r d =
     option_and_then (λ x. grounds_for s r (denials_of r) (before_event d.id (past s (length r))) x.event d.denial)

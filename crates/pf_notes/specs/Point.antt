@@ -16,7 +16,7 @@ before_event id xs = option_map_or (λ place. take place xs) (position (λ x. x.
 abbrev pub event_of : ℕ → List Numbered → Option Numbered
 event_of id xs = find (λ x. x.id == id) xs
 
--- the task as its join brought it, where it is inside behind these events in force
+-- the task as its join brought it, where it is inside after these events in force
 abbrev pub joined_at : ℕ → List Numbered → ℕ → Option Joined
 joined_at base xs task = find (λ j. j.task == task) (inside base xs)
 

@@ -57,7 +57,7 @@ bound_with j xs last = option_map_or (bound_after j xs) last 0
 abbrev pub sub_of : Option Quantum → ℕ
 sub_of last = option_map_or (λ q. q.sub) last 0
 
--- the shifted release of its next subtask, behind the events of the slots up to t
+-- the shifted release of its next subtask, after the events of the slots up to t
 abbrev pub release_with : Joined → List Numbered → ℕ → Option Quantum → ℕ
 release_with j xs t last = release_of j.weight (sub_of last + 1) + (j.slot + delays_through j.task t xs)
 

@@ -52,7 +52,7 @@ pub(crate) fn is_join_of(task: u64, event: &Event) -> bool
     }
 }
 
-/// The task as its join brought it, where it is inside behind these events in force.
+/// The task as its join brought it, where it is inside after these events in force.
 pub(crate) fn joined_at(settings: Settings, standing: &[Numbered], task: u64) -> Option<Admitted>
     requires { All (λ x. IsEvent settings x.event) standing.now }
     ensures { result ≡ joined_at settings.base standing.now task }
@@ -139,7 +139,7 @@ fn units_beside(left: &[u64], joined: Admitted) -> u64
     }
 }
 
-/// The load behind these events in force, in 1/h.
+/// The load after these events in force, in 1/h.
 ///
 /// # Errors
 ///

@@ -124,7 +124,7 @@ impl<'a> Reasons<'a> {
         Ok(standing)
     }
 
-    /// What a join behind these events asks for, and what is free.
+    /// What a join after these events asks for, and what is free.
     fn over_capacity(
         &self,
         alloc: Global,
@@ -162,7 +162,7 @@ impl<'a> Reasons<'a> {
         leave_taken(before, &self.denied, task)
     }
 
-    /// Why the task, which this event joins, is not inside behind these events.
+    /// Why the task, which this event joins, is not inside after these events.
     fn absent_by(&self, before: &[Numbered], task: u64, join: Numbered) -> Option<Absence>
         ensures { result ≡ absent_by self.now.denials before.now task (Some join) }
     {
@@ -183,7 +183,7 @@ impl<'a> Reasons<'a> {
         }
     }
 
-    /// Why the task is not inside behind these events.
+    /// Why the task is not inside after these events.
     fn absence_behind(&self, before: &[Numbered], task: u64) -> Option<Absence>
         ensures { result ≡ absence_of self.now.state.plan.events self.now.denials before.now task }
     {
@@ -203,7 +203,7 @@ impl<'a> Reasons<'a> {
         }
     }
 
-    /// Why the task is not inside behind the events of the slots up to this one; nothing where no leave of it was taken.
+    /// Why the task is not inside after the events of the slots up to this one; nothing where no leave of it was taken.
     ///
     /// # Errors
     ///
@@ -250,7 +250,7 @@ impl<'a> Reasons<'a> {
         })
     }
 
-    /// The same of a leave in this slot, behind these events.
+    /// The same of a leave in this slot, after these events.
     fn early_leave(
         &self,
         alloc: Global,
@@ -291,7 +291,7 @@ impl<'a> Reasons<'a> {
         }
     }
 
-    /// The same of a delay in this slot, behind these events.
+    /// The same of a delay in this slot, after these events.
     fn late_delay(
         &self,
         alloc: Global,

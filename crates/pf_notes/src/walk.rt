@@ -119,7 +119,7 @@ pub(crate) fn leaves_in(
     None
 }
 
-/// The shifted release of the task's next subtask, where its last quantum is this one, behind these events in force, of slots up
+/// The shifted release of the task's next subtask, where its last quantum is this one, after these events in force, of slots up
 /// to t.
 pub(crate) fn release_with(
     settings: Settings,

@@ -34,7 +34,7 @@ pub fn push_between(
     text.extend_from_slice(end)
 }
 
-/// Appends two words, a number behind each.
+/// Appends two words, a number after each.
 ///
 /// # Errors
 ///

@@ -46,7 +46,7 @@ has_replies Json = true
 has_replies Replies = true
 has_replies format = false
 
--- the formats that tell of refused records behind the replies
+-- the formats that tell of refused records after the replies
 abbrev pub tells_refusals : Format → Bool
 tells_refusals Full = true
 tells_refusals Html = true

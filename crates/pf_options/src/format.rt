@@ -8,7 +8,7 @@ use pf_look::look::Look;
 use pf_look::style::Style;
 use pf_look::wrap::{MOST_SLOTS, Wrap};
 
-/// What stands behind the replies.
+/// What stands after the replies.
 #[derive(Clone, Copy)]
 pub enum Format {
     /// The schedule of these slots alone, without replies.
@@ -198,7 +198,7 @@ impl Format {
         matches!(self, Format::Tables | Format::Json | Format::Replies)
     }
 
-    /// Whether the records of which a command was refused are told behind the replies.
+    /// Whether the records of which a command was refused are told after the replies.
     pub fn tells_refusals(self) -> bool
         ensures { result ≡ tells_refusals self }
     {

@@ -1,4 +1,4 @@
-/// The page behind its data: the script that draws it.
+/// The page after its data: the script that draws it.
 pub const FOOT: &str = r#"</script>
 <script>
 'use strict';

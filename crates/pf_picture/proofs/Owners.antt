@@ -16,7 +16,7 @@ use Rattle.pf_tally.specs.Own.{is_own, events_of_task}
 use Rattle.pf_picture.specs.Drawing.{is_denial_of}
 use Rattle.pf_picture.specs.Denials.{AreDenialsByTask, HaveRisingNumbers, owner_of}
 
--- events behind the first one
+-- events after the first one
 rest_rises : (x : Numbered) (xs : List Numbered) → HaveRisingNumbers (x ∷ xs) → HaveRisingNumbers xs
 rest_rises x xs rising = λ i j d before within. rising (suc i) (suc j) d (omega arith) (omega arith)
 
@@ -66,7 +66,7 @@ nand_or : (own b : Bool) → ((own && false) || b) ≡ b
 nand_or true b = refl
 nand_or false b = refl
 
--- Use: an event within the list is the same whatever a place behind its end would give.
+-- Use: an event within the list is the same whatever a place after its end would give.
 pub other_at : (xs : List Numbered) (id k : ℕ) (e d : Numbered) → k < length xs → ((get_or xs k e).id ≡ id → ⊥) → (get_or xs k d).id ≡ id → ⊥
 other_at xs id k e d within other is = other (ap (λ (x : Numbered). x.id) (get_or_default xs k e d within) ∙ is)
 
@@ -75,7 +75,7 @@ any_own : (p : Numbered → Bool) (own : Bool) (x : Numbered) (ys : List Numbere
 any_own p true x ys = refl
 any_own p false x ys = refl
 
--- the events behind the first one have other numbers
+-- the events after the first one have other numbers
 none_behind : (x : Numbered) (xs : List Numbered) (task : ℕ) → HaveRisingNumbers (x ∷ xs) → list_any (λ y. y.id == x.id) (events_of_task task xs) ≡ false
 none_behind x xs task rising =
     list_any_none (λ y. y.id == x.id) (events_of_task task xs)

@@ -27,7 +27,7 @@ slot_is seen s drawings counts p t count d row within of_counts of_count of_row 
     (of_count ∙ ap (λ cs. get_or cs t d) of_counts ∙ get_or-map-range_with_len (count_in seen) 0 (length seen.rows) t t d within (omega arith))
     (sym (get_or_default seen.rows t [] row within ∙ got_at seen.rows t row of_row))
 
--- Use: the task of this place, and those behind it.
+-- Use: the task of this place, and those after it.
 pub task_and_others : (drawings : List Drawing) (place : ℕ) (d : Drawing) → place < length drawings →
     drop place drawings ≡ get_or drawings place d ∷ drop (place + 1) drawings
 task_and_others drawings place d within =
@@ -39,7 +39,7 @@ module _ (seen : Seen) (s : Measures) (drawings : TaskDrawings) where
   unfolding processor_text processor_name
   processor_some p text is = omega (arith, ap length is)
 
-  -- Use: the row of one processor, and what is left behind it.
+  -- Use: the row of one processor, and what is left after it.
   pub processor_next : (p place top : ℕ) → p < s.processors →
       rows_text seen s drawings p place top ≡ processor_text seen s drawings p ++ rows_text seen s drawings (p + 1) place top
   processor_next p place top some =
@@ -51,7 +51,7 @@ module _ (seen : Seen) (s : Measures) (drawings : TaskDrawings) where
   processors_over p place top over =
       ap (λ n. flat_map (processor_text seen s drawings) (range_with_len p n) ++ (tasks_from s place top (drop place drawings.shown) ++ codes "</g>\n")) (let z : s.processors - p ≡ 0 = omega arith in z)
 
-  -- Use: the part of one task, and what is left behind it.
+  -- Use: the part of one task, and what is left after it.
   pub task_next : (p place top : ℕ) (drawing : Drawing) → s.processors ≤ p → drop place drawings.shown ≡ drawing ∷ drop (place + 1) drawings.shown →
       rows_text seen s drawings p place top ≡ task_text_of s top place drawing ++ rows_text seen s drawings p (place + 1) (top + height_of s drawing)
   task_next p place top drawing over at =

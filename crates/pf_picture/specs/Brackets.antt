@@ -1,5 +1,5 @@
 -- What is drawn of one window: the slots before its release in which its subtask may run, a bracket over its slots, the
--- slots behind its deadline in which it waited, and its quantum.
+-- slots after its deadline in which it waited, and its quantum.
 use Rattle.std.specs.Prelude.{ℕ, ◌+◌, ◌-◌, ◌*◌, ◌/◌, ◌==◌, max, min, Bool, ◌&&◌, nat_le, nat_lt, if◌then◌else◌, Some, List, [], ◌++◌, codes}
 use Rattle.std.specs.Option.{option_map_or}
 use Rattle.pf_chart.specs.declared.quantum.Quantum.{Quantum}

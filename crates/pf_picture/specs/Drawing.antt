@@ -33,7 +33,7 @@ weight_text asked = put [] asked.cost (codes "/" ++ decimal asked.period)
 abbrev pub weight_of : Option Asked → List ℕ
 weight_of asked = option_map_or weight_text asked (codes "-")
 
--- behind the number of a task that is called by its name
+-- after the number of a task that is called by its name
 unfoldable pub weight_behind : Option (List ℕ) → ℕ → List ℕ → List ℕ
 weight_behind None task weight = weight
 weight_behind (Some name) task weight = put [] task (codes ": " ++ weight)

@@ -28,7 +28,7 @@ IsNextRow seen s drawings rows (Some row) =
 abbrev pub blocks_behind : Seen → Measures → ℕ → TaskDrawings → ℕ → ℕ → List ℕ
 blocks_behind seen s wrap drawings block offset = blocks_from seen s wrap drawings offset (range_with_len block (blocks_of s wrap - block))
 
--- where a block was begun, the rest of it, and those behind it
+-- where a block was begun, the rest of it, and those after it
 abbrev pub blocks_left : Seen → Measures → ℕ → TaskDrawings → ℕ → ℕ → Option RowsLeft → List ℕ
 blocks_left seen s wrap drawings block offset None = blocks_behind seen s wrap drawings block offset
 blocks_left seen s wrap drawings block offset (Some rows) =

@@ -66,7 +66,7 @@ lag_y lane track t = lag_level (lane.top + 50) (track.weight.period * lane.scale
 unfoldable pub lag_step : Lane → Track → ℕ → List ℕ
 lag_step lane track t = put (codes "H") (x_of lane.scale t) (codes "V" ++ decimal (lag_y lane track t))
 
--- the lags before the slots behind `first`, up to `last`
+-- the lags before the slots after `first`, up to `last`
 abbrev pub lag_steps : Lane → Track → ℕ → ℕ → List ℕ
 lag_steps lane track first last = flat_map (lag_step lane track) (range_with_len (first + 1) (last - first))
 

@@ -100,7 +100,7 @@ fn ran_at(lane: &Lane, window: Window) -> u64
     }
 }
 
-/// Appends the slots behind the deadline of a window in which its subtask waited, at the level z.
+/// Appends the slots after the deadline of a window in which its subtask waited, at the level z.
 #[tactic(auto, unfolding(crate::specs::Brackets::late_text))]
 fn push_late(
     alloc: Global,

@@ -90,7 +90,7 @@ fn weight_of(alloc: Global, asked: Option<Asked>) -> Result<String, AllocError>
     }
 }
 
-/// A weight, behind the number of a task that is called by its name.
+/// A weight, after the number of a task that is called by its name.
 #[tactic(auto, unfolding(crate::specs::Drawing::weight_behind))]
 fn weight_behind(
     alloc: Global,

@@ -87,7 +87,7 @@ fn push_start(
     push_element(text, &start)
 }
 
-/// Appends the lags before the slots behind `first`, up to `last`.
+/// Appends the lags before the slots after `first`, up to `last`.
 fn push_steps(
     alloc: Global,
     text: &mut Vec<u8>,

@@ -21,7 +21,7 @@ pub struct RowsLeft {
     pub top: u128,
 }
 
-/// The row of a processor or the part of a task, and what is left behind it.
+/// The row of a processor or the part of a task, and what is left after it.
 #[derive(Drop)]
 pub struct Row {
     /// Its text.

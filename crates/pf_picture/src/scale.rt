@@ -258,7 +258,7 @@ pub(crate) fn time_in(slot: Option<SlotLength>, t: u64) -> u128
     }
 }
 
-/// The width of a picture with so many slots side by side, each `cell` wide, behind so much at their left.
+/// The width of a picture with so many slots side by side, each `cell` wide, after so much at their left.
 pub(crate) fn width_with(gutter: u128, cell: u64, slots: u64) -> u128
     requires gutter { gutter ≤ 2 ^ 80 }
     requires cell { cell ≤ 40 }

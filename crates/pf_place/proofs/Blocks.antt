@@ -1,4 +1,4 @@
--- Rows that lie one behind another: what a row more, a row less, and another last row make of the places and the ends.
+-- Rows that lie one after another: what a row more, a row less, and another last row make of the places and the ends.
 use Rattle.std.proofs.Common.{◌≡◌, ℕ, zero, suc, ◌+◌, ◌-◌, ◌<◌, ◌≤◌, Option, List, [], ◌∷◌, ◌++◌, length, get_or, take, drop, ap, ap₂, sym, subst, ◌∙◌, refl, arith, add-one, append_assoc, length-append, drop-cons}
 use Rattle.std.specs.List.{slice_range}
 use Rattle.std.proofs.Math.ListN.{drop_of_length-le}
@@ -215,7 +215,7 @@ module _ (rows : List (List (Option Pick))) (ends : List ℕ) (places : List (Op
       let zero_start : start ≡ 0 = start_is ∙ ap (λ n. get_or (0 ∷ ends) n 0) none in
       omega (arith, last_is_rest)
 
-  -- the picks are placed behind the row above, where the last row is the only one
+  -- the picks are placed after the row above, where the last row is the only one
   pub cut_seated_first : (count : ℕ) (above : List (Option Pick)) (picks : List Pick) (new : List (Option Pick)) → last ≡ 0
       → new ≡ row_of (length places) count above picks
       → AreCutAt (but_last rows ++ row_of (length (last_row [] rows)) count (last_row above (but_last rows)) picks ∷ []) ends new
@@ -228,7 +228,7 @@ module _ (rows : List (List (Option Pick))) (ends : List ℕ) (places : List (Op
       ∙ ap (λ n. take n places ++ row) (sym zero_start) in
       rw same (cut_other row (length-row_of (length (last_row [] rows)) count (last_row above (but_last rows)) picks))
 
-  -- or else behind the row before it
+  -- or else after the row before it
   pub cut_seated : (count before : ℕ) (above : List (Option Pick)) (picks : List Pick) (new : List (Option Pick)) → 0 < last
       → before ≡ get_or (0 ∷ ends) (last - 1) 0
       → new ≡ take start places ++ row_of (length places - start) count (slice_range places before start) picks

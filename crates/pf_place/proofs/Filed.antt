@@ -27,7 +27,7 @@ module _ {X : Type 0} where
   slice_get-append_right (x ∷ xs) ys (suc k) l =
       slice_get-append_right xs ys k (omega arith) ∙ ap (slice_get ys) (omega arith)
 
-  -- full blocks of 64 each, one behind another
+  -- full blocks of 64 each, one after another
   pub length-full : (full : List (List X)) → All (λ rows. length rows ≡ 64) full → length (all_rows_of full) ≡ length full * 64
   length-full [] whole = refl
   length-full (rows ∷ full) whole =
@@ -55,7 +55,7 @@ module _ {X : Type 0} where
       ∙ ap (slice_get (all_rows_of full ++ back)) (omega arith)
       ∙ got_in_full full back rows q r (All-tail (λ rows. length rows ≡ 64) first full whole) is small
 
-  -- or behind the full ones
+  -- or after the full ones
   pub got_in_last : (full : List (List X)) (back : List X) (t : ℕ) → All (λ rows. length rows ≡ 64) full → length full * 64 ≤ t
       → slice_get (all_rows_of full ++ back) t ≡ slice_get back (t - length full * 64)
   got_in_last full back t whole past =
@@ -68,7 +68,7 @@ module _ {X : Type 0} where
       ap (λ xs. xs ++ back) (flat_map-append (λ rows. rows) full (rows ∷ []) ∙ ap (λ end. all_rows_of full ++ end) (append-nil rows))
       ∙ append_assoc (all_rows_of full) rows back
 
--- the last of some rows behind others
+-- the last of some rows after others
 last-append : (before : List (Option Pick)) (xs ys : List (List (Option Pick))) → last_row before (xs ++ ys) ≡ last_row (last_row before xs) ys
 last-append before [] ys = refl
 last-append before (row ∷ xs) ys = last-append row xs ys
@@ -160,7 +160,7 @@ row_pushed front rows old idle row some is =
     sym (append_assoc front (but_last rows) (row ∷ []))
     ∙ ap (λ xs. xs ++ row ∷ []) (sym (but_last_behind_full front rows some) ∙ ap but_last is ∙ but_last_behind old idle)
 
--- behind the last one is none
+-- after the last one is none
 pub none_within : {X : Type 0} (xs : List X) (k : ℕ) → None ≡ slice_get xs k → length xs ≤ k
 none_within [] k none = omega arith
 none_within (x ∷ xs) zero none = absurd (let some : None ≡ Some x = none in cc)

@@ -69,7 +69,7 @@ module _ {X : Type 0} where
   filled_full (None ∷ places) full rest others = absurd (omega arith)
   filled_full (Some x ∷ places) full rest others = ap (λ ps. Some x ∷ ps) (filled_full places (omega arith) rest others)
 
-  -- the next free place is behind it
+  -- the next free place is after it
   pub next_behind : (places : List (Option X)) (y : X) → position_or_len is_none places < length places
       → position_or_len is_none places + 1 ≤ position_or_len is_none (set places (position_or_len is_none places) (Some y))
   next_behind [] y l = absurd (omega arith)

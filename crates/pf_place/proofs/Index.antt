@@ -13,7 +13,7 @@ use Rattle.pf_place.specs.Index.{AreStarts, number_of}
 use Rattle.pf_place.specs.Occupancy.{pick_of, next_pick}
 use Rattle.pf_place.proofs.Positions.{position_there, position_nowhere, rest, found_behind, missing_behind}
 
--- where all starts are behind the filed picks, none of these stands before its start yet
+-- where all starts are after the filed picks, none of these stands before its start yet
 pub starts_at_end : (v : ℕ) (picks : List Pick) → v ≤ length picks
     → (length (replicate 512 v) ≡ 512)
     × (All (λ start. start ≤ length picks) (replicate 512 v))

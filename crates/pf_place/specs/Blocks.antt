@@ -1,9 +1,9 @@
--- How the rows of a block lie in memory: their places one behind another, and where each row ends.
+-- How the rows of a block lie in memory: their places one after another, and where each row ends.
 use Rattle.std.specs.Prelude.{◌≡◌, ℕ, ◌+◌, ◌≤◌, Option, List, [], ◌∷◌, length, slice_range}
 use Rattle.std.specs.List.{flat_map}
 use Rattle.pf_order.specs.declared.pick.Pick.{Pick}
 
--- these rows, one behind another
+-- these rows, one after another
 abbrev pub all_rows_of : {X : Type 0} → List (List X) → List X
 all_rows_of rows = flat_map (λ row. row) rows
 

@@ -1,4 +1,4 @@
--- How rows are filed: full blocks, which other rows may share, and a last one behind them.
+-- How rows are filed: full blocks, which other rows may share, and a last one after them.
 use Rattle.std.specs.Prelude.{◌≡◌, ◌^◌, ◌≤◌, ◌<◌, Option, List, length}
 use Rattle.std.specs.List.{All}
 use Rattle.pf_order.specs.declared.pick.Pick.{Pick}

@@ -13,7 +13,7 @@ use pf_order::pick::Pick;
 use std::alloc::{AllocError, Global};
 use std::marker::Model;
 
-/// Rows of any lengths, in two pieces of memory: their places one behind another, and where each row ends.
+/// Rows of any lengths, in two pieces of memory: their places one after another, and where each row ends.
 #[derive(Debug, Drop)]
 pub(crate) struct Block {
     places: Vec<Place>,
@@ -219,7 +219,7 @@ impl Block {
         assign_from(&mut self.places, start, row);
     }
 
-    /// Makes the last row the one that `picks` place behind the row before it, or behind `above` where it is the only
+    /// Makes the last row the one that `picks` place after the row before it, or after `above` where it is the only
     /// one; it takes no memory.
     pub(crate) fn seat_last(&mut self, above: RowView<'_>, count: usize, picks: &[Pick])
         requires some { 0 < length self.old.rows }
@@ -249,7 +249,7 @@ fn row_between(places: &[Place], start: usize, end: usize) -> RowView<'_>
     RowView::of(&places[start..end])
 }
 
-/// Where the k-th of the rows begins that end there; behind the last row, where that ends.
+/// Where the k-th of the rows begins that end there; after the last row, where that ends.
 fn start_of(ends: &[usize], k: usize) -> usize
     requires { k ≤ length ends.now }
     ensures { result ≡ slice_index (0 ∷ ends.now) k }
@@ -265,7 +265,7 @@ fn assign_from(places: &mut [Place], start: usize, row: RowView<'_>)
     row.copy_to(&mut places[start..]);
 }
 
-/// Makes the places from `start` on the row that `picks` place behind the row from `before` to `start`.
+/// Makes the places from `start` on the row that `picks` place after the row from `before` to `start`.
 fn seat_behind(places: &mut [Place], before: usize, start: usize, count: usize, picks: &[Pick])
     requires before { before ≤ start }
     requires start { start ≤ length places.old }
@@ -278,7 +278,7 @@ fn seat_behind(places: &mut [Place], before: usize, start: usize, count: usize, 
     seat_after(last, count, &front[before..], picks);
 }
 
-/// Makes these places the row that `picks` place behind the row of the places before.
+/// Makes these places the row that `picks` place after the row of the places before.
 fn seat_after(places: &mut [Place], count: usize, before: &[Place], picks: &[Pick])
     requires in_use { count ≤ length places.old }
     requires numbered { All (λ pick. 1 ≤ pick.task) picks.now }

@@ -10,7 +10,7 @@ use crate::small_place::SmallPlace;
 use std::alloc::{AllocError, Global};
 use std::marker::Model;
 
-/// Rows of one width, in one piece of memory: their places in small, one behind another.
+/// Rows of one width, in one piece of memory: their places in small, one after another.
 #[derive(Debug, Drop)]
 pub(crate) struct PackedRows {
     count: usize,
@@ -64,7 +64,7 @@ impl PackedRows {
         self.count
     }
 
-    /// Puts all places behind these, in the form that picks are seated in; it takes no memory.
+    /// Puts all places after these, in the form that picks are seated in; it takes no memory.
     pub(crate) fn put_places(&self, places: &mut Vec<Place>)
         requires { vec_len places.old + length (all_rows_of self.now) ≤ vec_capacity places.old }
         ensures items { places.new.items ≡ places.old.items ++ all_rows_of self.now }
@@ -73,7 +73,7 @@ impl PackedRows {
         unpack(&self.places, places);
     }
 
-    /// Puts where each row ends behind these; it takes no memory.
+    /// Puts where each row ends after these; it takes no memory.
     pub(crate) fn put_ends(&self, ends: &mut Vec<usize>)
         requires { vec_len ends.old + length self.now ≤ vec_capacity ends.old }
         ensures items { ends.new.items ≡ ends.old.items ++ ends_of 0 self.now }
@@ -115,7 +115,7 @@ fn small_places(alloc: Global, places: &[Place]) -> Result<Option<Vec<SmallPlace
     Ok(Some(small))
 }
 
-/// Puts small places behind these; it takes no memory.
+/// Puts small places after these; it takes no memory.
 fn unpack(small: &[SmallPlace], places: &mut Vec<Place>)
     requires { vec_len places.old + length small.now ≤ vec_capacity places.old }
     ensures items { places.new.items ≡ places.old.items ++ small.now }
@@ -126,7 +126,7 @@ fn unpack(small: &[SmallPlace], places: &mut Vec<Place>)
     }
 }
 
-/// Puts behind these where so many rows of one width end, of which the first begins at 0; it takes no memory.
+/// Puts after these where so many rows of one width end, of which the first begins at 0; it takes no memory.
 fn push_ends(ends: &mut Vec<usize>, width: usize, count: usize)
     requires small { count * width < 2 ^ 64 }
     requires room { vec_len ends.old + count ≤ vec_capacity ends.old }

@@ -7,7 +7,7 @@ use std::marker::Model;
 /// How many buckets the tasks fall into, by their numbers: some times as many as a slot has picks, so that few share one.
 pub(crate) const BUCKETS: usize = 512;
 
-/// How many picks are filed by bucket: as many as a byte can number. The others are looked for behind them.
+/// How many picks are filed by bucket: as many as a byte can number. The others are looked for after them.
 const MOST_FILED: usize = 255;
 
 /// The picks of a slot, to be found by task: each search begins at the first pick whose task falls into the same bucket.
@@ -65,7 +65,7 @@ fn first_of(picks: &[Pick], task: u32) -> Option<usize>
     picks.iter().position(|pick| pick.task == task)
 }
 
-/// Notes where the search for a task begins, by its bucket: at the first of the picks filed there, else behind all that
+/// Notes where the search for a task begins, by its bucket: at the first of the picks filed there, else after all that
 /// are filed.
 pub(crate) fn note_starts(starts: &mut [u8; BUCKETS], picks: &[Pick])
     ensures { AreStarts starts.new picks.now }

@@ -141,7 +141,7 @@ impl Rows {
     }
 
     /// Makes the last row the row of a slot in which `picks` run on the processors below `count`, as `Row::place` does:
-    /// behind the row before it, or an idle one where it is the only row. It takes no memory.
+    /// after the row before it, or an idle one where it is the only row. It takes no memory.
     ///
     /// There must be a row. Its processors are m: `count` must be at most m, the row before it of m processors, and the
     /// picks at most `count`, with tasks numbered from 1; neither the picks nor the row before may have a task twice.

@@ -11,7 +11,7 @@ use crate::place::Place;
 use crate::row_view::RowView;
 use pf_order::pick::Pick;
 
-/// How many picks can be marked: more than a slot has. Of those behind, the tasks are looked for among the places.
+/// How many picks can be marked: more than a slot has. Of those after, the tasks are looked for among the places.
 const MARKS: usize = 256;
 
 /// Where the pick stands of whoever sat on place q of the earlier ones and runs again.

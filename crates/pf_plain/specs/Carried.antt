@@ -10,7 +10,7 @@ use Rattle.pf_version3.specs.Line.{Line}
 use Rattle.pf_version3.specs.Line.TheVariants.{Edit, Steps}
 use Rattle.pf_version3.specs.Asked.{commands_of}
 
--- the state behind some commands
+-- the state after some commands
 abbrev pub state_behind : State → List Command → State
 state_behind st [] = st
 state_behind st (command ∷ commands) = state_behind (state_after st command (reply_to st command)) commands
@@ -19,7 +19,7 @@ state_behind st (command ∷ commands) = state_behind (state_after st command (r
 abbrev pub state_to_be : Carrying → State
 state_to_be c = state_behind c.desk.state c.waiting
 
--- behind what a line asks for
+-- after what a line asks for
 abbrev pub state_behind_line : State → Line → State
 state_behind_line st line = state_behind st (commands_of line)
 

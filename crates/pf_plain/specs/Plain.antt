@@ -18,7 +18,7 @@ use Rattle.pf_plain.specs.declared.plain.PlainScript.{PlainScript}
 use Rattle.pf_plain.specs.Carried.{number_given, state_behind_line}
 use Rattle.pf_plain.specs.Written.{bad_fields, heading_fields, said_records}
 
--- how far a script is: what came before, and the desk's state behind the settings
+-- how far a script is: what came before, and the desk's state after the settings
 pub record Course : Type 0 where
   pub progress : Progress
   pub desk : Option State
@@ -26,7 +26,7 @@ pub record Course : Type 0 where
 abbrev pub start : Course
 start = record { progress = at_heading; desk = None }
 
--- behind what a record said; a labelled event is given its number by the desk
+-- after what a record said; a labelled event is given its number by the desk
 abbrev pub given : Option State → Line → ℕ
 given None line = 0
 given (Some st) line = number_given st line
@@ -85,7 +85,7 @@ plain_from c number end [] = ended c.progress (record { number = number; line = 
 plain_from c number end (row ∷ rows) =
     plain_next (λ next. plain_from next (number + 1) end rows) c (record { number = number; line = row.line }) (said_at c.progress row.fields)
 
--- behind the heading
+-- after the heading
 abbrev pub with_heading : ℕ → Plain → Plain
 with_heading line p = record p { records = heading_fields ∷ p.records; origins = record { number = 1; line = line } ∷ p.origins }
 

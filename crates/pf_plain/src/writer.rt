@@ -19,7 +19,7 @@ pub(crate) struct PlainWriter {
     alloc: Global,
     /// What came before the next record.
     pub(crate) progress: Progress,
-    // The desk, behind the settings.
+    // The desk, after the settings.
     desk: Option<Carried>,
     table: ScriptText,
     origins: Vec<Origin>,

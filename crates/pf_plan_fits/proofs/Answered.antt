@@ -36,7 +36,7 @@ join_event number s = Join s.join number s.cost s.period s.early
 abbrev pub state_with : System → List Numbered → ℕ → ℕ → State
 state_with settings events next now = record { plan = record { settings = settings; events = events; next = next }; now = now }
 
--- the state behind the joins of these tasks, the first of which has this number
+-- the state after the joins of these tasks, the first of which has this number
 abbrev pub behind_joins : System → List Numbered → ℕ → List Slotted → State
 behind_joins settings events number [] = state_with settings events number 0
 behind_joins settings events number (s ∷ slots) =
@@ -127,7 +127,7 @@ more_before number s events before = record {
     wider (Delay slot task held) lt = absurd lt
     wider (Limit slot count) lt = absurd lt
 
--- what is left of a history behind some of its entries, none of which is a refusal
+-- what is left of a history after some of its entries, none of which is a refusal
 pub record IsRest (from to : State) (history : List Entry) (left : List Command) (rest : List Entry) : Type 0 where
   pub asked : asked_in rest ≡ left
   pub legal : IsLegalFrom to rest

@@ -32,7 +32,7 @@ held_join number s = with_number number (join_event number s)
 abbrev pub held : ℕ → List Slotted → List Numbered
 held number slots = each_numbered held_join number slots
 
--- the next number behind them
+-- the next number after them
 abbrev pub next_behind : ℕ → List Slotted → ℕ
 next_behind number [] = number
 next_behind number (s ∷ slots) = next_behind (number + 1) slots

@@ -1,4 +1,4 @@
--- Texts that are told one behind the other.
+-- Texts that are told one after the other.
 use Rattle.std.proofs.Common.{append_assoc, ◌≡◌, ◌+◌, ◌++◌, ◌∷◌, ℕ, List, [], Option, Some, None, arith, refl, sym, ap, ◌∙◌}
 use Rattle.std.proofs.lemmas.List.{append-nil}
 use Rattle.std.specs.Fmt.{decimal}

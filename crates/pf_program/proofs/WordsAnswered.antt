@@ -93,7 +93,7 @@ none_had : (file : Option (List ℕ)) (old : Streams) → IsSource file (Err sto
 none_had None old = record { bytes = unknown old.input; reads = refl; taken = none_taken old.input }
 none_had (Some name) old = (refl, refl)
 
--- running out of memory, behind which nothing is told
+-- running out of memory, after which nothing is told
 abbrev no_memory_noted : Noted
 no_memory_noted = record { outcome = Err stop.NoMemory; notes = Err stop.NoMemory }
 

@@ -91,7 +91,7 @@ JoinsNotes (Err fault) sizes first second = ⊤
 JoinsNotes (Ok notes) sizes (Ok first) (Ok second) = notes.items ≡ sizes ++ first.items ++ second.items
 JoinsNotes (Ok notes) sizes first second = ⊥
 
--- behind the fault of the second one what is told behind that; nothing where the output failed
+-- after the fault of the second one what is told after that; nothing where the output failed
 abbrev pub PairNotes : PairNames → Bool → Seen → Result Seen Fault → Result (Vec ℕ Global) Fault → Result (Vec ℕ Global) Fault
     → Result Ending Fault → Result (Vec ℕ Global) Fault → Type 0
 PairNotes names asked before (Err fault) first second answer notes = notes ≡ second

@@ -24,7 +24,7 @@ use Rattle.pf_program.specs.Status.{Tells as IsToldSo}
 abbrev pub manner_of : DeskNames → Manner
 manner_of desk = record { json = desk.json; quiet = desk.quiet }
 
--- a session begins behind the records of a script, of which no contract says more where it lies in a file; or behind none
+-- a session begins after the records of a script, of which no contract says more where it lies in a file; or after none
 abbrev pub Begins : Manner → Option (List ℕ) → SessionState → Type 0
 Begins manner None s = s ≡ at_start manner
 Begins manner (Some file) s = (script : List ℕ) × (opened manner script ≡ Ok s)
@@ -38,7 +38,7 @@ CameTo (Err stop.Mute) has_bad outcome = outcome ≡ Err why.Write
 CameTo (Err stop.NoMemory) has_bad outcome = outcome ≡ Err why.NoMemory
 CameTo (Err stop.Unkept) has_bad outcome = outcome ≡ Err why.Write
 
--- lines came in behind the beginning, and were answered, each before more was read, and the status tells what that came to; what there
+-- lines came in after the beginning, and were answered, each before more was read, and the status tells what that came to; what there
 -- is to tell of it was told, where as many writes had failed there as before anything was told
 pub record HasSatDown {A : Type 0} (talk : Talk A Streams) (came : Result Going SitFault → A → Result Ending Fault → Type 0) (begun : A)
     (prompts closed : Bool) (failed status : ℕ) (old new : Streams) : Type 0 where
@@ -68,12 +68,12 @@ SatAlone begun prompts closed status old new = HasSatDown talk_alone CameToAlone
 abbrev pub IsUnread : Bool → List ℕ → Fault → Result (Vec ℕ Global) Fault → Type 0
 IsUnread asked name fault notes = IsHad (Err fault) × IfOk notes (λ note. IsUnreadNote asked name fault note.items)
 
--- no session begins behind these bytes of this file, which is told where that is asked for: a record is bad, or memory was refused
+-- no session begins after these bytes of this file, which is told where that is asked for: a record is bad, or memory was refused
 abbrev pub IsUnopened : Bool → Manner → List ℕ → List ℕ → Fault → Result (Vec ℕ Global) Fault → Type 0
 IsUnopened asked manner name script fault notes = IsOpened (opened manner script) (Err fault)
     × OneOf asked (IfOk notes (λ note. IsFaultNote name script None fault note.items)) (notes_in notes ≡ [])
 
--- why a session does not begin, and what is told of that: behind no script, only where memory was refused
+-- why a session does not begin, and what is told of that: after no script, only where memory was refused
 abbrev pub DoesNotBegin : Manner → Option (List ℕ) → Fault → Result (Vec ℕ Global) Fault → Type 0
 DoesNotBegin manner None fault notes = (fault ≡ why.NoMemory) × (notes_in notes ≡ [])
 DoesNotBegin manner (Some file) fault notes =

@@ -29,7 +29,7 @@ pub record IsTextBy (q : Option Plain) (script text : List ℕ) (origins : Optio
   pub origins_are : origins ≡ origins_in q
   pub names_are : names ≡ names_in q
 
--- the notes behind a run of this text, or memory was refused for them
+-- the notes after a run of this text, or memory was refused for them
 abbrev pub AreRunNotes : List ℕ → Option (List Origin) → List Named → List ℕ → Result (Vec ℕ Global) Fault → Type 0
 AreRunNotes file origins names text (Ok made) = RunNotes file origins names text made.items
 AreRunNotes file origins names text (Err fault) = fault ≡ why.NoMemory

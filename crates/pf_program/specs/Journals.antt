@@ -44,7 +44,7 @@ CameToKept path notes lost going has_bad outcome = CameTo going has_bad outcome
 abbrev pub CameToOn : {D : Type 0} → List ℕ → Bool → Result Going SitFault → Recording SessionState D → Result Ending Fault → Type 0
 CameToOn path notes going r outcome = CameToKept path notes r.lost going r.machine.has_bad outcome
 
--- a session begins on a file as it was found, behind its records, or behind those of a script where one is named; of what lies in that
+-- a session begins on a file as it was found, after its records, or after those of a script where one is named; of what lies in that
 -- file no contract says more; and how much the journal then has is told, unless the words ask for quiet
 pub record BeginsOn {D : Type 0} (seen : D → List ℕ) (may_leave : D → List ℕ → Type 0) (is_usable is_clean : D → Bool) (manner : Manner)
     (script : Option (List ℕ)) (path : List ℕ) (begun : Recording SessionState D) (note : List ℕ) : Type 0 where

@@ -1,4 +1,4 @@
--- What is told behind an answer of a task, or behind its fault.
+-- What is told after an answer of a task, or after its fault.
 use Rattle.std.specs.Prelude.{ℕ, ◌≡◌, ◌||◌, ◌&&◌, not, Bool, true, false, if◌then◌else◌, List, [], ◌++◌, IfOk, Option, None, Some, Result, Ok, Err, Vec}
 use Rattle.std.specs.declared.alloc.Global.{Global}
 use Rattle.std.specs.declared.io.ErrorKind.{ErrorKind}
@@ -64,7 +64,7 @@ abbrev pub notes_in : Result (Vec ℕ Global) Fault → List ℕ
 notes_in (Ok text) = text.items
 notes_in (Err fault) = []
 
--- behind the fault for which the script of this file could not be had: of a failure that its kind tells, or of its length
+-- after the fault for which the script of this file could not be had: of a failure that its kind tells, or of its length
 abbrev pub IsUnreadNote : Bool → List ℕ → Fault → List ℕ → Type 0
 IsUnreadNote true name why.Read note = (kind : ErrorKind) × (note ≡ file_fault_line name (file_fault_of kind))
 IsUnreadNote true name why.TooLong note = note ≡ file_fault_line name file.TooLong
@@ -75,7 +75,7 @@ abbrev pub OneOf : Bool → Type 0 → Type 0 → Type 0
 OneOf true one other = one
 OneOf false one other = other
 
--- behind an answer to the script of this file: the notes of its run, where they follow; or behind its fault
+-- after an answer to the script of this file: the notes of its run, where they follow; or after its fault
 abbrev pub AreNotesAsked : {A : Type 0} → Noting → List ℕ → List ℕ → Result A Fault → Result (Vec ℕ Global) Fault → Type 0
 AreNotesAsked noting name script (Ok answer) made = OneOf noting.follows (NotesMade name script made) (notes_in made ≡ [])
 AreNotesAsked noting name script (Err fault) made = IfOk made (λ note. IsFaultNote name script noting.range fault note.items)
@@ -109,7 +109,7 @@ abbrev pub status_ended : Bool → Status → Result Ending Fault → ℕ
 status_ended closed otherwise (Err why.Write) = number_of (if closed then otherwise else StreamFailed)
 status_ended closed otherwise answer = status_of answer
 
--- what a task has to tell and the notes behind it, or the line of its fault and the notes behind that; nothing where nobody reads
+-- what a task has to tell and the notes after it, or the line of its fault and the notes after that; nothing where nobody reads
 -- the output any more
 abbrev pub IsTold : Bool → Result Ending Fault → List ℕ → (List ℕ → Type 0) → Type 0
 IsTold closed (Ok ending) notes told = told (ending.notes.items ++ notes)

@@ -103,7 +103,7 @@ pub record IsDone (task : Task) (file : Option (List ℕ)) (asked : Bool) (noted
   pub writes : CountsWrites noted.outcome old.failed_writes new.failed_writes
   pub notes : AreNotes (noting_behind (noting_of asked task) noted.outcome) (told_name file) script noted.outcome noted.notes
 
--- behind the first of two scripts: its fault is the answer, and then the second is not read; else the second is, and both are
+-- after the first of two scripts: its fault is the answer, and then the second is not read; else the second is, and both are
 -- compared
 abbrev pub ComparesBehind : PairNames → Bool → Result Seen Fault → Result (Vec ℕ Global) Fault → Noted → Streams → Streams → Type 0
 ComparesBehind names asked (Ok before) first_notes noted old new =

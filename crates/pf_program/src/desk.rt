@@ -32,7 +32,7 @@ use std::alloc::Global;
 use std::rt::Files;
 use std::sync::Wait;
 
-/// Why no session began, and what is told behind that.
+/// Why no session began, and what is told after that.
 #[derive(Drop)]
 struct Unbegun {
     fault: Fault,
@@ -136,7 +136,7 @@ fn sit_down<H: AllocGlobal + Files + Wait, R: Source, W: Pipe, F: Sink>(
     end_sat(rt.alloc(), outcome, failed, writer.is_closed(), faults)
 }
 
-/// The session as it begins: behind the records of a script, where one is named.
+/// The session as it begins: after the records of a script, where one is named.
 ///
 /// # Errors
 ///
@@ -166,7 +166,7 @@ fn begin<H: AllocGlobal + Files>(rt: &H, words: &DeskWords) -> Result<Session, U
     }
 }
 
-/// The session behind the records of a script of these bytes.
+/// The session after the records of a script of these bytes.
 fn begin_with(
     alloc: Global,
     words: &DeskWords,
@@ -186,7 +186,7 @@ fn begin_with(
     }
 }
 
-/// A fault behind which nothing is told.
+/// A fault after which nothing is told.
 fn untold(alloc: Global, fault: Fault) -> Unbegun
     ensures fault { result.fault ≡ fault }
     ensures notes { notes_in result.notes ≡ [] }

@@ -17,7 +17,7 @@ use pf_stream::writing::write_out;
 use std::fmt::Display;
 use std::io::Write;
 
-/// Tells what a task has to tell, and the notes behind it, or the line of its fault, and what is told behind that; answers the
+/// Tells what a task has to tell, and the notes after it, or the line of its fault, and what is told after that; answers the
 /// status. Where the output failed since nobody reads it any more, nothing is told, and the status is `gone`.
 pub(crate) fn end<F: Sink>(noted: Noted, closed: bool, gone: Status, faults: &mut F) -> u8
     requires { F.failed faults.old < 2 ^ 64 - 1 }
@@ -69,7 +69,7 @@ pub(crate) fn end_unwritten<F: Sink>(notes: &[u8], closed: bool, gone: Status, f
     end_faulty(Fault::Write, notes, faults)
 }
 
-/// Tells a fault, and the notes behind its line, and answers its status, which is not 0.
+/// Tells a fault, and the notes after its line, and answers its status, which is not 0.
 #[tactic(auto, using(crate::proofs::Quiet::never_zero))]
 fn end_faulty<F: Sink>(fault: Fault, notes: &[u8], faults: &mut F) -> u8
     requires { F.failed faults.old < 2 ^ 64 - 1 }
@@ -81,7 +81,7 @@ fn end_faulty<F: Sink>(fault: Fault, notes: &[u8], faults: &mut F) -> u8
     fault.status().number()
 }
 
-/// Tells a fault, and the notes behind its line, which are left out where a write of that line fails. A fault of writing is passed
+/// Tells a fault, and the notes after its line, which are left out where a write of that line fails. A fault of writing is passed
 /// over: it could be told nowhere.
 pub(crate) fn tell_fault<F: Sink>(fault: Fault, notes: &[u8], faults: &mut F)
     requires { F.failed faults.old < 2 ^ 64 - 1 }

@@ -39,7 +39,7 @@ pub(crate) struct Made<'a, H: AllocGlobal + Files, D: Disk> {
     pub(crate) note: Vec<u8>,
 }
 
-/// The session that begins on the file of this path, behind the records of a script where one is named.
+/// The session that begins on the file of this path, after the records of a script where one is named.
 ///
 /// # Errors
 ///
@@ -88,7 +88,7 @@ fn make_on<'a, H: AllocGlobal + Files, D: Disk + Drop>(
     }
 }
 
-/// The session that begins on a file as it was found, behind these bytes of a script where one is named.
+/// The session that begins on a file as it was found, after these bytes of a script where one is named.
 fn make_with<'a, H: AllocGlobal + Files, D: Disk + Drop>(
     rt: &'a H,
     words: &DeskWords,
@@ -200,7 +200,7 @@ fn refused(alloc: Global, words: &DeskWords, path: &str, fault: JournalFault) ->
     }
 }
 
-/// The note behind a fault of these lines in the file of this name, where it is asked for.
+/// The note after a fault of these lines in the file of this name, where it is asked for.
 fn note_of(
     alloc: Global,
     asked: bool,

@@ -2,7 +2,7 @@ use pf_desk::snapshot::Snapshot;
 use pf_fault::ending::Ending;
 use pf_fault::fault::Fault;
 
-/// What a task came to, and the notes that are told behind it; a fault in their place where they could not be had.
+/// What a task came to, and the notes that are told after it; a fault in their place where they could not be had.
 #[derive(Drop)]
 pub(crate) struct Noted {
     /// What it came to.

@@ -27,7 +27,7 @@ use std::fs::File;
 use std::io::{ErrorKind, Read};
 use std::rt::Files;
 
-/// The notes behind what a task answers to the script of this file, or behind its fault.
+/// The notes after what a task answers to the script of this file, or after its fault.
 ///
 /// # Errors
 ///
@@ -52,7 +52,7 @@ pub(crate) fn notes_behind<A>(
     }
 }
 
-/// What a task came to with the script of this file, or with its list of tasks, and the notes behind that.
+/// What a task came to with the script of this file, or with its list of tasks, and the notes after that.
 pub(crate) fn with_notes(
     alloc: Global,
     noting: Noting,
@@ -68,7 +68,7 @@ pub(crate) fn with_notes(
 }
 
 /// The same of a task that ended so. What a script of any version has carried out is this text, of version 1 or 2, with these origins
-/// where it is of version 3, and these names: behind a run the notes are made of the desk that it left.
+/// where it is of version 3, and these names: after a run the notes are made of the desk that it left.
 #[tactic(auto, using(crate::proofs::RunNotes::run_noted))]
 pub(crate) fn end_with_notes(
     alloc: Global,
@@ -96,7 +96,7 @@ pub(crate) fn end_with_notes(
     }
 }
 
-/// The notes behind a run of this text, by the desk that carried it out, where they are asked for and follow.
+/// The notes after a run of this text, by the desk that carried it out, where they are asked for and follow.
 fn run_notes(
     alloc: Global,
     noting: Noting,
@@ -118,7 +118,7 @@ fn run_notes(
     }
 }
 
-/// What is told behind the fault for which the script of this file could not be had, or that of standard input.
+/// What is told after the fault for which the script of this file could not be had, or that of standard input.
 ///
 /// # Errors
 ///

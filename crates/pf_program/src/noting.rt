@@ -9,7 +9,7 @@ use pf_options::format::Format;
 use pf_options::slot_range::SlotRange;
 use pf_words::task::Task;
 
-/// What is to be told of a script behind what a task answers to it.
+/// What is to be told of a script after what a task answers to it.
 #[derive(Clone, Copy)]
 pub(crate) struct Noting {
     /// Whether anything is.
@@ -32,7 +32,7 @@ impl Noting {
         }
     }
 
-    /// The same behind this answer: its notes do not follow where it tells of a mistake in what the words ask for.
+    /// The same after this answer: its notes do not follow where it tells of a mistake in what the words ask for.
     pub(crate) fn behind(self, answer: &Result<Ending, Fault>) -> Noting
         ensures { result ≡ noting_behind self answer.now }
     {

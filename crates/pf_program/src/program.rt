@@ -47,7 +47,7 @@ const NO_TEXT: &str = "error: invalid UTF-8 was detected in one or more argument
 /// script is that of the file that the words name, and else the reader's, and so is the list; a drill's is always the reader's.
 /// Of two the first is read first, and the second where the first has no fault. Without words the script is run in the format
 /// `Tables`. The text of a fault goes to `faults`, whose own faults are passed over, and so do notes, where the words ask for them
-/// or name a file: which file, record or word a fault is of, and behind a script that was carried out what was refused, denied and
+/// or name a file: which file, record or word a fault is of, and after a script that was carried out what was refused, denied and
 /// missed. Where the output fails since nobody reads it any more, nothing is told. Answers the status to exit with: 0 where the
 /// script was done, a check found no fault, a plan or a quantum fits, or help was shown, 1 where the script has a bad record or is
 /// too long, where the list has a fault, or where something differs and the words ask for a status of that, 2 where the words are

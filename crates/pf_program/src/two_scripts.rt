@@ -31,7 +31,7 @@ use std::rt::Files;
 /// Compares the desks at the ends of two scripts, each of a file or all that the reader has left, and writes what differs; has the
 /// notes of both, where they are asked for. Of the first script its snapshot and its notes alone are in memory when the second is
 /// read, which is only where the first has no fault. The outcome is a fault of reading the first script and of carrying it out,
-/// then of the second; `Write` where the writer fails or takes nothing: a front of the text was written. Behind any other nothing
+/// then of the second; `Write` where the writer fails or takes nothing: a front of the text was written. After any other nothing
 /// was. The counts of failures of both streams must be below `u64::MAX` before the call.
 pub(crate) fn compare_scripts<H: AllocGlobal + Files, R: Source, W: Sink>(
     rt: &H,

@@ -33,7 +33,7 @@ pub record IsPoint (q : List Slot) (xs : List Numbered) : Type 0 where
   pub past : All (λ x. slot_of x.event ≤ length q) xs
   pub fresh : (task : ℕ) → joins_of task xs ≡ 0 → (has_left xs task ≡ false) × (count_by (runs task) q ≡ 0)
 
--- a point between the events of a slot: behind the slots q the events xs are in force, and ys are to come
+-- a point between the events of a slot: after the slots q the events xs are in force, and ys are to come
 pub record IsBetween (s : Plan) (q : List Slot) (xs ys : List Numbered) : Type 0 where
   pub more : List Numbered
   pub grown : xs ≡ events_in_force s q (length q) ++ more

@@ -122,7 +122,7 @@ module _ (s : Plan) (scenario : IsScenario s) (r : List Slot) (run : IsRun s (le
     pub due_late : (i : ℕ) → i ≤ due_of r end_now j i
     due_late i = omega (arith, deadline_late w i share)
 
-    -- it joined where its shift lies behind
+    -- it joined where its shift lies after
     joined_now : (v : ℕ) → v < length r → j.slot ≤ v → Contains (joined_of base (events_in_force s r (suc v))) j
     joined_now v lt slot =
         let rest : Splits s r (suc v) (length r) = splits s r (suc v) (length r) lt in
@@ -213,7 +213,7 @@ module _ (s : Plan) (scenario : IsScenario s) (r : List Slot) (run : IsRun s (le
           omega (arith, none, one, ap (λ m. deadline_of w m + shift m + bit_of w m) same))
           (cases_lt (suc i) n)
 
-    -- where a leave is at or behind a slot, one that is in force by v is so too
+    -- where a leave is at or after a slot, one that is in force by v is so too
     leave_later : (due v : ℕ) → v < length r → leaves_after end_now j due ≡ true → (x : Numbered) →
         Contains (events_in_force s r (suc v)) x → is_leave_of j.task x.event ≡ true → due ≤ v
     leave_later due v lt after x at leaves = by (find (λ y. is_leave_of j.task y.event) end_now) refl after where

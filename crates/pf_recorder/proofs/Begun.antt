@@ -1,4 +1,4 @@
--- What a file has behind its opening.
+-- What a file has after its opening.
 use Rattle.std.proofs.Common.{◌≡◌, ℕ, List, [], ◌∷◌, ◌++◌, length, refl, sym, ◌∙◌, ap, arith}
 use Rattle.std.proofs.lemmas.List.{append-nil}
 use Rattle.pf_journal.specs.Crash.{IsWithFront}

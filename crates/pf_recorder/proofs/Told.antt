@@ -10,7 +10,7 @@ use Rattle.pf_sitting.specs.Scripts.{IsOfLines}
 use Rattle.pf_sitting.specs.declared.answers.Going.{Going}
 use Rattle.pf_sitting.specs.declared.answers.Going.TheVariants.{On, Ends}
 
--- lines behind lines
+-- lines after lines
 lines_append : (a b : List ℕ) → IsOfLines a → IsOfLines b → IsOfLines (a ++ b)
 lines_append a b is (inl none) = subst IsOfLines (sym (ap (λ (t : List ℕ). a ++ t) none ∙ append-nil a)) is
 lines_append a b is (inr end) = inr (a ++ end.0, ap (λ (t : List ℕ). a ++ t) end.1 ∙ sym (append_assoc a end.0 (10 ∷ [])))
@@ -32,7 +32,7 @@ whole_append a b (inr end) =
     ap (λ (t : List ℕ). whole_lines (t ++ b)) end.1 ∙ whole_ended [] end.0 b
     ∙ sym (ap (λ (t : List ℕ). whole_lines t ++ whole_lines b) end.1)
 
--- the lines that wait behind some answers
+-- the lines that wait after some answers
 record IsLonger {S D : Type 0} (script : S → List ℕ) (r t : Recording S D) : Type 0 where
   more : List ℕ
   lines : IsOfLines more
@@ -82,7 +82,7 @@ answered_lines answers script lines r text Ends t h =
     answered_both script r h.mid t (answered_all answers script h.done r h.front h.mid h.answered)
     (answered_one answers script h.mid h.last h.answer Ends t h.ended)
 
--- what waited behind some answers was put
+-- what waited after some answers was put
 kept_behind : {S D : Type 0} (script : S → List ℕ) (seen : D → List ℕ) (may_leave : D → List ℕ → Type 0) (is_clean : D → Bool)
     (r m t : Recording S D) → IsSettled seen may_leave is_clean r → IsLonger script r m → Keeps seen may_leave is_clean m t
     → HasLines script seen may_leave is_clean r t

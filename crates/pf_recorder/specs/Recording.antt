@@ -51,7 +51,7 @@ pub record Loses {S D : Type 0} (seen : D → List ℕ) (may_leave : D → List 
       → IsWithFront (records_of (seen r.file)) (whole_lines r.waiting) c
   pub same : is_some r.lost ≡ true → (t.file ≡ r.file) × (t.lost ≡ r.lost)
 
--- the records of a script: its lines behind the heading
+-- the records of a script: its lines after the heading
 abbrev pub records_in : List ℕ → List (List ℕ)
 records_in script = drop 1 (whole_lines script)
 

@@ -1,5 +1,5 @@
 //! Who sits at a desk and keeps what was answered in a journal. The one contract of this crate: what is kept of an answer is on the
-//! disk before the answer is told, all lines that the script got by it, behind those before; where it can't be, a crash leaves a front
+//! disk before the answer is told, all lines that the script got by it, after those before; where it can't be, a crash leaves a front
 //! of these lines.
 #![tactic(auto)]
 

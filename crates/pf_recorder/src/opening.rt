@@ -20,7 +20,7 @@ impl<S: Scripted + Drop, D: Disk + Drop> Recorder<S, D> {
     ///
     /// # Errors
     ///
-    /// Those of `Found::open` and `Journal::put_lines`, with the file. A crash leaves the records that it had, and behind them none, or
+    /// Those of `Found::open` and `Journal::put_lines`, with the file. A crash leaves the records that it had, and after them none, or
     /// where it had none a front of those of the script.
     pub fn open(alloc: Global, found: Found<D>, machine: S) -> Result<Self, Failed<D>>
         requires { IsFound D.Disk.seen D.Disk.may_leave D.Disk.is_usable D.Disk.is_clean found }
@@ -89,7 +89,7 @@ fn put_all<D: Disk + Drop>(
     }
 }
 
-/// The lines of a script behind its first one.
+/// The lines of a script after its first one.
 fn behind_heading(script: &[u8]) -> &[u8]
     ensures { whole_lines result.now ≡ records_in script.now }
 {

@@ -33,7 +33,7 @@ rises stage number lines (fields ∷ records) bound h =
     by_record stage number bound (line_at lines) fields (λ next. readings_from next (number + 1) (lines_behind lines) records) (record_at stage fields) h
     (λ next least below. rises next (number + 1) (lines_behind lines) records least below)
 
--- Use: those behind the settings of a script.
+-- Use: those after the settings of a script.
 pub told_rise : (script : List ℕ) (opening : ScriptSettings) (lines : LinesTold) → told script ≡ record { opening = Some opening; rest = lines }
     → RiseAbove 0 lines.lines
 told_rise script opening lines is =

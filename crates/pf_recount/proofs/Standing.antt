@@ -23,7 +23,7 @@ first_of (x ∷ xs) = refl
 pub given_origin : (xs : List Origin) (i : ℕ) (d : Origin) → unwrap_or (slice_get xs i) d ≡ slice_index_or xs i d
 given_origin xs i d = unwrap_or-slice_get xs i d
 
--- Use: the line behind so many.
+-- Use: the line after so many.
 pub line_behind : (xs ys : List ℕ) (k n : ℕ) → ys ≡ drop k xs → k ≡ n → line_at ys ≡ slice_index_or xs n 0
 line_behind xs ys k n left is =
     let m : k + 0 ≡ n = omega (arith, is) in
@@ -35,7 +35,7 @@ one_behind zero (x ∷ xs) = refl
 one_behind (suc k) [] = refl
 one_behind (suc k) (x ∷ xs) = one_behind k xs
 
--- Use: the lines left behind one more.
+-- Use: the lines left after one more.
 pub more_behind : (xs ys zs : List ℕ) (k n : ℕ) → ys ≡ drop k xs → zs ≡ lines_behind ys → n ≡ k + 1 → zs ≡ drop n xs
 more_behind xs ys zs k n left behind is =
     let m : suc k ≡ n = omega (arith, is) in

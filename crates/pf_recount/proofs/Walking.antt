@@ -55,7 +55,7 @@ pub ok_anyway : {A E : Type 0} (r : Result A E) (P : Type 0) → P → OnOk r P
 ok_anyway (Ok x) P h = h
 ok_anyway (Err e) P h = tt
 
--- the commands behind the first
+-- the commands after the first
 abbrev behind_first : List Command → List Command
 behind_first [] = []
 behind_first (command ∷ commands) = commands
@@ -75,7 +75,7 @@ module _ (command : Command) (came : Outcome) (old new : List Entry) (taken : Ta
   pub answer_rest : (rest : List Command) → asked_in old ≡ command ∷ rest → asked_in new ≡ rest
   answer_rest rest is = ap behind_first (sym (ap asked_in taken.taken) ∙ is)
 
--- the state behind some commands, and then others
+-- the state after some commands, and then others
 behind-append : (st : State) (xs ys : List Command) → state_behind st (xs ++ ys) ≡ state_behind (state_behind st xs) ys
 behind-append st [] ys = refl
 behind-append st (x ∷ xs) ys = behind-append (state_after st x (reply_to st x)) xs ys
@@ -193,7 +193,7 @@ module _ (origins : Option (List Origin)) (script : List ℕ) (bound number : �
       ∙ ap (λ o. behind_change file names whole st.plan (place_of origins script number) change o was) (refused_is fault is)
   refused_value file names whole (Err e) fault place was now is stands refused = tt
 
--- Use: the entries behind that of a change.
+-- Use: the entries after that of a change.
 pub change_rest : {A E : Type 0} (r : Result A E) (change : Change) (strict : Bool) (came : Outcome) (old new : List Entry)
     → TakesAnswer (Edit change strict) came old new → (rest : List Command)
     → asked_in old ≡ commands_of (line.Edit change strict) ++ rest → OnOk r (asked_in new ≡ rest)

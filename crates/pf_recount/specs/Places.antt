@@ -23,7 +23,7 @@ ArePlaces origins script bound (Origins told) = origins ≡ Some told.now
 ArePlaces origins script bound (Lines left) =
     (origins ≡ None) × (lines_left left.lines ≡ drop left.behind (record_lines script)) × (left.behind ≤ bound)
 
--- the place of the record of this number was told by the lines behind so many records, and those behind it are left
+-- the place of the record of this number was told by the lines after so many records, and those after it are left
 pub record IsBehind (number : ℕ) (old : List ℕ) (old_behind : ℕ) (place : Place) (new : List ℕ) (new_behind : ℕ) : Type 0 where
   pub place_is : place ≡ record { «record» = number; line = slice_index_or old (number - old_behind - 1) 0 }
   pub left : new ≡ drop (number - old_behind) old

@@ -27,7 +27,7 @@ use Rattle.pf_recount.specs.declared.outcome.Outcome.{Outcome}
 use Rattle.pf_recount.specs.declared.outcome.Outcome.TheVariants.{Done, Refused}
 use Rattle.pf_recount.specs.declared.refused_record.RefusedRecord.{RefusedRecord}
 
--- behind some records: by the number of each event the place of the record that made it as it stands, what is kept of refused
+-- after some records: by the number of each event the place of the record that made it as it stands, what is kept of refused
 -- commands, and the refused records, where they are kept
 pub record Recounted : Type 0 where
   pub made : List Place
@@ -58,7 +58,7 @@ refused_change s place change fault = record { place = place; fault = fault; eve
 abbrev pub refused_steps : Place → ℕ → RefusedRecord
 refused_steps place refused = record { place = place; fault = AtHorizon; event = None; steps = Some refused }
 
--- behind a record whose change was made, or refused by this scenario
+-- after a record whose change was made, or refused by this scenario
 abbrev pub behind_making : Place → Change → Recounted → Recounted
 behind_making place change c = record c { made = made_after c.made place change }
 
@@ -68,12 +68,12 @@ behind_refusal file names whole s place change fault c = record c {
   refused = with_record whole c.refused (refused_change s place change fault);
 }
 
--- behind a record with this change, which came to this in a scenario
+-- after a record with this change, which came to this in a scenario
 abbrev pub behind_change : List ℕ → List Named → Bool → Plan → Place → Change → Outcome → Recounted → Recounted
 behind_change file names whole s place change Done c = behind_making place change c
 behind_change file names whole s place change (Refused fault) c = behind_refusal file names whole s place change fault c
 
--- behind a record with so many steps, of which so many were refused at the horizon
+-- after a record with so many steps, of which so many were refused at the horizon
 abbrev pub behind_steps : List ℕ → Bool → Place → ℕ → ℕ → ℕ → Recounted → Recounted
 behind_steps file whole place horizon steps refused c =
     record c {
@@ -85,14 +85,14 @@ abbrev pub behind_steps_if : List ℕ → Bool → Place → ℕ → ℕ → ℕ
 behind_steps_if file whole place horizon steps refused c =
     if refused == 0 then c else behind_steps file whole place horizon steps refused c
 
--- behind a record that asks for this in a state
+-- after a record that asks for this in a state
 abbrev pub behind_line : List ℕ → List Named → Bool → State → Place → Line → Recounted → Recounted
 behind_line file names whole st place (Edit change strict) c =
     behind_change file names whole st.plan place change (outcome_of (reply_to st (command.Edit change strict))) c
 behind_line file names whole st place (Steps count) c =
     behind_steps_if file whole place st.plan.settings.horizon count (refused_in st (replicate count command.Step)) c
 
--- behind these records, whose places are those of their numbers, from a state on
+-- after these records, whose places are those of their numbers, from a state on
 abbrev pub behind_lines : List ℕ → List Named → Bool → (ℕ → Place) → State → List LineTold → Recounted → Recounted
 behind_lines file names whole place_at st [] c = c
 behind_lines file names whole place_at st (line ∷ lines) c =

@@ -16,7 +16,7 @@ use Rattle.pf_recount.specs.Recount.{Recounted, behind_line, behind_lines}
 use Rattle.pf_recount.specs.Replies.{IsOwn}
 use Rattle.pf_recount.specs.declared.stop.Stop.{Stop}
 
--- it stands behind records up to this number, where the machine is in this state
+-- it stands after records up to this number, where the machine is in this state
 pub record IsAt (origins : Option (List Origin)) (script : List ℕ) (bound : ℕ) (st : State) (c : Course) : Type 0 where
   pub places : ArePlaces origins script bound c.places
   pub scenario : c.scenario ≡ st.plan
@@ -32,9 +32,9 @@ abbrev pub TakesLine : Option LineTold → List LineTold → List LineTold → T
 TakesLine None old new = old ≡ []
 TakesLine (Some told) old new = old ≡ told ∷ new
 
--- it went over a record of this number, which asks for this, where it is not stopped: it then stands behind it, and what the
+-- it went over a record of this number, which asks for this, where it is not stopped: it then stands after it, and what the
 -- records came to is what they come to with this one; and it is stopped by running out of memory alone where the history has the
--- commands of the record, and then has those behind it
+-- commands of the record, and then has those after it
 pub record Walks (file : List ℕ) (names : List Named) (whole : Bool) (number : ℕ) (asks : Line) (r : Result (Unit {0}) Stop)
     (before : Course) (was : Recounted) (behind : Course) (now : Recounted) : Type 0 where
   pub course : (origins : Option (List Origin)) (script : List ℕ) (bound : ℕ) (st : State) → IsAt origins script bound st before → bound < number →
@@ -45,7 +45,7 @@ pub record Walks (file : List ℕ) (names : List Named) (whole : Bool) (number :
       asked_in before.replies ≡ commands_of asks ++ rest → IsOwn r
   pub rest : (rest : List Command) → asked_in before.replies ≡ commands_of asks ++ rest → OnOk r (asked_in behind.replies ≡ rest)
 
--- it stands somewhere behind records; with those that are left they come to `whole`, and the history has the commands of those
+-- it stands somewhere after records; with those that are left they come to `whole`, and the history has the commands of those
 -- left, where it had those of all
 pub record Stands (file : List ℕ) (names : List Named) (keeps : Bool) (origins : Option (List Origin)) (script : List ℕ) (c : Course)
     (recounted : Recounted) (left : List LineTold) (whole : Recounted) (had : Type 0) : Type 0 where

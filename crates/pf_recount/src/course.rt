@@ -9,6 +9,6 @@ pub(crate) struct Course<'a> {
     pub(crate) places: Places<'a>,
     /// The entries of their commands.
     pub(crate) replies: Replies<'a>,
-    /// The scenario behind the records so far.
+    /// The scenario after the records so far.
     pub(crate) scenario: Scenario,
 }

@@ -95,7 +95,7 @@ impl LinesLeft<'_> {
     }
 }
 
-/// The line of the record of this number, where these are the lines behind so many records.
+/// The line of the record of this number, where these are the lines after so many records.
 fn line_of(lines: &mut RecordLines<'_>, behind: u64, number: u64) -> u64
     requires { behind < number }
     ensures line { result ≡ slice_index_or (lines_left lines.old) (number - behind - 1) 0 }

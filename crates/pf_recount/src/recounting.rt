@@ -163,7 +163,7 @@ fn take_line(
     }
 }
 
-/// The next record, which is read into `row`; none behind the last one, and from the first bad one on.
+/// The next record, which is read into `row`; none after the last one, and from the first bad one on.
 fn next_line(lines: &mut LineReader<'_>, row: &mut ByteRecord) -> Result<Option<LineTold>, Stop>
     ensures taken { IfOk result (λ told. TakesLine told lines.old.lines lines.new.lines) }
     ensures own { IsOwn result }

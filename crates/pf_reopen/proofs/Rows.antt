@@ -25,13 +25,13 @@ turns_push s r (x ∷ slots) slot =
     ap (λ turns. first ∷ turns) (turns_push s (r ++ x ∷ []) slots slot)
     ∙ (λ k. first ∷ (before ++ (count_in_last s (append_assoc r (x ∷ []) (slots ++ slot ∷ []) k), slot.picks) ∷ []))
 
--- the events in force behind a run are those of its course
+-- the events in force after a run are those of its course
 standing_in_force : (s : Plan) (n : ℕ) → IsScenario s → (course_of s n).standing ≡ events_in_force s (run_of s n) (length (run_of s n))
 standing_in_force s n scenario =
     (course_is_run s n scenario).stands ∙ ap (events_in_force s (run_of s n)) (sym (computed_length s n scenario))
 
 module _ (f : ℕ → ℕ) (s : Plan) (next : ℕ) (of_s : IsScenario s) (of_new : IsScenario (plan_under f s next)) (rise : Pairs (RiseUnder f) s.events) where
-  -- what is in force behind the run
+  -- what is in force after the run
   pub in_force_kept : (n : ℕ) → events_in_force (plan_under f s next) (map (slot_under f) (run_of s n)) (length (map (slot_under f) (run_of s n)))
       ≡ map (renumber f) (events_in_force s (run_of s n) (length (run_of s n)))
   in_force_kept n =

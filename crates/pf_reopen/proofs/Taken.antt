@@ -67,7 +67,7 @@ taken settings (y ∷ ys) xs n next few free joins leaves =
           joins.1 leaves.1,
     )
 
--- behind those held they get the next numbers
+-- after those held they get the next numbers
 held_then : (settings : System) (ys xs : List Numbered) (n : ℕ)
     → inserted (plan_of settings xs n) (events_held ys) ≡ plan_of settings (xs ++ numbered_from n (events_held ys)) (n + length ys)
 held_then settings [] xs n =

@@ -21,7 +21,7 @@ one_taken (Edited id) taken = refl
 one_taken (Stepped slot row) taken = refl
 one_taken (Refused fault) taken = absurd taken
 
--- of some commands and others behind them that the machine takes, ..
+-- of some commands and others after them that the machine takes, ..
 none_of : (st : State) (cs rest : List Command) → TakesAll st (cs ++ rest) → refused_in st cs ≡ 0
 none_of st [] rest takes = refl
 none_of st (c ∷ cs) rest takes =
@@ -35,7 +35,7 @@ takes_behind st [] rest takes = takes
 takes_behind st (c ∷ cs) rest takes =
     subst (λ (at : State). TakesAll (state_behind at cs) rest) (sym (taken_next st c (reply_to st c) takes.0)) (takes_behind (next_state st c) cs rest takes.1)
 
--- .. and of a record and those behind it
+-- .. and of a record and those after it
 line_taken : (st : State) (place : Place) (asks : Line) (rest : List Command) (c : Recounted) → TakesAll st (commands_of asks ++ rest)
     → (behind_line [] [] true st place asks c).refused ≡ c.refused
 line_taken st place (Edit change strict) rest c takes = by (reply_to st (command.Edit change strict)) takes.0

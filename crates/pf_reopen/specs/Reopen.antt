@@ -50,11 +50,11 @@ abbrev pub lines_told : ℕ → List Line → List LineTold
 lines_told number [] = []
 lines_told number (line ∷ lines) = record { number = number; asks = line } ∷ lines_told (number + 1) lines
 
--- the number of the first record behind the settings: a heading stands before those that are wide
+-- the number of the first record after the settings: a heading stands before those that are wide
 abbrev pub first_number : System → ℕ
 first_number settings = if settings.horizon == near_horizon then 2 else 3
 
--- the settings, and these lines behind them, none of them bad
+-- the settings, and these lines after them, none of them bad
 abbrev pub told_of : ℕ → System → List Line → Told
 told_of every settings lines = record {
   opening = Some (record { version = version_of settings; settings = settings; every = every });

@@ -51,7 +51,7 @@ pub fn scripts_reopen_desks()
 {}
 
 /// A run of the script of a snapshot, with whatever titles, ends with no bad record: it reports what was seen, with the events
-/// numbered from 1 on, behind the replies where its format has them.
+/// numbered from 1 on, after the replies where its format has them.
 pub fn scripts_run_again()
     ensures { ScriptsRunAgain }
 {}

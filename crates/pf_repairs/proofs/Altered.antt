@@ -58,7 +58,7 @@ without_altered id event (x ∷ xs) = without_by id event x xs (x.id == id) refl
 pub strike_altered : (s : Plan) (id : ℕ) (event : Event) → plan_after (plan_after s (Alter id event)) (Strike id) ≡ plan_after s (Strike id)
 strike_altered s id event = ap (λ xs. record { settings = s.settings; events = xs; next = s.next }) (without_altered id event s.events)
 
--- a search behind elements none of which passes
+-- a search after elements none of which passes
 search_behind : {X : Type 0} (p : X → Bool) (xs ys : List X) → list_any p xs ≡ false → find p (xs ++ ys) ≡ find p ys
 search_behind p xs ys none = find-append p xs ys ∙ ap (λ o. option_or o (find p ys)) (find_none p xs none)
 

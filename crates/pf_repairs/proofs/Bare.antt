@@ -178,7 +178,7 @@ module _ (id : ℕ) where
   slot_kept s t =
       ap in_run_order (filters_swap (is_of_slot t) is_other s.events) ∙ sym (filter-sorted_by is_other run_cmp_total (filter (is_of_slot t) s.events))
 
-  -- Use: the whole run, where the event is not in force behind it.
+  -- Use: the whole run, where the event is not in force after it.
   pub course_kept : (s : Plan) (n : ℕ) → is_held (course_of s n).standing id ≡ false → course_of (plan_after s (Strike id)) n ≡ course_without (course_of s n)
   unfolding course_of
   course_kept s zero out = refl

@@ -1,4 +1,4 @@
--- Searches through lists, and the tasks inside behind events in force.
+-- Searches through lists, and the tasks inside after events in force.
 use Rattle.std.proofs.Common.{◌≡◌, ℕ, ◌==◌, Bool, true, false, not, Option, None, Some, List, [], ◌∷◌, cond, find, filter_map, refl, sym, ap, ◌∙◌}
 use Rattle.std.specs.List.{cons_option}
 use Rattle.std.specs.Option.{option_and_then}

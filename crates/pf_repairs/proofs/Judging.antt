@@ -35,7 +35,7 @@ module _ (st : System) (r : List Slot) (id t task : ℕ) where
   abbrev pub leave : Numbered
   leave = record { id = id; event = Leave t task }
 
-  -- what is inside behind events that change nothing of the task
+  -- what is inside after events that change nothing of the task
   same_member : (xs ys : List Numbered) → ((j : Joined) → member_of r ys j ≡ member_of r xs j)
       → find (λ (j : Joined). j.task == task) (inside st.base ys) ≡ find (λ (j : Joined). j.task == task) (inside st.base xs)
       → member_at st.base r ys task ≡ member_at st.base r xs task
@@ -126,7 +126,7 @@ module _ (st : System) (r : List Slot) (id t task : ℕ) where
       ∙ ap (leave_denial t) (passed xs y.id y.event o low
       (not_of_task y (All-head (λ (y : Numbered). is_leave_of task y.event ≡ true → (y.id == id) ≡ true) y ys are.leaves) is))
 
-  -- Use: it is denied as the rule says of the task behind the events before the slot.
+  -- Use: it is denied as the rule says of the task after the events before the slot.
   pub judged : (xs ys : List Numbered) → AreOfSlot ys → is_held ys id ≡ true
       → denial_by id (denials_among st r xs ys) ≡ leave_denial t (member_at st.base r xs task)
   judged xs [] are held = cc

@@ -29,7 +29,7 @@ object_parts titles denials entries lags misses now schedule = by titles.is_thir
     by true names slot = refl
     by false names slot = refl
 
--- of an object's four arrays, each behind its key, the text is that of the object
+-- of an object's four arrays, each after its key, the text is that of the object
 pub keyed_parts : (titles : Titles) (denials : Items) (entries : ℕ) (lags misses : Items) (now : ℕ) (schedule : Items)
     (key-denials key-lags key-misses key-schedule from-denials from-lags from-misses from-schedule end : List ℕ)
     → key-denials ≡ codes "{\"denials\":" → from-denials ≡ key-denials ++ (compact_text (array denials) ++ from-lags)

@@ -11,7 +11,7 @@ use Rattle.pf_report.specs.Quanta.{quantum_records, row_records, quanta_records}
 use Rattle.pf_text.specs.Page.{table_text}
 use Rattle.pf_report.proofs.Parted.{front_row}
 
--- some records are written, and those left behind them
+-- some records are written, and those left after them
 pub records_written : (text whole : List ℕ) (written rest : List (List (List ℕ))) → text ++ table_text (written ++ rest) ≡ whole
     → (text ++ table_text written) ++ table_text rest ≡ whole
 records_written text whole written rest h =

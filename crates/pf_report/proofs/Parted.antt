@@ -11,7 +11,7 @@ use Rattle.pf_report.specs.Part.{Part, part_records}
 use Rattle.pf_report.specs.Tables.{schedule_records, sitter_field}
 use Rattle.pf_report.proofs.Recorded.{row_first}
 
--- behind as many slots as the range has, none is left
+-- after as many slots as the range has, none is left
 pub none_behind : (p : Part) → p.from ≤ p.to → p.to ≤ length p.seen.rows → part_records p (p.to - p.from) ≡ []
 none_behind p order within =
     let at : p.from + (p.to - p.from) ≡ p.to = omega arith in

@@ -30,7 +30,7 @@ ok_retold (Err e) new xs ys same h = tt
 pub ten_digits : (n : ℕ) → n < 2 ^ 32 → length (decimal n) ≤ 10
 ten_digits n fits = length-decimal-le 10 n (omega arith) (omega arith) (omega arith)
 
--- the places below `from`, and behind them those below `to`
+-- the places below `from`, and after them those below `to`
 pub places_more : (row : List (Option Pick)) (from to : ℕ) → from ≤ to
     → flat_map place_text (take from row) ++ flat_map place_text (drop from (take to row)) ≡ flat_map place_text (take to row)
 places_more row from to order =

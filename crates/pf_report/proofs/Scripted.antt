@@ -7,7 +7,7 @@ use Rattle.pf_names.specs.declared.titles.Titles.{Titles}
 use Rattle.pf_report.specs.Script.{heading_records, settings_record, insert_records, name_record, slot_records, step_records, script_text_of, title_records}
 use Rattle.pf_text.specs.Page.{table_text}
 
--- the opening, the events and the steps, one behind another
+-- the opening, the events and the steps, one after another
 pub script_parts : (every : ℕ) (seen : Seen) (titles : Titles)
     → ((table_text (heading_records seen.state.plan.settings titles) ++ table_text (settings_record seen.state.plan.settings every ∷ []))
     ++ table_text (title_records titles))
@@ -29,6 +29,6 @@ script_parts every seen titles =
     ∙ sym (append_assoc (table_text heading ++ table_text (settings ∷ [])) (table_text told) (table_text inserts ++ table_text steps))
     )
 
--- the length of a slot, and the names behind it
+-- the length of a slot, and the names after it
 pub title_parts : (titles : Titles) → table_text (slot_records titles.slot) ++ table_text (map name_record titles.names) ≡ table_text (title_records titles)
 title_parts titles = sym (flat_map-append (row_text default_writer) (slot_records titles.slot) (map name_record titles.names))

@@ -33,7 +33,7 @@ early = seen_after 3 (plan_with 1 4 4 (Join 0 1 1 4 4 ∷ [])) 2
 abbrev pub overload_seen : Seen
 overload_seen = seen_after 6 (plan_with 1 1 2 two_joins) 4
 
--- a delay after the release, a leave before its time, and a leave of nobody behind which a join is denied
+-- a delay after the release, a leave before its time, and a leave of nobody after which a join is denied
 abbrev pub late_delay : Seen
 late_delay = seen_after 5 (plan_with 1 2 4 (Join 0 1 1 1 0 ∷ Join 0 2 1 2 0 ∷ Delay 1 2 1 ∷ [])) 2
 

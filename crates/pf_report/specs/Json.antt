@@ -94,7 +94,7 @@ report_data seen titles =
 abbrev pub json_text : Seen → Titles → List ℕ
 json_text seen titles = compact_text (report_data seen titles)
 
--- the text of the members of version 3, each behind its key
+-- the text of the members of version 3, each after its key
 abbrev pub names_part : Titles → List ℕ
 names_part titles = if titles.is_third then codes ",\"names\":" ++ compact_text (array_data name_data titles.names) else []
 

@@ -56,7 +56,7 @@ insert_records events = map (λ x. insert_record x.event) events
 abbrev pub step_records : ℕ → List (List (List ℕ))
 step_records n = if n == 0 then [] else (codes "step" ∷ decimal n ∷ []) ∷ []
 
--- the records of the script: the settings, behind the heading where it has one; what the desk does not hold; the events held, by
+-- the records of the script: the settings, after the heading where it has one; what the desk does not hold; the events held, by
 -- number; the steps
 abbrev pub script_rows : ℕ → Seen → Titles → List (List (List ℕ))
 script_rows every seen titles =

@@ -29,7 +29,7 @@ sitter_field (Some pick) = pick_text pick
 abbrev pub schedule_heading : ℕ → List (List ℕ)
 schedule_heading m = codes "slot" ∷ map (λ p. codes "p" ++ decimal p) (range_with_len 0 m)
 
--- the rows of the slots from t on, each behind its slot
+-- the rows of the slots from t on, each after its slot
 abbrev pub schedule_records : ℕ → List (List (Option Pick)) → List (List (List ℕ))
 schedule_records t [] = []
 schedule_records t (row ∷ rows) = (decimal t ∷ map sitter_field row) ∷ schedule_records (t + 1) rows
@@ -38,7 +38,7 @@ abbrev pub lag_record : Lag → List (List ℕ)
 lag_record lag =
     decimal lag.task ∷ decimal lag.cost ∷ decimal lag.period ∷ decimal lag.received ∷ signed_decimal lag.scaled ∷ []
 
--- behind it in version 3 the name of its task
+-- after it in version 3 the name of its task
 abbrev pub named_lag_record : Titles → Lag → List (List ℕ)
 named_lag_record titles lag = lag_record lag ++ name_fields titles lag.task
 

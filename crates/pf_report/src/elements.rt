@@ -33,7 +33,7 @@ pub trait Elements {
         ensures plain { IfOk result (λ v. has_float (view v) ≡ false) };
 }
 
-/// Adds the element at a place to a piece, behind a comma where it is not the first.
+/// Adds the element at a place to a piece, after a comma where it is not the first.
 fn push_element<E: Elements>(
     alloc: Global,
     piece: &mut Vec<u8>,

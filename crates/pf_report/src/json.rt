@@ -167,7 +167,7 @@ pub type JsonPieces<'a> = KeyedArray<
     KeyedArray<LagRows, KeyedArray<MissRows, KeyedArray<ScheduleRows<'a>, Whole>>>,
 >;
 
-/// An array behind its key, and what follows.
+/// An array after its key, and what follows.
 fn keyed<E: Elements, B: Pieces>(key: Vec<u8>, elements: E, behind: B) -> KeyedArray<E, B>
     ensures { result ≡ key.items ++ (compact_text (array (items_of (E.rest elements 0))) ++ B.left behind) }
 {
@@ -187,7 +187,7 @@ fn schedule_key(alloc: Global, titles: &Titles, now: u64) -> Result<Vec<u8>, All
     Ok(text)
 }
 
-/// What stands behind the schedule: the length of a slot, where the script is of version 3, and the object's end.
+/// What stands after the schedule: the length of a slot, where the script is of version 3, and the object's end.
 fn end_text(alloc: Global, titles: &Titles) -> Result<Vec<u8>, AllocError>
     ensures { IfOk result (λ text. text.items ≡ slot_part titles.now ++ codes "}") }
 {

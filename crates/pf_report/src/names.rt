@@ -86,7 +86,7 @@ impl Elements for NameRows<'_> {
     }
 }
 
-/// The names behind their key, where the script is of version 3, and else nothing.
+/// The names after their key, where the script is of version 3, and else nothing.
 ///
 /// # Errors
 ///
@@ -105,7 +105,7 @@ pub(crate) fn names_part(alloc: Global, titles: &Titles) -> Result<Vec<u8>, Allo
     Ok(text)
 }
 
-/// The length of a slot behind its key, where the script is of version 3, and else nothing.
+/// The length of a slot after its key, where the script is of version 3, and else nothing.
 ///
 /// # Errors
 ///

@@ -165,7 +165,7 @@ fn push_edit_fault(text: &mut Vec<u8>, fault: EditFault) -> Result<(), AllocErro
     push_weight_code(text, fault)
 }
 
-/// Behind a weight's fault, the number of what is wrong with the weight.
+/// After a weight's fault, the number of what is wrong with the weight.
 fn push_weight_code(text: &mut Vec<u8>, fault: EditFault) -> Result<(), AllocError>
     ensures { OnOk result (text.new.items ≡ text.old.items ++ weight_text fault) }
 {

@@ -144,7 +144,7 @@ fn titles_text(alloc: Global, titles: &Titles) -> Result<Vec<u8>, AllocError>
     Ok(text)
 }
 
-/// The settings, behind the heading where the script has one.
+/// The settings, after the heading where the script has one.
 fn settings_text(
     alloc: Global,
     settings: Settings,

@@ -1,4 +1,4 @@
--- A journal that has the records of a session has the lines of its script, each behind a gate.
+-- A journal that has the records of a session has the lines of its script, each after a gate.
 use Rattle.std.proofs.Common.{◌≡◌, ◌∙◌, ◌==◌, ℕ, Bool, true, false, List, [], ◌∷◌, ◌++◌, None, Ok, All, codes, drop, map, append_assoc, refl, sym, ap, subst, inl, inr}
 use Rattle.std.specs.Prelude.{◌⊎◌, if◌then◌else◌, nat_eq, not}
 use Rattle.std.specs.List.{flat_map, list_any, starts_with}
@@ -85,7 +85,7 @@ whole_all (r ∷ rs) read =
 pub records_are : (s : SessionState) (is : IsScripted s) → records_in s.script ≡ map body is.rows
 records_are s is = ap records_in is.script_is ∙ whole_all is.rows is.read
 
--- behind gates
+-- after gates
 gates_text : (rs : List (List (List ℕ))) → lines_of (map body rs) ≡ lines_text true rs
 gates_text [] = refl
 gates_text (r ∷ rs) =

@@ -1,4 +1,4 @@
--- The script of a session, behind a gate or without, opens as that session.
+-- The script of a session, after a gate or without, opens as that session.
 use Rattle.std.proofs.Common.{◌≡◌, ◌∙◌, ◌+◌, ℕ, Bool, true, false, List, [], ◌∷◌, ◌++◌, Ok, map, codes, append_assoc, append-nil, refl, sym, ap, subst}
 use Rattle.std.specs.Prelude.{if◌then◌else◌, not}
 use Rattle.std.proofs.lemmas.List.Elements.{All-cons, All-nil}
@@ -18,7 +18,7 @@ use Rattle.pf_resumed.specs.Resumed.{IsAgain, ScriptsBeginAgain}
 use Rattle.pf_resumed.proofs.Reading.{IsPlain, IsRead, lines_text, rows_again}
 use Rattle.pf_resumed.proofs.Scripted.{IsScripted, Runs, session_scripted}
 
--- a session behind these records, which make this course
+-- a session after these records, which make this course
 record Follows (u : SessionState) (rs : List (List (List ℕ))) (d : Course) (v : SessionState) : Type 0 where
   pub manner : v.manner ≡ u.manner
   pub course : v.course ≡ d
@@ -83,7 +83,7 @@ unfolding strip_bom
 unmarked true rs = refl
 unmarked false rs = refl
 
--- Use: the lines of its records, behind the heading's.
+-- Use: the lines of its records, after the heading's.
 pub text_again : (g : Bool) (manner : Manner) (s : SessionState) (is : IsScripted s) → s.course.progress.opened ≡ true
     → IsAgain manner s (opened manner (lines_text g (heading_fields ∷ is.rows)))
 text_again g manner s is came =

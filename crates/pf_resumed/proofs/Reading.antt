@@ -1,4 +1,4 @@
--- The lines of records are read as these records, behind a blank each or behind nothing.
+-- The lines of records are read as these records, after a blank each or after nothing.
 use Rattle.std.proofs.Common.{◌≡◌, ◌∙◌, ◌<◌, ◌+◌, ◌==◌, ℕ, zero, suc, Bool, true, false, List, [], ◌∷◌, ◌++◌, Some, All, map, codes, length, length-append, append_assoc, refl, sym, ap, ap₂, arith}
 use Rattle.std.specs.Prelude.{⊤}
 use Rattle.std.specs.Char.{is_ascii_alphabetic}
@@ -35,12 +35,12 @@ abbrev pub gate : Bool → List ℕ
 gate true = codes " "
 gate false = []
 
--- the lines of records, each behind a gate
+-- the lines of records, each after a gate
 abbrev pub lines_text : Bool → List (List (List ℕ)) → List ℕ
 lines_text g [] = []
 lines_text g (r ∷ rs) = gate g ++ (line_of r ++ lines_text g rs)
 
--- a record as it is read behind a gate, the blanks kept
+-- a record as it is read after a gate, the blanks kept
 abbrev behind_gate : Bool → List (List ℕ) → List (List ℕ)
 behind_gate g [] = []
 behind_gate g (x ∷ xs) = (gate g ++ x) ∷ xs

@@ -33,7 +33,7 @@ use Rattle.pf_version3.specs.declared.state.Progress.{Progress}
 use Rattle.pf_resumed.proofs.Reading.{IsPlain, IsRead}
 use Rattle.pf_resumed.proofs.Fields.{AreTexts, GivesText, IsWorded, PlainFrom, at_most, both, change_words, early_plain, event_words, id_plain, none_from, one_more, or_plain, record_words, some_from, task_plain, unit_words, within_plain, word_is, worded}
 
--- events, behind their word
+-- events, after their word
 join_plain : (names : List Named) (fields : List (List ℕ)) (place : ℕ) (event : Event) → All (λ m. is_text m.name ≡ true) names → join_at names fields place ≡ Ok event → PlainFrom fields (place + 1)
 unfolding join_at
 join_plain names fields place event texts e =
@@ -97,7 +97,7 @@ event_plain names none fields place event texts e =
     by false false false true wj wl wd wm e = worded fields place (place + 1) (codes "limit") refl refl event_words.3 wm (limit_plain fields place event e)
     by false false false false wj wl wd wm e = let bad : Err (fault_at place none) ≡ Ok event = e in cc
 
--- changes, behind their word
+-- changes, after their word
 strike_plain : (p : Progress) (fields : List (List ℕ)) (place : ℕ) (change : Change) → AreTexts p → strike_at p fields place ≡ Ok change → PlainFrom fields (place + 1)
 unfolding strike_at
 strike_plain p fields place change texts e =

@@ -58,7 +58,7 @@ parts (x ∷ a) b (y ∷ front) rest is =
     by same (inl p) = inl (p.0, ap₂ (λ (z : _) (l : List _). z ∷ l) same p.1)
     by same (inr p) = inr (p.0, ap₂ (λ (z : _) (l : List _). z ∷ l) (sym same) p.1, p.2)
 
--- lines behind lines
+-- lines after lines
 all_both : (lines more : List (List ℕ)) (a : SessionState) (text rest : List ℕ) (m b : SessionState) → AnswersAll answers a lines text m → AnswersAll answers m more rest b
     → AnswersAll answers a (lines ++ more) (text ++ rest) b
 all_both [] more a text rest m b f g =
@@ -111,7 +111,7 @@ behind_answer : (s : SessionState) (line text : List ℕ) (going : Going) (t : S
 behind_answer s line text On t h = behind_one s line text t h
 behind_answer s line text Ends t h = behind_none s t (answer_ends s line text t h)
 
--- a session behind some front of these records
+-- a session after some front of these records
 record HasFront (a : SessionState) (is : IsScripted a) (front : List (List ℕ)) : Type 0 where
   pub session : SessionState
   pub behind : IsBehind a session

@@ -86,7 +86,7 @@ script_more script rs fields is =
     ap (λ (t : List ℕ). t ++ line_of fields) is ∙ append_assoc (codes "pfair,3\n") (lines_text false rs) (line_of fields)
     ∙ ap (λ (t : List ℕ). codes "pfair,3\n" ++ t) (sym (text_more rs fields))
 
--- behind a record
+-- after a record
 record_next : (s : SessionState) (is : IsScripted s) (fields : List (List ℕ)) (said : Said) → said_at s.course.progress fields ≡ Ok said
     → IsNext s is (behind_record s said (line_of fields))
 record_next s is fields said e = (
@@ -103,7 +103,7 @@ record_next s is fields said e = (
   inr (fields, refl),
 )
 
--- behind an undo
+-- after an undo
 undo_next : (s : SessionState) (is : IsScripted s) (desk : Option State) (newest : Option Made) → s.course.desk ≡ desk → newest_of s.made ≡ newest
     → IsNext s is (behind_undo_of s desk newest)
 undo_next s is None newest at made = (is, inl refl)
@@ -128,7 +128,7 @@ undo_next s is (Some st) (Some m) at made =
       inr (fields, refl),
     )
 
--- behind other lines
+-- after other lines
 bad_next : (s : SessionState) (is : IsScripted s) → IsNext s is (behind_bad s)
 bad_next s is = (
   record {
@@ -217,7 +217,7 @@ heard_said is_first p line =
     let text = strip_carriage_return line in
     either_said p (nat_lt LONGEST_LINE (length text)) (Bad 0 too_long_text) _ tt (fields_said is_first p (fields_in text))
 
--- behind what was heard
+-- after what was heard
 same_next : (s : SessionState) (is : IsScripted s) (q t : SessionState) → t ≡ q → IsNext s is q → IsNext s is t
 same_next s is q t e h = subst (λ (u : SessionState). IsNext s is u) (sym e) h
 
@@ -243,7 +243,7 @@ goes_next saves s is v Help g a t w said h = stays s is t h.2
 goes_next saves s is v Quit g a t w said h = stays s is t h.2
 goes_next saves s is v (Bad field text) g a t w said h = same_next s is (behind_bad s) t h.2 (bad_next s is)
 
--- Use: behind one line.
+-- Use: after one line.
 pub answer_next : (s : SessionState) (is : IsScripted s) (line text : List ℕ) (going : Going) (t : SessionState) → answers s line text going t → IsNext s is t
 answer_next s is line text going t (inl h) =
     goes_next (λ v file bytes is_saved w. Unit {0}) s is tt (heard_of s line) going text t tt (heard_said s.is_first s.course.progress line) h
@@ -254,7 +254,7 @@ answers_scripted [] s text t h is = subst (λ (q : SessionState). IsScripted q) 
 answers_scripted (line ∷ lines) s text t h is =
     answers_scripted lines h.2 h.1 t h.4 (answer_next s is line h.0 On h.2 h.3).0
 
--- behind a script
+-- after a script
 start_scripted : (manner : Manner) → IsScripted (at_start manner)
 start_scripted manner = record {
   rows = [];

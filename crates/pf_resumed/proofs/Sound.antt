@@ -157,7 +157,7 @@ sound_start = record {
   events = tt;
 }
 
--- behind a record
+-- after a record
 behind : (said : Said) (c : Course) → IsSound c → CanBeWritten c.progress.opened c.progress.names said → GivesText said → IsSound (course_behind c said)
 behind (Settings s) c sound can text = record {
   good = good_behind (Settings s) c sound.good can;
@@ -188,7 +188,7 @@ pub sound_behind : (c : Course) (fields : List (List ℕ)) (said : Said) → IsS
 sound_behind c fields said sound e =
     behind said c sound (said_written c.progress fields said sound.good.progress e) (said_text c.progress fields said sound.texts e)
 
--- the settings have come behind each record
+-- the settings have come after each record
 came : (said : Said) (c : Course) → CanBeWritten c.progress.opened c.progress.names said → (course_behind c said).progress.opened ≡ true
 came (Settings s) c can = refl
 came (Slot length) c can = can.0
@@ -297,7 +297,7 @@ back_short (Inserted id) short = short
 back_short (Altered id was) short = record { number = short.0; fields = short.1 }
 back_short (Struck id was) short = short.1
 
--- behind an undo
+-- after an undo
 take_short : (n : ℕ) (made : List Made) → ShortMade made → ShortMade (take n made)
 take_short zero made short = tt
 take_short (suc n) [] short = tt
@@ -328,7 +328,7 @@ undo_short : (newest : Made) (number : Option ℕ) (made : List Made) → IsShor
 undo_short newest None made small short = short
 undo_short newest (Some number) made small short = left_short newest number (take _ made) small (take_short _ made short)
 
--- Use: what is left to take back behind an undo.
+-- Use: what is left to take back after an undo.
 pub undone_short : (c : Course) (st : State) (newest : Made) (made : List Made) → c.desk ≡ Some st → IsSound c → IsShortMade newest → ShortMade made
     → ShortMade (made_behind_undo newest (number_made (reply_to st (command.Edit (taking_back newest) false))) made)
 undone_short c st newest made is sound one short =

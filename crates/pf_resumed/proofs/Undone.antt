@@ -108,7 +108,7 @@ change_says p change opened short = by p.opened opened (record_says p change sho
     by true e says = says
     by false e says = let bad : false ≡ true = e in cc
 
--- what stands behind the first field of a line
+-- what stands after the first field of a line
 abbrev behind_word : List (List ℕ) → List ℕ
 behind_word [] = codes "\n"
 behind_word (x ∷ xs) = codes "," ++ (x ++ behind_word xs)
@@ -122,7 +122,7 @@ fields_text (x ∷ xs) =
 line_text : (word : List ℕ) (xs : List (List ℕ)) → line_of (word ∷ xs) ≡ word ++ behind_word xs
 line_text word xs = ap (λ (t : List ℕ). word ++ t) (fields_text xs)
 
--- the text of an event, its parts one behind the other
+-- the text of an event, its parts one after the other
 event_parts : (event : Event) → record_text event ++ codes "\n" ≡ line_of (event_fields event)
 event_parts (Join slot task cost period early) =
     let parts : record_text (Join slot task cost period early) ++ codes "\n" ≡ codes "join," ++ (decimal slot ++ (codes "," ++ (decimal task ++ (codes ","

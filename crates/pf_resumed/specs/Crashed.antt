@@ -39,7 +39,7 @@ ToldAreKept {D} {T} seen may_leave is_clean hears is_deaf tells is_mute =
     → Sits (recorded_talk answers (λ s. s.script) seen may_leave is_clean hears is_deaf tells is_mute) rounds r d line t e rest
     → IsKept seen may_leave is_clean r → IsKept seen may_leave is_clean t × IsBehind r.machine t.machine
 
--- a file has the records of a session that was told, or of one behind it that answered some more lines; and begins that one again
+-- a file has the records of a session that was told, or of one after it that answered some more lines; and begins that one again
 pub record IsLeft (told : SessionState) (file : List ℕ) : Type 0 where
   pub session : SessionState
   pub is : IsSession session

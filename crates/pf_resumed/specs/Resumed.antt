@@ -10,7 +10,7 @@ use Rattle.pf_sitter.specs.Session.{SessionState}
 use Rattle.pf_sitter.specs.Sitters.{answers}
 use Rattle.pf_sitting.specs.Answered.{AnswersAll}
 
--- a session as one begins: without a line, or behind a script or the records of a file; where it is kept, with nothing to take back
+-- a session as one begins: without a line, or after a script or the records of a file; where it is kept, with nothing to take back
 pub record IsBegun (s : SessionState) : Type 0 where
   pub manner : Manner
   pub script : Option (List ℕ)

@@ -25,7 +25,7 @@ pub fn told_are_kept<D: Disk, T: Dialogue>()
     ensures { ToldAreKept D.seen D.may_leave D.is_clean T.hears T.is_deaf T.tells T.is_mute }
 {}
 
-/// Whatever such a sitting comes to, a crash leaves a journal that begins the session again as it was told, behind some more lines maybe,
+/// Whatever such a sitting comes to, a crash leaves a journal that begins the session again as it was told, after some more lines maybe,
 /// each of them whole.
 pub fn crashes_leave_told<D: Disk, T: Dialogue>()
     ensures { CrashesLeaveTold D.seen D.may_leave D.is_clean T.hears T.is_deaf T.tells T.is_mute }

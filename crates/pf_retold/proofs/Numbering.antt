@@ -67,7 +67,7 @@ all_kept : (cs : List Command) (st : State) → IsNumbering st → IsNumbering (
 all_kept [] st few = few
 all_kept (c ∷ cs) st few = all_kept cs (state_after st c (reply_to st c)) (one_kept st c few)
 
--- Use: behind a line.
+-- Use: after a line.
 pub line_kept : (line : Line) (st : State) → IsNumbering st → IsNumbering (state_behind_line st line)
 line_kept line st few = all_kept (commands_of line) st few
 

@@ -63,7 +63,7 @@ unmarked : (rows : List (List (List ℕ))) → strip_bom (table_text (heading_fi
 unfolding strip_bom escaped fields_text is_blank
 unmarked rows = refl
 
--- Use: behind the heading.
+-- Use: after the heading.
 pub read_again : (rows : List Row) (c : Course) (n end : ℕ)
     → script_records (table_text (heading_fields ∷ (plain_from c n end rows).records)) ≡ heading_fields ∷ (plain_from c n end rows).records
 read_again rows c n end =

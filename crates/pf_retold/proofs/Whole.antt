@@ -188,7 +188,7 @@ good_start = record {
   desk = tt;
 }
 
--- behind the heading
+-- after the heading
 told_again : (line end : ℕ) (rows : List Row) (places : List ℕ)
     → IsRetold (saids_from start rows) (with_heading line (plain_from start 2 end rows))
     (told_in (readings_from Beginning 1 places (heading_fields ∷ (plain_from start 2 end rows).records)))

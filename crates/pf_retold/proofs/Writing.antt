@@ -82,7 +82,7 @@ pub bad_before : record_at Headed bad_fields ≡ Err (fault_at 0 (NoRecord Secon
 unfolding record_at opening_at names_line is_word
 bad_before = refl
 
--- .. and behind them.
+-- .. and after them.
 pub bad_behind : record_at (Opened Second) bad_fields ≡ Err (fault_at 0 (NoRecord Second))
 unfolding record_at line_at edit_at change_at event_at is_word
 bad_behind = refl

@@ -22,7 +22,7 @@ abbrev pub saids_from : Course → List Row → List Said
 saids_from c [] = []
 saids_from c (row ∷ rows) = saids_next (λ next. saids_from next rows) c (said_at c.progress row.fields)
 
--- behind the heading, which is the first row
+-- after the heading, which is the first row
 abbrev pub saids_of : List Row → List Said
 saids_of [] = []
 saids_of (heading ∷ rows) = saids_from start rows

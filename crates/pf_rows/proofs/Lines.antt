@@ -40,7 +40,7 @@ some-left s line before (byte ∷ bytes) = by (begins_record s byte) (some-left 
     by true h = omega arith
     by false h = h
 
--- behind a line that others follow come those
+-- after a line that others follow come those
 pub behind-cons : (line : ℕ) (lines : List ℕ) → 1 ≤ length lines → lines_behind (line ∷ lines) ≡ lines
 behind-cons line [] h = absurd (omega arith)
 behind-cons line (next ∷ lines) h = refl

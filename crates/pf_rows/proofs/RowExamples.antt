@@ -18,7 +18,7 @@ pub lone-return : rows (codes "#a\rb\nc") ≡ record { rows = record { line = 3;
 unfolding csv_on_literals lines_from trim_end trim_start
 lone-return = refl
 
--- behind a blank or in quotes `#` begins no comment, and blanks are dropped in quotes too
+-- after a blank or in quotes `#` begins no comment, and blanks are dropped in quotes too
 pub no-comment : rows (codes " # x\n\" 2 \"") ≡ record {
   rows = record { line = 1; fields = codes "# x" ∷ [] } ∷ record { line = 2; fields = codes "2" ∷ [] } ∷ [];
   end = 2;

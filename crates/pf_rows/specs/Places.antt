@@ -33,7 +33,7 @@ is_between st.InQuoted = false
 is_between st.AfterQuote = false
 is_between st.InEscape = false
 
--- whether a line ends with this byte, behind this one: CR and LF each end one, and CR LF are one end
+-- whether a line ends with this byte, after this one: CR and LF each end one, and CR LF are one end
 abbrev pub ends_line : ℕ → ℕ → Bool
 ends_line before byte = (byte == carriage_return) || ((byte == line_feed) && not (before == carriage_return))
 
@@ -48,7 +48,7 @@ begins_record s byte = is_between s && not (is_between (step row_config s byte).
 abbrev pub line_if : Bool → ℕ → List ℕ → List ℕ
 line_if begins line lines = if begins then line ∷ lines else lines
 
--- the lines on which records begin in the rest of a text, whose first byte lies on `line` behind the byte `before`, and
+-- the lines on which records begin in the rest of a text, whose first byte lies on `line` after the byte `before`, and
 -- then the line of its end
 unfoldable pub lines_from : State → ℕ → ℕ → List ℕ → List ℕ
 lines_from s line before [] = line ∷ []
@@ -59,7 +59,7 @@ lines_from s line before (byte ∷ bytes) =
 abbrev pub record_lines : List ℕ → List ℕ
 record_lines text = lines_from st.StartRecord 1 0 (strip_bom text)
 
--- the first of some lines, and those behind it; behind the line of the end it comes again
+-- the first of some lines, and those after it; after the line of the end it comes again
 abbrev pub line_at : List ℕ → ℕ
 line_at [] = 0
 line_at (line ∷ lines) = line

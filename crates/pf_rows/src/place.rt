@@ -2,12 +2,12 @@ ghost use Rattle.std.specs.Prelude.{◌≡◌};
 ghost use Rattle.csv.specs.Machine.{step, in_field, start_field, start_record};
 ghost use Rattle.pf_rows.specs.Places.{is_between, row_config, state_of};
 
-/// Where in a record a text is behind one of its bytes.
+/// Where in a record a text is after one of its bytes.
 #[derive(Clone, Copy)]
 pub enum Place {
     /// Between two records, or before the first one.
     Between,
-    /// Between two records, behind a carriage return.
+    /// Between two records, after a carriage return.
     BehindReturn,
     /// At the start of a further field.
     FieldStart,
@@ -15,7 +15,7 @@ pub enum Place {
     InField,
     /// In a field in quotes.
     InQuotes,
-    /// Behind a quote in a field in quotes.
+    /// After a quote in a field in quotes.
     BehindQuote,
     /// In a comment, which only a line feed ends.
     InComment,
@@ -60,7 +60,7 @@ impl Place {
     }
 }
 
-/// Behind a byte of a plain field.
+/// After a byte of a plain field.
 fn in_field(byte: u8) -> Place
     ensures { state_of result ≡ (in_field row_config byte).0 }
 {
@@ -72,7 +72,7 @@ fn in_field(byte: u8) -> Place
     }
 }
 
-/// Behind the first byte of a field.
+/// After the first byte of a field.
 fn at_field(byte: u8) -> Place
     ensures { state_of result ≡ (start_field row_config byte).0 }
 {
@@ -83,7 +83,7 @@ fn at_field(byte: u8) -> Place
     }
 }
 
-/// Behind a byte that may be the first one of a record.
+/// After a byte that may be the first one of a record.
 fn at_start(byte: u8) -> Place
     ensures { state_of result ≡ (start_record row_config byte).0 }
 {

@@ -35,7 +35,7 @@ impl<'a> RowLines<'a> {
         }
     }
 
-    /// The line on which the next record begins, and behind the last one that of the end, however often it is asked for.
+    /// The line on which the next record begins, and after the last one that of the end, however often it is asked for.
     pub fn next_line(&mut self) -> u64
         ensures line { result ≡ line_at (lines_ahead self.old) }
         ensures rest { lines_ahead self.new ≡ lines_behind (lines_ahead self.old) }
@@ -77,7 +77,7 @@ fn without_mark(text: &[u8]) -> &[u8]
     }
 }
 
-/// The line behind this byte of a line, which lies behind the byte `before`.
+/// The line after this byte of a line, which lies after the byte `before`.
 fn line_after(line: u64, before: u8, byte: u8) -> u64
     requires { line < 2 ^ 64 - 1 }
     ensures line { result ≡ line_after line before byte }

@@ -38,7 +38,7 @@ pub record RunCourse : Type 0 where
   pub slots : List Slot
   pub standing : List Numbered
 
--- one slot more: of these events, and with `after` in force behind them
+-- one slot more: of these events, and with `after` in force after them
 abbrev pub with_slot : System → RunCourse → List Numbered → List Numbered → RunCourse
 with_slot s c events after = record {
   slots = c.slots ++ record {

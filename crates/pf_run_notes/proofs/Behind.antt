@@ -1,4 +1,4 @@
--- The notes behind a run, by their parts.
+-- The notes after a run, by their parts.
 use Rattle.std.proofs.Common.{◌≡◌, ℕ, ◌-◌, List, [], ◌∷◌, ◌++◌, length, take, refl, ap, ap₂, ◌∙◌, append_assoc}
 use Rattle.std.specs.List.{flat_map}
 use Rattle.pf_names.specs.declared.named.Named.{Named}
@@ -24,7 +24,7 @@ late_told file names made s misses counts (miss ∷ firsts) each =
     (ap (λ n. missed_with file names made miss n (join_among miss.task s.events)) (each miss.task))
     (late_told file names made s misses counts firsts each)
 
--- Use: one part behind another.
+-- Use: one part after another.
 pub lists_told : (file : List ℕ) (names : List Named) (made : List Place) (kept : Kept) (seen : Seen) (r : List Slot) (misses firsts : List Miss)
     (counts : Grown ℕ) (before lines : ℕ) (t u v w : List ℕ) → AreLate misses firsts counts →
     before ≡ more kept.records (length seen.denials) → lines ≡ more before (length firsts) → t ≡ kept.lines →
@@ -54,7 +54,7 @@ pub lines_counted : (kept : Kept) (seen : Seen) (misses firsts : List Miss) (cou
 lines_counted kept seen misses firsts counts before lines are of_before of_lines =
     of_lines ∙ ap₂ (λ b (fs : List Miss). more b (length fs)) of_before are.of_tasks
 
--- Use: the counts behind the lists.
+-- Use: the counts after the lists.
 pub notes_told : (file : List ℕ) (names : List Named) (made : List Place) (kept : Kept) (seen : Seen) (r : List Slot) (misses : List Miss)
     (missed lines : ℕ) (w x : List ℕ) → missed ≡ length misses → lines ≡ lines_of kept seen misses →
     w ≡ lists_with file names made kept seen r misses →

@@ -1,4 +1,4 @@
--- The notes behind a run.
+-- The notes after a run.
 use Rattle.std.specs.Prelude.{ℕ, ◌-◌, ◌==◌, nat_lt, if◌then◌else◌, Option, None, Some, List, [], ◌++◌, length, take}
 use Rattle.std.specs.List.{flat_map}
 use Rattle.std.specs.Option.{option_map_or, option_and_then}
@@ -72,7 +72,7 @@ lists_with file names made kept seen r misses =
     (take (kept.most - more kept.records (length seen.denials)) (firsts_of misses))
     ++ more_text kept.most (lines_of kept seen misses)
 
--- and behind them the counts
+-- and after them the counts
 abbrev pub notes_with : List ℕ → List Named → List Place → Kept → Seen → List Slot → List Miss → List ℕ
 notes_with file names made kept seen r misses =
     lists_with file names made kept seen r misses

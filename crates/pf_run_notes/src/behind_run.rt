@@ -79,9 +79,9 @@ fn notes_with(
     Ok(text)
 }
 
-/// What is listed behind a run: a line for each of the first refused records, denied events and tasks that missed windows, and how
+/// What is listed after a run: a line for each of the first refused records, denied events and tasks that missed windows, and how
 /// many lines more there are. `refusals` and `made` were kept while the script of this name was carried out, and the snapshot was
-/// taken behind it.
+/// taken after it.
 ///
 /// # Errors
 ///
@@ -104,9 +104,9 @@ pub fn lists(
     )
 }
 
-/// The notes behind a run: a line for each of the first refused records, denied events and tasks that missed windows, how many
+/// The notes after a run: a line for each of the first refused records, denied events and tasks that missed windows, how many
 /// lines more there are, and how many commands were refused, events denied and windows missed; nothing where there is none.
-/// `refusals` and `made` were kept while the script of this name was carried out, and the snapshot was taken behind it.
+/// `refusals` and `made` were kept while the script of this name was carried out, and the snapshot was taken after it.
 ///
 /// # Errors
 ///

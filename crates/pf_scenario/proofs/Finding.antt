@@ -70,7 +70,7 @@ below_last cards id at card up here low = λ k d before within.
       | inr not ↦ let same : k ≡ at - 1 = omega arith in subst (λ n. (get_or cards n d).id < id) (sym same) last
     ]
 
--- where one of the cards is not below a number, nor are those behind it
+-- where one of the cards is not below a number, nor are those after it
 pub behind_first : (cards : List Card) (id at : ℕ) (card : Card) → AreRising cards → slice_get cards at ≡ Some card → id ≤ card.id → AreBehind cards id at
 behind_first cards id at card up here high = λ k d from within.
     let is = get_or_from_slice_get cards at card d here in

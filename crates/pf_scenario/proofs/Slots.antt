@@ -80,7 +80,7 @@ slot_places t events = places_between t (t + 1) events ∙ ap (map place_of) (be
 not_before : (k q : Place) → is_lt (place_cmp k q) ≡ false → q.slot ≤ k.slot
 not_before k q h = grind (arith, nat_tests)
 
--- a slot behind all places has none of them
+-- a slot after all places has none of them
 none_between : (t : ℕ) (ps : List Place) → All (λ q. q.slot < t) ps → filter (range_contains place_cmp (Included (first_of t)) (Excluded (first_of (t + 1)))) ps ≡ []
 none_between t [] h = refl
 none_between t (q ∷ ps) h =

@@ -52,7 +52,7 @@ none_before t (x ∷ xs) h =
     let here = All-head (λ x. t ≤ slot_of x.event) x xs h in
     cond-false (is_before t x) _ _ (grind (arith, nat_tests)) ∙ none_before t xs (All-tail (λ x. t ≤ slot_of x.event) x xs h)
 
--- where events are in time order, those of the next slot come behind those of the slots below it
+-- where events are in time order, those of the next slot come after those of the slots below it
 next_slot : (t : ℕ) (xs : List Numbered) → IsInOrder time_cmp xs → filter (is_before (suc t)) xs ≡ filter (is_before t) xs ++ filter (is_of_slot t) xs
 next_slot t [] h = refl
 next_slot t (x ∷ xs) h =

@@ -61,7 +61,7 @@ impl Guide {
         }
     }
 
-    /// Where a card of this number may stand: behind all cards, where no number as high was noted.
+    /// Where a card of this number may stand: after all cards, where no number as high was noted.
     pub fn guess(&self, id: u64) -> usize {
         match self.marks.get(id as usize / SHARING) {
             Some(marks) => {

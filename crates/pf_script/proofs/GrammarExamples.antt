@@ -99,7 +99,7 @@ pub no-strikes : lines_in First (codes "strike,0000000000000001\nstrike,\nstrike
 unfolding next_record records_from strip_bom line_of edit_of change_of strike_of event_of number_of is_word
 no-strikes = refl
 
--- only a change may be strict, and only an event stands behind an alter
+-- only a change may be strict, and only an event stands after an alter
 pub no-prefixes : lines_in Second (codes "strict\nstrict,strict,leave,0,1\nstrict,strict\nstrict,step\nstrict,step,1\nstrict,settings,1,1,1,1\nstrict,pfair,2\n")
     ≡ None ∷ None ∷ None ∷ None ∷ None ∷ None ∷ None ∷ []
 unfolding next_record records_from strip_bom line_of edit_of change_of event_of number_of is_word

@@ -129,7 +129,7 @@ unfolding is_word
 other_word fields word other is differs =
     let same : field fields 0 ≡ word = (bytes_eq-Decides (field fields 0) word).0 is in rw same differs
 
--- the events of these words and of those tried behind them
+-- the events of these words and of those tried after them
 abbrev limit_in : Version → List (List ℕ) → Option Event
 limit_in version fields = if has_limits version && is_record_of fields (codes "limit") 3 then limit_of fields else None
 

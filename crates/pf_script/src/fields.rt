@@ -84,7 +84,7 @@ impl<'a> Fields<'a> {
         self.len() == 0
     }
 
-    /// The fields behind the first `count`, none where there are no more than that.
+    /// The fields after the first `count`, none where there are no more than that.
     pub fn rest(&self, count: usize) -> Fields<'a>
         ensures { result ≡ drop count self.now }
     {

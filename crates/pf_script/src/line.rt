@@ -1,6 +1,6 @@
 use pf_scenario::change::Change;
 
-/// What a record behind the settings asks for.
+/// What a record after the settings asks for.
 #[derive(Clone, Copy)]
 pub enum Line {
     /// A change to the events.

@@ -51,7 +51,7 @@ impl<'a> RecordLines<'a> {
         self.passed += 1;
     }
 
-    /// The line on which the next record begins, and behind the last one that of the end; 0 behind that.
+    /// The line on which the next record begins, and after the last one that of the end; 0 after that.
     pub fn next_line(&mut self) -> u64
         ensures line { result ≡ line_at (lines_left self.old) }
         ensures rest { lines_left self.new ≡ lines_behind (lines_left self.old) }
@@ -64,7 +64,7 @@ impl<'a> RecordLines<'a> {
         self.find_line()
     }
 
-    /// The line on which a record next begins behind the byte where it stands, 0 behind that of the end.
+    /// The line on which a record next begins after the byte where it stands, 0 after that of the end.
     fn find_line(&mut self) -> u64
         ensures line { result ≡ line_at (lines_ahead self.old) }
         ensures rest { lines_ahead self.new ≡ lines_behind (lines_ahead self.old) }
@@ -114,7 +114,7 @@ fn without_mark(text: &[u8]) -> &[u8]
     }
 }
 
-/// The line behind this byte of a line, which lies behind the byte `before`.
+/// The line after this byte of a line, which lies after the byte `before`.
 fn line_after(line: u64, before: u8, byte: u8) -> u64
     requires { line < 2 ^ 64 - 1 }
     ensures line { result ≡ line_after line before byte }

@@ -5,7 +5,7 @@ use Rattle.pf_desk.specs.Desk.{Seen, Shown, StandsForHistory}
 use Rattle.pf_fit_command.specs.Fit.{IsSeenBehind}
 use Rattle.pf_script.specs.Told.{Told}
 
--- Use: it is seen behind the script.
+-- Use: it is seen after the script.
 pub seen_behind : (t : Told) (desk : Shown) (seen : Seen) → IsOf t desk → StandsForHistory desk.history seen → seen.state ≡ desk.state → IsSeenBehind t seen
 seen_behind t desk seen of stands state = record {
   opening = of.opening;

@@ -1,4 +1,4 @@
--- What is told behind a run of a script.
+-- What is told after a run of a script.
 use Rattle.std.specs.Prelude.{ℕ, ◌≡◌, Option, None, Some, List, [], Result, Ok, Err, Vec, false}
 use Rattle.std.specs.declared.alloc.Global.{Global}
 use Rattle.pf_carry.specs.Carried.{Stops}
@@ -17,7 +17,7 @@ use Rattle.pf_text.specs.Page.{table_text}
 abbrev pub most_lines : ℕ
 most_lines = 20
 
--- the notes behind a run of the script in this file, of version 1 or 2: of what was seen at its end, and of what its records came
+-- the notes after a run of the script in this file, of version 1 or 2: of what was seen at its end, and of what its records came
 -- to. Where it belongs to a script of version 3, `origins` are the records there that its own come from
 pub record RunNotes (file : List ℕ) (origins : Option (List Origin)) (names : List Named) (script text : List ℕ) : Type 0 where
   pub seen : Seen
@@ -40,7 +40,7 @@ abbrev pub names_in : Option Plain → List Named
 names_in None = []
 names_in (Some p) = p.titles.names
 
--- the notes behind a run of a script of any version; it was carried out, or its first bad record stopped it, or running out of memory
+-- the notes after a run of a script of any version; it was carried out, or its first bad record stopped it, or running out of memory
 abbrev pub NotesBy : Option Plain → List ℕ → List ℕ → Result (Vec ℕ Global) Fault → Type 0
 NotesBy q file script (Ok text) = RunNotes file (origins_in q) (names_in q) (text_in q script) text.items
 NotesBy q file script (Err fault) = Stops (told (text_in q script)).rest.fault fault

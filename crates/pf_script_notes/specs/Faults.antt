@@ -1,4 +1,4 @@
--- What is told behind the line of a fault of a script.
+-- What is told after the line of a fault of a script.
 use Rattle.std.specs.Prelude.{ℕ, ◌≡◌, Option, None, Some, List, []}
 use Rattle.pf_fault.specs.declared.fault.Fault.{Fault}
 use Rattle.pf_fault.specs.declared.fault.Fault.TheVariants as why

@@ -15,7 +15,7 @@ use pf_options::slot_range::SlotRange;
 use pf_plain::plain::plain_script;
 use std::alloc::{AllocError, Global};
 
-/// What is told behind the line of a fault of the script of this file: of a bad record, what a check tells of it; of a script that
+/// What is told after the line of a fault of the script of this file: of a bad record, what a check tells of it; of a script that
 /// is too long, that it is; of a range, which end is beyond, or how many slots it has, for which the script is carried out, and of a
 /// page, which has no range, how many were stepped; of any other nothing.
 ///

@@ -21,7 +21,7 @@ use std::alloc::{AllocError, Global};
 // Lines are told of so many refusals, denials and tasks with missed windows.
 const MOST_LINES: u64 = 20;
 
-/// The notes behind a run of the script of this file, of any version: the script is carried out for them.
+/// The notes after a run of the script of this file, of any version: the script is carried out for them.
 ///
 /// # Errors
 ///
@@ -66,7 +66,7 @@ fn run_notes(
     }
 }
 
-/// The notes behind a run of the script of this file, of version 1 or 2, by the desk that carried it out. Where it belongs to a
+/// The notes after a run of the script of this file, of version 1 or 2, by the desk that carried it out. Where it belongs to a
 /// script of version 3, `origins` are the records there that its own come from, and the names those of its tasks.
 ///
 /// # Errors

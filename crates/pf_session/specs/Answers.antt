@@ -45,7 +45,7 @@ abbrev pub line_answer : Manner → List Named → State → Line → List ℕ
 line_answer m names st (Edit change strict) = edit_answer m names st change strict
 line_answer m names st (Steps count) = steps_answer m st count
 
--- to a record behind the settings, where there is a desk
+-- to a record after the settings, where there is a desk
 abbrev pub asks_answer : Manner → List Named → Option State → Line → List ℕ
 asks_answer m names None line = []
 asks_answer m names (Some st) line = line_answer m names st line

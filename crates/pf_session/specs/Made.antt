@@ -34,7 +34,7 @@ made_of (Insert event) before id = Some (Inserted id)
 made_of (Alter number event) before id = option_map (λ was. Altered number was) before
 made_of (Strike number) before id = option_map (λ was. Struck number was) before
 
--- the changes that are not taken back, the last one last, behind one that was answered so
+-- the changes that are not taken back, the last one last, after one that was answered so
 abbrev pub made_behind : Plan → Change → Option ℕ → List Made → List Made
 made_behind s change number made =
     made ++ option_to_list (option_and_then (made_of change (event_before s change)) number)
@@ -60,7 +60,7 @@ left_behind (Struck id was) number made = map (renumbered id number) made
 left_behind (Inserted id) number made = made
 left_behind (Altered id was) number made = made
 
--- behind an undo of the last one; one that is refused takes nothing back
+-- after an undo of the last one; one that is refused takes nothing back
 abbrev pub made_behind_undo : Made → Option ℕ → List Made → List Made
 made_behind_undo newest None made = made
 made_behind_undo newest (Some number) made = left_behind newest number (take (length made - 1) made)

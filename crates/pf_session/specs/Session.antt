@@ -34,7 +34,7 @@ at_start manner = record {
   has_bad = false;
 }
 
--- the changes behind a record
+-- the changes after a record
 abbrev pub made_behind_line : Option State → Line → List Made → List Made
 made_behind_line None line made = made
 made_behind_line (Some st) (Steps count) made = made
@@ -47,7 +47,7 @@ made_behind_said desk (Slot length) made = made
 made_behind_said desk (Name task name) made = made
 made_behind_said desk (Asks line label) made = made_behind_line desk line made
 
--- behind a record that said this, whose line stands behind the script
+-- after a record that said this, whose line stands after the script
 abbrev pub behind_record : SessionState → Said → List ℕ → SessionState
 behind_record s said line = record {
   manner = s.manner;
@@ -58,7 +58,7 @@ behind_record s said line = record {
   has_bad = s.has_bad;
 }
 
--- behind what a record asked for, whose event was given this number
+-- after what a record asked for, whose event was given this number
 abbrev pub behind_asked : SessionState → Option (List ℕ) → ℕ → SessionState
 behind_asked s label number = record s {
   is_first = false;
@@ -73,7 +73,7 @@ abbrev pub newest_at : Option State → List Made → Option Made
 newest_at None made = None
 newest_at (Some st) made = newest_of made
 
--- behind an undo of it: its script has the record of the change that takes it back
+-- after an undo of it: its script has the record of the change that takes it back
 abbrev pub behind_undo_of : SessionState → Option State → Option Made → SessionState
 behind_undo_of s None newest = s
 behind_undo_of s (Some st) None = s
@@ -89,7 +89,7 @@ behind_undo_of s (Some st) (Some newest) = record {
 abbrev pub behind_undo : SessionState → SessionState
 behind_undo s = behind_undo_of s s.course.desk (newest_of s.made)
 
--- behind a bad line
+-- after a bad line
 abbrev pub behind_bad : SessionState → SessionState
 behind_bad s = record s { has_bad = true }
 

@@ -1,5 +1,5 @@
 //! A session at a desk: what came of its lines so far, and the answers to records, to `undo` and to bad lines. The contracts of this
-//! crate: the answers and the state behind them are those of `specs/`; a call that runs out of memory changes nothing.
+//! crate: the answers and the state after them are those of `specs/`; a call that runs out of memory changes nothing.
 #![tactic(auto)]
 
 mod edit;

@@ -18,7 +18,7 @@ pub struct Session {
     /// Whether no record was good so far.
     pub(crate) is_first: bool,
     pub(crate) progress: Progress,
-    /// The desk, behind the settings.
+    /// The desk, after the settings.
     pub(crate) desk: Option<Desk>,
     /// The heading, and the records that were good so far.
     pub(crate) script: Vec<u8>,
@@ -105,14 +105,14 @@ impl Session {
         &self.progress
     }
 
-    /// Its desk, behind the settings.
+    /// Its desk, after the settings.
     pub fn desk(&self) -> Option<&Desk>
         ensures { option_map (λ d. d.now.state) result ≡ self.now.course.desk }
     {
         self.desk.as_ref()
     }
 
-    /// The script of the records that were good so far, behind its heading.
+    /// The script of the records that were good so far, after its heading.
     pub fn script(&self) -> &[u8]
         ensures { result.now ≡ self.now.script }
     {

@@ -46,7 +46,7 @@ fn take_step(desk: &mut Desk, meter: &mut Meter) -> Result<Reply, AllocError>
     Ok(desk.apply(meter, CALLER, Command::Step)?)
 }
 
-/// Takes a step behind so many of the same record, and appends what it adds.
+/// Takes a step after so many of the same record, and appends what it adds.
 fn add_step(
     desk: &mut Desk,
     meter: &mut Meter,
@@ -96,7 +96,7 @@ fn take_steps(
     Ok(())
 }
 
-/// Why steps end that want memory behind so many of them.
+/// Why steps end that want memory after so many of them.
 fn stop_at(turn: u64) -> Stop
     ensures { result ≡ stop.NoMemory → turn ≡ 0 }
 {
@@ -126,7 +126,7 @@ fn finish(
 ///
 /// # Errors
 ///
-/// `NoMemory`: the desk's state and both texts are as before. `Lost` behind the first step: the text is as before.
+/// `NoMemory`: the desk's state and both texts are as before. `Lost` after the first step: the text is as before.
 pub(crate) fn step_desk(
     alloc: Global,
     manner: Manner,

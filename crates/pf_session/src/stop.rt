@@ -8,7 +8,7 @@ use std::alloc::AllocError;
 pub enum Stop {
     /// Out of memory: nothing has changed, and the session goes on.
     NoMemory,
-    /// Out of memory behind the first of several steps: nothing is promised of the session any more.
+    /// Out of memory after the first of several steps: nothing is promised of the session any more.
     Lost,
 }
 

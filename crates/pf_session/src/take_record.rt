@@ -24,7 +24,7 @@ use pf_version3::said::Said;
 use std::alloc::AllocError;
 
 impl Session {
-    /// Takes a record, whose line goes behind the script.
+    /// Takes a record, whose line goes after the script.
     ///
     /// # Errors
     ///
@@ -225,7 +225,7 @@ impl Session {
         Ok(())
     }
 
-    /// Notes that a record asked for something, whose answer stands in the text behind so many bytes.
+    /// Notes that a record asked for something, whose answer stands in the text after so many bytes.
     fn end_asked(
         &mut self,
         label: Option<Name>,

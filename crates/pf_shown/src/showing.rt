@@ -3,6 +3,6 @@
 pub enum Showing {
     /// It is this text.
     Text(Vec<u8>),
-    /// It can't be shown, and these words tell why; no line's end stands behind them.
+    /// It can't be shown, and these words tell why; no line's end stands after them.
     Bad(Vec<u8>),
 }

@@ -13,7 +13,7 @@ use Rattle.pf_version3.specs.Parsing.{end_fault, said_at}
 use Rattle.pf_version3.specs.declared.fault.RecordFault.{RecordFault}
 use Rattle.pf_version3.specs.declared.said.Said.{Said}
 
--- a script that ends behind a session lacks its settings, or lacks nothing; the record that it lacks would have this number
+-- a script that ends after a session lacks its settings, or lacks nothing; the record that it lacks would have this number
 abbrev pub ended : SessionState → ℕ → Option RecordFault → Result SessionState ℕ
 ended s number None = Ok s
 ended s number (Some fault) = Err number
@@ -23,17 +23,17 @@ abbrev pub next : (SessionState → Result SessionState ℕ) → SessionState �
 next more s number fields (Ok said) = more (behind_record s said (line_of fields))
 next more s number fields (Err fault) = Err number
 
--- behind these rows of version 3, of which the first has this number: each is taken without an answer, or is the first bad one
+-- after these rows of version 3, of which the first has this number: each is taken without an answer, or is the first bad one
 abbrev pub behind_rows : SessionState → ℕ → List Row → Result SessionState ℕ
 behind_rows s number [] = ended s number (end_fault s.course.progress)
 behind_rows s number (row ∷ rest) = next (λ t. behind_rows t (number + 1) rest) s number row.fields (said_at s.course.progress row.fields)
 
--- the rows behind a heading, if there is one
+-- the rows after a heading, if there is one
 abbrev pub behind_heading : List Row → List Row
 behind_heading [] = []
 behind_heading (row ∷ rest) = if is_word row.fields 0 (codes "pfair") then rest else row ∷ rest
 
--- a script of version 1 or 2 that has no fault stands behind the heading of version 3
+-- a script of version 1 or 2 that has no fault stands after the heading of version 3
 abbrev pub opened_plain : SessionState → List Row → Option FaultTold → Result SessionState ℕ
 opened_plain s found None = behind_rows s 1 (behind_heading found)
 opened_plain s found (Some fault) = Err fault.bad.number
@@ -44,7 +44,7 @@ opened_rows s bytes (row ∷ rest) =
     if is_third_heading row.fields then behind_rows (record s { is_first = false }) 2 rest
     else opened_plain s (row ∷ rest) (told bytes).rest.fault
 
--- a session of this manner behind a script of any version, or the number of its first bad record
+-- a session of this manner after a script of any version, or the number of its first bad record
 abbrev pub opened : Manner → List ℕ → Result SessionState ℕ
 opened manner bytes = opened_rows (at_start manner) bytes (rows bytes).rows
 

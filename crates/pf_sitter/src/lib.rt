@@ -1,5 +1,5 @@
 //! Who sits at a desk: a session that answers lines, and writes what it saves to files. The one contract of this crate: each line is
-//! answered as the definitions say, behind those before it, and a session that begins with a script stands where the script's records
+//! answered as the definitions say, after those before it, and a session that begins with a script stands where the script's records
 //! leave it.
 #![tactic(auto)]
 

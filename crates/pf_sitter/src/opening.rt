@@ -17,7 +17,7 @@ use pf_version3::heading::is_third_heading;
 use std::alloc::Global;
 
 /// A session that begins with the records of a script of any version, without answers. Those of versions 1 and 2 are read by the rules
-/// of their version, and then stand behind the heading of version 3.
+/// of their version, and then stand after the heading of version 3.
 ///
 /// # Errors
 ///
@@ -34,7 +34,7 @@ pub fn open_script(alloc: Global, manner: Manner, script: &[u8]) -> Result<Sessi
     }
 }
 
-/// The session behind a script without a row, which lacks its settings.
+/// The session after a script without a row, which lacks its settings.
 fn open_none(alloc: Global, session: Session, script: &[u8]) -> Result<Session, Fault>
     requires { session.course.progress.opened ≡ false }
     ensures { IsOpened (opened_plain session [] (told script.now).rest.fault) result }
@@ -45,7 +45,7 @@ fn open_none(alloc: Global, session: Session, script: &[u8]) -> Result<Session, 
     }
 }
 
-/// The session behind the row that was read, and those that are left.
+/// The session after the row that was read, and those that are left.
 #[tactic(auto, using(crate::proofs::Stops::stopped_plain))]
 fn open_rows(
     alloc: Global,
@@ -66,7 +66,7 @@ fn open_rows(
     }
 }
 
-/// The session behind the rows that a script of version 3 has behind its heading.
+/// The session after the rows that a script of version 3 has after its heading.
 #[tactic(auto, using(crate::proofs::Rows::taken_opened))]
 fn open_third(
     alloc: Global,
@@ -84,7 +84,7 @@ fn open_third(
     }
 }
 
-/// The session behind the rows of a script of version 1 or 2, of which one was read; a heading is passed over.
+/// The session after the rows of a script of version 1 or 2, of which one was read; a heading is passed over.
 #[tactic(auto, using(crate::proofs::Rows::taken_opened))]
 fn open_plain(
     alloc: Global,

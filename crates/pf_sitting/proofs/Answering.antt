@@ -24,7 +24,7 @@ then-one answers a (one ∷ done) text b line answer c h k = (
   ap (λ t. t ++ answer) h.5 ∙ append_assoc h.0 h.1 answer,
 )
 
--- part of the bytes were gone through: some lines were answered, and the others are those of what is left behind the front of a line
+-- part of the bytes were gone through: some lines were answered, and the others are those of what is left after the front of a line
 pub record Midway {A : Type 0} (answers : A → List ℕ → List ℕ → Going → A → Type 0) (a : A) (line bytes text front : List ℕ) (b : A) (left : List ℕ) : Type 0 where
   pub done : List (List ℕ)
   pub answered : AnswersAll answers a done text b

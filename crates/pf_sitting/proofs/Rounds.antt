@@ -95,7 +95,7 @@ end_round talk a d line bytes heard lines text b going last c e hears is all ok 
   all = all;
 }
 
--- a round behind which more is asked for
+-- a round after which more is asked for
 pub go_round : {A D : Type 0} (talk : Talk A D) (a : A) (d : D) (line bytes : List ℕ) (heard : D) (text : List ℕ) (b : A)
     (going : Result Going Stopped) (c : A) (e : D) → talk.hears d bytes heard
     → IfOk going (λ g. AnswersLines talk.answers a (lines_in line bytes) text g b) → IsTold talk going b heard text (Ok On) c e

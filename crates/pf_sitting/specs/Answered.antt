@@ -4,7 +4,7 @@ use Rattle.pf_sitting.specs.declared.answers.Going.{Going}
 use Rattle.pf_sitting.specs.declared.answers.Going.TheVariants.{On, Ends}
 use Rattle.pf_sitting.specs.Lines.{longer}
 
--- lines were answered, each in its turn, and more are wanted: the text of all answers, and what answers behind them
+-- lines were answered, each in its turn, and more are wanted: the text of all answers, and what answers after them
 abbrev pub AnswersAll : {A : Type 0} → (A → List ℕ → List ℕ → Going → A → Type 0) → A → List (List ℕ) → List ℕ → A → Type 0
 AnswersAll answers a [] text b = (text ≡ []) × (b ≡ a)
 AnswersAll answers a (line ∷ lines) text b =
@@ -47,7 +47,7 @@ abbrev pub SomeAnswered : {A : Type 0} → (A → List ℕ → List ℕ → Goin
 SomeAnswered answers stops a lines text b =
     AnswersFront answers stops a lines text b ⊎ ((going : Going) × AnswersLines answers a lines text going b)
 
--- one byte behind the front of a line: it makes the line longer, or ends it, and then the line was answered
+-- one byte after the front of a line: it makes the line longer, or ends it, and then the line was answered
 abbrev pub TakesByte : {A : Type 0} → (A → List ℕ → List ℕ → Going → A → Type 0) → A → List ℕ → ℕ → List ℕ → Going → A → List ℕ → List ℕ → Type 0
 TakesByte answers a line byte text going b new_line new_text =
     (((byte == 10) ≡ false) × (going ≡ On) × (b ≡ a) × (new_line ≡ longer line byte) × (new_text ≡ text))

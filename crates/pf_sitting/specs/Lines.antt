@@ -6,7 +6,7 @@ use Rattle.pf_sitting.specs.declared.lines.TheConstants.{LINE_KEPT}
 abbrev pub longer : List ℕ → ℕ → List ℕ
 longer line byte = if nat_lt (length line) LINE_KEPT then line ++ byte ∷ [] else line
 
--- behind the front of a line: the lines that end in these bytes, each at a line feed, and the line that is not at its end
+-- after the front of a line: the lines that end in these bytes, each at a line feed, and the line that is not at its end
 abbrev pub lines_in : List ℕ → List ℕ → List (List ℕ)
 lines_in line [] = []
 lines_in line (byte ∷ bytes) = if byte == 10 then line ∷ lines_in [] bytes else lines_in (longer line byte) bytes

@@ -37,7 +37,7 @@ pub record Round : Type 0 where
   pub bytes : List ℕ
   pub text : List ℕ
 
--- a round behind the front of a line: more was asked for, the lines that this brought to their end were answered, what was answered
+-- a round after the front of a line: more was asked for, the lines that this brought to their end were answered, what was answered
 -- was kept, and then the answers were told
 pub record HasRound {A D : Type 0} (talk : Talk A D) (a : A) (d : D) (line : List ℕ) (round : Round) (b : A) (e : D) : Type 0 where
   pub heard : D
@@ -47,7 +47,7 @@ pub record HasRound {A D : Type 0} (talk : Talk A D) (a : A) (d : D) (line : Lis
   pub keeps : talk.keeps answered b
   pub tells : talk.tells heard round.text e
 
--- rounds, one behind the other, and nothing else
+-- rounds, one after the other, and nothing else
 abbrev pub Sits : {A D : Type 0} → Talk A D → List Round → A → D → List ℕ → A → D → List ℕ → Type 0
 Sits talk [] a d line b e rest = (b ≡ a) × (e ≡ d) × (rest ≡ line)
 Sits talk (round ∷ rounds) a d line b e rest =

@@ -1,7 +1,7 @@
 ghost use Rattle.std.specs.Prelude.{◌≡◌, ◌++◌, ℕ, List, IfOk, OnErr, OnOk};
 ghost use Rattle.pf_sitting.specs.declared.answers.Going.{Going};
 
-/// Whether more lines are wanted behind one.
+/// Whether more lines are wanted after one.
 #[derive(Clone, Copy)]
 pub enum Going {
     /// They are.

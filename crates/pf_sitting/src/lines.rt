@@ -18,7 +18,7 @@ fn lengthen(line: &mut Vec<u8>, byte: u8) -> Result<(), Stopped>
     Ok(())
 }
 
-/// Takes one more byte, behind the front of a line.
+/// Takes one more byte, after the front of a line.
 fn take_byte<A: Answers>(
     answers: &mut A,
     line: &mut Vec<u8>,
@@ -38,7 +38,7 @@ fn take_byte<A: Answers>(
     Ok(going)
 }
 
-/// Answers the lines that end in these bytes, behind the front of the first one, and keeps the front of the line that doesn't.
+/// Answers the lines that end in these bytes, after the front of the first one, and keeps the front of the line that doesn't.
 pub(crate) fn take_bytes<A: Answers>(
     answers: &mut A,
     line: &mut Vec<u8>,

@@ -6,7 +6,7 @@ use Rattle.std.proofs.KnownBytes.{Appends-nil, Appends-trans, Appends-kept}
 use Rattle.std.proofs.lemmas.List.{append-nil, drop-take, take-append-drop, take-take, take_all, length-drop}
 use Rattle.pf_stream.specs.Written.{TookAllBut, TookFront}
 
--- a part of a text, and the part behind it
+-- a part of a text, and the part after it
 take-next : (at n : ℕ) (text : List ℕ) → take at text ++ take n (drop at text) ≡ take (at + n) text
 take-next at n text =
     let front = take-append-drop at (take (at + n) text) in
@@ -61,7 +61,7 @@ pub err-after : {A E : Type 0} (r : Result A E) (old mid new : Option (List ℕ)
 err-after (Ok x) old mid new text more h k = k
 err-after (Err e) old mid new text more h k = took-after old mid new text more h k
 
--- Of a text so far, whose front the writer has and whose rest waits: a further text is put behind it, in whole or in
+-- Of a text so far, whose front the writer has and whose rest waits: a further text is put after it, in whole or in
 -- part, and the rest is written, in whole or in part.
 pub so-far-put : (start old new : Option (List ℕ)) (was waiting text more : List ℕ) → TookAllBut was start old text
     → TookAllBut waiting old new (was ++ more) → TookAllBut waiting start new (text ++ more)

@@ -7,7 +7,7 @@ use std::marker::Model;
 /// The most bytes that wait before a piece is begun: 64 KiB.
 pub const MOST_WAITING: usize = 65_536;
 
-/// The bytes of a piece that has room behind them.
+/// The bytes of a piece that has room after them.
 pub const PIECE: usize = 4_096;
 
 /// A text on its way to a writer: the bytes of it that wait to be written. It comes in pieces: `make_room`, and then the
@@ -35,7 +35,7 @@ impl TextBuffer {
     ghost use Rattle.std.specs.Io.KnownBytes.{Appends};
     ghost use Rattle.pf_stream.specs.Written.{TookAllBut, TookFront};
 
-    /// No text yet. The memory for what waits and for a piece behind it is taken here.
+    /// No text yet. The memory for what waits and for a piece after it is taken here.
     ///
     /// # Errors
     ///
@@ -108,7 +108,7 @@ impl TextBuffer {
         self.push(digits.format(number).as_bytes())
     }
 
-    /// Adds a piece of any length behind what waits, and writes what waits where it grows too long. The writer's count of
+    /// Adds a piece of any length after what waits, and writes what waits where it grows too long. The writer's count of
     /// failures must be below `u64::MAX` before the call.
     ///
     /// # Errors

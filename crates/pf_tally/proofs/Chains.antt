@@ -40,7 +40,7 @@ all_counted r j shift i (x ∷ xs) =
     ∙ ap₂ (λ a b. a + b) (counted_by r j shift i x.event) (all_counted r j (shift + delay_from j x.event) i xs)
     ∙ sym (sum_by-append (hold_of i) (held_by (next_at r j) j shift x.event) (held_from (next_at r j) j (shift + delay_from j x.event) xs))
 
--- the shift behind the first k delays of a chain
+-- the shift after the first k delays of a chain
 abbrev pub shift_behind : ℕ → List Held → ℕ → ℕ
 shift_behind shift hs zero = shift
 shift_behind shift [] (suc k) = shift
@@ -207,7 +207,7 @@ chain_rises sub shift (h ∷ hs) chain = λ i j d before within. rise_at i j d b
     rise_at (suc i) zero d before within first rest = absurd (omega arith)
     rise_at (suc i) (suc j) d before within first rest = rest i j d (omega arith) (omega arith)
 
--- Use: the shift behind a cut of the delays.
+-- Use: the shift after a cut of the delays.
 pub shift_none : (shift i k : ℕ) (hs : List Held) → AreSuccessive 0 shift hs → k ≡ 0 → ((m : ℕ) (d : Held) → k ≤ m → m < length hs → nat_le (get_or hs m d).sub i ≡ false) → shift ≡ shift + sum_by (hold_of i) hs
 shift_none shift i k hs chain none fails = behind_is i 0 0 shift hs chain (omega arith) (λ m d below. absurd (omega arith)) (λ m d above below. fails m d (omega arith) below)
 

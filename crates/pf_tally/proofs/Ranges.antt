@@ -156,7 +156,7 @@ none_more t (q ∷ ran) other =
     after : (q t : ℕ) → t ≤ q → q ≢ t → t + 1 ≤ q
     after q t over differ = ⊎_elim (λ less. absurd (differ (omega arith))) (λ more. more) (cases_lt q (t + 1))
 
--- what is known once the first k quanta were looked at: the range up to the point `seen`, which is behind them
+-- what is known once the first k quanta were looked at: the range up to the point `seen`, which is after them
 pub record IsSeen (j : Joined) (held : List Held) (ran : List ℕ) (last k seen : ℕ) (range : Extremes) : Type 0 where
   pub low : j.slot ≤ seen
   pub high : seen ≤ last

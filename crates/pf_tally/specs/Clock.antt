@@ -30,7 +30,7 @@ stop_by r before j (Delay slot task by) =
     else []
 stop_by r before j event = []
 
--- the stops of the task's clock, where the events xs are in force behind those `before`
+-- the stops of the task's clock, where the events xs are in force after those `before`
 abbrev pub stops_behind : List Slot → Joined → List Numbered → List Numbered → List Stop
 stops_behind r j before [] = []
 stops_behind r j before (x ∷ xs) = stop_by r before j x.event ++ stops_behind r j (before ++ x ∷ []) xs

@@ -30,12 +30,12 @@ processors_in rows task = flat_map (λ row. places_from (is_of task) 0 row) rows
 abbrev pub is_moved : Option ℕ → ℕ → Bool
 is_moved before processor = option_map_or (λ q. not (q == processor)) before false
 
--- how many of the quanta on these processors are so, behind one on `before`
+-- how many of the quanta on these processors are so, after one on `before`
 abbrev pub migrations_behind : Option ℕ → List ℕ → ℕ
 migrations_behind before [] = 0
 migrations_behind before (p ∷ ps) = (if is_moved before p then 1 else 0) + migrations_behind (Some p) ps
 
--- a quantum in slot t, behind k others, the last of them in slot `before`, that goes on with a job after a pause
+-- a quantum in slot t, after k others, the last of them in slot `before`, that goes on with a job after a pause
 abbrev pub is_resumed : ℕ → ℕ → Option ℕ → ℕ → Bool
 is_resumed cost k before t = option_map_or (λ u. not (t - u == 1)) before false && not (k % cost == 0)
 
@@ -79,7 +79,7 @@ scaled_at r xs j t = pos (j.weight.cost * clock_of r xs j t) -ℤ pos (j.weight.
 abbrev pub last_slot : List Numbered → Joined → ℕ → ℕ
 last_slot xs j n = max j.slot (option_map_or (λ x. min (slot_of x.event) n) (find (λ x. is_leave_of j.task x.event) xs) n)
 
--- by how many slots behind the last one of its window a missed subtask ran
+-- by how many slots after the last one of its window a missed subtask ran
 abbrev pub tardiness_of : Miss → ℕ
 tardiness_of miss = option_map_or (λ t. t - (miss.deadline - 1)) miss.ran 0
 

@@ -37,12 +37,12 @@ delays_in rows j xs = held_from (next_in (slots_in rows j.task)) j j.slot xs
 abbrev pub come : Share → ℕ → ℕ → Progress
 come w received shift = record { weight = w; received = received; shift = shift }
 
--- how far a task has come behind the first t rows and these events
+-- how far a task has come after the first t rows and these events
 abbrev pub progress_at : List (List (Option Pick)) → ℕ → List Numbered → Joined → Progress
 progress_at rows t xs j =
     come j.weight (length (slots_in (take t rows) j.task)) (j.slot + sum_by (λ x. delay_from j x.event) xs)
 
--- the walk is behind the first t rows and these events, as far as the task is concerned
+-- the walk is after the first t rows and these events, as far as the task is concerned
 pub record IsAt (rows : List (List (Option Pick))) (t : ℕ) (xs : List Numbered) (walk : Walk) (j : Joined) : Type 0 where
   pub progress : value_of walk.progress j.task ≡ Some (progress_at rows t xs j)
   pub delays : noted_of walk.delays j.task ≡ delays_in rows j xs

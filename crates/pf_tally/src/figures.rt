@@ -22,7 +22,7 @@ pub struct Figures {
     pub response: Option<Extremes>,
     /// The missed windows.
     pub missed: u64,
-    /// The greatest number of slots by which a subtask ran behind the last slot of its window.
+    /// The greatest number of slots by which a subtask ran after the last slot of its window.
     pub tardiness: u64,
     /// The least and the greatest lag, times the period, while the task was inside.
     pub lag: Extremes,

@@ -27,7 +27,7 @@ pub(crate) fn note_late(misses: &mut Vec<Miss>, late: &[Miss], last: u64) -> Res
     Ok(())
 }
 
-/// Appends the windows of the task that did not run, up to subtask `now`, and are due by the slot `last`: those behind
+/// Appends the windows of the task that did not run, up to subtask `now`, and are due by the slot `last`: those after
 /// its first `received` subtasks.
 pub(crate) fn note_unrun(
     misses: &mut Vec<Miss>,

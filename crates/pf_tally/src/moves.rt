@@ -24,7 +24,7 @@ pub(crate) fn migrations(processors: &[u32]) -> u64
     migrations
 }
 
-/// 1 where the quantum in this slot, behind `done` others, goes on with a job after a pause.
+/// 1 where the quantum in this slot, after `done` others, goes on with a job after a pause.
 fn one_if_resumed(cost: u64, done: u64, before: Option<u64>, slot: u64) -> u64
     requires { 1 ≤ cost }
     ensures { result ≡ (if is_resumed cost done before slot then 1 else 0) }

@@ -3,7 +3,7 @@ ghost use Rattle.pf_tally.specs.Figures.{greatest_tardiness, tardiness_of};
 
 use crate::miss::Miss;
 
-/// By how many slots behind the last one of its window a missed subtask ran; 0 where it did not run.
+/// By how many slots after the last one of its window a missed subtask ran; 0 where it did not run.
 fn tardiness_of(miss: Miss) -> u64
     ensures { result ≡ tardiness_of miss }
 {

@@ -7,7 +7,7 @@ use Rattle.std.proofs.lemmas.List.{at_drop_more, at_drop_all, get_or-drop, lengt
 use Rattle.pf_facts.proofs.Lists.{nothing_between, longer}
 use Rattle.pf_task_lines.specs.Lines.{fields_from}
 
--- the field in the column is the one so many places behind the byte `start`, of whose field the bytes before `end` were read
+-- the field in the column is the one so many places after the byte `start`, of whose field the bytes before `end` were read
 pub record IsReadTo (line : List ℕ) (column left start end : ℕ) : Type 0 where
   pub begun : start ≤ end
   pub same : slice_index_or (fields_from (slice_range line start end) (drop end line)) left [] ≡ slice_index_or (fields_from [] line) column []
@@ -66,7 +66,7 @@ byte_read line column left start end h lt other = record {
       ∙ h.same;
 }
 
--- the last field, and what is behind it
+-- the last field, and what is after it
 module _ (line : List ℕ) (column left start end : ℕ) (h : IsReadTo line column left start end) (le : length line ≤ end) where
   last : slice_index_or (slice_range line start (length line) ∷ []) left [] ≡ slice_index_or (fields_from [] line) column []
   last =

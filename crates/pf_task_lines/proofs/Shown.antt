@@ -45,7 +45,7 @@ module _ (tasks : List TaskRange) (column : ℕ) where
     pub last_shown : text ≡ shown ++ shown_from tasks column next left
     last_shown = last_is ∙ sym (append-nil shown) ∙ ap (λ t. shown ++ t) (sym behind_last)
 
-  -- Use: a byte of a piece was read, behind which comes `rest`.
+  -- Use: a byte of a piece was read, after which comes `rest`.
   module _ (line shown piece rest total : List ℕ) (i : ℕ) (within : i < length piece)
       (so_far : shown ++ shown_from tasks column line (drop i piece ++ rest) ≡ total) where
     first : shown_from tasks column line (drop i piece ++ rest) ≡ shown_from tasks column line (get_or piece i 0 ∷ (drop (i + 1) piece ++ rest))

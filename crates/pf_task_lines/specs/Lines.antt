@@ -6,12 +6,12 @@ use Rattle.pf_script.specs.Fields.{number_of}
 use Rattle.pf_tasks.specs.Listed.{is_listed}
 use Rattle.pf_tasks.specs.declared.task_range.TaskRange.{TaskRange}
 
--- the fields of a line, which commas (44) join, behind a front of the first
+-- the fields of a line, which commas (44) join, after a front of the first
 unfoldable pub fields_from : List ℕ → List ℕ → List (List ℕ)
 fields_from field [] = field ∷ []
 fields_from field (byte ∷ bytes) = if byte == 44 then field ∷ fields_from [] bytes else fields_from (field ++ byte ∷ []) bytes
 
--- the lines of a text, with their ends (10), behind a front of the first
+-- the lines of a text, with their ends (10), after a front of the first
 unfoldable pub lines_from : List ℕ → List ℕ → List (List ℕ)
 lines_from line [] = line ∷ []
 lines_from line (byte ∷ bytes) = if byte == 10 then (line ++ byte ∷ []) ∷ lines_from [] bytes else lines_from (line ++ byte ∷ []) bytes
@@ -23,7 +23,7 @@ is_shown tasks column line = option_map_or (is_listed tasks) (number_of (slice_i
 abbrev pub shown_line : List TaskRange → ℕ → List ℕ → List ℕ
 shown_line tasks column line = if is_shown tasks column line then line else []
 
--- the lines of a text that are shown, behind a front of the first
+-- the lines of a text that are shown, after a front of the first
 abbrev pub shown_from : List TaskRange → ℕ → List ℕ → List ℕ → List ℕ
 shown_from tasks column line text = flat_map (shown_line tasks column) (lines_from line text)
 

@@ -1,4 +1,4 @@
--- Digits behind a point are less than a unit.
+-- Digits after a point are less than a unit.
 use Rattle.std.proofs.Common.{ℕ, ◌+◌, ◌*◌, ◌/◌, ◌^◌, ◌<◌, ◌≤◌, arith}
 use Rattle.std.proofs.Math.Nat.{div-lt_iff_lt-mul, one-le-pow, mul-le-mul_left}
 

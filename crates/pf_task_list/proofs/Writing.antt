@@ -1,4 +1,4 @@
--- One text written behind another.
+-- One text written after another.
 use Rattle.std.proofs.Common.{◌≡◌, ℕ, List, ◌++◌}
 use Rattle.pf_facts.proofs.Lists.{two_written, three_written}
 

@@ -34,7 +34,7 @@ with_read h told row (Err fault) = with_fault told (fault_line row.line (at_faul
 unfoldable pub with_row : Unit → Heading → ListTold → Row → ListTold
 with_row unit h told row = with_read h told row (task_in unit h told.tasks row.line row.fields)
 
--- what a list tells with these rows behind so many others, where so much was told; behind as many tasks as there may be
+-- what a list tells with these rows after so many others, where so much was told; after as many tasks as there may be
 -- nothing more is looked at
 unfoldable pub tasks_told : Unit → Heading → ℕ → ListTold → ℕ → List Row → ListTold
 tasks_told unit h count told end [] = if count == 0 then with_fault told (fault_line end [] NoTask) else told

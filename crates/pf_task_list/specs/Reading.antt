@@ -54,11 +54,11 @@ abbrev pub name_or_fault : List Listed → Option (List ℕ) → Result (List �
 name_or_fault tasks None = Err NoName
 name_or_fault tasks (Some name) = free_name name (line_of tasks name)
 
--- the name that a field gives to a task behind these tasks
+-- the name that a field gives to a task after these tasks
 abbrev pub name_for : List Listed → List ℕ → Result (List ℕ) TaskFault
 name_for tasks field = name_or_fault tasks (name_in field)
 
--- the task that a row of this line is, behind these tasks
+-- the task that a row of this line is, after these tasks
 unfoldable pub task_in : Unit → Heading → List Listed → ℕ → List (List ℕ) → Result Listed TaskFault
 task_in unit h tasks line fields =
     if length fields == h.count then (do

@@ -34,14 +34,14 @@ Err fault >>= f = Err fault
 abbrev pub whole_in : ℕ → List ℕ → Result ℕ TimeFault
 whole_in places bytes = ok_or (few_digits bytes) NoTime >>= λ number. Ok (number * 10 ^ places)
 
--- the digits behind a point in nanoseconds
+-- the digits after a point in nanoseconds
 abbrev pub part_of : ℕ → ℕ → ℕ → Result ℕ TimeFault
 part_of places digits number = if number * 10 ^ places % 10 ^ digits == 0 then Ok (number * 10 ^ places / 10 ^ digits) else Err TooFine
 
 abbrev pub part_in : ℕ → List ℕ → Result ℕ TimeFault
 part_in places bytes = ok_or (few_digits bytes) NoTime >>= part_of places (length bytes)
 
--- the digits before the point at a place and those behind it, or all of them
+-- the digits before the point at a place and those after it, or all of them
 abbrev pub around_point : ℕ → List ℕ → Option ℕ → Result ℕ TimeFault
 around_point places bytes None = whole_in places bytes
 around_point places bytes (Some point) = do
@@ -49,7 +49,7 @@ around_point places bytes (Some point) = do
   part ← part_in places (drop (point + 1) bytes)
   Ok (whole + part)
 
--- a time in nanoseconds, told in a unit: 1 to 9 digits, and where there is a point 1 to 9 more behind it
+-- a time in nanoseconds, told in a unit: 1 to 9 digits, and where there is a point 1 to 9 more after it
 unfoldable pub time_in : Unit → List ℕ → Result ℕ TimeFault
 time_in unit bytes = around_point (places_of unit) bytes (position (λ byte. byte == 46) bytes)
 

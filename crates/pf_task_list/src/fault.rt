@@ -32,10 +32,10 @@ pub enum ListFault {
     NoHeading,
     /// Its first row is no heading.
     Heading(HeadingFault),
-    /// There is no row behind the heading.
+    /// There is no row after the heading.
     NoTask,
     /// A row is no task.
     Task(TaskFault),
-    /// It is the row behind as many tasks as there may be.
+    /// It is the row after as many tasks as there may be.
     TooManyTasks,
 }

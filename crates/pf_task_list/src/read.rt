@@ -14,7 +14,7 @@ use pf_convert::timed::Timed;
 use pf_names::name::Name;
 use pf_names::unit::Unit;
 
-/// The task that a row of this line is, behind these tasks.
+/// The task that a row of this line is, after these tasks.
 ///
 /// # Errors
 ///
@@ -38,7 +38,7 @@ pub fn read_task(
     Ok(Listed { line, name, times })
 }
 
-/// The name that a field gives to a task behind these tasks.
+/// The name that a field gives to a task after these tasks.
 fn read_name(tasks: &[Listed], field: &[u8]) -> Result<Name, TaskFault>
     ensures { result ≡ name_for tasks.now field.now }
 {

@@ -7,13 +7,13 @@ use pf_columns::decimals::push_fewest_places;
 use pf_names::unit::Unit;
 use std::alloc::AllocError;
 
-/// The most digits before a point, and the most behind it.
+/// The most digits before a point, and the most after it.
 const MOST_DIGITS: usize = 9;
 
 /// Why a field is no time.
 #[derive(Clone, Copy)]
 pub enum TimeFault {
-    /// It isn't 1 to 9 digits, and up to 9 more behind a point.
+    /// It isn't 1 to 9 digits, and up to 9 more after a point.
     NoTime,
     /// It is no whole number of nanoseconds.
     TooFine,
@@ -69,7 +69,7 @@ fn parse_whole(places: u32, field: &[u8]) -> Result<u64, TimeFault>
     }
 }
 
-/// The digits behind a point in nanoseconds.
+/// The digits after a point in nanoseconds.
 ///
 /// # Errors
 ///
@@ -98,7 +98,7 @@ fn find_point(field: &[u8]) -> Option<usize>
     field.iter().position(|byte| *byte == b'.')
 }
 
-/// A time in nanoseconds, told in a unit: 1 to 9 digits, and where there is a point 1 to 9 more behind it.
+/// A time in nanoseconds, told in a unit: 1 to 9 digits, and where there is a point 1 to 9 more after it.
 ///
 /// # Errors
 ///
@@ -119,7 +119,7 @@ pub fn parse_time(unit: Unit, field: &[u8]) -> Result<u64, TimeFault>
     }
 }
 
-/// Adds a time in nanoseconds, as a decimal in a unit with the unit behind it.
+/// Adds a time in nanoseconds, as a decimal in a unit with the unit after it.
 ///
 /// # Errors
 ///

@@ -40,7 +40,7 @@ abbrev pub with_item : List TaskWord → Option TaskWord → Option (List TaskWo
 with_item words None = None
 with_item words (Some word) = Some (words ++ word ∷ [])
 
--- a list with the items of a text behind it, which commas (44) join; these bytes of the first of them were read
+-- a list with the items of a text after it, which commas (44) join; these bytes of the first of them were read
 unfoldable pub with_items : List TaskWord → List ℕ → List ℕ → Option (List TaskWord)
 with_items words item [] = with_item words (word_in item)
 with_items words item (byte ∷ bytes) =

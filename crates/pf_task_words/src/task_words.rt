@@ -54,7 +54,7 @@ impl TaskWords {
         words.with(&text[start..])
     }
 
-    /// The list with the item of this text behind it; none where that is no item.
+    /// The list with the item of this text after it; none where that is no item.
     fn with(self, item: &[u8]) -> Result<Option<TaskWords>, AllocError>
         ensures { IfOk result (λ words. words ≡ with_item self (word_in item.now)) }
     {

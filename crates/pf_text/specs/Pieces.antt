@@ -3,7 +3,7 @@ use Rattle.std.specs.Prelude.{ℕ, ◌≡◌, ◌≤◌, List, [], ◌++◌, len
 use Rattle.std.specs.declared.vec.Vec.{Vec}
 use Rattle.std.specs.declared.alloc.Global.{Global}
 
--- Of the text that was left a piece was handed out, which is not empty, and this is left behind it. There was no piece only
+-- Of the text that was left a piece was handed out, which is not empty, and this is left after it. There was no piece only
 -- where nothing was left.
 abbrev pub TakesPiece : Option (Vec ℕ Global) → List ℕ → List ℕ → Type 0
 TakesPiece None was left = (was ≡ []) × (left ≡ [])

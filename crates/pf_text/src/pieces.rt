@@ -69,7 +69,7 @@ impl Pieces for Whole {
     }
 }
 
-/// One text behind another.
+/// One text after another.
 #[derive(Drop)]
 pub struct Chain<A: Pieces, B: Pieces> {
     first: A,

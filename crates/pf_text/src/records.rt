@@ -7,7 +7,7 @@ use crate::table::Table;
 use std::alloc::{AllocError, Global};
 use std::marker::Model;
 
-/// The records of a table behind its heading.
+/// The records of a table after its heading.
 pub trait Records {
     // how many there are
     ghost count: { Self → ℕ };

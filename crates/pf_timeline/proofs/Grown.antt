@@ -76,7 +76,7 @@ last_is_row s scenario = along_run s (λ r. IsRow s.settings.processors (row_beh
     (sym (ap (last_row (idle_row m)) (record_rows_snoc s r slot) ∙ last_behind (idle_row m) (record_rows s r) row))
     (row_is_row m (count_in_last s (r ++ slot ∷ [])) (row_behind s r) slot.picks (next_is_turn s r slot scenario next) before))
 
--- Use: an idle row behind some rows is as long as it was made.
+-- Use: an idle row after some rows is as long as it was made.
 pub idle_width : (m : ℕ) (rows : List (List (Option Pick))) → length (last_row [] (rows ++ idle_row m ∷ [])) ≡ m
 idle_width m rows = ap length (last_behind [] rows (idle_row m)) ∙ length-replicate m None
 
@@ -164,7 +164,7 @@ module _ (s : Plan) (n : ℕ) (rows : List (List (Option Pick))) (denials : List
       (last_is_row s keeps.of_run.scenario _ (run_of s n) run)
 
   module _ (events : List Numbered) (are : events ≡ events_of s e.now) where
-    -- the events of the next slot are those behind the run
+    -- the events of the next slot are those after the run
     next_events : events ≡ events_of s (length (run_of s n))
     next_events = are ∙ ap (events_of s) (fits_now s (run_of s n) e keeps.engine)
 

@@ -263,7 +263,7 @@ none_of : {X : Type 0} (k : ℕ) → take {A = X} k [] ≡ []
 none_of zero = refl
 none_of (suc k) = refl
 
--- Use: the first ones of two lists, one behind the other.
+-- Use: the first ones of two lists, one after the other.
 pub first_of_both : {X : Type 0} (k : ℕ) (xs ys : List X) → take k xs ++ take (k - length xs) ys ≡ take k (xs ++ ys)
 first_of_both k [] ys =
     let all : k - 0 ≡ k = omega arith in

@@ -45,7 +45,7 @@ pub record IsTrimmed (old new : Points) : Type 0 where
 abbrev pub Trims : Points → Points → Type 0
 Trims old new = (new ≡ old) ⊎ IsTrimmed old new
 
--- what these rows and denials of a scenario show, with this engine behind them, checkpoints so far apart, and near ones from
+-- what these rows and denials of a scenario show, with this engine after them, checkpoints so far apart, and near ones from
 -- this slot on
 abbrev pub kept_run : Plan → ℕ → ℕ → List (List (Option Pick)) → List Denied → Kept → KeptRun
 kept_run s every near rows denials e =
@@ -61,7 +61,7 @@ pub record IsCheckpoint (s : Plan) (t : ℕ) (c : Checkpoint) : Type 0 where
   pub engine : Fits s (run_of s t) c.engine
   pub denials : c.denials ≡ length (denials_in s t)
 
--- each checkpoint fits the run up to its own slot, and none is of a slot behind n; there is one of each slot below n that is due
+-- each checkpoint fits the run up to its own slot, and none is of a slot after n; there is one of each slot below n that is due
 pub record FitRun (s : Plan) (n : ℕ) (c : Points) : Type 0 where
   pub apart : 1 ≤ c.every
   pub each : (i : ℕ) (d : Checkpoint) → i < length c.points → IsCheckpoint s (slot_at c i) (slice_index_or c.points i d)

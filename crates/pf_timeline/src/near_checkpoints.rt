@@ -23,7 +23,7 @@ pub struct NearCheckpoints {
     /// The slot of the first one.
     start: u64,
     older: SharedList<Checkpoint>,
-    /// Those behind the older ones.
+    /// Those after the older ones.
     newer: SharedList<Checkpoint>,
 }
 

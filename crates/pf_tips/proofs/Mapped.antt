@@ -14,11 +14,11 @@ pub script_among : {A : Type 0} (text : A → List ℕ) (words : List A) → lis
 script_among text [] = refl
 script_among text (word ∷ words) = ap (λ b. is_script (text word) || b) (script_among text words)
 
--- Use: a list has a first one, and others behind it.
+-- Use: a list has a first one, and others after it.
 pub split_first : {A : Type 0} (words : List A) → 1 ≤ length words → (first : A) → first ≡ get_or words 0 first → words ≡ first ∷ drop 1 words
 split_first [] some first is = absurd (omega (arith, some))
 split_first (word ∷ words) some first is = ap (λ w. w ∷ words) (sym is)
 
--- Use: the others are all behind the first one.
+-- Use: the others are all after the first one.
 pub rest_whole : {A : Type 0} (words : List A) → take (length words - 1) (drop 1 words) ≡ drop 1 words
 rest_whole words = take_all (length words - 1) (drop 1 words) (omega (arith, length-drop 1 words))

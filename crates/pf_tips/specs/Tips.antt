@@ -1,4 +1,4 @@
--- What is tipped behind the text of words that the program does not take.
+-- What is tipped after the text of words that the program does not take.
 use Rattle.std.specs.Prelude.{ℕ, Bool, ◌||◌, ◌&&◌, ◌==◌, nat_eq, nat_le, not, length, is_some, if◌then◌else◌, List, [], ◌∷◌, ◌++◌, codes}
 use Rattle.std.specs.List.{ends_with, flat_map, list_all, list_any, starts_with}
 use Rattle.std.specs.Str.{bytes_eq}
@@ -18,7 +18,7 @@ is_safe word = not (length word == 0) && list_all is_safe_byte word
 abbrev pub shown_word : List ℕ → List ℕ
 shown_word word = if is_safe word then word else codes "'" ++ flat_map shown_byte word ++ codes "'"
 
--- words behind another, each behind a space
+-- words after another, each after a space
 abbrev pub spaced_word : List ℕ → List ℕ
 spaced_word word = codes " " ++ shown_word word
 

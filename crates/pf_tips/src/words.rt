@@ -52,7 +52,7 @@ pub(crate) fn push_word(text: &mut Vec<u8>, word: &[u8]) -> Result<(), AllocErro
     Ok(())
 }
 
-/// Appends a word as it is shown, behind a space.
+/// Appends a word as it is shown, after a space.
 fn push_spaced(text: &mut Vec<u8>, word: &[u8]) -> Result<(), AllocError>
     ensures { OnOk result (text.new.items ≡ text.old.items ++ spaced_word word.now) }
 {
@@ -60,7 +60,7 @@ fn push_spaced(text: &mut Vec<u8>, word: &[u8]) -> Result<(), AllocError>
     push_word(text, word)
 }
 
-/// Appends words as they are shown, each behind a space.
+/// Appends words as they are shown, each after a space.
 pub(crate) fn push_words<S: AsStr>(text: &mut Vec<u8>, words: &[S]) -> Result<(), AllocError>
     ensures { OnOk result (text.new.items ≡ text.old.items ++ flat_map (λ w. spaced_word (S.text w)) words.now) }
 {

@@ -14,7 +14,7 @@ use Rattle.pf_converted.proofs.Named.{named_last, none_below, still_free}
 use Rattle.pf_retold.specs.Titles.{AreGivable}
 use Rattle.pf_titled.proofs.Says.{name_says}
 
--- a name of a task behind these, which none of them is
+-- a name of a task after these, which none of them is
 pub record IsAhead (given : List Named) (n : Named) : Type 0 where
   pub below : All (λ g. g.task < n.task) given
   pub free : task_of given n.name ≡ None
@@ -66,7 +66,7 @@ names_all (n ∷ names) p records saids opened are ahead more =
       subst (λ (q : Progress). AllSay q (map name_record names ++ records) (map name_said names ++ saids)) (sym (named p n first)) rest,
     )
 
--- what came before, behind what was said
+-- what came before, after what was said
 abbrev pub behind : Progress → List Said → Progress
 behind p [] = p
 behind p (said ∷ saids) = behind (progress_after p said 0) saids

@@ -47,7 +47,7 @@ slot_saids (Some slot) = Slot slot ∷ []
 abbrev event_saids : List Numbered → ℕ → List Said
 event_saids xs n = map (λ x. insert_said x.event) xs ++ step_saids n
 
--- what the script says behind its heading
+-- what the script says after its heading
 abbrev saids : System → ℕ → Titles → List Numbered → ℕ → List Said
 saids s every titles xs n = Settings (opening s every) ∷ (slot_saids titles.slot ++ (map name_said titles.names ++ event_saids xs n))
 
@@ -115,7 +115,7 @@ module _ (every : ℕ) (seen : Seen) (titles : Titles) (can : CanBeTitled every 
   abbrev script : List Said
   script = saids s every titles events n
 
-  -- behind the heading
+  -- after the heading
   abbrev records : List (List (List ℕ))
   records = settings_record s every ∷ (title_records titles ++ (insert_records events ++ step_records n))
 

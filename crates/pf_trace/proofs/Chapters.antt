@@ -39,7 +39,7 @@ module _ (chapters : ℕ) (places : ℕ → ℕ) (place : ℕ → ℕ → List �
       ∙ flat_map-cons (λ c. chapter_text (places c) (place c) at) next []
       ∙ append-nil (chapter_text (places next) (place next) at))
 
-  -- Use: behind the last chapter.
+  -- Use: after the last chapter.
   pub none_behind : (next at : ℕ) → chapters ≤ next → behind next at ≡ []
   none_behind next at over =
       ap₂ (λ a b. a ++ b)

@@ -49,7 +49,7 @@ module _ (title : Called) (form numbers : List ℕ) where
       ∙ ap (λ text. part ++ text) (sym (next_byte at used d false within fails)))
       ∙ so_far
 
-  -- Use: a hole that was filled behind the part before it.
+  -- Use: a hole that was filled after the part before it.
   pub hole_passed : (start at used d n : ℕ) (old mid new whole : List ℕ) → at < length form → is_hole (get_or form at d) ≡ true →
       mid ≡ old ++ take (at - start) (drop start form) → n ≡ first_number (drop used numbers) → new ≡ mid ++ hole_text title (get_or form at d) n →
       old ++ left_at start at used ≡ whole → new ++ left_at (at + 1) (at + 1) (used + 1) ≡ whole
@@ -68,7 +68,7 @@ module _ (title : Called) (form numbers : List ℕ) where
   unfolding filled
   none_left used = refl
 
-  -- Use: the part behind the last hole.
+  -- Use: the part after the last hole.
   pub form_passed : (start at used : ℕ) (old new whole : List ℕ) → length form ≤ at → new ≡ old ++ take (length form - start) (drop start form) →
       old ++ left_at start at used ≡ whole → new ≡ whole
   form_passed start at used old new whole over new_is so_far =

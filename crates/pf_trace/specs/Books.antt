@@ -14,7 +14,7 @@ chapters_from chapters places place next =
 abbrev pub book_text : ℕ → (ℕ → ℕ) → (ℕ → ℕ → List ℕ) → List ℕ
 book_text chapters places place = chapters_from chapters places place 0
 
--- what is left at a place of a chapter: nothing behind the last one
+-- what is left at a place of a chapter: nothing after the last one
 abbrev pub text_behind : ℕ → (ℕ → ℕ) → (ℕ → ℕ → List ℕ) → ℕ → ℕ → List ℕ
 text_behind chapters places place next at =
     flat_map (λ c. chapter_text (places c) (place c) at) (range_with_len next (min 1 (chapters - next)))

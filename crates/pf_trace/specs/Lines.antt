@@ -1,4 +1,4 @@
--- The lines of the events. Each but the first stands behind a comma and a line feed.
+-- The lines of the events. Each but the first stands after a comma and a line feed.
 use Rattle.std.specs.Prelude.{ℕ, ◌+◌, ◌-◌, ◌*◌, ◌%◌, Bool, if◌then◌else◌, ℤ, pos, negsuc, Option, None, Some, List, [], ◌∷◌, ◌++◌, codes}
 use Rattle.std.specs.Option.{option_map_or}
 use Rattle.pf_admit.specs.Refusals.{denial_code, denial_name}
@@ -73,7 +73,7 @@ missed_line title j w None =
     filled title (codes ",\n{\"args\":{\"ran\":null},\"cat\":\"missed\",\"name\":\"missed %/#\",\"ph\":\"i\",\"pid\":2,\"s\":\"t\",\"tid\":#,\"ts\":@}")
     (j.task ∷ w.sub ∷ window_track j.task w.sub ∷ w.deadline ∷ [])
 
--- a window that is drawn, and behind it that it was missed
+-- a window that is drawn, and after it that it was missed
 abbrev pub window_lines : Called → Joined → ℕ → Option ℕ → Window → List ℕ
 window_lines title j end leave w =
     if is_drawn end w then window_line title j leave w w.ran ++ (if w.late then missed_line title j w w.ran else []) else []

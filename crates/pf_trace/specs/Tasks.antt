@@ -43,7 +43,7 @@ quantum_at x t = option_map_or (quantum_lines x.title x.task) (option_and_then (
 abbrev pub life_place : TaskTrace → ℕ → List ℕ
 life_place x t = moments_at x t ++ quantum_at x t
 
--- the lag so many slots behind the join
+-- the lag so many slots after the join
 abbrev pub told_lag : TaskTrace → Course → ℕ → List ℕ
 told_lag x c t = if is_lag_told c t then lag_line x.title x.task t (course_lag c t) else []
 

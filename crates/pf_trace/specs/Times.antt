@@ -2,7 +2,7 @@
 use Rattle.std.specs.Prelude.{ℕ, ◌+◌, ◌*◌, ◌/◌, ◌%◌, ◌==◌, if◌then◌else◌, List, [], ◌∷◌, ◌++◌}
 use Rattle.std.specs.Fmt.{decimal}
 
--- so many thousandths, below 1000, behind a point and without zeros at their end
+-- so many thousandths, below 1000, after a point and without zeros at their end
 abbrev pub fraction_text : ℕ → List ℕ
 fraction_text n =
     if n == 0 then []

@@ -203,7 +203,7 @@ impl Course {
         (self.end + 1).saturating_sub(self.task.slot)
     }
 
-    /// The slot so many slots behind its join.
+    /// The slot so many slots after its join.
     pub(crate) fn lag_slot(&self, at: u64) -> u64
         requires { at < lag_count self.now }
         ensures value { result ≡ self.now.task.slot + at }

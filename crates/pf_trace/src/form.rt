@@ -25,7 +25,7 @@ fn push_hole(text: &mut Vec<u8>, title: &Title, hole: u8, number: u64) -> Result
     }
 }
 
-/// The number at a place, 0 behind the last one.
+/// The number at a place, 0 after the last one.
 fn number_at(numbers: &[u64], at: usize) -> u64
     ensures { result ≡ first_number (drop at numbers.now) }
 {

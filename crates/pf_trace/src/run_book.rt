@@ -39,7 +39,7 @@ fn level_at(levels: &[Level], t: u64) -> Option<Level>
     level_when(level_of(levels, at), t)
 }
 
-/// What the events tell of a run behind the names of its processors: the names of the tasks; slot by slot the load and the
+/// What the events tell of a run after the names of its processors: the names of the tasks; slot by slot the load and the
 /// quanta; and task by task its windows, its quanta and events, and its lags.
 #[derive(Drop)]
 pub struct RunBook<'a> {

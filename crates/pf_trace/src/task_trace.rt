@@ -163,7 +163,7 @@ impl TaskTrace {
         self.push_quantum_at(text, t)
     }
 
-    /// Adds the lag of its course so many slots behind its join, where it is told.
+    /// Adds the lag of its course so many slots after its join, where it is told.
     fn push_course_lag(
         &self,
         text: &mut Vec<u8>,
@@ -181,7 +181,7 @@ impl TaskTrace {
         }
     }
 
-    /// Adds its lag, so many slots behind its join.
+    /// Adds its lag, so many slots after its join.
     fn push_lag_place(&self, text: &mut Vec<u8>, at: u64) -> Result<(), AllocError>
         requires { at < lag_places self.now }
         ensures { OnOk result (text.new.items ≡ text.old.items ++ lag_place self.now at) }

@@ -12,7 +12,7 @@ fn digit(number: u64) -> u8
     b'0' + number as u8
 }
 
-/// Adds the thousandths of a whole, behind a point and without zeros at their end; nothing where there are none.
+/// Adds the thousandths of a whole, after a point and without zeros at their end; nothing where there are none.
 fn push_fraction(text: &mut Vec<u8>, thousandths: u64) -> Result<(), AllocError>
     requires { thousandths < 1000 }
     ensures { OnOk result (text.new.items ≡ text.old.items ++ fraction_text thousandths) }

@@ -111,7 +111,7 @@ fn push_missed(
     }
 }
 
-/// Adds a window where it is drawn, and behind it that it was missed.
+/// Adds a window where it is drawn, and after it that it was missed.
 pub(crate) fn push_window_lines(
     text: &mut Vec<u8>,
     title: &Title,

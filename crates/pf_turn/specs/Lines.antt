@@ -43,7 +43,7 @@ Saves saves s v file (showing.Bad words) g a t w = Goes On (bad_text s.manner.js
 Saves saves s v file (showing.Text text) g a t w =
     (is_saved : Bool) × saves v file text.items is_saved w × (g ≡ On) × (a ≡ saved_text s.manner.json file is_saved) × (t ≡ s)
 
--- a session goes on so with what it heard: whether more is wanted, the answer, and what is behind it. What is shown is what its script
+-- a session goes on so with what it heard: whether more is wanted, the answer, and what is after it. What is shown is what its script
 -- shows, and what is saved is what it shows as a script
 abbrev pub GoesOn : {S : Type 0} → (S → List ℕ → List ℕ → Bool → S → Type 0) → SessionState → S → Heard → Going → List ℕ → SessionState → S → Type 0
 GoesOn saves s v Nothing g a t w = Goes On [] s v g a t w

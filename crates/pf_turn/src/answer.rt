@@ -14,7 +14,7 @@ use pf_sitting::answers::{Going, Stopped};
 ///
 /// # Errors
 ///
-/// Where memory is refused behind the first of several steps, or for that answer too: the text is as before, and nothing is promised of
+/// Where memory is refused after the first of several steps, or for that answer too: the text is as before, and nothing is promised of
 /// the session any more.
 pub fn answer<S: Saver>(
     session: &mut Session,

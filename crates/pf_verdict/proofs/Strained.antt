@@ -12,7 +12,7 @@ use Rattle.pf_verdict.specs.declared.stretch.Stretch.{Stretch}
 use Rattle.pf_verdict.specs.Strain.{above_of, first_above, has_fewer_free, strain_of, strain_with, tighter, tightest_of}
 use Rattle.pf_verdict.specs.Stretches.{Cover, IsEven}
 
--- the first of these stretches, and those behind it
+-- the first of these stretches, and those after it
 pub record Goes (u n : ℕ) (x : Stretch) (xs : List Stretch) : Type 0 where
   pub from : x.from ≡ u
   pub some : x.from < x.to

@@ -3,7 +3,7 @@
 pub struct Stretch {
     /// The first of the slots.
     pub from: u64,
-    /// The slot behind the last of them.
+    /// The slot after the last of them.
     pub to: u64,
     /// What the tasks inside ask for, together.
     pub load: u64,

@@ -247,7 +247,7 @@ opening_at fields =
     else if names_record fields then Err (fault_at 0 NoSettings)
     else Err (fault_at 0 NoRecord)
 
--- what a record behind the heading says
+-- what a record after the heading says
 abbrev pub said_at : Progress → List (List ℕ) → Result Said RecordFault
 said_at p fields = if p.opened then record_at p fields else opening_at fields
 

@@ -15,7 +15,7 @@ abbrev pub with_label : Option (List ℕ) → ℕ → List Labelled → List Lab
 with_label None number labels = labels
 with_label (Some label) number labels = labels ++ record { name = label; number = number } ∷ []
 
--- behind a record that said this; where it labels an event, that was given this number
+-- after a record that said this; where it labels an event, that was given this number
 abbrev pub progress_after : Progress → Said → ℕ → Progress
 progress_after p (Settings s) number = record p { opened = true }
 progress_after p (Slot length) number = record p { slot = Some length }

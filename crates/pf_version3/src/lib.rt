@@ -1,5 +1,5 @@
 //! What scripts of version 3 tell, record by record. The one contract of this crate: a record says what the grammar of version
-//! 3 gives its fields behind the records before it, or has the first thing that is wrong with it.
+//! 3 gives its fields after the records before it, or has the first thing that is wrong with it.
 #![tactic(auto)]
 
 pub mod fault;

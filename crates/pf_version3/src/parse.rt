@@ -25,7 +25,7 @@ use pf_weight::task::LARGEST_TASK;
 /// The distance of checkpoints, in slots, where a script tells none.
 const USUAL_DISTANCE: u64 = 64;
 
-/// What a record behind the heading says, or the first thing that is wrong with it: its word comes first, then its length, then
+/// What a record after the heading says, or the first thing that is wrong with it: its word comes first, then its length, then
 /// its fields from left to right. Whether the numbers of an event are within their limits is not tried.
 pub(crate) fn parse_record(progress: &Progress, fields: &Fields) -> Result<Said, RecordFault>
     ensures { result ≡ said_at progress.now fields.now }

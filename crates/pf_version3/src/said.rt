@@ -3,7 +3,7 @@ use pf_names::slot_length::SlotLength;
 use pf_script::line::Line;
 use pf_script::record::ScriptSettings;
 
-/// What a record behind the heading says: names of tasks and labels of events are put in place of by their numbers.
+/// What a record after the heading says: names of tasks and labels of events are put in place of by their numbers.
 #[derive(Drop)]
 pub enum Said {
     /// The settings.

@@ -7,7 +7,7 @@ use pf_names::slot_length::SlotLength;
 use pf_script::fields::Fields;
 use std::alloc::{AllocError, Global};
 
-/// How far a script of version 3 is behind its heading: what came before the next record.
+/// How far a script of version 3 is after its heading: what came before the next record.
 #[derive(Drop)]
 pub struct Progress {
     /// Whether the settings came.
@@ -27,7 +27,7 @@ impl Progress {
     ghost use Rattle.pf_version3.specs.Progress.{at_heading, progress_after};
     ghost use Rattle.pf_version3.specs.Parsing.{end_fault, said_at};
 
-    /// Behind the heading.
+    /// After the heading.
     pub fn new(alloc: Global) -> Self
         ensures { result ≡ at_heading }
     {

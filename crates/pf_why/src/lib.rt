@@ -1,5 +1,5 @@
 //! Why a slot of a run went as it did. Its one contract: from a snapshot, the subtasks that may run in a slot in the order of
-//! PD2, the rule that puts each behind the one before it, and where and why each runs or waits.
+//! PD2, the rule that puts each after the one before it, and where and why each runs or waits.
 #![tactic(auto)]
 
 pub mod halt;

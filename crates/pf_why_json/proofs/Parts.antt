@@ -1,4 +1,4 @@
--- Texts, one behind another.
+-- Texts, one after another.
 use Rattle.std.proofs.Common.{◌≡◌, ◌∙◌, ℕ, List, [], ◌++◌, ap, append_assoc}
 
 -- a text that another follows

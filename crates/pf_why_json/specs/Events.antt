@@ -36,7 +36,7 @@ event_front id code n =
     key_or_null (codes "{\"by\":") n.by ++ key_or_null (codes ",\"code\":") code ++ key_or_null (codes ",\"cost\":") n.cost
     ++ key_or_null (codes ",\"count\":") n.count ++ key_or_null (codes ",\"early\":") n.early ++ codes ",\"event\":" ++ decimal id
 
--- behind them those up to `task`
+-- after them those up to `task`
 unfoldable pub event_middle : Event → Option (List ℕ) → EventNumbers → List ℕ
 event_middle event reason n =
     codes ",\"kind\":\"" ++ kind_of event ++ codes "\"" ++ key_or_null (codes ",\"period\":") n.period

@@ -24,7 +24,7 @@ sitter_json (Some pick) = codes "[" ++ decimal pick.task ++ codes "," ++ decimal
 abbrev pub places_json : ℕ → List (Option Pick) → List (List ℕ)
 places_json m row = map (λ p. sitter_json (sitter row p)) (range_with_len 0 m)
 
--- the word of the rule that puts x behind the one before it
+-- the word of the rule that puts x after the one before it
 abbrev pub by_json : Option Subtask → Subtask → Option (List ℕ)
 by_json before x = option_map (λ y. rule_word (rule_of y x)) before
 
@@ -34,7 +34,7 @@ order_json before x =
     codes "{\"bit\":" ++ decimal x.bit ++ quoted_or_null (codes ",\"by\":") (by_json before x) ++ codes ",\"deadline\":" ++ decimal x.deadline
     ++ codes ",\"group\":" ++ decimal x.group
 
--- behind them those up to `processor`
+-- after them those up to `processor`
 abbrev pub kept_word : Choice → List ℕ
 kept_word Kept = codes "true"
 kept_word LowestFree = codes "false"

@@ -44,7 +44,7 @@ fn push_front(
     push_word(text, b",\"event\":", id)
 }
 
-/// Behind them those up to `task`.
+/// After them those up to `task`.
 #[tactic(auto, unfolding(crate::specs::Events::event_middle))]
 fn push_middle(
     text: &mut Vec<u8>,

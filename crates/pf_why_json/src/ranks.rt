@@ -47,7 +47,7 @@ pub(crate) fn places_json(
     Ok(texts)
 }
 
-/// The word of the rule that puts x behind the one before it.
+/// The word of the rule that puts x after the one before it.
 fn by_word(before: Option<Subtask>, x: Subtask) -> Option<&'static [u8]>
     ensures { option_map (λ word. word.now) result ≡ by_json before x }
 {
@@ -78,7 +78,7 @@ fn kept_word(choice: Choice) -> &'static [u8]
     }
 }
 
-/// Behind them those up to `processor`.
+/// After them those up to `processor`.
 #[tactic(auto, unfolding(crate::specs::Ranks::seat_json))]
 fn push_seat(text: &mut Vec<u8>, seat: Option<Seat>) -> Result<(), AllocError>
     ensures { OnOk result (text.new.items ≡ text.old.items ++ seat_json seat) }

@@ -1,7 +1,7 @@
--- Texts of numbers, one behind another.
+-- Texts of numbers, one after another.
 use Rattle.std.proofs.Common.{◌≡◌, ◌∙◌, ℕ, ◌+◌, List, ◌++◌, ap, append_assoc}
 
--- texts, one behind another
+-- texts, one after another
 four_parts : (t1 t2 t3 t4 a b c d : List ℕ) → t1 ≡ a → t2 ≡ t1 ++ b → t3 ≡ t2 ++ c → t4 ≡ t3 ++ d → t4 ≡ a ++ (b ++ (c ++ d))
 four_parts t1 t2 t3 t4 a b c d h1 h2 h3 h4 =
     h4 ∙ ap (λ t. t ++ d) (h3 ∙ ap (λ t. t ++ c) (h2 ∙ ap (λ t. t ++ b) h1))

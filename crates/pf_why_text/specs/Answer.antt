@@ -47,7 +47,7 @@ early_text t y = if nat_lt t y.release then codes "; early by " ++ decimal (y.re
 abbrev pub late_text : ℕ → Subtask → List ℕ
 late_text t y = if nat_le y.deadline t then codes "; late by " ++ decimal (t + 1 - y.deadline) else []
 
--- where it runs, or else behind which one it waits, the last that runs
+-- where it runs, or else after which one it waits, the last that runs
 abbrev pub does_text : List Named → Option Subtask → Option Seat → Subtask → List ℕ
 does_text names last (Some seat) y = seat_text seat
 does_text names last None y = option_map_or (behind_text names y) last []

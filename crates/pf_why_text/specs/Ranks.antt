@@ -30,7 +30,7 @@ pub record IsSeating (s : Seating) : Type 0 where
   pub before : IfSome s.before (λ b. s.processors ≡ length (lent_row b))
   pub slot : s.slot < 2 ^ 63
 
--- the word of the rule that puts x behind the one before it
+-- the word of the rule that puts x after the one before it
 abbrev pub by_text : Option Subtask → Subtask → List ℕ
 by_text None x = codes "-"
 by_text (Some y) x = rule_word (rule_of y x)

@@ -98,7 +98,7 @@ fn late_words(alloc: Global, t: u64, y: Subtask) -> Result<String, AllocError>
     }
 }
 
-/// Where a subtask runs, or else behind which one it waits.
+/// Where a subtask runs, or else after which one it waits.
 fn does_words(
     alloc: Global,
     names: &Names,
@@ -115,7 +115,7 @@ fn does_words(
     }
 }
 
-/// What a subtask of a ranking does in slot t (below 2^63): where it runs, and why there, or, where it has no seat, behind
+/// What a subtask of a ranking does in slot t (below 2^63): where it runs, and why there, or, where it has no seat, after
 /// which one it waits, the last that runs, and by which rule; and by how many slots it is early or late.
 ///
 /// # Errors

@@ -25,7 +25,7 @@ fn push_number(alloc: Global, row: &mut Row, number: u64) -> Result<(), AllocErr
     push_cell(row, format!(in alloc; "{number}")?)
 }
 
-/// The word of the rule that puts x behind the one before it.
+/// The word of the rule that puts x after the one before it.
 fn by_word(before: Option<Subtask>, x: Subtask) -> &'static str
     ensures { result.now ≡ by_text before x }
 {
@@ -128,7 +128,7 @@ fn push_ranks(
 }
 
 /// Adds a ranking as a table in columns, with its headings; nothing of no subtask. Of each rank the subtask, its window and
-/// what the order looks at, the rule that puts it behind the one above, and what it does in the slot.
+/// what the order looks at, the rule that puts it after the one above, and what it does in the slot.
 ///
 /// # Errors
 ///

@@ -110,7 +110,7 @@ fn push_slot_events(
 
 /// Why slot t of what a snapshot shows went as it did, in words: the slot's line; a line for each of its events, in run order,
 /// which says whether it was taken, and if not, why; a line for each processor; and the subtasks that may run in it, in the
-/// order of PD2, each with its window, the rule that puts it behind the one above, and what it does; and where the task is that is
+/// order of PD2, each with its window, the rule that puts it after the one above, and what it does; and where the task is that is
 /// asked for, if one is.
 ///
 /// # Errors

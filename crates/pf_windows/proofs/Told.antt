@@ -97,7 +97,7 @@ module _ (told : Told) (at : ℕ) (within : at < sub_count told) where
         AddsAtMostOne (left at) (left (at + 1)) page page
     none_added w page is shown = record { added = []; of_was = ap (with_name titles told.task.task) (by_test w false is shown); is = refl }
 
--- a subtask behind those that are looked at did not run, and is not released before the end
+-- a subtask after those that are looked at did not run, and is not released before the end
 module _ (j : Joined) (share : IsShare j.weight) (ran on : List ℕ) (held : List Held) (end i : ℕ) where
   not_released : end * j.weight.cost / j.weight.period + 1 < i → end ≤ release_of j.weight i
   unfolding release_of

@@ -45,7 +45,7 @@ told_window t i = window_by t.task t.ran t.on t.held t.end i
 abbrev pub is_shown : Told → Window → Bool
 is_shown t w = is_shown_of t.slots t.end t.leave w
 
--- the lines of the windows behind the first k
+-- the lines of the windows after the first k
 abbrev pub records_behind_sub : Told → ℕ → List (List (List ℕ))
 records_behind_sub t k =
     flat_map (λ i. window_records t.slots t.task t.end t.leave (told_window t i)) (range_with_len (k + 1) (sub_count t - k))

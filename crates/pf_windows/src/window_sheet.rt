@@ -44,7 +44,7 @@ impl Sheet for WindowSheet<'_> {
     }
 
     fn push_place(&self, table: &mut Table, at: u64) -> Result<(), AllocError> {
-        // That a place behind this one can be counted is known from the count alone.
+        // That a place after this one can be counted is known from the count alone.
         let _ = self.windows.sub_count();
         let window = self.windows.window(at + 1);
         if self.windows.shows(window) {

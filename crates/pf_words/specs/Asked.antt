@@ -283,11 +283,11 @@ abbrev pub file_of : Option Text → Option Text
 file_of None = None
 file_of (Some text) = if bytes_eq text (codes "-") then None else Some text
 
--- the file that is named behind a subcommand; a drill has none
+-- the file that is named after a subcommand; a drill has none
 abbrev pub file_found : Option (Text × List Row) → Option Text
 file_found found = if is_drill found then None else file_of (file_behind found)
 
--- whether a text is the name of a file, and whether a file is named behind a subcommand
+-- whether a text is the name of a file, and whether a file is named after a subcommand
 abbrev pub is_file : Option Text → Bool
 is_file name = is_some (file_of name)
 

@@ -152,20 +152,20 @@ program = with_subcommand (with_subcommand (with_subcommand program_of_scripts c
 unfoldable pub kinds_of : List Text → Kinds
 kinds_of words = fault_of program words
 
--- the text of an option behind the subcommand of a name, in what clap found of a subcommand
+-- the text of an option after the subcommand of a name, in what clap found of a subcommand
 abbrev pub text_behind : Text → Text → Option (Text × List Row) → Option Text
 text_behind name option None = None
 text_behind name option (Some found) = if bytes_eq found.0 name then first_of option found.1 else None
 
--- the text of an option behind `run`
+-- the text of an option after `run`
 abbrev pub text_behind_run : Text → Option (Text × List Row) → Option Text
 text_behind_run option found = text_behind (codes "run") option found
 
--- whether a flag stands behind the subcommand of a name: clap gives each flag a text
+-- whether a flag stands after the subcommand of a name: clap gives each flag a text
 abbrev pub has_flag : Text → Text → Option (Text × List Row) → Bool
 has_flag name flag found = option_map_or (λ text. bytes_eq text (codes "true")) (text_behind name flag found) false
 
--- the text of an option behind a subcommand, whichever that is
+-- the text of an option after a subcommand, whichever that is
 abbrev pub any_behind : Text → Option (Text × List Row) → Option Text
 any_behind option None = None
 any_behind option (Some found) = first_of option found.1

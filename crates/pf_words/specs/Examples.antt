@@ -120,7 +120,7 @@ pub record FailingRuns : Type 0 where
   pub both : task_asked (codes "run" ∷ codes "--fail-on" ∷ codes "missed,refused" ∷ []) ≡ Some (Run Tables (fails_on true false true))
   pub twice : task_asked (codes "run" ∷ codes "--fail-on" ∷ codes "missed,missed" ∷ []) ≡ Some (Run Tables (fails_on false false true))
   pub all : task_asked (codes "run" ∷ codes "--fail-on" ∷ codes "refused,denied,missed" ∷ []) ≡ Some (Run Tables (fails_on true true true))
-  -- no word, an empty one behind a comma, another word, and a space
+  -- no word, an empty one after a comma, another word, and a space
   pub none : AreMistaken (codes "run" ∷ codes "--fail-on=" ∷ []) BadFailOn
   pub empty : AreMistaken (codes "run" ∷ codes "--fail-on" ∷ codes "refused," ∷ []) BadFailOn
   pub other : AreMistaken (codes "run" ∷ codes "--fail-on" ∷ codes "refused,late" ∷ []) BadFailOn

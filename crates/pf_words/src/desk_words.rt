@@ -35,7 +35,7 @@ pub(crate) fn read_desk(alloc: Global, matches: &ArgMatches<'_>) -> Result<DeskW
     })
 }
 
-/// The file of the journal behind `desk`; none where `--journal` is left out.
+/// The file of the journal after `desk`; none where `--journal` is left out.
 fn read_journal(alloc: Global, matches: &ArgMatches<'_>) -> Result<Option<String>, AllocError>
     ensures { IfOk result (λ file. name_of file ≡ text_behind (codes "desk") (codes "journal") (subcommand_rows_of matches.now)) }
 {

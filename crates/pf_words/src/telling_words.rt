@@ -43,7 +43,7 @@ fn is_file(name: Option<&str>) -> bool
     }
 }
 
-/// Whether a flag stands behind the subcommand, whichever that is.
+/// Whether a flag stands after the subcommand, whichever that is.
 fn any_flag(matches: &ArgMatches<'_>, flag: &str) -> bool
     ensures { result ≡ any_flag flag.now (subcommand_rows_of matches.now) }
 {
@@ -53,7 +53,7 @@ fn any_flag(matches: &ArgMatches<'_>, flag: &str) -> bool
     }
 }
 
-/// The text of an option behind the subcommand, whichever that is.
+/// The text of an option after the subcommand, whichever that is.
 pub(crate) fn any_text<'a>(matches: &ArgMatches<'a>, option: &str) -> Option<&'a str>
     ensures { option_map (λ text. text.now) result ≡ any_behind option.now (subcommand_rows_of matches.now) }
 {

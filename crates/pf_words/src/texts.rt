@@ -7,10 +7,10 @@ use std::alloc::{AllocError, Global};
 use std::convert::AsStr;
 use std::fmt::Display;
 
-/// What the version is told by, behind the program's name.
+/// What the version is told by, after the program's name.
 pub const VERSION: &str = "0.4.0";
 
-/// What help teaches behind the words.
+/// What help teaches after the words.
 pub const LESSON: &str = "A script is a list of comma-separated records, one a line:
   settings,M,BASE,CAP,EVERY           first: M processors, the base that each period divides, the most
                                       load in 1/BASE (M * BASE fills the processors), and the distance of

@@ -31,12 +31,12 @@ use std::convert::AsStr;
 /// What the program's words ask for, its own name not among them. No words ask for a run with tables, and so does `run`
 /// alone; `run --format NAME` asks for one in the format of that name, of the slots from `--from` on and below `--to`, in
 /// slots of the width `--cell`, in blocks of `--wrap` slots and in the style `--style`, of the tasks of `--task` alone, to fail on
-/// what `--fail-on` lists, and `check` for a check, and with `--run` for one that carries the script out too. A file may stand behind each, for the script to be read from; `-` is standard input, as no file is.
+/// what `--fail-on` lists, and `check` for a check, and with `--run` for one that carries the script out too. A file may stand after each, for the script to be read from; `-` is standard input, as no file is.
 /// `diff` asks what the records from `--since` on changed, and with a second file what differs between both scripts, of which one
 /// may be standard input; with their sums first by `--summary`, and a status that tells of a difference by `--exit-code`. `drill`
 /// asks for a drill of standard input. `convert` asks for a list of tasks to be converted, in the quanta of `--quantum`, and
 /// `why` asks of a slot. `fit` asks whether the script fits, as text or in the format `--format`. `desk` asks for a session,
-/// behind a script or none, with answers in JSON by `--json` and a journal by `--journal`. Answers
+/// after a script or none, with answers in JSON by `--json` and a journal by `--journal`. Answers
 /// `Refused` where the words are not the program's, `Mistaken` where the text of
 /// `--format` names no format, where that of `--from` or `--to` is no number, where the format has no range, where the text of
 /// `--cell` is no number of 6 to 40, `--wrap` no number of 1 to 4096 or `--style` no style, where the format has none of these,
@@ -120,7 +120,7 @@ fn read_check(matches: &ArgMatches<'_>) -> Task
     Task::Check
 }
 
-/// The file behind a subcommand; none where standard input is meant, and for a drill.
+/// The file after a subcommand; none where standard input is meant, and for a drill.
 pub(crate) fn read_file(
     alloc: Global,
     matches: &ArgMatches<'_>,
@@ -309,7 +309,7 @@ pub(crate) fn read_fail_on(matches: &ArgMatches<'_>) -> Result<FailOn, Mistake>
     }
 }
 
-/// The number that is the text of an option behind `run`; none where it is left out.
+/// The number that is the text of an option after `run`; none where it is left out.
 fn read_number(matches: &ArgMatches<'_>, option: &str) -> Result<Option<u64>, Mistake>
     ensures { result ≡ number_given (text_behind_run option.now (subcommand_rows_of matches.now)) }
 {
@@ -322,7 +322,7 @@ fn read_number(matches: &ArgMatches<'_>, option: &str) -> Result<Option<u64>, Mi
     }
 }
 
-/// Whether a flag stands behind the subcommand of this name.
+/// Whether a flag stands after the subcommand of this name.
 pub(crate) fn has_flag(matches: &ArgMatches<'_>, name: &str, flag: &str) -> bool
     ensures { result ≡ has_flag name.now flag.now (subcommand_rows_of matches.now) }
 {
@@ -332,7 +332,7 @@ pub(crate) fn has_flag(matches: &ArgMatches<'_>, name: &str, flag: &str) -> bool
     }
 }
 
-/// The text of an option behind the subcommand of this name.
+/// The text of an option after the subcommand of this name.
 pub(crate) fn option_text<'a>(matches: &ArgMatches<'a>, name: &str, option: &str) -> Option<&'a str>
     ensures { option_map (λ text. text.now) result ≡ text_behind name.now option.now (subcommand_rows_of matches.now) }
 {

@@ -8,7 +8,7 @@ use Rattle.pf_recount.specs.Recount.{behind_lines}
 use Rattle.pf_recount.specs.Walk.{IsAt, RiseAbove, Stands}
 use Rattle.pf_recount.proofs.recounting.take_lines.Given as goal
 
--- behind the records so far, with those left, is what it was
+-- after the records so far, with those left, is what it was
 abbrev pub invariant-records : goal.invariant-records
 invariant-records l =
     (origins : Option (List Origin)) (script : List ℕ) (bound : ℕ) (st : State) → IsAt origins script bound st l.fn.course

@@ -2,7 +2,7 @@ use Rattle.std.proofs.Common.{◌≡◌, ◌+◌, length}
 use Rattle.pf_sitter.specs.Opening.{behind_rows}
 use Rattle.pf_sitter.proofs.in_rows.take_rows.Given as goal
 
--- behind what is left the session is the same
+-- after what is left the session is the same
 abbrev pub invariant-rows : goal.invariant-rows
 invariant-rows l = record {
   same : behind_rows l.session l.number l.rows.rows ≡ behind_rows l.fn.session l.first l.fn.rows.rows;

@@ -2,7 +2,7 @@ use Rattle.pf_sitting.specs.Sits.{talk_of}
 use Rattle.pf_sitting.proofs.Rounds.{SatSoFar}
 use Rattle.pf_sitting.proofs.sitting.hold_rounds.Given as goal
 
--- rounds were held, one behind the other, and it can go on
+-- rounds were held, one after the other, and it can go on
 abbrev pub invariant-rounds : goal.invariant-rounds
 invariant-rounds g l = record {
   is_open : g.D.Dialogue.is_open l.dialogue;

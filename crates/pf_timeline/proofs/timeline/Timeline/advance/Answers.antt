@@ -1,4 +1,4 @@
--- The engine takes the next slot of the run, and its row is placed behind the last.
+-- The engine takes the next slot of the run, and its row is placed after the last.
 use Rattle.std.proofs.Common.{◌+◌, length, sym, ap, ◌∙◌, arith}
 use Rattle.pf_scenario.specs.Scenario.{events_of}
 use Rattle.pf_timeline.specs.Keeping.{FitRun, KeepsRun}
