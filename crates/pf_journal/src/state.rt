@@ -1,5 +1,5 @@
 /// What a file is, before a journal is opened on it.
-#[derive(Clone, Copy)]
+#[derive(Clone, Copy, PartialEq, Eq)]
 pub enum State {
     /// No record stands in it yet: it is empty, or a crash left it while its heading was written. So has each file of one
     /// byte at most, and each of at most ten whose first is a blank.
