@@ -7,8 +7,8 @@ use Rattle.pf_journal.specs.declared.state.State.TheVariants as file
 use Rattle.pf_journal_file.specs.declared.journal_fault.JournalFault.TheVariants.{HasRecords as TooMany, NoHeading}
 use Rattle.pf_journaled.specs.Journaled.{anew, refused_at, refused_file, session_on}
 use Rattle.pf_recorder.specs.Recording.{added_to, records_in}
-use Rattle.pf_sitter.specs.Manner.{Manner}
-use Rattle.pf_turn.specs.Session.{SessionState}
+use Rattle.pf_journaled.specs.Manner.{Manner}
+use Rattle.pf_session.specs.Session.{SessionState}
 use Rattle.pf_resumed.specs.Crashed.{BegunAreKept, IsSessionFile}
 use Rattle.pf_resumed.specs.Resumed.{HasRecords, IsAgain, IsSession}
 use Rattle.pf_resumed.proofs.Files.{scripted_again}

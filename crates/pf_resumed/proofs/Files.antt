@@ -15,9 +15,9 @@ use Rattle.pf_journal.specs.declared.state.State.TheVariants.{New, Journal, Othe
 use Rattle.pf_journaled.specs.Journaled.{behind_file, session_on}
 use Rattle.pf_plain.specs.Plain.{start}
 use Rattle.pf_recorder.specs.Recording.{records_in}
-use Rattle.pf_sitter.specs.Manner.{Manner}
-use Rattle.pf_sitter.specs.Opening.{opened}
-use Rattle.pf_turn.specs.Session.{SessionState, at_start}
+use Rattle.pf_journaled.specs.Manner.{Manner}
+use Rattle.pf_journaled.specs.Opening.{opened}
+use Rattle.pf_session.specs.Session.{SessionState, at_start}
 use Rattle.pf_resumed.specs.Resumed.{HasRecords, IsAgain, JournalsBeginAgain}
 use Rattle.pf_resumed.proofs.Opened.{heading_fields, text_again}
 use Rattle.pf_resumed.proofs.Reading.{AreRead, IsPlain, IsRead, lines_text}

@@ -9,9 +9,9 @@ use Rattle.pf_plain.specs.Plain.{Course, start}
 use Rattle.pf_rows.specs.Rows.{Row, rows}
 use Rattle.pf_script.specs.Fields.{is_word}
 use Rattle.pf_script.specs.Told.{told}
-use Rattle.pf_sitter.specs.Manner.{Manner}
-use Rattle.pf_sitter.specs.Opening.{behind_rows, opened, opened_plain, opened_rows}
-use Rattle.pf_turn.specs.Session.{SessionState, at_start, behind_record}
+use Rattle.pf_journaled.specs.Manner.{Manner}
+use Rattle.pf_journaled.specs.Opening.{behind_rows, opened, opened_plain, opened_rows}
+use Rattle.pf_session.specs.Session.{SessionState, at_start, behind_record}
 use Rattle.pf_version3.specs.Heading.{is_third_heading}
 use Rattle.pf_version3.specs.Parsing.{said_at}
 use Rattle.pf_resumed.specs.Resumed.{IsAgain, ScriptsBeginAgain}

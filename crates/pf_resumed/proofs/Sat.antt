@@ -13,15 +13,15 @@ use Rattle.pf_journal.specs.Texts.{whole_lines}
 use Rattle.pf_journal.specs.declared.journal_error.JournalError.{JournalError}
 use Rattle.pf_recorder.specs.Recording.{Answers, Keeps, Loses, Recording, Stops as StopsHere}
 use Rattle.pf_recorder.specs.Told.{IsSettled, recorded_talk}
-use Rattle.pf_sitter.specs.Sitters.{answers}
+use Rattle.pf_journaled.specs.Sitters.{answers}
 use Rattle.pf_sitting.specs.Answered.{AnswersAll, AnswersLines, SomeAnswered, Stops}
 use Rattle.pf_sitting.specs.Sits.{LastRound}
 use Rattle.pf_sitting.specs.declared.answers.Going.{Going}
 use Rattle.pf_sitting.specs.declared.answers.Going.TheVariants.{On, Ends}
 use Rattle.pf_sitting.specs.declared.fault.SitFault.{SitFault}
 use Rattle.pf_sitting.specs.declared.fault.SitFault.TheVariants.{Deaf, Mute, NoMemory, Unkept}
-use Rattle.pf_turn.specs.Lines.{GoesOn, Saves, heard_of}
-use Rattle.pf_turn.specs.Session.{SessionState}
+use Rattle.pf_journaled.specs.Turns.{GoesOn, Saves, heard_of}
+use Rattle.pf_session.specs.Session.{SessionState}
 use Rattle.pf_resumed.specs.Resumed.{HasRecords, IsBehind, IsSession}
 use Rattle.pf_resumed.specs.Crashed.{CrashesLeaveTold, IsKept, IsLeft, ToldAreKept}
 use Rattle.pf_resumed.proofs.Files.{body, records_are, scripted_again, whole_all}

@@ -26,14 +26,14 @@ use Rattle.pf_script.specs.Told.{FaultTold, told}
 use Rattle.pf_script.specs.declared.line.Line.TheVariants.{Edit}
 use Rattle.pf_session.specs.Made.{taking_back}
 use Rattle.pf_session.specs.declared.made.Made.{Made}
-use Rattle.pf_sitter.specs.Manner.{Manner}
-use Rattle.pf_sitter.specs.Opening.{behind_heading, behind_rows, ended, next, opened, opened_plain, opened_rows}
-use Rattle.pf_sitter.specs.Sitters.{answers}
+use Rattle.pf_journaled.specs.Manner.{Manner}
+use Rattle.pf_journaled.specs.Opening.{behind_heading, behind_rows, ended, next, opened, opened_plain, opened_rows}
+use Rattle.pf_journaled.specs.Sitters.{answers}
 use Rattle.pf_sitting.specs.Answered.{AnswersAll}
 use Rattle.pf_sitting.specs.declared.answers.Going.{Going}
 use Rattle.pf_sitting.specs.declared.answers.Going.TheVariants.{On}
-use Rattle.pf_turn.specs.Lines.{GoesOn, Saves, behind_showing, heard_of}
-use Rattle.pf_turn.specs.Session.{SessionState, at_start, behind_bad, behind_record, behind_undo_of, newest_of}
+use Rattle.pf_journaled.specs.Turns.{GoesOn, Saves, behind_showing, heard_of}
+use Rattle.pf_session.specs.Session.{SessionState, at_start, behind_bad, behind_record, behind_undo_of, newest_of}
 use Rattle.pf_version3.specs.Heading.{is_third_heading}
 use Rattle.pf_version3.specs.Parsing.{end_fault, said_at}
 use Rattle.pf_version3.specs.declared.fault.RecordFault.{RecordFault}

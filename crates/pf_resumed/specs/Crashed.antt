@@ -6,9 +6,9 @@ use Rattle.pf_journal_file.specs.declared.sizes.Sizes.{Sizes}
 use Rattle.pf_journaled.specs.Journaled.{Begins, session_on}
 use Rattle.pf_recorder.specs.Recording.{Recording}
 use Rattle.pf_recorder.specs.Told.{IsSettled, recorded_talk}
-use Rattle.pf_sitter.specs.Manner.{Manner}
-use Rattle.pf_sitter.specs.Session.{SessionState}
-use Rattle.pf_sitter.specs.Sitters.{answers}
+use Rattle.pf_journaled.specs.Manner.{Manner}
+use Rattle.pf_journaled.specs.Session.{SessionState}
+use Rattle.pf_journaled.specs.Sitters.{answers}
 use Rattle.pf_sitting.specs.Sits.{HasSat, Round, Sits}
 use Rattle.pf_sitting.specs.declared.answers.Going.{Going}
 use Rattle.pf_sitting.specs.declared.fault.SitFault.{SitFault}

@@ -4,10 +4,10 @@ use Rattle.pf_journal.specs.Lines.{records_of, state_of}
 use Rattle.pf_journal.specs.declared.state.State.TheVariants.{Other}
 use Rattle.pf_journaled.specs.Journaled.{anew, session_on}
 use Rattle.pf_recorder.specs.Recording.{records_in}
-use Rattle.pf_sitter.specs.Manner.{Manner}
-use Rattle.pf_sitter.specs.Opening.{opened}
-use Rattle.pf_sitter.specs.Session.{SessionState}
-use Rattle.pf_sitter.specs.Sitters.{answers}
+use Rattle.pf_journaled.specs.Manner.{Manner}
+use Rattle.pf_journaled.specs.Opening.{opened}
+use Rattle.pf_journaled.specs.Session.{SessionState}
+use Rattle.pf_journaled.specs.Sitters.{answers}
 use Rattle.pf_sitting.specs.Answered.{AnswersAll}
 
 -- a session as one begins: without a line, or after a script or the records of a file; where it is kept, with nothing to take back

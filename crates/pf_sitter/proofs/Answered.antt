@@ -2,12 +2,12 @@
 use Rattle.std.proofs.Common.{◌≡◌, ◌++◌, ℕ, List, Bool, Result, Ok, Err, IfOk, inl, inr, refl, subst}
 use Rattle.pf_heard.specs.declared.heard.Heard.{Heard}
 use Rattle.pf_heard.specs.declared.heard.Heard.TheVariants.{Nothing, Heading, Record, Shown, Undo, Save, Help, Quit, Bad}
-use Rattle.pf_turn.specs.Session.{SessionState}
+use Rattle.pf_session.specs.Session.{SessionState}
 use Rattle.pf_heard.specs.Showing.{Showing}
 use Rattle.pf_heard.specs.Showing.TheVariants as showing
 use Rattle.pf_sitting.specs.declared.answers.Going.{Going}
 use Rattle.pf_sitting.specs.declared.answers.Stopped.{Stopped}
-use Rattle.pf_turn.specs.Lines.{AnswersLine, GoesOn, Saves, heard_of}
+use Rattle.pf_sitter.specs.Turns.{AnswersLine, GoesOn, Saves, heard_of}
 use Rattle.pf_sitter.specs.Sitters.{answers}
 
 abbrev no_more : Unit {0} → List ℕ → List ℕ → Bool → Unit {0} → Type 0

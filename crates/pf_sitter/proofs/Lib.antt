@@ -1,3 +1,4 @@
+mod Both
 mod Answered
 mod Rows
 mod Stops

@@ -3,7 +3,7 @@ use Rattle.std.proofs.Common.{◌≡◌, ◌+◌, ◌∷◌, ℕ, List, [], ap, 
 use Rattle.pf_fault.specs.declared.fault.Fault.{Fault}
 use Rattle.pf_fault.specs.declared.fault.Fault.TheVariants as why
 use Rattle.pf_rows.specs.Rows.{Table}
-use Rattle.pf_turn.specs.Session.{SessionState}
+use Rattle.pf_session.specs.Session.{SessionState}
 use Rattle.pf_version3.specs.Parsing.{end_fault, said_at}
 use Rattle.pf_version3.specs.declared.fault.RecordFault.{RecordFault}
 use Rattle.pf_version3.specs.declared.said.Said.{Said}

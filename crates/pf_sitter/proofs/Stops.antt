@@ -6,7 +6,7 @@ use Rattle.pf_fault.specs.declared.fault.Fault.{Fault}
 use Rattle.pf_fault.specs.declared.fault.Fault.TheVariants as why
 use Rattle.pf_rows.specs.Rows.{Row}
 use Rattle.pf_script.specs.Told.{FaultTold, told}
-use Rattle.pf_turn.specs.Session.{SessionState}
+use Rattle.pf_session.specs.Session.{SessionState}
 use Rattle.pf_version3.specs.Heading.{is_third_heading}
 use Rattle.pf_sitter.specs.Opening.{IsOpened, behind_rows, opened_plain, opened_rows}
 

@@ -25,8 +25,8 @@ use Rattle.pf_session.specs.Made.{change_line, taking_back}
 use Rattle.pf_sitter.specs.Sitters.{answers}
 use Rattle.pf_sitting.specs.Scripts.{GrowsTo}
 use Rattle.pf_sitting.specs.declared.answers.Going.{Going}
-use Rattle.pf_turn.specs.Lines.{GoesOn, Saves, behind_showing, heard_of}
-use Rattle.pf_turn.specs.Session.{SessionState, behind_undo_of, newest_of}
+use Rattle.pf_sitter.specs.Turns.{GoesOn, Saves, behind_showing, heard_of}
+use Rattle.pf_session.specs.Session.{SessionState, behind_undo_of, newest_of}
 use Rattle.pf_version3.specs.Heading.{is_third_heading}
 use Rattle.pf_version3.specs.Parsing.{said_at}
 use Rattle.pf_version3.specs.declared.fault.RecordFault.{RecordFault}

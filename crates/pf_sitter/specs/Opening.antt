@@ -7,7 +7,7 @@ use Rattle.pf_heard.specs.Lines.{line_of}
 use Rattle.pf_rows.specs.Rows.{Row, rows}
 use Rattle.pf_script.specs.Fields.{is_word}
 use Rattle.pf_script.specs.Told.{FaultTold, told}
-use Rattle.pf_turn.specs.Session.{SessionState, at_start, behind_record}
+use Rattle.pf_session.specs.Session.{SessionState, at_start, behind_record}
 use Rattle.pf_version3.specs.Heading.{is_third_heading}
 use Rattle.pf_version3.specs.Parsing.{end_fault, said_at}
 use Rattle.pf_version3.specs.declared.fault.RecordFault.{RecordFault}

@@ -1,8 +1,8 @@
 -- How a sitter answers.
 use Rattle.std.specs.Prelude.{ℕ, ⊤, ◌≡◌, List}
-use Rattle.pf_turn.specs.Session.{SessionState}
+use Rattle.pf_session.specs.Session.{SessionState}
 use Rattle.pf_sitting.specs.declared.answers.Going.{Going}
-use Rattle.pf_turn.specs.Lines.{AnswersLine}
+use Rattle.pf_sitter.specs.Turns.{AnswersLine}
 
 -- a line is answered as its session answers it; no contract says which files could be written
 abbrev pub answers : SessionState → List ℕ → List ℕ → Going → SessionState → Type 0

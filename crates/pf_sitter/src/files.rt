@@ -1,4 +1,4 @@
-use pf_turn::saver::Saver;
+use crate::saver::Saver;
 use std::fs::{File, OpenFile, canonicalize, remove_file, rename};
 use std::io;
 use std::io::{ErrorKind, Write};

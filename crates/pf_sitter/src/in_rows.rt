@@ -1,6 +1,6 @@
 ghost use Rattle.std.specs.Prelude.{◌≡◌, ◌+◌, ◌<◌, ◌-◌, ◌^◌, Err, OnErr, OnOk, length};
 ghost use Rattle.pf_fault.specs.declared.fault.Fault.TheVariants as why;
-ghost use Rattle.pf_turn.specs.Session.{behind_record};
+ghost use Rattle.pf_session.specs.Session.{behind_record};
 ghost use Rattle.pf_heard.specs.Lines.{line_of};
 ghost use Rattle.csv.specs.Records.{fields_of};
 ghost use Rattle.pf_sitter.specs.Opening.{IsTaken, IsTakenOne, behind_rows, ended, next};
@@ -11,7 +11,7 @@ use pf_fault::fault::Fault;
 use pf_heard::row_text::line_of;
 use pf_rows::rows::{NextRow, Rows};
 use pf_script::fields::Fields;
-use pf_turn::session::Session;
+use pf_session::session::Session;
 use pf_version3::said::Said;
 use std::alloc::Global;
 

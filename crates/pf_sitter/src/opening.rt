@@ -12,7 +12,7 @@ use pf_rows::rows::{NextRow, Rows};
 use pf_script::fields::Fields;
 use pf_script::line_reader::LineReader;
 use pf_script::opened::OpenedScript;
-use pf_turn::session::Session;
+use pf_session::session::Session;
 use pf_version3::heading::is_third_heading;
 use std::alloc::Global;
 

@@ -1,8 +1,8 @@
+use crate::answer::answer;
+use crate::saver::Saver;
+use pf_session::session::Session;
 use pf_sitting::answers::{Answers, Going, Stopped, Unkept};
 use pf_sitting::scripted::Scripted;
-use pf_turn::answer::answer;
-use pf_turn::saver::Saver;
-use pf_turn::session::Session;
 use std::marker::Model;
 
 /// A session that answers lines, and who writes files for it. Contracts see the session.
@@ -13,7 +13,7 @@ pub struct Sitter<S> {
 }
 
 impl<S> Model for Sitter<S> {
-    ghost use Rattle.pf_turn.specs.Session.{SessionState};
+    ghost use Rattle.pf_session.specs.Session.{SessionState};
 
     ghost Value = { SessionState };
 

@@ -4,7 +4,7 @@ ghost use Rattle.pf_heard.specs.Showing.{Showing};
 ghost use Rattle.pf_heard.specs.Wanted.TheVariants.{Report};
 ghost use Rattle.pf_options.specs.declared.format.Format.TheVariants.{Script};
 ghost use Rattle.pf_sitting.specs.declared.answers.Going.TheVariants.{On};
-ghost use Rattle.pf_turn.specs.Lines.{Saves, saved_text};
+ghost use Rattle.pf_sitter.specs.Turns.{Saves, saved_text};
 
 use crate::saver::Saver;
 use pf_answers::telling::{push_told, taken};

@@ -5,9 +5,9 @@ use Rattle.pf_options.specs.declared.format.Format.TheVariants.{Script}
 use Rattle.pf_heard.specs.Shown.{Shows}
 use Rattle.pf_heard.specs.Showing.TheVariants as showing
 use Rattle.pf_heard.specs.Wanted.TheVariants.{Report}
-use Rattle.pf_turn.specs.Lines.{saved_text}
-use Rattle.pf_turn.proofs.Both.{both_ok}
-use Rattle.pf_turn.proofs.save.save_script.Goals as goal
+use Rattle.pf_sitter.specs.Turns.{saved_text}
+use Rattle.pf_sitter.proofs.Both.{both_ok}
+use Rattle.pf_sitter.proofs.save.save_script.Goals as goal
 
 pub returns-in-Text-clause-ok : goal.returns-in-Text-clause-ok
 returns-in-Text-clause-ok g c =

@@ -1,7 +1,7 @@
 ghost use Rattle.std.specs.Prelude.{◌≡◌, ◌++◌, ℕ, List, IfOk, OnErr, codes};
 ghost use Rattle.pf_answers.specs.Telling.{told_text};
 ghost use Rattle.pf_sitting.specs.declared.answers.Going.TheVariants.{On};
-ghost use Rattle.pf_turn.specs.Lines.{AnswersLine};
+ghost use Rattle.pf_sitter.specs.Turns.{AnswersLine};
 
 use crate::saver::Saver;
 use crate::turn::turn;

@@ -2,7 +2,7 @@ ghost use Rattle.std.specs.Prelude.{◌≡◌, ◌++◌, ℕ, List, false, Err, 
 ghost use Rattle.pf_answers.specs.Shown.{shown_text};
 ghost use Rattle.pf_heard.specs.Words.{help_text};
 ghost use Rattle.pf_session.specs.declared.stop.Stop.TheVariants as stop;
-ghost use Rattle.pf_turn.specs.Lines.{GoesOn, heard_of};
+ghost use Rattle.pf_sitter.specs.Turns.{GoesOn, heard_of};
 
 use crate::save::save_script;
 use crate::saver::Saver;

@@ -4,8 +4,8 @@ use Rattle.pf_answers.specs.Bad.{bad_text}
 use Rattle.pf_answers.specs.Shown.{shown_text}
 use Rattle.pf_heard.specs.Shown.{Shows}
 use Rattle.pf_heard.specs.Showing.TheVariants as showing
-use Rattle.pf_turn.proofs.Both.{both_ok}
-use Rattle.pf_turn.proofs.shown.tell_wanted.Goals as goal
+use Rattle.pf_sitter.proofs.Both.{both_ok}
+use Rattle.pf_sitter.proofs.shown.tell_wanted.Goals as goal
 
 pub returns-in-Text-clause-ok : goal.returns-in-Text-clause-ok
 returns-in-Text-clause-ok c =

@@ -1,7 +1,7 @@
 use Rattle.std.proofs.Common.{refl, subst, sym}
 use Rattle.pf_sitting.specs.declared.answers.Going.TheVariants.{On}
-use Rattle.pf_turn.specs.Lines.{GoesOn, Saves, showing_answer}
-use Rattle.pf_turn.proofs.turn.take.Goals as goal
+use Rattle.pf_sitter.specs.Turns.{GoesOn, Saves, showing_answer}
+use Rattle.pf_sitter.proofs.turn.take.Goals as goal
 
 pub returns-in_ok-tell_wanted-in-Shown-clause-ok : goal.returns-in_ok-tell_wanted-in-Shown-clause-ok
 returns-in_ok-tell_wanted-in-Shown-clause-ok g c =

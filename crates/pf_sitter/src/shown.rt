@@ -1,7 +1,7 @@
 ghost use Rattle.std.specs.Prelude.{◌≡◌, ◌++◌, OnErr, OnOk};
 ghost use Rattle.pf_heard.specs.Shown.{Shows};
 ghost use Rattle.pf_heard.specs.Showing.{Showing};
-ghost use Rattle.pf_turn.specs.Lines.{behind_showing, showing_answer};
+ghost use Rattle.pf_sitter.specs.Turns.{behind_showing, showing_answer};
 
 use pf_heard::show::show;
 use pf_heard::showing::Showing;
