@@ -9,7 +9,7 @@ use Rattle.pf_run.specs.Computed.{run_of}
 use Rattle.pf_run.proofs.Runs.{run_is_computed}
 use Rattle.pf_fit.specs.declared.fit.Fit.{Fit}
 use Rattle.pf_fit.specs.Fit.{IsFirstAbove}
-use Rattle.pf_lags.proofs.Within.{lags_are_within}
+use Rattle.pf_fit.proofs.Within.{lags_are_within}
 use Rattle.pf_desk.specs.Fitting.{LagsAreWithinQuantum}
 
 -- Use: the run so far, whose first slot above its room is this one, or there is none.

@@ -6,6 +6,7 @@ pub use Rattle.pf_run.specs.RunRows
 pub use Rattle.pf_tally.specs.Figures
 pub use Rattle.pf_tally.specs.Misses
 pub use Rattle.pf_promise.specs.Load
+pub use Rattle.pf_promise.specs.Stay
 pub mod Asking
 pub mod Fit
 pub mod Levels

@@ -9,3 +9,5 @@ pub mod fit;
 pub mod fits;
 pub mod level;
 pub mod levels;
+
+pub use pf_promise::denial;

@@ -18,3 +18,13 @@ pub mod Waiting
 pub mod Tardiness
 pub mod Promises
 pub mod Settings
+pub mod Clocks
+pub mod Eligible
+pub mod Stays
+pub mod Above
+pub mod Below
+pub mod Paid
+pub mod Within
+pub mod Stops
+pub mod Showing
+pub mod Responses

@@ -9,3 +9,7 @@ pub use Rattle.pf_tally.specs.Misses
 pub mod Load
 pub mod Overdue
 pub mod Laws
+pub mod Stay
+pub mod LagLaws
+pub mod Job
+pub mod JobLaws
