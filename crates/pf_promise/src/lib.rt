@@ -1,6 +1,6 @@
 //! What is promised of every run of a scenario: its load never passes the cap, and where the processors in use carry
-//! the load, no window is missed, whatever joins, leaves and is delayed. So of its lags and its jobs: how far a task may be ahead
-//! of its fair share and behind it, that a missed window shows in its lags, and how soon and how late a job is done.
+//! the load, no window is missed, whatever joins, leaves and is delayed. And what follows for lags and jobs: how far a task may be
+//! ahead of its fair share and behind it, that a missed window shows in its lags, and how soon and how late a job is done.
 //!
 //! A scaled lag is `cost * clock - period * received`: one quantum is `period`. A job is `cost` subtasks, the first 1 to `cost`.
 #![tactic(auto)]
