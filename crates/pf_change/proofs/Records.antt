@@ -12,7 +12,7 @@ use Rattle.pf_script.specs.Faults.{fault_of_script}
 use Rattle.pf_script.specs.Opened.{Opens}
 use Rattle.pf_script.specs.Told.{FaultTold, LinesTold, Told, told}
 use Rattle.pf_options.specs.declared.diff_options.DiffOptions.{DiffOptions}
-use Rattle.pf_cli.specs.Meaning.{fault_number, opening_course}
+use Rattle.pf_course.specs.Course.{fault_number, opening_course}
 use Rattle.pf_change.specs.Change.{change_behind, change_meaning, change_of, change_told, change_unless}
 use Rattle.pf_change.specs.Difference.{DiffTold}
 use Rattle.pf_change.specs.Made.{Stops, StopsReading}

@@ -7,7 +7,7 @@ use Rattle.pf_script.specs.Asked.{commands_in}
 use Rattle.pf_script.specs.Told.{FaultTold, Told, told}
 use Rattle.pf_carrying.specs.Carrying.{Carrying}
 use Rattle.pf_options.specs.declared.diff_options.DiffOptions.{DiffOptions}
-use Rattle.pf_cli.specs.Meaning.{ScriptCourse, course_at, course_behind, opening_course, seen_at}
+use Rattle.pf_course.specs.Course.{ScriptCourse, course_at, course_behind, opening_course, seen_at}
 use Rattle.pf_change.specs.Difference.{DiffTold, difference}
 
 -- how far a desk is once the commands that wait are answered

@@ -3,7 +3,7 @@ use Rattle.std.specs.Prelude.{⊤, ℕ, ◌≡◌, Option, Some, Result, Err}
 use Rattle.pf_fault.specs.declared.fault.Fault.{Fault}
 use Rattle.pf_fault.specs.declared.fault.Fault.TheVariants as why
 use Rattle.pf_script.specs.Told.{FaultTold}
-use Rattle.pf_cli.specs.Meaning.{fault_number}
+use Rattle.pf_course.specs.Course.{fault_number}
 use Rattle.pf_change.specs.Difference.{DiffTold}
 
 -- this was not told: the first bad record stopped it, or running out of memory

@@ -1,7 +1,7 @@
 ghost use Rattle.std.specs.Prelude.{◌≡◌, ◌≤◌, [], length, take, Ok, IfOk, IfErr};
 ghost use Rattle.pf_fault.specs.Faults.{IsUnwritten};
 ghost use Rattle.pf_script.specs.Opened.{IsOpening};
-ghost use Rattle.pf_cli.specs.Meaning.{opening_course};
+ghost use Rattle.pf_course.specs.Course.{opening_course};
 ghost use Rattle.pf_change.specs.Change.{change_behind, change_meaning, lines_before};
 ghost use Rattle.pf_change.specs.Difference.{told_by};
 ghost use Rattle.pf_change.specs.Made.{Stops};

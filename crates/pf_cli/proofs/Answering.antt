@@ -22,12 +22,14 @@ use Rattle.pf_stream.specs.declared.output_fault.OutputFault.TheVariants.{Write,
 use Rattle.pf_fault.specs.Faults.{CountsWrites, IsPastReading}
 use Rattle.pf_stream.specs.Faults.{fault_of_output}
 use Rattle.pf_cli.specs.Answers.{Answers}
-use Rattle.pf_cli.specs.Carried.{CarriesOut, EndsBy, OpensReplies}
+use Rattle.pf_course.specs.Carried.{EndsBy, OpensReplies}
+use Rattle.pf_cli.specs.CarriedOut.{CarriesOut}
 use Rattle.pf_cli.specs.Ended.{script_course}
 use Rattle.pf_formats.specs.Report.{report_text}
-use Rattle.pf_cli.specs.Meaning.{Meaning, BadRecord, Done, ScriptCourse, course_at, ended_meaning, outcome_told, replies_told, report_meaning, script_meaning, seen_at, text_and_then, text_if_replies, told_meaning}
+use Rattle.pf_course.specs.Course.{ScriptCourse, course_at, outcome_told, replies_told, seen_at, text_if_replies}
+use Rattle.pf_cli.specs.Meaning.{Meaning, BadRecord, Done, ended_meaning, report_meaning, script_meaning, text_and_then, told_meaning}
 use Rattle.pf_cli.specs.Refusals.{refusals_for}
-use Rattle.pf_cli.proofs.Courses.{seen_there}
+use Rattle.pf_course.proofs.Courses.{seen_there}
 use Rattle.pf_cli.proofs.Ends.{short_meaning}
 
 -- the answer where a text was stopped

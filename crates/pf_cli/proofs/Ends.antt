@@ -19,7 +19,8 @@ use Rattle.pf_fault.specs.declared.range_fault.RangeFault.{RangeFault}
 use Rattle.pf_options.specs.Formats.{range_fault}
 use Rattle.pf_cli.specs.Laws.{RunsEndAtTheFirstFault, EndsAt, EndsWhole}
 use Rattle.pf_formats.specs.Report.{report_text}
-use Rattle.pf_cli.specs.Meaning.{Meaning, ScriptCourse, course_behind, ended_meaning, fault_number, opening_course, outcome_of, report_meaning, script_meaning, seen_at, text_unless, told_meaning}
+use Rattle.pf_course.specs.Course.{ScriptCourse, course_behind, fault_number, opening_course, outcome_of, seen_at}
+use Rattle.pf_cli.specs.Meaning.{Meaning, ended_meaning, report_meaning, script_meaning, text_unless, told_meaning}
 use Rattle.pf_cli.specs.Refusals.{refusals_for}
 
 pub short_meaning : (format : Format) (titles : Titles) (origins : Option (List Origin)) (bytes : List ℕ) → length bytes ≤ 16777216

@@ -1,13 +1,7 @@
 pub mod Answering
-pub mod Asked
-pub mod AtEnd
-pub mod Batches
-pub mod Carrying
 pub mod Checking
-pub mod Courses
 pub mod Ends
 pub mod Listed
 pub mod Outside
 pub mod Refusing
-pub mod Replying
 pub mod ScriptsWorked

@@ -22,11 +22,12 @@ use Rattle.pf_task_words.specs.Finding.{ranges_of, unnamed_in}
 use Rattle.pf_task_words.specs.declared.task_word.TaskWord.{TaskWord}
 use Rattle.pf_tasks.specs.declared.task_range.TaskRange.{TaskRange}
 use Rattle.pf_cli.specs.Answers.{Answers}
-use Rattle.pf_cli.specs.Carried.{EndsBy, StopsAt}
-use Rattle.pf_cli.specs.Meaning.{Done, ScriptCourse, course_at, outcome_told, seen_at}
+use Rattle.pf_course.specs.Carried.{EndsBy}
+use Rattle.pf_course.specs.Course.{ScriptCourse, course_at, outcome_told, seen_at}
+use Rattle.pf_cli.specs.Meaning.{Done}
 use Rattle.pf_cli.specs.Tasks.{AnswersListed, RunsTasks, tasks_meaning}
 use Rattle.pf_cli.proofs.Answering.{answers_stopped}
-use Rattle.pf_cli.proofs.Courses.{seen_there}
+use Rattle.pf_course.proofs.Courses.{seen_there}
 
 -- Use: the script was carried out.
 pub ended_listed : (format : Format) (titles : Titles) (words : List TaskWord) (on : FailOn) (script : List ℕ) (desk : Shown) (answer : Result Ending Fault) (old new : Option (List ℕ))

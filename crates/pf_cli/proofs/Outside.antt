@@ -1,14 +1,13 @@
 -- Where the range of a format can't be shown, nothing is written.
-use Rattle.std.proofs.Common.{◌≡◌, ◌∙◌, ℕ, Bool, true, false, List, [], ◌++◌, Option, Some, None, Result, Ok, Err, refl, sym, subst, ap, arith}
+use Rattle.std.proofs.Common.{◌≡◌, ◌∙◌, ℕ, Bool, true, false, List, [], ◌++◌, Option, Some, None, Result, Ok, Err, refl, subst, arith}
 use Rattle.std.specs.Prelude.{if◌then◌else◌, length, nat_lt}
 use Rattle.std.specs.Io.KnownBytes.{Appends, Keeps}
 use Rattle.std.proofs.lemmas.Bool.{le-leb}
 use Rattle.std.proofs.lemmas.List.{append-nil}
-use Rattle.pf_script.specs.Told.{Told, told}
+use Rattle.pf_script.specs.Told.{told}
 use Rattle.pf_stream.specs.Reading.{longest_script}
 use Rattle.pf_formats.specs.Refusal.{Refusal}
 use Rattle.pf_names.specs.declared.titles.Titles.{Titles}
-use Rattle.pf_recount.specs.Origin.{Origin}
 use Rattle.pf_options.specs.declared.format.Format.{Format}
 use Rattle.pf_options.specs.declared.format.Format.TheVariants.{Schedule, Quanta, Windows, Load, Jobs, Trace, C, Full, Html, Tables, Json, Report, Replies, Lags, Misses, Denials, Events, Script, Processors, Stats, Chart, Svg}
 use Rattle.pf_fault.specs.declared.range_fault.RangeFault.{RangeFault}
@@ -20,7 +19,8 @@ use Rattle.pf_fault.specs.Faults.{IsOutside}
 use Rattle.pf_cli.specs.Answers.{Answers}
 use Rattle.pf_cli.specs.Laws.{NothingIsWrittenOutside}
 use Rattle.pf_formats.specs.Report.{report_text}
-use Rattle.pf_cli.specs.Meaning.{Meaning, Done, BadRecord, TooLong, Outside, ScriptCourse, ended_meaning, outcome_told, replies_told, script_meaning, seen_at, text_and_then, text_if_replies, text_unless, told_meaning}
+use Rattle.pf_course.specs.Course.{ScriptCourse, outcome_told, replies_told, seen_at, text_if_replies}
+use Rattle.pf_cli.specs.Meaning.{Meaning, Done, BadRecord, TooLong, Outside, ended_meaning, script_meaning, text_and_then, text_unless, told_meaning}
 use Rattle.pf_cli.specs.Refusals.{refusals_for}
 
 -- all slots are within them

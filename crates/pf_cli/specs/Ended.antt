@@ -1,5 +1,5 @@
 -- How far a script is at its end, and whether a run fails on what is met there.
-use Rattle.std.specs.Prelude.{ℕ, Bool, ◌&&◌, ◌||◌, ◌==◌, not, nat_lt, if◌then◌else◌, List, length, Option, None, Some, option_map}
+use Rattle.std.specs.Prelude.{ℕ, Bool, ◌&&◌, ◌||◌, ◌==◌, not, nat_lt, if◌then◌else◌, List, length, Option, None, option_map}
 use Rattle.std.specs.Result.{result_ok}
 use Rattle.pf_run.specs.Computed.{run_of}
 use Rattle.pf_run.specs.RunRows.{denials_in}
@@ -9,7 +9,7 @@ use Rattle.pf_fault.specs.declared.status.Status.{Status}
 use Rattle.pf_fault.specs.declared.status.Status.TheVariants.{Done, FailedOn}
 use Rattle.pf_stream.specs.Reading.{longest_script}
 use Rattle.pf_options.specs.declared.fail_on.FailOn.{FailOn}
-use Rattle.pf_cli.specs.Meaning.{ScriptCourse, outcome_told}
+use Rattle.pf_course.specs.Course.{ScriptCourse, outcome_told}
 
 -- how far the script of these bytes is at its end; none where a record is bad, and where it is too long
 unfoldable pub script_course : List ℕ → Option ScriptCourse

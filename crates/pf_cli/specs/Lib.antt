@@ -1,3 +1,5 @@
+pub use Rattle.pf_course.specs.Carried
+pub use Rattle.pf_course.specs.Course
 pub use Rattle.pf_formats.specs.Report
 pub use Rattle.pf_stream.specs.Counted
 pub use Rattle.pf_stream.specs.Failing
@@ -10,12 +12,8 @@ pub use Rattle.pf_script.specs.Script
 pub use Rattle.pf_script.specs.Told
 pub use Rattle.pf_check.specs.Reports
 pub mod Answers
-pub mod Batched
-pub mod BatchedDesk
-pub mod Carried
+pub mod CarriedOut
 pub mod Checks
-pub mod Commands
-pub mod CommandsRead
 pub mod Ended
 pub mod Examples
 pub mod Laws

@@ -16,9 +16,10 @@ use Rattle.pf_task_words.specs.Finding.{ranges_of, unnamed_in}
 use Rattle.pf_task_words.specs.declared.task_word.TaskWord.{TaskWord}
 use Rattle.pf_tasks.specs.declared.task_range.TaskRange.{TaskRange}
 use Rattle.pf_cli.specs.Answers.{Answers}
-use Rattle.pf_cli.specs.Carried.{StopsAt}
+use Rattle.pf_course.specs.Carried.{StopsAt}
 use Rattle.pf_cli.specs.Ended.{is_failing, run_status}
-use Rattle.pf_cli.specs.Meaning.{Meaning, ScriptCourse, outcome_told, seen_at, text_unless}
+use Rattle.pf_course.specs.Course.{ScriptCourse, outcome_told, seen_at}
+use Rattle.pf_cli.specs.Meaning.{Meaning, text_unless}
 
 -- what is shown of the tasks of these ranges at a course, where the format can be shown of the slots stepped, and else nothing
 abbrev pub tasks_meaning : Format → Titles → List TaskRange → ScriptCourse → Meaning

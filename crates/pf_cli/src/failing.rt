@@ -1,7 +1,7 @@
 ghost use Rattle.std.specs.Prelude.{◌≡◌, IfOk};
 ghost use Rattle.pf_desk.specs.Views.{lent_reply};
 ghost use Rattle.pf_cli.specs.Ended.{has_denials, has_misses, is_failing, run_status};
-ghost use Rattle.pf_cli.specs.Meaning.{course_at};
+ghost use Rattle.pf_course.specs.Course.{course_at};
 ghost use Rattle.pf_report.specs.Replies.{is_refusal};
 
 use pf_desk::desk::Desk;

@@ -3,13 +3,13 @@ ghost use Rattle.pf_fault.specs.declared.status.Status.TheVariants.{Done};
 ghost use Rattle.pf_fault.specs.Faults.{CountsWrites};
 ghost use Rattle.pf_cli.specs.Answers.{Answers};
 ghost use Rattle.pf_cli.specs.Ended.{is_failing, run_status};
-ghost use Rattle.pf_cli.specs.Meaning.{course_at};
+ghost use Rattle.pf_course.specs.Course.{course_at};
 ghost use Rattle.pf_cli.specs.Tasks.{AnswersListed, IsUnnamed, RunsTasks, tasks_meaning, unnamed_line};
 ghost use Rattle.pf_task_words.specs.Finding.{unnamed_in};
 
-use crate::at_end::desk_at_end;
 use crate::failing::status_of;
 use crate::run::write_whole;
+use pf_course::at_end::desk_at_end;
 use pf_desk::desk::Desk;
 use pf_fault::ending::Ending;
 use pf_fault::fault::Fault;

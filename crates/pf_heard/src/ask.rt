@@ -3,13 +3,13 @@ ghost use Rattle.pf_heard.specs.Asked.{alone, asked_at, format_at, named_at, num
 
 use crate::asked::Asked;
 use crate::fault::{LineFault, LineReason, expect_length, fault_at};
+use crate::wanted::Wanted;
 use crate::word::{Word, has_range};
 use pf_names::name::{Name, is_letter_first};
 use pf_names::names::Names;
 use pf_options::format::Format;
 use pf_options::slot_range::SlotRange;
 use pf_script::fields::Fields;
-use pf_shown::wanted::Wanted;
 use pf_version3::fault::Reason;
 use pf_version3::state::Progress;
 use pf_weight::task::LARGEST_TASK;

@@ -1,4 +1,4 @@
-use pf_shown::wanted::Wanted;
+use crate::wanted::Wanted;
 
 /// What a word asks for.
 #[derive(Drop)]

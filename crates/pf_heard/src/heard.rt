@@ -1,5 +1,5 @@
 use crate::bytes::Bytes;
-use pf_shown::wanted::Wanted;
+use crate::wanted::Wanted;
 use pf_version3::said::Said;
 
 /// What a line is.

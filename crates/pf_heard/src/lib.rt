@@ -10,6 +10,5 @@ pub mod hear;
 pub mod heard;
 pub mod reason;
 pub mod row_text;
+pub mod wanted;
 pub mod word;
-
-pub use pf_shown::{show, showing, wanted};

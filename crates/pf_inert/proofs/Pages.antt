@@ -15,7 +15,8 @@ use Rattle.pf_plain.specs.declared.origin.Origin.{Origin}
 use Rattle.pf_retold.specs.Titles.{TitlesAreTold}
 use Rattle.pf_script.specs.Told.{told}
 use Rattle.pf_stream.specs.Reading.{longest_script}
-use Rattle.pf_cli.specs.Meaning.{ScriptCourse, TooLong, ended_meaning, outcome_told, script_meaning, seen_at, text_unless, told_meaning}
+use Rattle.pf_cli.specs.Course.{ScriptCourse, outcome_told, seen_at}
+use Rattle.pf_cli.specs.Meaning.{TooLong, ended_meaning, script_meaning, text_unless, told_meaning}
 use Rattle.pf_cli.specs.Refusals.{refusals_for}
 use Rattle.pf_inert.specs.Page.{AreTexts, IsInertPage, MeansPage, PagesAreInert}
 use Rattle.pf_inert.proofs.Names.{given_texts}

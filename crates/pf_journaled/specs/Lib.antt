@@ -10,5 +10,6 @@ pub use Rattle.pf_sitter.specs.Manner
 pub use Rattle.pf_sitter.specs.Opening
 pub use Rattle.pf_sitter.specs.Session
 pub use Rattle.pf_sitter.specs.Sitters
+pub use Rattle.pf_sitter.specs.Showing
 pub use Rattle.pf_sitter.specs.Turns
 pub mod Journaled

@@ -13,8 +13,8 @@ use Rattle.pf_script.specs.Told.{told}
 use Rattle.pf_stream.specs.Reading.{longest_script}
 use Rattle.pf_text.specs.Page.{table_text}
 use Rattle.pf_options.specs.declared.diff_options.DiffOptions.{DiffOptions}
-use Rattle.pf_why_answer.specs.Carried.{ShowsEnd}
-use Rattle.pf_why_answer.specs.Meaning.{outcome_told}
+use Rattle.pf_cli.specs.Carried.{ShowsEnd}
+use Rattle.pf_cli.specs.Course.{outcome_told}
 use Rattle.pf_change.specs.Difference.{difference, told_by}
 use Rattle.pf_options.specs.Ranges.{whole}
 use Rattle.pf_words.specs.Diffs.{PairNames}

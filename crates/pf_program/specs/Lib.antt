@@ -5,9 +5,9 @@ pub use Rattle.pf_stream.specs.Reading
 pub use Rattle.pf_words.specs.Asked
 pub use Rattle.pf_words.specs.CommandLine
 pub use Rattle.pf_options.specs.FailLists
-pub use Rattle.pf_why_answer.specs.Checks
-pub use Rattle.pf_why_answer.specs.Ended
-pub use Rattle.pf_why_answer.specs.Meaning
+pub use Rattle.pf_cli.specs.Checks
+pub use Rattle.pf_cli.specs.Ended
+pub use Rattle.pf_cli.specs.Meaning
 pub use Rattle.pf_change.specs.Change
 pub mod Compared
 pub mod Desks

@@ -17,11 +17,11 @@ use Rattle.pf_options.specs.declared.format.Format.{Format}
 use Rattle.pf_words.specs.declared.task.Task.{Task}
 use Rattle.pf_words.specs.declared.task.Task.TheVariants.{Run, RunTasks, Check, CheckRun, Diff, Drill, Convert, Fit, Why}
 use Rattle.pf_options.specs.FailLists.{on_nothing}
-use Rattle.pf_why_answer.specs.Answers.{Answers}
-use Rattle.pf_why_answer.specs.Checks.{ChecksBytes}
-use Rattle.pf_why_answer.specs.Ended.{fails_on, run_status}
-use Rattle.pf_why_answer.specs.Meaning.{script_meaning}
-use Rattle.pf_why_answer.specs.Tasks.{RunsTasks}
+use Rattle.pf_cli.specs.Answers.{Answers}
+use Rattle.pf_cli.specs.Checks.{ChecksBytes}
+use Rattle.pf_cli.specs.Ended.{fails_on, run_status}
+use Rattle.pf_cli.specs.Meaning.{script_meaning}
+use Rattle.pf_cli.specs.Tasks.{RunsTasks}
 use Rattle.pf_change.specs.Change.{change_meaning}
 use Rattle.pf_check_run.specs.Answers.{ChecksRun}
 use Rattle.pf_change.specs.Difference.{told_by}

@@ -1,6 +1,6 @@
+use pf_cli::ran::Ran;
 use pf_fault::ending::Ending;
 use pf_fault::fault::Fault;
-use pf_why_answer::ran::Ran;
 
 /// How a task ended.
 #[derive(Drop)]

@@ -1,5 +1,5 @@
 -- A desk's script, run by the program.
-use Rattle.std.proofs.Common.{◌≡◌, ◌∙◌, ◌+◌, nat_lt, ℕ, false, Bool, true, Option, None, List, [], ◌∷◌, ◌++◌, append-nil, append_assoc, codes, map, length, refl, sym, subst, ap, ap₂, arith}
+use Rattle.std.proofs.Common.{◌≡◌, ◌∙◌, ◌+◌, nat_lt, ℕ, false, Bool, true, None, List, [], ◌∷◌, ◌++◌, append-nil, append_assoc, codes, map, length, refl, sym, subst, ap, ap₂, arith}
 use Rattle.std.specs.Prelude.{◌||◌, if◌then◌else◌}
 use Rattle.std.specs.Option.{option_map_or}
 use Rattle.std.proofs.Math.Bool.{or-false}
@@ -25,7 +25,8 @@ use Rattle.pf_recount.specs.Places.{place_of}
 use Rattle.pf_recount.specs.Recount.{none_yet, recounted, recounted_told}
 use Rattle.pf_text.specs.Page.{table_text}
 use Rattle.pf_formats.specs.Report.{report_text}
-use Rattle.pf_cli.specs.Meaning.{Meaning, ScriptCourse, course_behind, opening_course, ready_line, reply_lines, report_meaning, script_meaning, seen_at, text_and_then, text_if_replies, text_unless, told_meaning}
+use Rattle.pf_cli.specs.Course.{ScriptCourse, course_behind, opening_course, ready_line, reply_lines, seen_at, text_if_replies}
+use Rattle.pf_cli.specs.Meaning.{Meaning, report_meaning, script_meaning, text_and_then, text_unless, told_meaning}
 use Rattle.pf_cli.specs.Refusals.{refusal_of, refused_in, refusals_for}
 use Rattle.pf_reopen.specs.Reopen.{first_number, insert_lines, lines_told, step_lines}
 use Rattle.pf_reopen.specs.Rerun.{CanBeRerun, ScheduleIsWrittenAgain, ScriptsRunAgain, replies_again, report_of, seen_again}

@@ -3,8 +3,8 @@ use Rattle.std.proofs.Common.{◌≡◌, ◌∙◌, ℕ, Bool, false, IsTrue, Op
 use Rattle.std.specs.Prelude.{◌⊎◌, is_some}
 use Rattle.std.proofs.lemmas.List.{append_cancel_left}
 use Rattle.pf_heard.specs.Lines.{line_of}
-use Rattle.pf_heard.specs.Showing.TheVariants as showing
-use Rattle.pf_heard.specs.Showing.{Showing}
+use Rattle.pf_journaled.specs.Showing.TheVariants as showing
+use Rattle.pf_journaled.specs.Showing.{Showing}
 use Rattle.pf_heard.specs.declared.heard.Heard.{Heard}
 use Rattle.pf_heard.specs.declared.heard.Heard.TheVariants.{Nothing, Heading, Record, Shown, Undo, Save, Help, Quit, Bad}
 use Rattle.pf_journal.specs.Crash.{IsWithFront}

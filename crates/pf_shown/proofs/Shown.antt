@@ -1,5 +1,5 @@
 -- What a script shows.
-use Rattle.std.proofs.Common.{◌≡◌, ◌≢◌, ◌≤◌, ◌<◌, ℕ, List, length, Option, Some, None, Result, Ok, Err, refl, subst, arith}
+use Rattle.std.proofs.Common.{◌≡◌, ◌≢◌, ◌≤◌, ◌<◌, ℕ, List, length, Option, Some, None, Result, Err, refl, subst, arith}
 use Rattle.std.specs.Prelude.{IfOk, Vec}
 use Rattle.std.specs.declared.alloc.Global.{Global}
 use Rattle.pf_fault.specs.declared.answer.Answer.{Answer}
@@ -13,13 +13,12 @@ use Rattle.pf_plain.specs.declared.origin.Origin.{Origin}
 use Rattle.pf_plain.specs.declared.plain.PlainScript.{PlainScript}
 use Rattle.pf_plain.specs.Plain.{IsPlain, MakesPlain, Plain, plain}
 use Rattle.pf_stream.specs.Reading.{longest_script}
-use Rattle.pf_text.specs.Page.{table_text}
 use Rattle.pf_version3.specs.declared.fault.BadRecord.{BadRecord}
 use Rattle.pf_shown.specs.Answered.{Answers}
 use Rattle.pf_shown.specs.Shown.{IsShown, Shows, ShowsAnswer, ShowsOf, ShowsShort, ShowsThird}
 use Rattle.pf_shown.specs.declared.showing.Showing.{Showing}
-use Rattle.pf_shown.specs.declared.showing.Showing.TheVariants.{Text, Bad}
-use Rattle.pf_shown.specs.declared.wanted.Wanted.{Wanted}
+use Rattle.pf_shown.specs.declared.showing.Showing.TheVariants.{Text}
+use Rattle.pf_heard.specs.declared.wanted.Wanted.{Wanted}
 
 -- Use: the script of version 2 was short enough.
 pub short_enough : (bad : Option BadRecord) (titles : Titles) (origins : Option (List Origin)) (w : Wanted) (script : List ℕ) (made : Result Answer Fault)

@@ -1,8 +1,8 @@
 -- What the program answers to a script, of what is wanted.
 use Rattle.std.specs.Prelude.{ℕ, List, [], codes, Option, Some, IfOk, IfErr, Result, Ok, Err}
 use Rattle.pf_fit_command.specs.Carried.{Stops}
-use Rattle.pf_why_answer.specs.Answers.{Answers as Means}
-use Rattle.pf_why_answer.specs.Meaning.{Meaning, script_meaning}
+use Rattle.pf_cli.specs.Answers.{Answers as Means}
+use Rattle.pf_cli.specs.Meaning.{Meaning, script_meaning}
 use Rattle.pf_fault.specs.Answers.{IsQuiet}
 use Rattle.pf_fault.specs.declared.answer.Answer.{Answer}
 use Rattle.pf_fault.specs.declared.ending.Ending.{Ending}
@@ -14,8 +14,8 @@ use Rattle.pf_names.specs.declared.titles.Titles.{Titles}
 use Rattle.pf_plain.specs.declared.origin.Origin.{Origin}
 use Rattle.pf_script.specs.Told.{told}
 use Rattle.pf_why_answer.specs.Answer.{WhyMade}
-use Rattle.pf_shown.specs.declared.wanted.Wanted.{Wanted}
-use Rattle.pf_shown.specs.declared.wanted.Wanted.TheVariants.{Report, Why, Fit}
+use Rattle.pf_heard.specs.declared.wanted.Wanted.{Wanted}
+use Rattle.pf_heard.specs.declared.wanted.Wanted.TheVariants.{Report, Why, Fit}
 
 -- a run of a script that means this wrote its text to nothing, and fails on nothing; or it ended by a fault
 abbrev pub Runs : Meaning → Result Answer Fault → Type 0

@@ -1,5 +1,5 @@
 -- What a script shows of what is wanted: the text that the program gives of it, or the words of why it gives none.
-use Rattle.std.specs.Prelude.{ℕ, ◌≡◌, ◌-◌, ◌<◌, ◌≤◌, Bool, true, false, List, ◌++◌, codes, length, take, Option, None, Some, Result, Ok, Err}
+use Rattle.std.specs.Prelude.{ℕ, ◌≡◌, ◌-◌, ◌<◌, ◌≤◌, List, ◌++◌, codes, length, take, Option, None, Some, Result, Ok, Err}
 use Rattle.std.specs.Fmt.{decimal}
 use Rattle.pf_fault.specs.declared.answer.Answer.{Answer}
 use Rattle.pf_fault.specs.declared.fault.Fault.{Fault}
@@ -10,7 +10,6 @@ use Rattle.pf_fault.specs.declared.status.Status.{Status}
 use Rattle.pf_fault.specs.declared.status.Status.TheVariants as status
 use Rattle.pf_names.specs.Titled.{untitled}
 use Rattle.pf_names.specs.declared.titles.Titles.{Titles}
-use Rattle.pf_options.specs.declared.format.Format.TheVariants as format
 use Rattle.pf_plain.specs.Plain.{Plain, plain}
 use Rattle.pf_plain.specs.declared.origin.Origin.{Origin}
 use Rattle.pf_stream.specs.Reading.{longest_script}
@@ -21,15 +20,7 @@ use Rattle.pf_version3.specs.declared.fault.Reason.TheVariants.{NoSettings}
 use Rattle.pf_shown.specs.Answered.{Answers}
 use Rattle.pf_shown.specs.declared.showing.Showing.{Showing}
 use Rattle.pf_shown.specs.declared.showing.Showing.TheVariants.{Text, Bad}
-use Rattle.pf_shown.specs.declared.wanted.Wanted.{Wanted}
-use Rattle.pf_shown.specs.declared.wanted.Wanted.TheVariants as wanted
-
--- whether what is shown is one JSON value
-abbrev pub is_value : Wanted → Bool
-is_value (wanted.Report format.Report) = true
-is_value (wanted.Report format.Full) = true
-is_value (wanted.Report format.Trace) = true
-is_value w = false
+use Rattle.pf_heard.specs.declared.wanted.Wanted.{Wanted}
 
 -- of a bad record; one that comes before the settings, or in place of them, lacks these
 abbrev pub bad_record : ℕ → List ℕ

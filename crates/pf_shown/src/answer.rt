@@ -1,20 +1,20 @@
 ghost use Rattle.std.specs.Prelude.{◌≡◌, ◌≤◌, length};
 ghost use Rattle.std.specs.Option.{option_map};
-ghost use Rattle.pf_why_answer.specs.Meaning.{script_meaning};
+ghost use Rattle.pf_cli.specs.Meaning.{script_meaning};
 ghost use Rattle.pf_shown.specs.Answered.{Answers, Fits, Runs};
 ghost use Rattle.pf_stream.specs.Reading.{longest_script};
 
-use crate::wanted::Wanted;
+use pf_cli::run::run;
 use pf_fault::answer::Answer;
 use pf_fault::fault::Fault;
 use pf_fit_command::fit::fit;
 use pf_fit_command::fit_format::FitFormat;
+use pf_heard::wanted::Wanted;
 use pf_names::titles::Titles;
 use pf_options::fail_on::FailOn;
 use pf_options::format::Format;
 use pf_plain::origin::Origin;
 use pf_stream::sink::CountedWriter;
-use pf_why_answer::run::run;
 use pf_why_answer::why::why;
 use std::alloc::Global;
 

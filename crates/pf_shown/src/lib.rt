@@ -6,5 +6,4 @@
 mod answer;
 pub mod show;
 pub mod showing;
-pub mod wanted;
 mod words;

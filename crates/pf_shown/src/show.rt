@@ -5,11 +5,11 @@ ghost use Rattle.pf_shown.specs.Shown.{IsShown, Shows, ShowsAnswer, ShowsShort, 
 
 use crate::answer::answer;
 use crate::showing::Showing;
-use crate::wanted::Wanted;
 use crate::words::words;
 use pf_fault::answer::Answer;
 use pf_fault::fault::Fault;
 use pf_fault::status::Status;
+use pf_heard::wanted::Wanted;
 use pf_names::titles::Titles;
 use pf_plain::origin::Origin;
 use pf_plain::plain::{PlainScript, plain_script};

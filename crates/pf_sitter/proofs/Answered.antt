@@ -3,8 +3,8 @@ use Rattle.std.proofs.Common.{◌≡◌, ◌++◌, ℕ, List, Bool, Result, Ok, 
 use Rattle.pf_heard.specs.declared.heard.Heard.{Heard}
 use Rattle.pf_heard.specs.declared.heard.Heard.TheVariants.{Nothing, Heading, Record, Shown, Undo, Save, Help, Quit, Bad}
 use Rattle.pf_session.specs.Session.{SessionState}
-use Rattle.pf_heard.specs.Showing.{Showing}
-use Rattle.pf_heard.specs.Showing.TheVariants as showing
+use Rattle.pf_shown.specs.declared.showing.Showing.{Showing}
+use Rattle.pf_shown.specs.declared.showing.Showing.TheVariants as showing
 use Rattle.pf_sitting.specs.declared.answers.Going.{Going}
 use Rattle.pf_sitting.specs.declared.answers.Stopped.{Stopped}
 use Rattle.pf_sitter.specs.Turns.{AnswersLine, GoesOn, Saves, heard_of}

@@ -10,8 +10,8 @@ use Rattle.pf_heard.specs.Faults.{too_long_text}
 use Rattle.pf_heard.specs.Heard.{heard, heard_fields, heard_if, heard_record, heard_word}
 use Rattle.pf_heard.specs.Lines.{fields_in, line_of}
 use Rattle.pf_heard.specs.Words.{word_at}
-use Rattle.pf_heard.specs.Showing.{Showing}
-use Rattle.pf_heard.specs.Showing.TheVariants as showing
+use Rattle.pf_shown.specs.declared.showing.Showing.{Showing}
+use Rattle.pf_shown.specs.declared.showing.Showing.TheVariants as showing
 use Rattle.pf_heard.specs.declared.asked.Asked.{Asked}
 use Rattle.pf_heard.specs.declared.asked.Asked.TheVariants as asks
 use Rattle.pf_heard.specs.declared.fault.LineFault.{LineFault}

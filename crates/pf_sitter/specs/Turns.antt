@@ -10,11 +10,12 @@ use Rattle.pf_heard.specs.declared.heard.Heard.TheVariants.{Nothing, Heading, Re
 use Rattle.pf_options.specs.declared.format.Format.TheVariants.{Script}
 use Rattle.pf_session.specs.Answers.{said_answer, undo_answer}
 use Rattle.pf_session.specs.Session.{SessionState, behind_bad, behind_record, behind_undo, newest_of}
-use Rattle.pf_heard.specs.Shown.{Shows, is_value}
-use Rattle.pf_heard.specs.Showing.{Showing}
-use Rattle.pf_heard.specs.Showing.TheVariants as showing
-use Rattle.pf_heard.specs.Wanted.{Wanted}
-use Rattle.pf_heard.specs.Wanted.TheVariants.{Report}
+use Rattle.pf_heard.specs.Values.{is_value}
+use Rattle.pf_shown.specs.Shown.{Shows}
+use Rattle.pf_shown.specs.declared.showing.Showing.{Showing}
+use Rattle.pf_shown.specs.declared.showing.Showing.TheVariants as showing
+use Rattle.pf_heard.specs.declared.wanted.Wanted.{Wanted}
+use Rattle.pf_heard.specs.declared.wanted.Wanted.TheVariants.{Report}
 use Rattle.pf_sitting.specs.declared.answers.Going.{Going}
 use Rattle.pf_sitting.specs.declared.answers.Going.TheVariants.{On, Ends}
 

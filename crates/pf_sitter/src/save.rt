@@ -1,18 +1,18 @@
 ghost use Rattle.std.specs.Prelude.{◌≡◌, ◌++◌, Bool, ℕ, List, true, false, IfOk, OnErr, OnOk};
-ghost use Rattle.pf_heard.specs.Shown.{Shows};
-ghost use Rattle.pf_heard.specs.Showing.{Showing};
-ghost use Rattle.pf_heard.specs.Wanted.TheVariants.{Report};
+ghost use Rattle.pf_shown.specs.Shown.{Shows};
+ghost use Rattle.pf_shown.specs.declared.showing.Showing.{Showing};
+ghost use Rattle.pf_heard.specs.declared.wanted.Wanted.TheVariants.{Report};
 ghost use Rattle.pf_options.specs.declared.format.Format.TheVariants.{Script};
 ghost use Rattle.pf_sitting.specs.declared.answers.Going.TheVariants.{On};
 ghost use Rattle.pf_sitter.specs.Turns.{Saves, saved_text};
 
 use crate::saver::Saver;
 use pf_answers::telling::{push_told, taken};
-use pf_heard::show::show;
-use pf_heard::showing::Showing;
 use pf_heard::wanted::Wanted;
 use pf_options::format::Format;
 use pf_session::session::Session;
+use pf_shown::show::show;
+use pf_shown::showing::Showing;
 use std::alloc::{AllocError, Global};
 
 /// Writes what the script shows as a script to the file of this name, and tells whether it was written.

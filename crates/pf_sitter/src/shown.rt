@@ -1,12 +1,12 @@
 ghost use Rattle.std.specs.Prelude.{◌≡◌, ◌++◌, OnErr, OnOk};
-ghost use Rattle.pf_heard.specs.Shown.{Shows};
-ghost use Rattle.pf_heard.specs.Showing.{Showing};
+ghost use Rattle.pf_shown.specs.Shown.{Shows};
+ghost use Rattle.pf_shown.specs.declared.showing.Showing.{Showing};
 ghost use Rattle.pf_sitter.specs.Turns.{behind_showing, showing_answer};
 
-use pf_heard::show::show;
-use pf_heard::showing::Showing;
 use pf_heard::wanted::Wanted;
 use pf_session::session::Session;
+use pf_shown::show::show;
+use pf_shown::showing::Showing;
 use std::alloc::AllocError;
 
 /// Tells what the script shows of what is wanted, or that it can't be shown.

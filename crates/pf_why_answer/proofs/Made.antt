@@ -4,8 +4,8 @@ use Rattle.pf_desk.specs.Desk.{Seen}
 use Rattle.pf_fault.specs.declared.answer.Answer.{Answer}
 use Rattle.pf_names.specs.declared.named.Named.{Named}
 use Rattle.pf_script.specs.Told.{told}
-use Rattle.pf_cli.specs.Carried.{ShowsEnd}
-use Rattle.pf_cli.specs.Meaning.{outcome_told}
+use Rattle.pf_course.specs.Carried.{ShowsEnd}
+use Rattle.pf_course.specs.Course.{outcome_told}
 use Rattle.pf_why_words.specs.declared.question.Question.{Question}
 use Rattle.pf_why_answer.specs.Answer.{IsAnswer, WhyMade, seen_told}
 

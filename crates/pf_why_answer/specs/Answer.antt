@@ -9,8 +9,8 @@ use Rattle.pf_fault.specs.declared.status.Status.TheVariants.{Done, BadWords}
 use Rattle.pf_names.specs.Names.{task_of}
 use Rattle.pf_names.specs.declared.named.Named.{Named}
 use Rattle.pf_script.specs.Told.{told}
-use Rattle.pf_cli.specs.Carried.{StopsAt}
-use Rattle.pf_cli.specs.Meaning.{ScriptCourse, outcome_told, seen_at}
+use Rattle.pf_course.specs.Carried.{StopsAt}
+use Rattle.pf_course.specs.Course.{ScriptCourse, outcome_told, seen_at}
 use Rattle.pf_why_json.specs.Slot.{why_json}
 use Rattle.pf_why_text.specs.Slot.{why_text}
 use Rattle.pf_why_words.specs.declared.question.Question.{Question}

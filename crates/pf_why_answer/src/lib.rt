@@ -3,6 +3,3 @@
 #![tactic(auto)]
 
 pub mod why;
-
-// For what shows a slot beside a whole run.
-pub use pf_cli::{at_end, check, ran, run, task_run};

@@ -2,7 +2,7 @@ ghost use Rattle.std.specs.Prelude.{◌≡◌, ◌<◌, string_bytes, IfOk, IfEr
 ghost use Rattle.pf_fault.specs.Faults.{IsUnwritten};
 ghost use Rattle.pf_why_answer.specs.Answer.{IsAnswer, IsQuietIfDone, WhyMade, answer_text, number_in, refused, seen_told, slot_told, unbelow_line, unnamed_line};
 
-use pf_cli::at_end::seen_at_end;
+use pf_course::at_end::seen_at_end;
 use pf_desk::snapshot::Snapshot;
 use pf_fault::answer::Answer;
 use pf_fault::ending::Ending;

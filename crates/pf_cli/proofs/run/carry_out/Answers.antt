@@ -5,7 +5,7 @@ use Rattle.pf_fault.specs.Faults.{CountsWrites}
 use Rattle.pf_recount.specs.Carried.{IsOf}
 use Rattle.pf_script.specs.Told.{told}
 use Rattle.pf_cli.specs.Ended.{script_course}
-use Rattle.pf_cli.specs.Meaning.{course_at}
+use Rattle.pf_course.specs.Course.{course_at}
 use Rattle.pf_cli.specs.Refusals.{refusals_for}
 use Rattle.pf_cli.proofs.Answering.{course_there, reported, stopped_carrying}
 use Rattle.pf_cli.proofs.run.carry_out.Goals as goal

@@ -5,7 +5,7 @@ use Rattle.pf_options.specs.Formats.{range_fault}
 use Rattle.std.specs.Prelude.{option_map}
 use Rattle.pf_formats.specs.Report.{report_text}
 use Rattle.pf_cli.specs.Refusals.{refusals_for}
-use Rattle.pf_cli.specs.Meaning.{course_at}
+use Rattle.pf_course.specs.Course.{course_at}
 use Rattle.pf_cli.proofs.Answering.{counts_stopped, outside_answered, past_stopped, report_stopped, report_written}
 use Rattle.pf_cli.proofs.run.write_report.Goals as goal
 

@@ -2,7 +2,7 @@ use Rattle.std.proofs.Common.{ap, refl, sym, ◌∙◌}
 use Rattle.std.proofs.lemmas.Result.{err_from_is_err_and}
 use Rattle.pf_stream.proofs.Sending.{none_written}
 use Rattle.pf_options.specs.Formats.{range_fault}
-use Rattle.pf_cli.specs.Meaning.{course_at}
+use Rattle.pf_course.specs.Course.{course_at}
 use Rattle.pf_cli.proofs.Answering.{counts_stopped}
 use Rattle.pf_cli.proofs.Listed.{tasks_outside, tasks_stopped, tasks_written}
 use Rattle.pf_cli.proofs.task_run.write_tasks.Goals as goal

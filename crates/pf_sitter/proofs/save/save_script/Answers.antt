@@ -2,9 +2,9 @@ use Rattle.std.proofs.Common.{◌++◌, ◌∙◌, ap, refl, subst}
 use Rattle.std.proofs.lemmas.Result.{on_ok_weaker}
 use Rattle.pf_answers.specs.Bad.{bad_text}
 use Rattle.pf_options.specs.declared.format.Format.TheVariants.{Script}
-use Rattle.pf_heard.specs.Shown.{Shows}
-use Rattle.pf_heard.specs.Showing.TheVariants as showing
-use Rattle.pf_heard.specs.Wanted.TheVariants.{Report}
+use Rattle.pf_shown.specs.Shown.{Shows}
+use Rattle.pf_shown.specs.declared.showing.Showing.TheVariants as showing
+use Rattle.pf_heard.specs.declared.wanted.Wanted.TheVariants.{Report}
 use Rattle.pf_sitter.specs.Turns.{saved_text}
 use Rattle.pf_sitter.proofs.Both.{both_ok}
 use Rattle.pf_sitter.proofs.save.save_script.Goals as goal

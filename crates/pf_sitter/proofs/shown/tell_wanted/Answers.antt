@@ -2,8 +2,8 @@ use Rattle.std.proofs.Common.{◌++◌, ◌∙◌, ap, ap₂, refl, subst}
 use Rattle.std.proofs.lemmas.Result.{on_ok_weaker}
 use Rattle.pf_answers.specs.Bad.{bad_text}
 use Rattle.pf_answers.specs.Shown.{shown_text}
-use Rattle.pf_heard.specs.Shown.{Shows}
-use Rattle.pf_heard.specs.Showing.TheVariants as showing
+use Rattle.pf_shown.specs.Shown.{Shows}
+use Rattle.pf_shown.specs.declared.showing.Showing.TheVariants as showing
 use Rattle.pf_sitter.proofs.Both.{both_ok}
 use Rattle.pf_sitter.proofs.shown.tell_wanted.Goals as goal
 
