@@ -13,7 +13,6 @@ use Rattle.pf_formats.specs.Refusal.{Refusal}
 use Rattle.pf_names.specs.declared.titles.Titles.{Titles}
 use Rattle.pf_recount.specs.Origin.{Origin}
 use Rattle.pf_options.specs.declared.format.Format.{Format}
-use Rattle.pf_fault.specs.declared.range_fault.RangeFault.{RangeFault}
 use Rattle.pf_options.specs.Formats.{has_replies, range_fault}
 use Rattle.pf_fault.specs.declared.fault.Fault.{Fault}
 use Rattle.pf_fault.specs.declared.fault.Fault.TheVariants as why
@@ -144,7 +143,7 @@ pub shown_meaning : (format : Format) (titles : Titles) (refusals : List Refusal
     → report_meaning format titles refusals c ≡ record { text = report_text format c.every (seen_at c) titles refusals; end = Done }
 shown_meaning format titles refusals c fits = rw fits refl
 
--- Use: the report was written, or its writing stopped.
+-- Use: the writing of the report stopped.
 module _ (format : Format) (titles : Titles) (refusals : List Refusal) (desk : Shown) (fits : range_fault format desk.state.now ≡ None) (every : ℕ) (same : every ≡ desk.every)
     (seen : Seen) (stands : StandsForHistory desk.history seen)
     (shows : seen ≡ record { version = length desk.history; state = desk.state; rows = desk.rows; denials = desk.denials }) where
@@ -154,19 +153,11 @@ module _ (format : Format) (titles : Titles) (refusals : List Refusal) (desk : S
       ∙ sym (shown_meaning format titles refusals (course_at desk) fits)
 
   module _ (text : List ℕ) (is : text ≡ report_text format every seen titles refusals) where
-    pub report_written : (done : Unit {0}) (old new : Option (List ℕ)) → Appends old new text → Answers (report_meaning format titles refusals (course_at desk)) (Ok done) old new
-    report_written done old new wrote = subst (λ m. Answers m (Ok done) old new) meant (refl, subst (Appends old new) is wrote)
-
     pub report_stopped : (fault : OutputFault) (old new : Option (List ℕ)) → TookFront old new text
         → Answers {A = Unit {0}} (report_meaning format titles refusals (course_at desk)) (Err (fault_of_output fault)) old new
     report_stopped fault old new took =
         subst (λ m. Answers {A = Unit {0}} m (Err (fault_of_output fault)) old new) meant
         (answers_stopped (Unit {0}) (record { text = report_text format every seen titles refusals; end = Done }) fault old new (subst (TookFront old new) is took))
-
--- Use: the range can't be shown.
-pub outside_answered : (format : Format) (titles : Titles) (refusals : List Refusal) (c : ScriptCourse) (fault : RangeFault) (x : Option (List ℕ)) → Some fault ≡ range_fault format c.state.now
-    → Answers {A = Unit {0}} (report_meaning format titles refusals c) (Err (why.BadRange fault)) x x
-outside_answered format titles refusals c fault x is = rw (← is) (refl, Appends-nil x)
 
 -- Use: a fault of one call is that of another.
 module _ (A B : Type 0) where

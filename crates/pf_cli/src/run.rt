@@ -1,4 +1,4 @@
-ghost use Rattle.std.specs.Prelude.{◌≡◌, ◌-◌, ◌^◌, ◌<◌, ◌≤◌, List, length, [], Some, IfOk, OnOk, OnErr, option_map};
+ghost use Rattle.std.specs.Prelude.{◌≡◌, ◌-◌, ◌^◌, ◌<◌, ◌≤◌, List, length, [], None, Some, IfOk, OnOk, OnErr, option_map};
 ghost use Rattle.std.specs.Io.KnownBytes.{Appends, Keeps};
 ghost use Rattle.pf_fault.specs.declared.status.Status.TheVariants.{Done};
 ghost use Rattle.pf_fault.specs.Faults.{CountsWrites, IsOutside, IsPastReading};
@@ -6,6 +6,8 @@ ghost use Rattle.pf_stream.specs.Reading.{longest_script};
 ghost use Rattle.pf_stream.specs.Written.{CountsOutput, TookFront};
 ghost use Rattle.pf_recount.specs.Carried.{IsOf};
 ghost use Rattle.pf_formats.specs.Refusal.{Refusal};
+ghost use Rattle.pf_formats.specs.Report.{report_text};
+ghost use Rattle.pf_options.specs.Formats.{range_fault};
 ghost use Rattle.pf_names.specs.declared.titles.Titles.{Titles};
 ghost use Rattle.pf_script.specs.Told.{told};
 ghost use Rattle.pf_options.specs.FailLists.{on_nothing};
@@ -21,8 +23,10 @@ use crate::ran::Ran;
 use crate::refusals::refusals_for;
 use pf_course::script_replies::ScriptReplies;
 use pf_desk::desk::Desk;
+use pf_desk::snapshot::Snapshot;
 use pf_fault::ending::Ending;
 use pf_fault::fault::Fault;
+use pf_formats::refusal::Refusal;
 use pf_formats::report::report_pieces;
 use pf_names::titles::Titles;
 use pf_options::fail_on::FailOn;
@@ -163,11 +167,39 @@ fn write_report<W: Sink>(
     if let Some(fault) = format.range_fault(desk.now()) {
         return Err(Fault::BadRange(fault));
     }
-    let snapshot = desk.snapshot()?;
     let refusals = refusals_for(alloc, format, origins, bytes, desk)?;
-    let report = report_pieces(alloc, &snapshot, desk.distance(), format, titles, refusals)?;
-    write_whole(alloc, report, writer)?;
-    Ok(())
+    let snapshot = desk.snapshot()?;
+    let written = write_shown(
+        alloc,
+        &snapshot,
+        desk.distance(),
+        writer,
+        format,
+        titles,
+        refusals,
+    );
+    drop(snapshot);
+    Ok(written?)
+}
+
+/// Writes what stands after all replies, of what is seen. A call of its own, so that none of its ways out drops the snapshot.
+fn write_shown<W: Sink>(
+    alloc: Global,
+    seen: &Snapshot,
+    every: u64,
+    writer: &mut W,
+    format: Format,
+    titles: &Titles,
+    refusals: Vec<Refusal>,
+) -> Result<(), OutputFault>
+    requires fits { range_fault format seen.now.state.now ≡ None }
+    requires writes { W.failed writer.old < 2 ^ 64 - 1 }
+    ensures ok { OnOk result (Appends (W.contents writer.old) (W.contents writer.new) (report_text format every seen.now titles.now refusals.items)) }
+    ensures err { OnErr result (TookFront (W.contents writer.old) (W.contents writer.new) (report_text format every seen.now titles.now refusals.items)) }
+    ensures count { CountsOutput result (W.failed writer.old) (W.failed writer.new) }
+{
+    let report = report_pieces(alloc, seen, every, format, titles, refusals)?;
+    write_whole(alloc, report, writer)
 }
 
 /// Writes all of some pieces, and lets them go, by a call of its own: so nobody else looks at their kinds.

@@ -1,6 +1,10 @@
-ghost use Rattle.std.specs.Prelude.{◌≡◌, ◌-◌, ◌^◌, ◌<◌, [], IfOk, string_bytes};
+ghost use Rattle.std.specs.Prelude.{◌≡◌, ◌-◌, ◌^◌, ◌<◌, [], None, IfOk, OnOk, OnErr, string_bytes};
+ghost use Rattle.std.specs.Io.KnownBytes.{Appends};
 ghost use Rattle.pf_fault.specs.declared.status.Status.TheVariants.{Done};
 ghost use Rattle.pf_fault.specs.Faults.{CountsWrites};
+ghost use Rattle.pf_formats.specs.TaskReport.{task_report_text};
+ghost use Rattle.pf_options.specs.Formats.{range_fault};
+ghost use Rattle.pf_stream.specs.Written.{CountsOutput, TookFront};
 ghost use Rattle.pf_cli.specs.Answers.{Answers};
 ghost use Rattle.pf_cli.specs.Ended.{is_failing, run_status};
 ghost use Rattle.pf_course.specs.Course.{course_at};
@@ -11,6 +15,7 @@ use crate::failing::status_of;
 use crate::run::write_whole;
 use pf_course::at_end::desk_at_end;
 use pf_desk::desk::Desk;
+use pf_desk::snapshot::Snapshot;
 use pf_fault::ending::Ending;
 use pf_fault::fault::Fault;
 use pf_fault::status::Status;
@@ -19,6 +24,7 @@ use pf_names::name::Name;
 use pf_names::titles::Titles;
 use pf_options::fail_on::FailOn;
 use pf_options::format::Format;
+use pf_stream::output_fault::OutputFault;
 use pf_stream::sink::Sink;
 use pf_task_words::task_words::TaskWords;
 use pf_tasks::task_list::TaskList;
@@ -137,7 +143,26 @@ fn write_tasks<W: Sink>(
         return Err(Fault::BadRange(fault));
     }
     let snapshot = desk.snapshot()?;
-    let report = task_report_pieces(alloc, &snapshot, format, titles, tasks)?;
-    write_whole(alloc, report, writer)?;
-    Ok(())
+    let written = write_listed(alloc, &snapshot, writer, format, titles, tasks);
+    drop(snapshot);
+    Ok(written?)
+}
+
+/// Writes what is shown of these tasks, of what is seen. A call of its own, so that none of its ways out drops the snapshot.
+fn write_listed<W: Sink>(
+    alloc: Global,
+    seen: &Snapshot,
+    writer: &mut W,
+    format: Format,
+    titles: &Titles,
+    tasks: TaskList,
+) -> Result<(), OutputFault>
+    requires fits { range_fault format seen.now.state.now ≡ None }
+    requires writes { W.failed writer.old < 2 ^ 64 - 1 }
+    ensures ok { OnOk result (Appends (W.contents writer.old) (W.contents writer.new) (task_report_text format seen.now titles.now tasks)) }
+    ensures err { OnErr result (TookFront (W.contents writer.old) (W.contents writer.new) (task_report_text format seen.now titles.now tasks)) }
+    ensures count { CountsOutput result (W.failed writer.old) (W.failed writer.new) }
+{
+    let report = task_report_pieces(alloc, seen, format, titles, tasks)?;
+    write_whole(alloc, report, writer)
 }

@@ -1,9 +1,8 @@
-use Rattle.std.proofs.Common.{ap, refl, sym, ◌∙◌}
+use Rattle.std.proofs.Common.{ap, sym, ◌∙◌, refl}
 use Rattle.std.proofs.lemmas.Result.{err_from_is_err_and}
 use Rattle.pf_stream.proofs.Sending.{none_written}
 use Rattle.pf_options.specs.Formats.{range_fault}
 use Rattle.pf_course.specs.Course.{course_at}
-use Rattle.pf_cli.proofs.Answering.{counts_stopped}
 use Rattle.pf_cli.proofs.Listed.{tasks_outside, tasks_stopped, tasks_written}
 use Rattle.pf_cli.proofs.task_run.write_tasks.Goals as goal
 
@@ -16,32 +15,15 @@ pub returns-in_err-snapshot-clause-report : goal.returns-in_err-snapshot-clause-
 returns-in_err-snapshot-clause-report g c =
     let p = err_from_is_err_and c.from_residual.result c.from_residual.ensures.1 in rw (p.1, p.2) (none_written _ _)
 
-pub returns-in_err-snapshot-clause-writes : goal.returns-in_err-snapshot-clause-writes
-returns-in_err-snapshot-clause-writes g c =
-    let p = err_from_is_err_and c.from_residual.result c.from_residual.ensures.1 in rw (p.1, p.2) refl
-
-pub returns-in_err-report-clause-report : goal.returns-in_err-report-clause-report
-returns-in_err-report-clause-report g c =
-    let p = err_from_is_err_and c.from_residual-in_err-report.result c.from_residual-in_err-report.ensures.1 in rw (p.1, p.2) (none_written _ _)
-
-pub returns-in_err-report-clause-writes : goal.returns-in_err-report-clause-writes
-returns-in_err-report-clause-writes g c =
-    let p = err_from_is_err_and c.from_residual-in_err-report.result c.from_residual-in_err-report.ensures.1 in rw (p.1, p.2) refl
-
-pub returns-in_err-write_whole-clause-report : goal.returns-in_err-write_whole-clause-report
-returns-in_err-write_whole-clause-report g c =
-    let p = err_from_is_err_and c.from_residual-in_err-write_whole.result c.from_residual-in_err-write_whole.ensures.1 in
+pub returns-in_err-written-clause-report : goal.returns-in_err-written-clause-report
+returns-in_err-written-clause-report g c =
+    let p = err_from_is_err_and c.from_residual-in_err-written.result c.from_residual-in_err-written.ensures.1 in
     let e = c.in_ok-snapshot.ensures in
     let fits = ap (range_fault c.args.format) (sym c.now.ensures.value) ∙ sym c.in_default.ensures in
-    rw (p.1, p.2) (tasks_stopped c.args.format c.args.titles.now c.args.tasks c.args.desk.now fits c.in_ok-snapshot.snapshot e.stands e.shown _ c.in_ok-report.ensures _ _ _ c.in_err-write_whole.ensures.err)
-
-pub returns-in_err-write_whole-clause-writes : goal.returns-in_err-write_whole-clause-writes
-returns-in_err-write_whole-clause-writes g c =
-    let p = err_from_is_err_and c.from_residual-in_err-write_whole.result c.from_residual-in_err-write_whole.ensures.1 in
-    rw (p.1, p.2) (counts_stopped (Unit {0}) (Unit {0}) _ _ _ c.in_err-write_whole.ensures.count)
+    rw (p.1, p.2) (tasks_stopped c.args.format c.args.titles.now c.args.tasks c.args.desk.now fits c.in_ok-snapshot.snapshot e.stands e.shown _ refl _ _ _ c.in_err-written.ensures.err)
 
 pub returns-clause-report : goal.returns-clause-report
 returns-clause-report g c =
     let e = c.in_ok-snapshot.ensures in
     let fits = ap (range_fault c.args.format) (sym c.now.ensures.value) ∙ sym c.in_default.ensures in
-    tasks_written c.args.format c.args.titles.now c.args.tasks c.args.desk.now fits c.in_ok-snapshot.snapshot e.stands e.shown _ c.in_ok-report.ensures _ _ _ c.in_ok-write_whole.ensures.ok
+    tasks_written c.args.format c.args.titles.now c.args.tasks c.args.desk.now fits c.in_ok-snapshot.snapshot e.stands e.shown _ refl _ _ _ c.in_ok-written.ensures.ok
