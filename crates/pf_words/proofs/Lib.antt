@@ -1,3 +1,4 @@
+mod Growing
 mod Pairs
 mod Reading
 pub mod Unasked

@@ -4,4 +4,5 @@ pub mod CommandLine
 pub mod Desks
 pub mod Diffs
 pub mod Examples
+pub mod Rows
 pub mod Texts

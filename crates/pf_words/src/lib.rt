@@ -4,25 +4,23 @@
 //! its place.
 #![tactic(auto)]
 
+mod argument;
 pub mod choices;
 mod command_line;
 mod conversion_words;
-mod convert_command;
-mod desk_command;
 pub mod desk_words;
-mod diff_command;
 mod diff_words;
-mod fit_command;
-mod flags;
+mod form;
 pub mod laws;
 pub mod mistake;
 pub mod request;
 mod run_words;
 pub mod script_pair;
+mod subcommand;
+mod subcommands;
 pub mod task;
 pub mod telling;
 mod telling_words;
 pub mod texts;
-mod why_command;
 mod why_question;
 pub mod words;
