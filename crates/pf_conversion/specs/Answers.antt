@@ -18,7 +18,7 @@ use Rattle.pf_task_list.specs.List.{list_told}
 use Rattle.pf_conversion.specs.declared.planned.Planned.{Planned}
 use Rattle.pf_conversion.specs.declared.table.Series.{Series}
 use Rattle.pf_conversion.specs.Json.{json_text}
-use Rattle.pf_conversion.specs.Parts.{joined}
+use Rattle.pf_task_list.specs.Parts.{joined}
 use Rattle.pf_conversion.specs.Planned.{IsPlannedAt}
 use Rattle.pf_conversion.specs.Report.{headings, report_rows}
 use Rattle.pf_conversion.specs.Script.{script_text}

@@ -8,7 +8,7 @@ use Rattle.pf_scenario.specs.declared.settings.TheConstants.{MOST_PROCESSORS}
 use Rattle.pf_task_list.specs.declared.listed.Listed.{Listed}
 use Rattle.pf_conversion.specs.declared.planned.Planned.{Planned}
 use Rattle.pf_conversion.specs.declared.table.Series.{Series}
-use Rattle.pf_conversion.specs.Parts.{joined}
+use Rattle.pf_task_list.specs.Parts.{joined}
 use Rattle.pf_conversion.specs.Script.{numbered}
 
 -- what stands before the element of a list at a place

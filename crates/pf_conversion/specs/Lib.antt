@@ -3,7 +3,6 @@ pub mod Answers
 pub mod Conversions
 pub mod Json
 pub mod Laws
-pub mod Parts
 pub mod Planned
 pub mod Report
 pub mod Script

@@ -7,7 +7,7 @@ use Rattle.pf_convert.specs.declared.timed.Timed.{Timed}
 use Rattle.pf_names.specs.declared.unit.Unit.{Unit}
 use Rattle.pf_task_list.specs.declared.listed.Listed.{Listed}
 use Rattle.pf_task_list.specs.Times.{time_text}
-use Rattle.pf_conversion.specs.Parts.{joined}
+use Rattle.pf_task_list.specs.Parts.{joined}
 
 abbrev pub headings : List (List ℕ)
 headings =

@@ -8,7 +8,7 @@ use Rattle.pf_names.specs.declared.unit.Unit.TheVariants.{Nanosecond, Microsecon
 use Rattle.pf_names.specs.Slots.{unit_word}
 use Rattle.pf_scenario.specs.declared.settings.TheConstants.{WIDE_HORIZON}
 use Rattle.pf_task_list.specs.declared.listed.Listed.{Listed}
-use Rattle.pf_conversion.specs.Parts.{joined}
+use Rattle.pf_task_list.specs.Parts.{joined}
 
 -- a quantum in the greatest unit in which it is whole
 abbrev pub slot_of : ℕ → ℕ × Unit

@@ -12,7 +12,7 @@ use Rattle.pf_scenario.specs.declared.limits.TheConstants.{MOST_EARLY}
 use Rattle.pf_scenario.specs.declared.settings.TheConstants.{WIDE_HORIZON}
 use Rattle.pf_task_list.specs.declared.listed.Listed.{Listed}
 use Rattle.pf_task_list.specs.Times.{time_text}
-use Rattle.pf_conversion.specs.Parts.{joined}
+use Rattle.pf_task_list.specs.Parts.{joined}
 
 -- the line that tells which number of a column is above its limit
 abbrev pub excess_text : ℕ → List ℕ → ℕ → List ℕ → ℕ → List ℕ

@@ -3,7 +3,7 @@ use Rattle.std.specs.Prelude.{ℕ, ◌-◌, ◌*◌, Bool, true, false, nat_le, 
 use Rattle.std.specs.Fmt.{decimal}
 use Rattle.pf_columns.specs.Decimals.{up}
 use Rattle.pf_convert.specs.declared.plan.Plan.{Plan}
-use Rattle.pf_conversion.specs.Parts.{joined}
+use Rattle.pf_task_list.specs.Parts.{joined}
 
 abbrev pub base_words : Bool → List ℕ
 base_words true = codes ": the least common multiple of the periods\n"

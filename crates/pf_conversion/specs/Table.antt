@@ -9,7 +9,7 @@ use Rattle.pf_scenario.specs.declared.settings.TheConstants.{MOST_PROCESSORS}
 use Rattle.pf_task_list.specs.Times.{places_of, time_text}
 use Rattle.pf_conversion.specs.declared.planned.Planned.{Planned}
 use Rattle.pf_conversion.specs.declared.table.Series.{Series}
-use Rattle.pf_conversion.specs.Parts.{joined}
+use Rattle.pf_task_list.specs.Parts.{joined}
 use Rattle.pf_conversion.specs.Script.{numbered}
 
 abbrev pub periods_word : Bool → List ℕ

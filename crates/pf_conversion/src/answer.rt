@@ -1,14 +1,14 @@
 ghost use Rattle.std.specs.Prelude.{◌≡◌, ◌≤◌, ◌<◌, All, IfOk, IfSome, length, map};
 ghost use Rattle.pf_weight.specs.declared.task.TheConstants.{LARGEST_TASK};
+ghost use Rattle.pf_convert.specs.Outcomes.{billionths_of};
 ghost use Rattle.pf_convert.specs.Slots.{IsQuantum, IsTimed};
 ghost use Rattle.pf_task_list.specs.Faults.{lines_text};
 ghost use Rattle.pf_convert.specs.declared.quantum.TheConstants.{LONGEST_QUANTUM};
-ghost use Rattle.pf_conversion.specs.Answers.{EndsSeries, IsJsonAnswer, IsPlanAnswer, IsSeriesOf, IsTableAnswer, IsTold, MakesJson, MakesScript, MakesTable, ScriptFor, best_status, fit_status, too_many_text};
+ghost use Rattle.pf_conversion.specs.Answers.{EndsSeries, IsJsonAnswer, IsPlanAnswer, IsSeriesOf, IsTableAnswer, IsTold, JsonTold, MakesJson, MakesScript, MakesTable, ScriptFor, ScriptTold, TableTold, best_status, fit_status, too_many_text};
 ghost use Rattle.pf_conversion.specs.Series.{HoldAll};
 ghost use Rattle.pf_conversion.specs.Planned.{HoldsPlan, HoldsTasks};
 
 use crate::json::push_json;
-use crate::parts::{Part, push_parts};
 use crate::planned::Planned;
 use crate::report::push_table;
 use crate::script::push_script;
@@ -26,8 +26,9 @@ use pf_fault::status::Status;
 use pf_names::unit::Unit;
 use pf_scenario::settings::MOST_PROCESSORS;
 use pf_task_list::lines::Lines;
-use pf_task_list::list::read_list;
+use pf_task_list::list::{TaskList, read_list};
 use pf_task_list::listed::Listed;
+use pf_task_list::parts::{Part, push_parts};
 use std::alloc::{AllocError, Global};
 
 /// A list of tasks, whose times are told in a unit, as a script in slots of a quantum on so many processors, or on as many as
@@ -48,6 +49,21 @@ pub fn convert_to_script(
     ensures { IfOk result (MakesScript unit quantum processors list.now) }
 {
     let told = read_list(alloc, unit, list)?;
+    script_told(alloc, unit, quantum, processors, &told)
+}
+
+/// The script of what a list tells, or the lines of its faults.
+fn script_told(
+    alloc: Global,
+    unit: Unit,
+    quantum: Quantum,
+    processors: Option<u64>,
+    told: &TaskList,
+) -> Result<Answer, AllocError>
+    requires quantum { IsQuantum quantum }
+    requires processors { IfSome processors (λ m. m ≤ 64) }
+    ensures { IfOk result (ScriptTold unit quantum processors told.now.tasks told.now.faults) }
+{
     if told.faults().len() > 0 {
         return fault_answer(alloc, told.faults());
     }
@@ -139,8 +155,7 @@ fn plan_answer(
     requires processors { processors ≤ 64 }
     ensures { IfOk result (IsPlanAnswer unit processors quantum tasks.now plan.now) }
 {
-    let times = times_of(alloc, tasks)?;
-    let work = work_in_billionths(&times);
+    let work = work_of(alloc, tasks)?;
     let mut text = Vec::new(alloc);
     push_script(&mut text, processors, quantum, tasks, plan)?;
     let mut notes = Vec::new(alloc);
@@ -152,6 +167,16 @@ fn plan_answer(
         text,
         ending: Ending { status, notes },
     })
+}
+
+/// The part of a processor that tasks take, in billionths.
+fn work_of(alloc: Global, tasks: &[Listed]) -> Result<u128, AllocError>
+    requires timed { All (λ t. IsTimed t.times) tasks.now }
+    requires few { length tasks.now ≤ LARGEST_TASK }
+    ensures { IfOk result (λ work. work ≡ billionths_of (map (λ t. t.times) tasks.now)) }
+{
+    let times = times_of(alloc, tasks)?;
+    Ok(work_in_billionths(&times))
 }
 
 /// The times of tasks.
@@ -195,6 +220,22 @@ pub fn convert_to_table(
     ensures { IfOk result (MakesTable unit quanta.now switch processors list.now) }
 {
     let told = read_list(alloc, unit, list)?;
+    table_told(alloc, unit, quanta, switch, processors, &told)
+}
+
+/// The table of what a list tells, or the lines of its faults.
+fn table_told(
+    alloc: Global,
+    unit: Unit,
+    quanta: &[u64],
+    switch: u64,
+    processors: Option<u64>,
+    told: &TaskList,
+) -> Result<Answer, AllocError>
+    requires longer { All (λ q. switch < q) quanta.now }
+    requires short { All (λ q. q ≤ LONGEST_QUANTUM) quanta.now }
+    ensures { IfOk result (TableTold unit quanta.now switch processors told.now.tasks told.now.faults) }
+{
     if told.faults().len() > 0 {
         return fault_answer(alloc, told.faults());
     }
@@ -220,6 +261,22 @@ pub fn convert_to_json(
     ensures { IfOk result (MakesJson unit quanta.now switch processors list.now) }
 {
     let told = read_list(alloc, unit, list)?;
+    json_told(alloc, unit, quanta, switch, processors, &told)
+}
+
+/// The object of JSON of what a list tells, or the lines of its faults.
+fn json_told(
+    alloc: Global,
+    unit: Unit,
+    quanta: &[u64],
+    switch: u64,
+    processors: Option<u64>,
+    told: &TaskList,
+) -> Result<Answer, AllocError>
+    requires longer { All (λ q. switch < q) quanta.now }
+    requires short { All (λ q. q ≤ LONGEST_QUANTUM) quanta.now }
+    ensures { IfOk result (JsonTold unit quanta.now switch processors told.now.tasks told.now.faults) }
+{
     if told.faults().len() > 0 {
         return fault_answer(alloc, told.faults());
     }
@@ -280,8 +337,7 @@ fn series_of(
     requires few { length tasks.now ≤ LARGEST_TASK }
     ensures { IfOk result (IsSeriesOf unit processors tasks.now all.now) }
 {
-    let times = times_of(alloc, tasks)?;
-    let work = work_in_billionths(&times);
+    let work = work_of(alloc, tasks)?;
     let outcomes = outcomes_of(alloc, all)?;
     let best = best_quantum(&outcomes, processors);
     Ok(Series {

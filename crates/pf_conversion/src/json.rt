@@ -5,7 +5,6 @@ ghost use Rattle.pf_conversion.specs.Planned.{HoldsPlan, HoldsTasks};
 ghost use Rattle.pf_conversion.specs.Script.{numbered};
 ghost use Rattle.pf_conversion.specs.Series.{HoldAll};
 
-use crate::parts::{Part, push_parts};
 use crate::planned::Planned;
 use crate::table::Series;
 use pf_convert::plan::Plan;
@@ -13,6 +12,7 @@ use pf_convert::slotted::Slotted;
 use pf_scenario::settings::MOST_PROCESSORS;
 use pf_task_list::lines::Lines;
 use pf_task_list::listed::Listed;
+use pf_task_list::parts::{Part, push_parts};
 use std::alloc::AllocError;
 
 /// Adds what several quanta give these tasks, of which a switch takes so much, as an object of JSON on one line. Its numbers

@@ -6,7 +6,6 @@ pub mod answer;
 pub mod convert;
 pub mod json;
 pub mod laws;
-pub mod parts;
 pub mod planned;
 pub mod report;
 pub mod script;

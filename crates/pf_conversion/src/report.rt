@@ -2,11 +2,10 @@ ghost use Rattle.std.specs.Prelude.{◌≡◌, ◌≤◌, ◌<◌, ◌/◌, ◌^
 ghost use Rattle.std.specs.List.{flat_map};
 ghost use Rattle.pf_columns.specs.Columns.{columns_text};
 ghost use Rattle.pf_columns.specs.Decimals.{up};
-ghost use Rattle.pf_conversion.specs.Parts.{part_text};
+ghost use Rattle.pf_task_list.specs.Parts.{part_text};
 ghost use Rattle.pf_convert.specs.Slots.{IsSlotted, IsTimed};
 ghost use Rattle.pf_conversion.specs.Report.{added_text, headings, report_rows, slot_cells, task_row, time_cells};
 
-use crate::parts::{Part, push_parts};
 use pf_columns::columns::push_columns;
 use pf_columns::decimals::push_up;
 use pf_columns::row::Row;
@@ -14,6 +13,7 @@ use pf_convert::slotted::Slotted;
 use pf_convert::timed::Timed;
 use pf_names::unit::Unit;
 use pf_task_list::listed::Listed;
+use pf_task_list::parts::{Part, push_parts};
 use std::alloc::{AllocError, Global};
 
 /// How many decimals shares have.

@@ -5,12 +5,12 @@ ghost use Rattle.pf_convert.specs.declared.plan.Plan.{Plan};
 ghost use Rattle.pf_weight.specs.declared.base.TheConstants.{LARGEST_BASE};
 ghost use Rattle.pf_conversion.specs.Script.{head_lines, join_line, last_join, name_line, numbered, script_text, slot_of, step_line, steps_of};
 
-use crate::parts::{Part, push_parts};
 use pf_convert::plan::Plan;
 use pf_convert::slotted::Slotted;
 use pf_names::unit::Unit;
 use pf_scenario::settings::WIDE_HORIZON;
 use pf_task_list::listed::Listed;
+use pf_task_list::parts::{Part, push_parts};
 use std::alloc::AllocError;
 
 /// The length of a quantum in the greatest unit in which it is whole.

@@ -2,7 +2,6 @@ ghost use Rattle.std.specs.Prelude.{◌≡◌, ◌++◌, IfOk, OnOk};
 ghost use Rattle.pf_convert.specs.declared.slot_fault.SlotFault.TheVariants.{EveryBelowQuantum};
 ghost use Rattle.pf_conversion.specs.Slots.{excess_text, fault_text};
 
-use crate::parts::{Part, push_parts};
 use pf_convert::quantum::Quantum;
 use pf_convert::slot_fault::SlotFault;
 use pf_convert::slotted::Slotted;
@@ -11,6 +10,7 @@ use pf_scenario::limits::MOST_EARLY;
 use pf_scenario::settings::WIDE_HORIZON;
 use pf_task_list::lines::Lines;
 use pf_task_list::listed::Listed;
+use pf_task_list::parts::{Part, push_parts};
 use std::alloc::{AllocError, Global};
 
 /// The tasks of a list in slots of a quantum, and the lines of those that have none.

@@ -4,10 +4,10 @@ ghost use Rattle.pf_weight.specs.declared.base.TheConstants.{LARGEST_BASE};
 ghost use Rattle.pf_conversion.specs.Planned.{HoldsTasks};
 ghost use Rattle.pf_conversion.specs.Summary.{base_line, load_line, room_text, summary_text};
 
-use crate::parts::{Part, push_parts};
 use crate::report::PLACES;
 use pf_columns::decimals::push_up;
 use pf_convert::plan::Plan;
+use pf_task_list::parts::{Part, push_parts};
 use std::alloc::AllocError;
 
 /// Billionths in a whole.

@@ -5,7 +5,6 @@ ghost use Rattle.pf_conversion.specs.Script.{numbered};
 ghost use Rattle.pf_conversion.specs.Series.{HoldAll};
 ghost use Rattle.pf_conversion.specs.Table.{best_word, fits_word, no_plan_line, note_line, notes_of, notes_in, periods_word, plan_line, quantum_line, series_text};
 
-use crate::parts::{Part, push_parts};
 use crate::planned::Planned;
 use crate::report::PLACES;
 use crate::summary::BILLION;
@@ -14,6 +13,7 @@ use pf_convert::plan::Plan;
 use pf_names::unit::Unit;
 use pf_scenario::settings::MOST_PROCESSORS;
 use pf_task_list::lines::Lines;
+use pf_task_list::parts::{Part, push_parts};
 use std::alloc::{AllocError, Global};
 
 /// What the lines of several quanta are told by.

@@ -14,7 +14,7 @@ use Rattle.pf_names.specs.Slots.{unit_word}
 use Rattle.pf_rows.specs.Rows.{rows}
 use Rattle.pf_task_list.specs.declared.listed.Listed.{Listed}
 use Rattle.pf_text.specs.Page.{table_text}
-use Rattle.pf_conversion.specs.Parts.{joined}
+use Rattle.pf_task_list.specs.Parts.{joined}
 use Rattle.pf_conversion.specs.Script.{head_lines, join_line, name_line, numbered, script_text, slot_of, step_line, steps_of}
 use Rattle.pf_converted.specs.Records.{each_numbered, heading_record, join_record, name_record, script_records, settings_record, slot_record, step_record}
 use Rattle.pf_converted.specs.Read.{AreNames, IsWritten, ScriptsHaveNoFault, plan_said}

@@ -1,6 +1,5 @@
 pub mod Digits
-pub mod Parts
+pub mod Fractions
 pub mod Reading
-pub mod Writing
 pub mod Named
 pub mod Told

@@ -3,6 +3,7 @@ pub use Rattle.pf_columns.specs.Decimals
 pub mod Faults
 pub mod Heading
 pub mod List
+pub mod Parts
 pub mod Quoted
 pub mod Reading
 pub mod Times

@@ -8,6 +8,7 @@ pub mod heading;
 pub mod lines;
 pub mod list;
 pub mod listed;
+pub mod parts;
 mod quoted;
 pub mod read;
 pub mod report;

@@ -1,7 +1,7 @@
 ghost use Rattle.std.specs.Prelude.{◌≡◌, ◌++◌, OnOk};
 ghost use Rattle.pf_task_list.specs.Faults.{more_text};
 
-use pf_text::numbers::push_number;
+use crate::parts::{Part, push_parts};
 use std::alloc::{AllocError, Global};
 use std::marker::Model;
 
@@ -74,8 +74,7 @@ impl Lines {
         ensures { OnOk result (text.new.items ≡ text.old.items ++ lines_text self.now) }
     {
         for place in 0..self.len().min(MOST_LINES) {
-            text.extend_from_slice(self.line(place))?;
-            text.push(b'\n')?;
+            push_parts(text, &[Part::Bytes(self.line(place)), Part::Words("\n")])?;
         }
         push_more(text, self.len())
     }
@@ -88,8 +87,12 @@ fn push_more(text: &mut Vec<u8>, count: usize) -> Result<(), AllocError>
     if count <= MOST_LINES {
         return Ok(());
     }
-    text.extend_from_slice(b"and ")?;
-    push_number(text, (count - MOST_LINES) as u64)?;
-    text.extend_from_slice(b" more\n")?;
-    Ok(())
+    push_parts(
+        text,
+        &[
+            Part::Words("and "),
+            Part::Number((count - MOST_LINES) as u64),
+            Part::Words(" more\n"),
+        ],
+    )
 }

@@ -1,6 +1,6 @@
-ghost use Rattle.std.specs.Prelude.{◌≡◌, ◌≤◌, IfOk, length};
+ghost use Rattle.std.specs.Prelude.{◌≡◌, IfOk, OnOk, length};
 ghost use Rattle.pf_rows.specs.Rows.{rows};
-ghost use Rattle.pf_task_list.specs.List.{list_told, tasks_told};
+ghost use Rattle.pf_task_list.specs.List.{list_told, nothing_told, tasks_told};
 
 use crate::fault::ListFault;
 use crate::heading::{Heading, at_heading_fault};
@@ -118,46 +118,69 @@ pub fn read_list(alloc: Global, unit: Unit, text: &[u8]) -> Result<TaskList, All
 {
     let mut rows = Rows::new(alloc, text);
     let mut row = ByteRecord::new(alloc);
+    list_of(alloc, unit, &mut rows, &mut row)
+}
+
+/// What a list of these rows tells. Each is read into `row`.
+fn list_of(
+    alloc: Global,
+    unit: Unit,
+    rows: &mut Rows<'_>,
+    row: &mut ByteRecord,
+) -> Result<TaskList, AllocError>
+    ensures { IfOk result (λ list. list ≡ list_told unit rows.old) }
+{
     let mut list = TaskList::new(alloc);
-    match rows.next(&mut row)? {
-        NextRow::Found(line) => match Heading::read(&row) {
-            Ok(heading) => return read_tasks(alloc, unit, heading, rows, row, list),
-            Err(fault) => {
-                let at = at_heading_fault(&row, fault);
-                list.push_fault(alloc, line, at, ListFault::Heading(fault))?;
-            }
-        },
-        NextRow::End(line) => list.push_fault(alloc, line, &[], ListFault::NoHeading)?,
-    }
+    read_rows(alloc, unit, rows, row, &mut list)?;
     Ok(list)
 }
 
-/// What a list tells whose heading was read, of the rows that are left.
+/// Adds what these rows tell to a list that tells nothing yet.
+fn read_rows(
+    alloc: Global,
+    unit: Unit,
+    rows: &mut Rows<'_>,
+    row: &mut ByteRecord,
+    list: &mut TaskList,
+) -> Result<(), AllocError>
+    requires { list.old ≡ nothing_told }
+    ensures { OnOk result (list.new ≡ list_told unit rows.old) }
+{
+    match rows.next(row)? {
+        NextRow::Found(line) => match Heading::read(row) {
+            Ok(heading) => read_tasks(alloc, unit, &heading, rows, row, list),
+            Err(fault) => {
+                let at = at_heading_fault(row, fault);
+                list.push_fault(alloc, line, at, ListFault::Heading(fault))
+            }
+        },
+        NextRow::End(line) => list.push_fault(alloc, line, &[], ListFault::NoHeading),
+    }
+}
+
+/// Adds what the rows that are left tell, after the heading.
 fn read_tasks(
     alloc: Global,
     unit: Unit,
-    heading: Heading,
-    mut rows: Rows<'_>,
-    mut row: ByteRecord,
-    mut list: TaskList,
-) -> Result<TaskList, AllocError>
-    requires { length list.tasks ≡ 0 }
-    ensures { IfOk result (λ told. told ≡ tasks_told unit heading 0 list rows.entry.end rows.entry.rows) }
+    heading: &Heading,
+    rows: &mut Rows<'_>,
+    row: &mut ByteRecord,
+    list: &mut TaskList,
+) -> Result<(), AllocError>
+    requires { length list.old.tasks ≡ 0 }
+    ensures { OnOk result (list.new ≡ tasks_told unit heading.now 0 list.old rows.old.end rows.old.rows) }
 {
     for count in 0..LARGEST_TASK {
-        match rows.next(&mut row)? {
-            NextRow::Found(line) => list.note(alloc, unit, &heading, line, &row)?,
-            NextRow::End(line) => {
-                if count == 0 {
-                    list.push_fault(alloc, line, &[], ListFault::NoTask)?;
-                }
-                return Ok(list);
+        match rows.next(row)? {
+            NextRow::Found(line) => list.note(alloc, unit, heading, line, row)?,
+            NextRow::End(line) if count == 0 => {
+                return list.push_fault(alloc, line, &[], ListFault::NoTask);
             }
+            NextRow::End(_) => return Ok(()),
         }
     }
-    match rows.next(&mut row)? {
-        NextRow::Found(line) => list.push_fault(alloc, line, &[], ListFault::TooManyTasks)?,
-        NextRow::End(_line) => {}
+    match rows.next(row)? {
+        NextRow::Found(line) => list.push_fault(alloc, line, &[], ListFault::TooManyTasks),
+        NextRow::End(_) => Ok(()),
     }
-    Ok(list)
 }

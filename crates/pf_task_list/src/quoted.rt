@@ -13,10 +13,9 @@ pub const MOST_SHOWN: usize = 40;
 pub fn push_quoted(text: &mut Vec<u8>, field: &[u8]) -> Result<(), AllocError>
     ensures { OnOk result (text.new.items ≡ text.old.items ++ quoted field.now) }
 {
-    text.push(b'"')?;
+    text.extend_from_slice(b"\"")?;
     push_bytes(text, front(field))?;
-    text.push(b'"')?;
-    Ok(())
+    text.extend_from_slice(b"\"")
 }
 
 /// The bytes of a field that are shown.
@@ -42,13 +41,9 @@ fn push_byte(text: &mut Vec<u8>, byte: u8) -> Result<(), AllocError>
     ensures { OnOk result (text.new.items ≡ text.old.items ++ shown_byte byte) }
 {
     if byte >= 32 && byte <= 126 && byte != b'"' && byte != b'\\' {
-        text.push(byte)?;
-        return Ok(());
+        return text.extend_from_slice(&[byte]);
     }
-    text.extend_from_slice(b"\\x")?;
-    text.push(digit(byte / 16))?;
-    text.push(digit(byte % 16))?;
-    Ok(())
+    text.extend_from_slice(&[b'\\', b'x', digit(byte / 16), digit(byte % 16)])
 }
 
 /// The digit of a number below 16.

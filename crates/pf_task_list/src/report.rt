@@ -4,9 +4,8 @@ ghost use Rattle.pf_task_list.specs.Faults.{fault_line, heading_place, heading_r
 
 use crate::column::Column;
 use crate::fault::{HeadingFault, ListFault, TaskFault};
-use crate::quoted::push_quoted;
+use crate::parts::{Part, push_parts};
 use crate::time::TimeFault;
-use pf_text::numbers::push_number;
 use pf_weight::task::LARGEST_TASK;
 use std::alloc::{AllocError, Global};
 
@@ -24,8 +23,8 @@ pub fn fault_line(
 ) -> Result<Vec<u8>, AllocError>
     ensures { IfOk result (λ text. text.items ≡ fault_line line at.now fault) }
 {
-    let mut text = Vec::from_slice(alloc, b"line ")?;
-    push_number(&mut text, line)?;
+    let mut text = Vec::new(alloc);
+    push_parts(&mut text, &[Part::Words("line "), Part::Number(line)])?;
     push_place(&mut text, fault)?;
     text.extend_from_slice(b": ")?;
     push_reason(&mut text, at, fault)?;
@@ -58,8 +57,10 @@ fn push_heading_place(text: &mut Vec<u8>, fault: HeadingFault) -> Result<(), All
 fn push_column_number(text: &mut Vec<u8>, place: usize) -> Result<(), AllocError>
     ensures { OnOk result (text.new.items ≡ text.old.items ++ codes ", column " ++ decimal place) }
 {
-    text.extend_from_slice(b", column ")?;
-    push_number(text, place as u64)
+    push_parts(
+        text,
+        &[Part::Words(", column "), Part::Number(place as u64)],
+    )
 }
 
 /// The same of a task.
@@ -77,9 +78,10 @@ fn push_task_place(text: &mut Vec<u8>, fault: TaskFault) -> Result<(), AllocErro
 fn push_column(text: &mut Vec<u8>, column: Column) -> Result<(), AllocError>
     ensures { OnOk result (text.new.items ≡ text.old.items ++ codes ", column " ++ column_word column) }
 {
-    text.extend_from_slice(b", column ")?;
-    text.extend_from_slice(column.word().as_bytes())?;
-    Ok(())
+    push_parts(
+        text,
+        &[Part::Words(", column "), Part::Words(column.word())],
+    )
 }
 
 /// Adds why.
@@ -89,19 +91,19 @@ fn push_reason(text: &mut Vec<u8>, at: &[u8], fault: ListFault) -> Result<(), Al
 {
     match fault {
         ListFault::NoHeading => {
-            text.extend_from_slice(b"a heading is expected: name, work, every, first, early")?;
-            Ok(())
+            text.extend_from_slice(b"a heading is expected: name, work, every, first, early")
         }
         ListFault::Heading(fault) => push_heading_reason(text, at, fault),
-        ListFault::NoTask => {
-            text.extend_from_slice(b"a task is expected")?;
-            Ok(())
-        }
+        ListFault::NoTask => text.extend_from_slice(b"a task is expected"),
         ListFault::Task(fault) => push_task_reason(text, at, fault),
         ListFault::TooManyTasks => {
-            push_number(text, LARGEST_TASK)?;
-            text.extend_from_slice(b" tasks are the most")?;
-            Ok(())
+            push_parts(
+                text,
+                &[
+                    Part::Number(LARGEST_TASK),
+                    Part::Words(" tasks are the most"),
+                ],
+            )
         }
     }
 }
@@ -113,20 +115,26 @@ fn push_heading_reason(text: &mut Vec<u8>, at: &[u8], fault: HeadingFault) -> Re
 {
     match fault {
         HeadingFault::NoColumn(_) => {
-            push_quoted(text, at)?;
-            text.extend_from_slice(b" is no column: name, work, every, first, early")?;
-            Ok(())
+            push_parts(
+                text,
+                &[
+                    Part::Quoted(at),
+                    Part::Words(" is no column: name, work, every, first, early"),
+                ],
+            )
         }
         HeadingFault::Twice(_) => {
-            push_quoted(text, at)?;
-            text.extend_from_slice(b" stands twice")?;
-            Ok(())
+            push_parts(text, &[Part::Quoted(at), Part::Words(" stands twice")])
         }
         HeadingFault::Missing(column) => {
-            text.extend_from_slice(b"the column ")?;
-            text.extend_from_slice(column.word().as_bytes())?;
-            text.extend_from_slice(b" is missing")?;
-            Ok(())
+            push_parts(
+                text,
+                &[
+                    Part::Words("the column "),
+                    Part::Words(column.word()),
+                    Part::Words(" is missing"),
+                ],
+            )
         }
     }
 }
@@ -138,23 +146,35 @@ fn push_task_reason(text: &mut Vec<u8>, at: &[u8], fault: TaskFault) -> Result<(
 {
     match fault {
         TaskFault::Fields(count) => {
-            push_number(text, count as u64)?;
-            text.extend_from_slice(b" fields are expected")?;
-            Ok(())
+            push_parts(
+                text,
+                &[
+                    Part::Number(count as u64),
+                    Part::Words(" fields are expected"),
+                ],
+            )
         }
         TaskFault::NoName => {
-            push_quoted(text, at)?;
-            text.extend_from_slice(
-                b" is no name: a letter, then up to 23 letters, digits, spaces, _ - . +",
-            )?;
-            Ok(())
+            push_parts(
+                text,
+                &[
+                    Part::Quoted(at),
+                    Part::Words(
+                        " is no name: a letter, then up to 23 letters, digits, spaces, _ - . +",
+                    ),
+                ],
+            )
         }
         TaskFault::NameTaken(line) => {
-            push_quoted(text, at)?;
-            text.extend_from_slice(b" is the name of line ")?;
-            push_number(text, line)?;
-            text.extend_from_slice(b" already")?;
-            Ok(())
+            push_parts(
+                text,
+                &[
+                    Part::Quoted(at),
+                    Part::Words(" is the name of line "),
+                    Part::Number(line),
+                    Part::Words(" already"),
+                ],
+            )
         }
         TaskFault::Time(_, fault) => push_time_reason(text, at, fault),
     }
@@ -167,18 +187,20 @@ fn push_time_reason(text: &mut Vec<u8>, at: &[u8], fault: TimeFault) -> Result<(
 {
     match fault {
         TimeFault::NoTime => {
-            push_quoted(text, at)?;
-            text.extend_from_slice(b" is no time: 1 to 9 digits, and up to 9 more behind a point")?;
-            Ok(())
+            push_parts(
+                text,
+                &[
+                    Part::Quoted(at),
+                    Part::Words(" is no time: 1 to 9 digits, and up to 9 more behind a point"),
+                ],
+            )
         }
         TimeFault::TooFine => {
-            push_quoted(text, at)?;
-            text.extend_from_slice(b" is finer than a nanosecond")?;
-            Ok(())
+            push_parts(
+                text,
+                &[Part::Quoted(at), Part::Words(" is finer than a nanosecond")],
+            )
         }
-        TimeFault::Zero => {
-            text.extend_from_slice(b"a time above 0 is expected")?;
-            Ok(())
-        }
+        TimeFault::Zero => text.extend_from_slice(b"a time above 0 is expected"),
     }
 }

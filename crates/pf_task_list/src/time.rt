@@ -128,6 +128,5 @@ pub fn push_time(text: &mut Vec<u8>, unit: Unit, time: u128) -> Result<(), Alloc
     ensures { OnOk result (text.new.items ≡ text.old.items ++ time_text unit time) }
 {
     push_fewest_places(text, places_of(unit), time)?;
-    text.extend_from_slice(unit.word().as_bytes())?;
-    Ok(())
+    text.extend_from_slice(unit.word().as_bytes())
 }

@@ -2,7 +2,7 @@ use Rattle.std.proofs.Common.{[], ◌∷◌, codes, decimal}
 use Rattle.std.proofs.lemmas.Result.{on_ok_weaker}
 use Rattle.pf_facts.proofs.Lists.{three_written}
 use Rattle.pf_conversion.specs.Json.{fault_item, no_plan_json}
-use Rattle.pf_conversion.specs.Parts.{joined}
+use Rattle.pf_task_list.specs.Parts.{joined}
 use Rattle.pf_conversion.specs.Script.{numbered}
 use Rattle.pf_conversion.proofs.json.push_no_plan.Goals as goal
 

@@ -2,7 +2,7 @@ use Rattle.std.proofs.Common.{◌∙◌, ◌++◌, [], ◌∷◌, codes, ap}
 use Rattle.std.proofs.lemmas.Result.{on_ok_weaker}
 use Rattle.pf_facts.proofs.Lists.{three_written}
 use Rattle.pf_conversion.specs.Json.{plan_head, plan_json, slots_item}
-use Rattle.pf_conversion.specs.Parts.{joined}
+use Rattle.pf_task_list.specs.Parts.{joined}
 use Rattle.pf_conversion.specs.Script.{numbered}
 use Rattle.pf_conversion.proofs.json.push_plan.Goals as goal
 

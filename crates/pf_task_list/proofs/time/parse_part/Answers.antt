@@ -1,5 +1,5 @@
 use Rattle.std.proofs.Common.{◌*◌, ◌/◌, ◌^◌, ◌<◌, length, sym, subst}
-use Rattle.pf_task_list.proofs.Parts.{less_than_one}
+use Rattle.pf_task_list.proofs.Fractions.{less_than_one}
 use Rattle.pf_task_list.proofs.time.parse_part.Goals as goal
 
 pub returns-clause-small : goal.returns-clause-small

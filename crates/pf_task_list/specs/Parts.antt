@@ -3,13 +3,15 @@ use Rattle.std.specs.Prelude.{ℕ, List}
 use Rattle.std.specs.List.{flat_map}
 use Rattle.std.specs.Fmt.{decimal}
 use Rattle.pf_columns.specs.Decimals.{with_fewest_places}
-use Rattle.pf_conversion.specs.declared.parts.Part.{Part}
-use Rattle.pf_conversion.specs.declared.parts.Part.TheVariants.{Words, Bytes, Number, Wide, Decimal, Time}
+use Rattle.pf_task_list.specs.declared.parts.Part.{Part}
+use Rattle.pf_task_list.specs.declared.parts.Part.TheVariants.{Words, Bytes, Quoted, Number, Wide, Decimal, Time}
+use Rattle.pf_task_list.specs.Quoted.{quoted}
 use Rattle.pf_task_list.specs.Times.{places_of, time_text}
 
 abbrev pub part_text : Part → List ℕ
 part_text (Words words) = words.now
 part_text (Bytes bytes) = bytes.now
+part_text (Quoted field) = quoted field.now
 part_text (Number number) = decimal number
 part_text (Wide number) = decimal number
 part_text (Decimal unit time) = with_fewest_places (places_of unit) time

@@ -1,10 +1,11 @@
 ghost use Rattle.std.specs.Prelude.{◌≡◌, ◌++◌, OnOk};
 ghost use Rattle.std.specs.List.{flat_map};
-ghost use Rattle.pf_conversion.specs.Parts.{part_text};
+ghost use Rattle.pf_task_list.specs.Parts.{part_text};
 
+use crate::quoted::push_quoted;
+use crate::time::{places_of, push_time};
 use pf_columns::decimals::{push_fewest_places, push_wide};
 use pf_names::unit::Unit;
-use pf_task_list::time::{places_of, push_time};
 use pf_text::numbers::push_number;
 use std::alloc::AllocError;
 
@@ -15,6 +16,8 @@ pub enum Part<'a> {
     Words(&'a str),
     /// These bytes.
     Bytes(&'a [u8]),
+    /// These in quotes, cut.
+    Quoted(&'a [u8]),
     /// A number in base 10.
     Number(u64),
     /// A longer one.
@@ -46,6 +49,7 @@ fn push_part(text: &mut Vec<u8>, part: Part<'_>) -> Result<(), AllocError>
     match part {
         Part::Words(words) => text.extend_from_slice(words.as_bytes()),
         Part::Bytes(bytes) => text.extend_from_slice(bytes),
+        Part::Quoted(field) => push_quoted(text, field),
         Part::Number(number) => push_number(text, number),
         Part::Wide(number) => push_wide(text, number),
         Part::Decimal(unit, time) => push_fewest_places(text, places_of(unit), time),
