@@ -2,8 +2,11 @@
 //! shown of some tasks alone. The one contract of this crate: of what a snapshot shows, the pieces of a format are its text.
 #![tactic(auto)]
 
+mod document_reports;
+mod ranged_reports;
 pub mod report;
 pub mod report_pieces;
+mod table_reports;
 mod tables;
 pub mod task_pieces;
 pub mod task_report;

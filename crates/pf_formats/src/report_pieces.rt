@@ -19,7 +19,6 @@ use pf_trace::windows::WindowPieces;
 use std::alloc::{AllocError, Global};
 
 /// The pieces of a report: an arm for each kind that a format has.
-#[derive(Drop)]
 pub enum ReportPieces<'a> {
     /// A text that is made at once, or none.
     Whole(Whole),
@@ -57,6 +56,32 @@ pub enum ReportPieces<'a> {
     Full(Chain<FullPieces<'a>, Whole>),
     /// That object in a page.
     Page(PagePieces<FullPieces<'a>>),
+}
+
+// A call of its own, so that who drops pieces sees none of their kinds. Each kind is dropped by a call too.
+impl Drop for ReportPieces<'_> {
+    fn drop(self) {
+        match self {
+            ReportPieces::Whole(pieces) => drop(pieces),
+            ReportPieces::Part(pieces) => drop(pieces),
+            ReportPieces::Tables(pieces) => drop(pieces),
+            ReportPieces::Json(pieces) => drop(pieces),
+            ReportPieces::Lags(pieces) => drop(pieces),
+            ReportPieces::Misses(pieces) => drop(pieces),
+            ReportPieces::Denials(pieces) => drop(pieces),
+            ReportPieces::Script(pieces) => drop(pieces),
+            ReportPieces::Chart(pieces) => drop(pieces),
+            ReportPieces::Picture(pieces) => drop(pieces),
+            ReportPieces::Quanta(pieces) => drop(pieces),
+            ReportPieces::Load(pieces) => drop(pieces),
+            ReportPieces::Windows(pieces) => drop(pieces),
+            ReportPieces::Jobs(pieces) => drop(pieces),
+            ReportPieces::Trace(pieces) => drop(pieces),
+            ReportPieces::Code(pieces) => drop(pieces),
+            ReportPieces::Full(pieces) => drop(pieces),
+            ReportPieces::Page(pieces) => drop(pieces),
+        }
+    }
 }
 
 impl Pieces for ReportPieces<'_> {

@@ -1,4 +1,4 @@
-ghost use Rattle.std.specs.Prelude.{◌≡◌, ◌++◌, IfOk};
+ghost use Rattle.std.specs.Prelude.{◌≡◌, ◌++◌, ℕ, List, IfOk};
 ghost use Rattle.pf_formats.specs.Report.{tables_text};
 
 use pf_desk::snapshot::Snapshot;
@@ -20,12 +20,26 @@ pub type TablesPieces<'a> = Chain<
     Titled<DenialPieces<'a>>,
 >;
 
-/// A table after a line.
-fn titled<T: Pieces + Drop>(alloc: Global, line: &[u8], table: T) -> Result<Titled<T>, AllocError>
-    ensures { IfOk result (λ pieces. pieces ≡ line.now ++ T.left table) }
+/// A table after a line, where there is one. What was refused is handed on, so that no caller drops a table.
+fn titled<T: Pieces + Drop>(
+    alloc: Global,
+    line: &[u8],
+    table: Result<T, AllocError>,
+) -> Result<Titled<T>, AllocError>
+    ensures { (text : List ℕ) → IfOk table (λ t. T.left t ≡ text) → IfOk result (λ pieces. pieces ≡ line.now ++ text) }
 {
     let line = Whole::new(Vec::from_slice(alloc, line)?);
-    Ok(Chain::new(line, table))
+    Ok(Chain::new(line, table?))
+}
+
+/// One text after another, where there are both.
+fn chained<A: Pieces + Drop, B: Pieces + Drop>(
+    first: Result<A, AllocError>,
+    second: Result<B, AllocError>,
+) -> Result<Chain<A, B>, AllocError>
+    ensures { (front back : List ℕ) → IfOk first (λ a. A.left a ≡ front) → IfOk second (λ b. B.left b ≡ back) → IfOk result (λ pieces. pieces ≡ front ++ back) }
+{
+    Ok(Chain::new(first?, second?))
 }
 
 /// The four tables, each after a line with its name, in pieces. The lags and the missed windows are in memory until they
@@ -38,9 +52,9 @@ pub(crate) fn tables_pieces<'a>(
     ensures { IfOk result (λ pieces. pieces ≡ tables_text snapshot.now titles.now) }
 {
     let Tally { lags, misses } = snapshot.tally()?;
-    let schedule = titled(alloc, b"schedule\n", schedule_pieces(alloc, snapshot)?)?;
-    let lags = titled(alloc, b"lags\n", pieces_of_lags(alloc, lags, titles)?)?;
-    let misses = titled(alloc, b"misses\n", pieces_of_misses(alloc, misses)?)?;
-    let denials = titled(alloc, b"denials\n", denial_pieces(alloc, snapshot)?)?;
-    Ok(Chain::new(Chain::new(Chain::new(schedule, lags), misses), denials))
+    let schedule = titled(alloc, b"schedule\n", schedule_pieces(alloc, snapshot));
+    let lags = titled(alloc, b"lags\n", pieces_of_lags(alloc, lags, titles));
+    let misses = titled(alloc, b"misses\n", pieces_of_misses(alloc, misses));
+    let denials = titled(alloc, b"denials\n", denial_pieces(alloc, snapshot));
+    chained(chained(chained(schedule, lags), misses), denials)
 }

@@ -10,7 +10,6 @@ use pf_trace::windows::WindowPieces;
 use std::alloc::{AllocError, Global};
 
 /// The pieces of what is shown of some tasks: an arm for each kind that a format has.
-#[derive(Drop)]
 pub enum TaskPieces<'a> {
     /// No text.
     Nothing(Whole),
@@ -30,6 +29,23 @@ pub enum TaskPieces<'a> {
     Chart(ChartPieces<'a>),
     /// The picture of a range.
     Picture(PicturePieces<'a>),
+}
+
+// A call of its own, so that who drops pieces sees none of their kinds. Each kind is dropped by a call too.
+impl Drop for TaskPieces<'_> {
+    fn drop(self) {
+        match self {
+            TaskPieces::Nothing(pieces) => drop(pieces),
+            TaskPieces::Windows(pieces) => drop(pieces),
+            TaskPieces::Jobs(pieces) => drop(pieces),
+            TaskPieces::Quanta(pieces) => drop(pieces),
+            TaskPieces::Stats(pieces) => drop(pieces),
+            TaskPieces::Lags(pieces) => drop(pieces),
+            TaskPieces::Misses(pieces) => drop(pieces),
+            TaskPieces::Chart(pieces) => drop(pieces),
+            TaskPieces::Picture(pieces) => drop(pieces),
+        }
+    }
 }
 
 impl Pieces for TaskPieces<'_> {

@@ -1,30 +1,35 @@
 ghost use Rattle.std.specs.Prelude.{◌≡◌, ◌≤◌, true, None, IfOk};
 ghost use Rattle.pf_chart.specs.Chart.{task_chart_text_of};
+ghost use Rattle.pf_jobs.specs.Jobs.{jobs_text};
 ghost use Rattle.pf_look.specs.declared.wrap.TheConstants.{MOST_SLOTS};
 ghost use Rattle.pf_options.specs.Formats.{range_fault};
 ghost use Rattle.pf_options.specs.Ranges.{end_of, first_of, is_within, slots_of};
 ghost use Rattle.pf_picture.specs.Picture.{task_picture_text_of};
+ghost use Rattle.pf_report.specs.Quanta.{quanta_text};
+ghost use Rattle.pf_report.specs.Tables.{lags_text, misses_text};
+ghost use Rattle.pf_stats.specs.Stats.{stats_text};
+ghost use Rattle.pf_task_lines.specs.Lines.{listed_text};
 ghost use Rattle.pf_trace.specs.Windows.{windows_text};
 ghost use Rattle.pf_formats.specs.TaskLeft.{task_text_left};
 ghost use Rattle.pf_formats.specs.TaskReport.{task_report_text};
 
-use crate::report::quanta_of;
 use crate::task_pieces::TaskPieces;
-use pf_chart::chart::{ChartPieces, task_chart_pieces};
+use pf_chart::chart::task_chart_pieces;
 use pf_desk::snapshot::Snapshot;
 use pf_jobs::jobs::job_pieces;
 use pf_look::look::Look;
 use pf_names::titles::Titles;
 use pf_options::format::Format;
 use pf_options::slot_range::SlotRange;
-use pf_picture::picture::{PicturePieces, task_picture_pieces};
+use pf_picture::picture::task_picture_pieces;
 use pf_report::lags::lag_pieces;
 use pf_report::misses::miss_pieces;
+use pf_report::quanta::quanta_pieces;
 use pf_stats::stats::stats_csv;
 use pf_task_lines::listed_lines::ListedLines;
 use pf_tasks::task_list::TaskList;
 use pf_text::pieces::Whole;
-use pf_trace::windows::{WindowPieces, window_pieces};
+use pf_trace::windows::window_pieces;
 use std::alloc::{AllocError, Global};
 
 /// What a format shows of the tasks of a list alone, in pieces: of `windows`, `jobs`, `quanta`, `stats`, `lags`, `misses`, `chart`
@@ -44,76 +49,120 @@ pub fn task_report_pieces<'a>(
     requires { range_fault format snapshot.now.state.now ≡ None }
     ensures { IfOk result (λ pieces. task_text_left pieces ≡ task_report_text format snapshot.now titles.now tasks) }
 {
-    let pieces = match format {
-        Format::Windows(range) => {
-            TaskPieces::Windows(windows_of(alloc, snapshot, titles, &tasks, range)?)
-        }
-        Format::Jobs => TaskPieces::Jobs(job_pieces(alloc, snapshot, &tasks, titles)?),
-        Format::Quanta(range) => {
-            let quanta = quanta_of(alloc, snapshot, range)?;
-            TaskPieces::Quanta(ListedLines::new(alloc, quanta, tasks, 2))
-        }
-        Format::Stats => {
-            let figures = Whole::new(stats_csv(alloc, snapshot, titles)?);
-            TaskPieces::Stats(ListedLines::new(alloc, figures, tasks, 0))
-        }
-        Format::Lags => {
-            let lags = lag_pieces(alloc, snapshot, titles)?;
-            TaskPieces::Lags(ListedLines::new(alloc, lags, tasks, 0))
-        }
-        Format::Misses => {
-            let misses = miss_pieces(alloc, snapshot)?;
-            TaskPieces::Misses(ListedLines::new(alloc, misses, tasks, 0))
-        }
-        Format::Chart(range) => {
-            TaskPieces::Chart(chart_of(alloc, snapshot, titles, &tasks, range)?)
-        }
-        Format::Svg(range, look) => {
-            TaskPieces::Picture(picture_of(alloc, snapshot, titles, &tasks, range, &look)?)
-        }
-        _ => TaskPieces::Nothing(Whole::new(Vec::new(alloc))),
-    };
-    Ok(pieces)
+    match format {
+        Format::Windows(range) => windows_of(alloc, snapshot, titles, &tasks, range),
+        Format::Jobs => jobs_of(alloc, snapshot, titles, &tasks),
+        Format::Quanta(range) => quanta_of(alloc, snapshot, tasks, range),
+        Format::Stats => stats_of(alloc, snapshot, titles, tasks),
+        Format::Lags => lags_of(alloc, snapshot, titles, tasks),
+        Format::Misses => misses_of(alloc, snapshot, tasks),
+        Format::Chart(range) => chart_of(alloc, snapshot, titles, &tasks, range),
+        Format::Svg(range, look) => picture_of(alloc, snapshot, titles, &tasks, range, &look),
+        _ => Ok(TaskPieces::Nothing(Whole::new(Vec::new(alloc)))),
+    }
 }
 
-/// The windows of the tasks of a list in a range of slots, in pieces.
+/// The windows of the tasks of a list in a range of slots.
 fn windows_of<'a>(
     alloc: Global,
     snapshot: &Snapshot,
     titles: &'a Titles,
     tasks: &TaskList,
     range: SlotRange,
-) -> Result<WindowPieces<'a>, AllocError>
+) -> Result<TaskPieces<'a>, AllocError>
     ensures { IfOk result
-        (λ pieces. pieces ≡ windows_text snapshot.now tasks.now titles.now (first_of range) (end_of range snapshot.now.state.now)) }
+        (λ pieces. task_text_left pieces ≡ windows_text snapshot.now tasks.now titles.now (first_of range) (end_of range snapshot.now.state.now)) }
 {
-    window_pieces(
-        alloc,
-        snapshot,
-        tasks,
-        titles,
-        range.first(),
-        range.end(snapshot.now()),
-    )
+    let to = range.end(snapshot.now());
+    let windows = window_pieces(alloc, snapshot, tasks, titles, range.first(), to)?;
+    Ok(TaskPieces::Windows(windows))
 }
 
-/// The chart of the tasks of a list in a range of slots, in pieces.
+/// The jobs of the tasks of a list.
+fn jobs_of<'a>(
+    alloc: Global,
+    snapshot: &Snapshot,
+    titles: &'a Titles,
+    tasks: &TaskList,
+) -> Result<TaskPieces<'a>, AllocError>
+    ensures { IfOk result (λ pieces. task_text_left pieces ≡ jobs_text snapshot.now tasks.now titles.now) }
+{
+    let jobs = job_pieces(alloc, snapshot, tasks, titles)?;
+    Ok(TaskPieces::Jobs(jobs))
+}
+
+/// The quanta of the tasks of a list in a range of slots.
+fn quanta_of(
+    alloc: Global,
+    snapshot: &Snapshot,
+    tasks: TaskList,
+    range: SlotRange,
+) -> Result<TaskPieces<'_>, AllocError>
+    requires { is_within range snapshot.now.state.now ≡ true }
+    ensures { IfOk result
+        (λ pieces. task_text_left pieces ≡ listed_text tasks 2 (quanta_text snapshot.now (first_of range) (end_of range snapshot.now.state.now))) }
+{
+    let to = range.end(snapshot.now());
+    let quanta = quanta_pieces(alloc, snapshot, range.first(), to)?;
+    Ok(TaskPieces::Quanta(ListedLines::new(alloc, quanta, tasks, 2)))
+}
+
+/// The figures of the tasks of a list.
+fn stats_of<'a>(
+    alloc: Global,
+    snapshot: &Snapshot,
+    titles: &Titles,
+    tasks: TaskList,
+) -> Result<TaskPieces<'a>, AllocError>
+    ensures { IfOk result (λ pieces. task_text_left pieces ≡ listed_text tasks 0 (stats_text snapshot.now titles.now)) }
+{
+    let stats = Whole::new(stats_csv(alloc, snapshot, titles)?);
+    Ok(TaskPieces::Stats(ListedLines::new(alloc, stats, tasks, 0)))
+}
+
+/// The lags of the tasks of a list.
+fn lags_of<'a>(
+    alloc: Global,
+    snapshot: &Snapshot,
+    titles: &'a Titles,
+    tasks: TaskList,
+) -> Result<TaskPieces<'a>, AllocError>
+    ensures { IfOk result (λ pieces. task_text_left pieces ≡ listed_text tasks 0 (lags_text snapshot.now titles.now)) }
+{
+    let lags = lag_pieces(alloc, snapshot, titles)?;
+    Ok(TaskPieces::Lags(ListedLines::new(alloc, lags, tasks, 0)))
+}
+
+/// The missed windows of the tasks of a list.
+fn misses_of<'a>(
+    alloc: Global,
+    snapshot: &Snapshot,
+    tasks: TaskList,
+) -> Result<TaskPieces<'a>, AllocError>
+    ensures { IfOk result (λ pieces. task_text_left pieces ≡ listed_text tasks 0 (misses_text snapshot.now)) }
+{
+    let misses = miss_pieces(alloc, snapshot)?;
+    Ok(TaskPieces::Misses(ListedLines::new(alloc, misses, tasks, 0)))
+}
+
+/// The chart of the tasks of a list in a range of slots.
 fn chart_of<'a>(
     alloc: Global,
     snapshot: &'a Snapshot,
     titles: &'a Titles,
     tasks: &TaskList,
     range: SlotRange,
-) -> Result<ChartPieces<'a>, AllocError>
+) -> Result<TaskPieces<'a>, AllocError>
     requires { is_within range snapshot.now.state.now ≡ true }
     ensures { IfOk result
-        (λ pieces. pieces ≡ task_chart_text_of snapshot.now titles.now tasks.now (first_of range) (end_of range snapshot.now.state.now)) }
+        (λ pieces. task_text_left pieces ≡ task_chart_text_of snapshot.now titles.now tasks.now (first_of range) (end_of range snapshot.now.state.now)) }
 {
     let to = range.end(snapshot.now());
-    task_chart_pieces(alloc, snapshot, titles, tasks, range.first(), to)
+    let chart = task_chart_pieces(alloc, snapshot, titles, tasks, range.first(), to)?;
+    Ok(TaskPieces::Chart(chart))
 }
 
-/// The picture of the tasks of a list in a range of slots, in pieces.
+/// The picture of the tasks of a list in a range of slots.
 fn picture_of<'a>(
     alloc: Global,
     snapshot: &'a Snapshot,
@@ -121,12 +170,13 @@ fn picture_of<'a>(
     tasks: &TaskList,
     range: SlotRange,
     look: &Look,
-) -> Result<PicturePieces<'a>, AllocError>
+) -> Result<TaskPieces<'a>, AllocError>
     requires within { is_within range snapshot.now.state.now ≡ true }
     requires short { slots_of range snapshot.now.state.now ≤ MOST_SLOTS }
     ensures { IfOk result
-        (λ pieces. pieces ≡ task_picture_text_of snapshot.now titles.now tasks.now (first_of range) (end_of range snapshot.now.state.now) look.now) }
+        (λ pieces. task_text_left pieces ≡ task_picture_text_of snapshot.now titles.now tasks.now (first_of range) (end_of range snapshot.now.state.now) look.now) }
 {
     let to = range.end(snapshot.now());
-    task_picture_pieces(alloc, snapshot, titles, tasks, range.first(), to, look)
+    let picture = task_picture_pieces(alloc, snapshot, titles, tasks, range.first(), to, look)?;
+    Ok(TaskPieces::Picture(picture))
 }
