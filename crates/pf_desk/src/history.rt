@@ -25,7 +25,7 @@ use std::marker::Model;
 
 /// The commands that a desk was given, in the order of the answers, each with who asked and what was answered. Beside the
 /// rows of the steps and the commands that took no slot it takes 24 bytes for each run of either by one caller.
-#[derive(Debug, Drop)]
+#[derive(Debug)]
 pub struct History {
     alloc: Global,
     processors: u32,
@@ -36,6 +36,21 @@ pub struct History {
     rows: Rows,
     slots: u64,
     has_room: bool,
+}
+
+// A call of its own, so that who drops a history sees none of its parts.
+impl Drop for History {
+    fn drop(self) {
+        let History {
+            alloc: _,
+            processors: _,
+            briefs: _,
+            settled: _,
+            rows: _,
+            slots: _,
+            has_room: _,
+        } = self;
+    }
 }
 
 impl Model for History {

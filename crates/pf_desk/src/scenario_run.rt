@@ -25,12 +25,21 @@ use pf_timeline::timeline::Timeline;
 use std::alloc::{AllocError, Global};
 
 /// A scenario with its run so far.
-#[derive(Drop)]
 pub struct ScenarioRun {
     /// What is planned.
     pub scenario: Scenario,
     /// Its run over the slots that were stepped.
     pub timeline: Timeline,
+}
+
+// A call of its own, so that who drops a run sees none of its parts.
+impl Drop for ScenarioRun {
+    fn drop(self) {
+        let ScenarioRun {
+            scenario: _,
+            timeline: _,
+        } = self;
+    }
 }
 
 impl ScenarioRun {

@@ -46,9 +46,15 @@ type FromEvents<'a> = Keyed<EventRows, FromFigures<'a>>;
 pub type FullPieces<'a> = Keyed<DenialRows<'a>, FromEvents<'a>>;
 
 /// The object from its lags on, as one kind of pieces.
-#[derive(Drop)]
 pub struct Tail<'a> {
     pieces: FromLags<'a>,
+}
+
+// A call of its own, so that who drops the object sees none of its later parts.
+impl Drop for Tail<'_> {
+    fn drop(self) {
+        let Tail { pieces: _ } = self;
+    }
 }
 
 impl Pieces for Tail<'_> {
@@ -124,8 +130,8 @@ fn from_schedule<'a>(
 ) -> Result<FromSchedule<'a>, AllocError>
     ensures { IfOk result (λ pieces. pieces ≡ from_schedule every titles.now snapshot.now) }
 {
-    let behind = from_settings(alloc, snapshot, every, titles)?;
     let key = Vec::from_slice(alloc, b",\"schedule\":")?;
+    let behind = from_settings(alloc, snapshot, every, titles)?;
     Ok(keyed(key, ScheduleRows::of(snapshot), behind))
 }
 
@@ -139,8 +145,8 @@ fn from_refusals<'a>(
 ) -> Result<FromRefusals<'a>, AllocError>
     ensures { IfOk result (λ pieces. pieces ≡ from_refusals every titles.now refusals.items snapshot.now) }
 {
-    let behind = from_schedule(alloc, snapshot, every, titles)?;
     let key = refusals_key(alloc, titles, snapshot.now())?;
+    let behind = from_schedule(alloc, snapshot, every, titles)?;
     Ok(keyed(key, RefusalRows::of(refusals), behind))
 }
 
@@ -154,10 +160,10 @@ fn from_lags<'a>(
 ) -> Result<FromLags<'a>, AllocError>
     ensures { IfOk result (λ pieces. pieces ≡ from_lags every titles.now refusals.items snapshot.now) }
 {
-    let behind = from_refusals(alloc, snapshot, every, titles, refusals)?;
-    let Tally { lags, misses } = snapshot.tally()?;
     let misses_key = Vec::from_slice(alloc, b",\"misses\":")?;
     let lags_key = Vec::from_slice(alloc, b",\"lags\":")?;
+    let Tally { lags, misses } = snapshot.tally()?;
+    let behind = from_refusals(alloc, snapshot, every, titles, refusals)?;
     let misses = keyed(misses_key, MissRows::of(misses), behind);
     Ok(keyed(lags_key, LagRows::of(lags), misses))
 }
@@ -172,9 +178,9 @@ fn from_figures<'a>(
 ) -> Result<FromFigures<'a>, AllocError>
     ensures { IfOk result (λ pieces. pieces ≡ from_figures every titles.now refusals.items snapshot.now) }
 {
-    let pieces = from_lags(alloc, snapshot, every, titles, refusals)?;
-    let figures = FigureRows::of(snapshot.figures()?);
     let key = Vec::from_slice(alloc, b",\"figures\":")?;
+    let figures = FigureRows::of(snapshot.figures()?);
+    let pieces = from_lags(alloc, snapshot, every, titles, refusals)?;
     Ok(keyed(key, figures, Tail { pieces }))
 }
 
@@ -188,9 +194,9 @@ fn from_events<'a>(
 ) -> Result<FromEvents<'a>, AllocError>
     ensures { IfOk result (λ pieces. pieces ≡ from_events every titles.now refusals.items snapshot.now) }
 {
-    let behind = from_figures(alloc, snapshot, every, titles, refusals)?;
-    let events = EventRows::of(alloc, snapshot)?;
     let key = numbered_key(alloc, b",\"entries\":", snapshot.version(), b",\"events\":")?;
+    let events = EventRows::of(alloc, snapshot)?;
+    let behind = from_figures(alloc, snapshot, every, titles, refusals)?;
     Ok(keyed(key, events, behind))
 }
 
@@ -210,7 +216,7 @@ pub fn full_pieces<'a>(
 ) -> Result<FullPieces<'a>, AllocError>
     ensures { IfOk result (λ pieces. pieces ≡ full_text every titles.now refusals.items snapshot.now) }
 {
-    let behind = from_events(alloc, snapshot, every, titles, refusals)?;
     let key = Vec::from_slice(alloc, b"{\"denials\":")?;
+    let behind = from_events(alloc, snapshot, every, titles, refusals)?;
     Ok(keyed(key, DenialRows::of(snapshot), behind))
 }

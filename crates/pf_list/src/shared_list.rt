@@ -20,13 +20,24 @@ const MOST_GROUPS: usize = 0x40_0000_0000_0000;
 /// the first that opens a new group an owner more of each full group.
 ///
 /// Items that are taken off, or that `first` leaves out, are kept in memory until the next one is appended.
-#[derive(Debug, Drop)]
+#[derive(Debug)]
 pub struct SharedList<T> {
     full: Group<Group<T>>,
     last: Group<T>,
 
     /// How many items of the groups are in the list: the others were taken off.
     count: usize,
+}
+
+// A call of its own, so that who drops a list sees none of its groups.
+impl<T: Drop> Drop for SharedList<T> {
+    fn drop(self) {
+        let SharedList {
+            full: _,
+            last: _,
+            count: _,
+        } = self;
+    }
 }
 
 impl<T> Model for SharedList<T> {

@@ -7,11 +7,18 @@ use std::sync::Arc;
 /// A vector of which copies share the items until one of them changes, which then copies them once.
 ///
 /// Clauses see its items, and for how many more it has room.
-#[derive(Debug, Drop)]
+#[derive(Debug)]
 pub struct SharedVec<T> {
     /// The items, where none are shared; else nothing but room for them.
     own: Vec<T>,
     shared: Option<Arc<Vec<T>>>,
+}
+
+// A call of its own, so that who drops a vector sees none of its parts.
+impl<T: Drop> Drop for SharedVec<T> {
+    fn drop(self) {
+        let SharedVec { own: _, shared: _ } = self;
+    }
 }
 
 impl<T> Model for SharedVec<T> {

@@ -21,12 +21,24 @@ use std::marker::Model;
 
 /// The events held, by number. It knows their order in time, and by task which event joins and which leaves, so that
 /// each question and each change costs the logarithm of their number.
-#[derive(Debug, Drop)]
+#[derive(Debug)]
 pub struct Agenda {
     events: ByNumber,
     order: BTreeSet<Place>,
     joins: Vec<u64>,
     leaves: Vec<u64>,
+}
+
+// A call of its own, so that who drops an agenda sees none of its parts.
+impl Drop for Agenda {
+    fn drop(self) {
+        let Agenda {
+            events: _,
+            order: _,
+            joins: _,
+            leaves: _,
+        } = self;
+    }
 }
 
 impl Model for Agenda {

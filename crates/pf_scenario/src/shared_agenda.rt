@@ -16,13 +16,24 @@ use std::marker::Model;
 use std::sync::Arc;
 
 /// An agenda that copies share. A change is made in place where nobody else has it, and else on a copy of it.
-#[derive(Debug, Drop)]
+#[derive(Debug)]
 pub struct SharedAgenda {
     alloc: Global,
 
     /// No events, for as long as nothing is shared.
     empty: Agenda,
     shared: Option<Arc<Agenda>>,
+}
+
+// A call of its own, so that who drops an agenda sees none of its parts.
+impl Drop for SharedAgenda {
+    fn drop(self) {
+        let SharedAgenda {
+            alloc: _,
+            empty: _,
+            shared: _,
+        } = self;
+    }
 }
 
 impl Model for SharedAgenda {

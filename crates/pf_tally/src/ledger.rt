@@ -14,7 +14,6 @@ use pf_table::lists::Lists;
 use std::alloc::{AllocError, Global};
 
 /// What a tally rests on.
-#[derive(Drop)]
 pub struct Ledger {
     pub settings: Settings,
     /// The number of slots.
@@ -25,6 +24,19 @@ pub struct Ledger {
     pub diaries: Lists<Numbered>,
     /// Of each task number the slots in which it runs, rising.
     pub quanta: Lists<u64>,
+}
+
+// A call of its own, so that who drops a ledger sees none of its parts.
+impl Drop for Ledger {
+    fn drop(self) {
+        let Ledger {
+            settings: _,
+            now: _,
+            events: _,
+            diaries: _,
+            quanta: _,
+        } = self;
+    }
 }
 
 impl Ledger {

@@ -29,7 +29,6 @@ use std::alloc::{AllocError, Global};
 
 /// A walk over the slots of a run and its events in force: how far the tasks have come, and what was found on the way.
 /// It takes memory by task, delay and late quantum.
-#[derive(Drop)]
 pub(crate) struct Walk {
     /// How far each task has come, by its number.
     pub progress: Table<Option<Progress>>,
@@ -37,6 +36,17 @@ pub(crate) struct Walk {
     pub delays: Lists<Held>,
     /// Of each task number the windows whose quantum came too late.
     pub late: Lists<Miss>,
+}
+
+// A call of its own, so that who drops a walk sees none of its parts.
+impl Drop for Walk {
+    fn drop(self) {
+        let Walk {
+            progress: _,
+            delays: _,
+            late: _,
+        } = self;
+    }
 }
 
 impl Walk {

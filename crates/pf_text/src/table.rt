@@ -14,7 +14,6 @@ use std::marker::Model;
 
 /// A table on its way to text: its whole records as csv writes them, and the fields of the next record so far. The next
 /// record may lose fields where a call fails, so a table is given up then; one whose write failed takes no more records.
-#[derive(Drop)]
 pub struct Table {
     writer: Writer<Vec<u8>>,
     /// Whether a write failed.
@@ -22,6 +21,18 @@ pub struct Table {
     fields: ByteRecord,
     /// The memory in which a field is shown before it is added.
     shown: String,
+}
+
+// A call of its own, so that who drops a table sees none of its parts.
+impl Drop for Table {
+    fn drop(self) {
+        let Table {
+            writer: _,
+            broken: _,
+            fields: _,
+            shown: _,
+        } = self;
+    }
 }
 
 impl Model for Table {
@@ -141,7 +152,13 @@ impl Table {
     pub fn finish(self) -> Result<Vec<u8>, AllocError>
         ensures { IfOk result (λ text. text.items ≡ self.text) }
     {
-        match self.writer.into_inner() {
+        let Table {
+            writer,
+            broken: _,
+            fields: _,
+            shown: _,
+        } = self;
+        match writer.into_inner() {
             Ok(text) => Ok(text),
             Err(_) => Err(AllocError),
         }
