@@ -32,6 +32,11 @@ def commit_number():
     return int(commit, 16) if commit else None
 
 
+def commit_count():
+    """How many commits there are up to this one; 0 where there is none."""
+    return int(said_by("git", "rev-list", "--count", "HEAD") or 0)
+
+
 def seed_of(words):
     """The seed that these words give, or that this commit's name draws, of nine digits at most; 1 where there is no commit."""
     if words:
