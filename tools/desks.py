@@ -17,7 +17,7 @@ RANGED = ("schedule", "chart", "svg", "windows", "load", "quanta")
 VALUES = ("report", "full", "trace")
 WORDS = ("settings, slot, name, join, leave, delay, limit, label, alter, strike, strict, step, "
          + ", ".join(SHOWN) + ", why, fit, undo, save, help, quit")
-BAD = ("stepp", "join 0 1 2", "step 0", "alter", "pfair,3", "strike x", 'join,"0,1', "delay 0 1 2 3 4", "settings 1 2")
+BAD = ("stepp", "join 0 1 2", "step 0", "alter", "plan,1", "strike x", 'join,"0,1', "delay 0 1 2 3 4", "settings 1 2")
 
 
 class Told:
@@ -42,7 +42,7 @@ class Plan:
 
     def __init__(self, told, quiet):
         self.told, self.quiet = told, quiet
-        self.script, self.events, self.made, self.given = "pfair,3\n", {}, [], 0
+        self.script, self.events, self.made, self.given = "plan,1\n", {}, [], 0
 
     def replies(self, script):
         return self.told.text(script, "run", "-f", "replies")
@@ -54,7 +54,7 @@ class Plan:
         """The answer to a record that is good: its replies, and what changed."""
         before, line = self.script, ",".join(fields) + "\n"
         self.script += line
-        reply = self.replies(self.script)[len(self.replies(before)):] if before != "pfair,3\n" else self.replies(self.script)
+        reply = self.replies(self.script)[len(self.replies(before)):] if before != "plan,1\n" else self.replies(self.script)
         if reply.startswith("event "):
             number = int(reply.split()[1])
             return number, reply + ("" if self.quiet else self.changed(before))

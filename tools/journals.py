@@ -237,7 +237,7 @@ def long_session(program):
     """What is wrong with a session of many steps: how much longer it takes than the same script, and what it writes."""
     data = LONG_FRONT.encode() + b"step\n" * LONG_STEPS
     with tempfile.TemporaryDirectory() as room:
-        alone, replies = drained([program, "run", "-f", "replies"], b"pfair,3\n" + data, room)
+        alone, replies = drained([program, "run", "-f", "replies"], b"plan,1\n" + data, room)
         kept, answers = drained([program, "desk", "-q", "--journal", "kept"], data, room)
         records = len(journal_in(Path(room) / "kept")[0])
     print(f"journals: {LONG_STEPS} steps: {kept:.2f} s of the processor, {kept / alone:.1f} times those of the script ({alone:.2f} s)", flush=True)

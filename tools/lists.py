@@ -160,7 +160,7 @@ def script_text(tasks, quantum, plan, processors):
     joins = [f"join,{it.join},{number},{it.cost},{it.period},{it.early}" for number, it in enumerate(plan.slots, 1)]
     steps = min(max(it.join for it in plan.slots) + plan.base, HORIZON)
     return "".join(f"{line}\n" for line in [
-        "pfair,3", f"settings,{processors},{plan.base},{processors * plan.base},64", f"slot,{slot_text(quantum)}",
+        "plan,1", f"settings,{processors},{plan.base},{processors * plan.base},64", f"slot,{slot_text(quantum)}",
         *(f"name,{number},{task.name}" for number, task in enumerate(tasks, 1)), *joins, f"step,{steps}"])
 
 

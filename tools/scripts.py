@@ -4,7 +4,7 @@ import re
 from dataclasses import dataclass
 
 import model
-import thirds
+import plans
 
 # The most slots that a script steps.
 MOST_SLOTS = 60
@@ -36,7 +36,7 @@ SMALL = Profile({"leave": 1, "delay": 2, "join": 1, "step": 4}, 10)
 EDITS = Profile({"join": 2, "leave": 2, "delay": 3, "alter": 4, "strike": 2, "strict": 5, "step": 5}, 24, 0.01)
 LIMITS = Profile({"join": 2, "leave": 2, "delay": 2, "limit": 4, "alter": 2, "strike": 1, "strict": 2, "step": 6}, 24,
                  0.01, version=2)
-THIRDS = Profile({"join": 2, "leave": 2, "delay": 3, "limit": 1, "alter": 4, "strike": 2, "strict": 3, "name": 2, "step": 5}, 24,
+PLANS = Profile({"join": 2, "leave": 2, "delay": 3, "limit": 1, "alter": 4, "strike": 2, "strict": 3, "name": 2, "step": 5}, 24,
                  0.01, version=3)
 EDGES_OF_LIMITS = Profile({"join": 4, "leave": 2, "delay": 2, "limit": 2, "alter": 2, "strict": 2, "step": 3}, 12, 0.1,
                           version=2)
@@ -124,8 +124,8 @@ class Drawing:
         return "".join(record + "\n" for record in self.records()).encode()
 
 
-class ThirdDrawing(Drawing):
-    """The script of a profile of version 3, while it is drawn: with names, labels, comments and blanks."""
+class PlanDrawing(Drawing):
+    """The script of a profile of a plan, while it is drawn: with names, labels, comments and blanks."""
 
     TEXTS = ("camera", "lidar", "a", "rear left", "abcdefghijklmnopqrstuvwx", "x-1_y.z+", "step", "p0", "task 1")
     FLAWS = ("label,x", "name,1", "name,1,9x", "slot,0,us", "slot,5,min", "# no record", "alter,no such,leave,0,1", "join,0,nobody,1,1")
@@ -181,10 +181,10 @@ class ThirdDrawing(Drawing):
         return told + self.draw.choice(("", "", "", "", "\n", "\n# a comment, \"", "\n   "))
 
     def records(self):
-        yield self.in_words("pfair,3")
+        yield self.in_words("plan,1")
         yield self.in_words(self.settings())
         if self.draw.random() < 0.5:
-            yield self.in_words(f"slot,{self.number(1, 900)},{self.draw.choice(thirds.UNITS)}")
+            yield self.in_words(f"slot,{self.number(1, 900)},{self.draw.choice(plans.UNITS)}")
         for _ in range(self.draw.randint(0, self.tasks)):
             yield self.in_words(self.name())
         for task in self.draw.sample(range(1, self.tasks + 1), self.tasks):
@@ -232,16 +232,16 @@ def of_profile(profile):
     return lambda draw, known: Drawing(draw, profile).script()
 
 
-def of_version_3(draw, known):
-    """A script of version 3, now and then with some bytes taken out or put in."""
-    script = ThirdDrawing(draw, THIRDS).script()
+def of_a_plan(draw, known):
+    """A plan, now and then with some bytes taken out or put in."""
+    script = PlanDrawing(draw, PLANS).script()
     if draw.random() < 0.8:
         return script
-    place = draw.randint(len(b"pfair,3\n"), len(script))
+    place = draw.randint(len(b"plan,1\n"), len(script))
     return script[:place] + draw.choice(HOSTILE) + script[place + draw.choice((0, 0, 1, 2)):]
 
 
-TURNS = (*map(of_profile, (SMALL, EDITS, LIMITS, EDGES_OF_LIMITS)), of_version_3, with_hostile_bytes, in_other_words)
+TURNS = (*map(of_profile, (SMALL, EDITS, LIMITS, EDGES_OF_LIMITS)), of_a_plan, with_hostile_bytes, in_other_words)
 
 
 def drawn(seed, nth, known):
@@ -255,7 +255,7 @@ def drawn(seed, nth, known):
 
 def is_short(script):
     """Whether the model answers soon: the numbers of steps are small."""
-    read = thirds.rows(script) if thirds.is_third(script) else model.records(script)
+    read = plans.rows(script) if plans.is_plan(script) else model.records(script)
     steps = [fields[1] for fields in read if fields[0] == "step" and len(fields) > 1]
     return sum(int(each) for each in steps if each.isdecimal() and int(each) <= model.HORIZONS[2]) <= 2 * MOST_SLOTS
 

@@ -376,12 +376,12 @@ static int script(void) {
     return 0;
 }
 
-/* One of version 3 too, whose names and slot its texts tell. */
+/* A plan too, whose names and slot its texts tell. */
 static int titled_script(void) {
-    static const char rig[] = "# camera rig\npfair, 3\nsettings, 2, 6\nslot, 500, us\nname, 1, camera\n"
+    static const char rig[] = "# camera rig\nplan, 1\nsettings, 2, 6\nslot, 500, us\nname, 1, camera\n"
                               "label, in, join, 0, camera, 2, 3\nstep, 6\nlabel, out, leave, 6, camera\nstep, 3\n";
-    static const char again[] = "pfair,3\nsettings,2,6,12,64\nslot,500,us\nname,1,camera\njoin,0,1,2,3,0\nleave,6,1\nstep,9\n";
-    static const char unknown[] = "pfair,3\nsettings,1,2\nstrike,x\nlabel,x,join,0,1,1,2\n";
+    static const char again[] = "plan,1\nsettings,2,6,12,64\nslot,500,us\nname,1,camera\njoin,0,1,2,3,0\nleave,6,1\nstep,9\n";
+    static const char unknown[] = "plan,1\nsettings,1,2\nstrike,x\nlabel,x,join,0,1,1,2\n";
     static const char told[] = "line 3, record 3, field 2: \"x\" labels no event so far\n";
     pfair_change strike = {PFAIR_STRIKE, 2, {0, 0, 0, 0, 0, 0, 0, 0}};
     pfair_reply reply = {0, 0};
@@ -400,7 +400,7 @@ static int titled_script(void) {
     CHECK(pfair_open_script(&desk, 1, (const uint8_t *)unknown, sizeof unknown - 1, &bad) == PFAIR_BAD_RECORD);
     CHECK(bad.number == 3 && bad.line == 3 && bad.field == 2 && desk.inner != NULL);
     pfair_close(&desk);
-    CHECK(pfair_open_script(&desk, 1, (const uint8_t *)"pfair,3\n# y\n", 12, &bad) == PFAIR_BAD_RECORD);
+    CHECK(pfair_open_script(&desk, 1, (const uint8_t *)"plan,1\n# y\n", 12, &bad) == PFAIR_BAD_RECORD);
     CHECK(bad.number == 2 && desk.inner == NULL);
     memset(text, 0, sizeof text);
     CHECK(pfair_script_faults((const uint8_t *)unknown, sizeof unknown - 1, text, sizeof text, &count) == PFAIR_OK);

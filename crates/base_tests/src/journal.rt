@@ -9,38 +9,38 @@ use std::process::Abort;
 /// The bytes of files, and what opening makes of them: how many bytes are cut, or none where the file is no journal of this
 /// version; and its bytes then.
 const OPENED: [(&[u8], Option<usize>, &[u8]); 12] = [
-    (b"", Some(0), b" pfair,3\n#"),
-    (b"#", Some(0), b" pfair,3\n#"),
-    (b" pfa", Some(0), b" pfair,3\n#"),
-    (b" pfair,3\n#", Some(0), b" pfair,3\n#"),
+    (b"", Some(0), b" plan,1\n#"),
+    (b"#", Some(0), b" plan,1\n#"),
+    (b" pfa", Some(0), b" plan,1\n#"),
+    (b" plan,1\n#", Some(0), b" plan,1\n#"),
     (
-        b" pfair,3\n settings,2,6\n#",
+        b" plan,1\n settings,2,6\n#",
         Some(0),
-        b" pfair,3\n settings,2,6\n#",
+        b" plan,1\n settings,2,6\n#",
     ),
     (
-        b" pfair,3\n settings,2,6\n#join,0,1,2,3\n#",
+        b" plan,1\n settings,2,6\n#join,0,1,2,3\n#",
         Some(14),
-        b" pfair,3\n settings,2,6\n#",
+        b" plan,1\n settings,2,6\n#",
     ),
     (
-        b" pfair,3\n settings,2,6\n%join,0,1,2,3\n#",
+        b" plan,1\n settings,2,6\n%join,0,1,2,3\n#",
         Some(14),
-        b" pfair,3\n settings,2,6\n#",
+        b" plan,1\n settings,2,6\n#",
     ),
     (
-        b" pfair,3\n settings,2,6\n join,0",
+        b" plan,1\n settings,2,6\n join,0",
         Some(6),
-        b" pfair,3\n settings,2,6\n#",
+        b" plan,1\n settings,2,6\n#",
     ),
-    (b"pfair,3\nsettings,2,6\n", None, b"pfair,3\nsettings,2,6\n"),
+    (b"plan,1\nsettings,2,6\n", None, b"plan,1\nsettings,2,6\n"),
     (
         b" pfair,2\n settings,2,6\n#",
         None,
         b" pfair,2\n settings,2,6\n#",
     ),
     (b" settings,2,6\n#", None, b" settings,2,6\n#"),
-    (b"# my plan\n pfair,3\n", None, b"# my plan\n pfair,3\n"),
+    (b"# my plan\n plan,1\n", None, b"# my plan\n plan,1\n"),
 ];
 
 /// A file in memory with these bytes.

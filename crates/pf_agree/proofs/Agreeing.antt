@@ -19,25 +19,25 @@ use Rattle.pf_rows.specs.Rows.{Row, rows}
 use Rattle.pf_task_list.specs.declared.listed.Listed.{Listed}
 use Rattle.pf_text.specs.Page.{table_text}
 use Rattle.pf_script.specs.Fields.{is_word}
-use Rattle.pf_version3.specs.Heading.{is_third_heading}
+use Rattle.pf_plan.specs.Heading.{is_plan_heading}
 use Rattle.pf_retold.specs.Retold.{ScriptsAreRetold}
 use Rattle.pf_agree.proofs.Counted.{fits_are_done}
 use Rattle.pf_agree.specs.Agree.{ConvertAndFitAgree, IsFitAlike}
 use Rattle.pf_agree.proofs.Asked.{asks_plan}
 
-heading_is_third : is_third_heading heading_record ≡ true
-unfolding is_third_heading is_word
-heading_is_third = refl
+heading_is_plan : is_plan_heading heading_record ≡ true
+unfolding is_plan_heading is_word
+heading_is_plan = refl
 
--- a text whose first row is the heading is a script of version 3
+-- a text whose first row is the heading is a plan
 plain_under : (end : ℕ) (rs : List Row) (behind : List (List (List ℕ))) → map (λ row. row.fields) rs ≡ heading_record ∷ behind → (p : Plain) × (plain_of end rs ≡ Some p)
 plain_under end [] behind is = cc
 plain_under end (r ∷ rs) behind is =
     let both : r.fields ∷ map (λ row. row.fields) rs ≡ heading_record ∷ behind = is in
     let same : r.fields ≡ heading_record = cc in
-    let third : is_third_heading r.fields ≡ true = ap is_third_heading same ∙ heading_is_third in
+    let begins : is_plan_heading r.fields ≡ true = ap is_plan_heading same ∙ heading_is_plan in
     let p : Plain = with_heading r.line (plain_from start 2 end rs) in
-    (p, ap (λ b. if b then Some p else None) third)
+    (p, ap (λ b. if b then Some p else None) begins)
 
 -- one of two statuses, the same just where both are done
 one_of : (v : Verdict) (load room : ℕ) → (status_of_verdict v ≡ Done) ↔ (load ≤ room) → status_of_verdict v ≡ fit_status load room
@@ -64,13 +64,13 @@ convert_and_fit_agree law unit q processors list a is some made =
         let m = w.processors in
         let plan = w.plan in
         let text = script_text m quantum tasks plan in
-        let third = plain_under (rows text).end (rows text).rows (script_records m quantum tasks plan) (rows_of_script m quantum tasks plan w.written) in
+        let read = plain_under (rows text).end (rows text).rows (script_records m quantum tasks plan) (rows_of_script m quantum tasks plan w.written) in
         record {
-          script = third.0;
-          is = subst (λ (t : List ℕ). plain t ≡ Some third.0) (sym w.text) third.1;
+          script = read.0;
+          is = subst (λ (t : List ℕ). plain t ≡ Some read.0) (sym w.text) read.1;
           alike = λ format file titles answer fit.
-              let done = fits_are_done m quantum tasks plan format file (Some third.0.origins) titles (table_text third.0.records) answer w.written w.measured
-              (asks_plan law m quantum tasks plan third.0 w.written third.1) fit in
+              let done = fits_are_done m quantum tasks plan format file (Some read.0.origins) titles (table_text read.0.records) answer w.written w.measured
+              (asks_plan law m quantum tasks plan read.0 w.written read.1) fit in
               fit.ends.ends
               ∙ one_of (verdict_of (grounds_of fit.seen fit.came.refusals.commands)) plan.load (m * plan.base) (λ e. done.0 (fit.ends.ends ∙ e), λ within. sym fit.ends.ends ∙ done.1 within)
               ∙ sym w.status;

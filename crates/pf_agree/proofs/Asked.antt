@@ -12,10 +12,10 @@ use Rattle.pf_script.specs.declared.line.Line.TheVariants.{Steps}
 use Rattle.pf_script.specs.declared.version.Version.TheVariants.{Second}
 use Rattle.pf_task_list.specs.declared.listed.Listed.{Listed}
 use Rattle.pf_text.specs.Page.{table_text}
-use Rattle.pf_version3.specs.declared.said.Said.{Said}
-use Rattle.pf_version3.specs.declared.said.Said.TheVariants.{Settings, Slot, Name, Asks}
-use Rattle.pf_version3.specs.declared.state.Progress.{Progress}
-use Rattle.pf_version3.specs.Progress.{progress_after}
+use Rattle.pf_plan.specs.declared.said.Said.{Said}
+use Rattle.pf_plan.specs.declared.said.Said.TheVariants.{Settings, Slot, Name, Asks}
+use Rattle.pf_plan.specs.declared.state.Progress.{Progress}
+use Rattle.pf_plan.specs.Progress.{progress_after}
 use Rattle.pf_plain.specs.Plain.{Course, Plain, course_behind, plain, start}
 use Rattle.pf_conversion.specs.Script.{script_text, slot_of, steps_of}
 use Rattle.pf_converted.specs.Records.{each_numbered, heading_record, script_records}

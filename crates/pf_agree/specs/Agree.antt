@@ -12,7 +12,7 @@ use Rattle.pf_names.specs.declared.unit.Unit.{Unit}
 use Rattle.pf_plain.specs.Plain.{Plain, plain}
 use Rattle.pf_text.specs.Page.{table_text}
 
--- the text is a script of version 3, and `fit` of the script of version 2 that belongs to it ends as `a` does
+-- the text is a plan, and `fit` of the script of version 2 that belongs to it ends as `a` does
 pub record IsFitAlike (a : Answer) : Type 0 where
   pub script : Plain
   pub is : plain a.text.items ≡ Some script

@@ -1,5 +1,5 @@
 pub mod Told
 pub mod Finding
 pub mod Plainly
-pub mod Thirdly
+pub mod Plans
 pub mod Unnumbered

@@ -1,16 +1,16 @@
--- The numbers of labels don't change whether a record of version 3 is read: where a check finds no fault, no record stops the run.
+-- The numbers of labels don't change whether a record of a plan is read: where a check finds no fault, no record stops the run.
 use Rattle.std.proofs.Common.{◌≡◌, ◌∙◌, ◌+◌, ◌++◌, ℕ, Bool, true, false, List, [], ◌∷◌, map, Option, None, Some, Result, Ok, Err, inl, refl, sym, ap, subst}
 use Rattle.std.specs.Prelude.{⊤, IfErr, codes, if◌then◌else◌, is_some, not, ok_or}
 use Rattle.std.specs.Str.{bytes_eq}
 use Rattle.std.proofs.lemmas.List.{map-append}
 use Rattle.pf_carry.specs.Carried.{Stops}
-use Rattle.pf_check3.specs.Checked.{fault_shown, faults, faults_at_end, faults_from, faults_next, faults_of}
-use Rattle.pf_check3.specs.Reports.{FaultShown}
+use Rattle.pf_plan_check.specs.Checked.{fault_shown, faults, faults_at_end, faults_from, faults_next, faults_of}
+use Rattle.pf_plan_check.specs.Reports.{FaultShown}
 use Rattle.pf_fault.specs.declared.fault.Fault.{Fault}
 use Rattle.pf_fault.specs.declared.fault.Fault.TheVariants as why
 use Rattle.pf_check_run.specs.declared.found.Found.{Found}
-use Rattle.pf_check_run.specs.Answers.{Belongs, IsThirdStopped}
-use Rattle.pf_check_run.specs.Faults.{third_shown}
+use Rattle.pf_check_run.specs.Answers.{Belongs, IsPlanStopped}
+use Rattle.pf_check_run.specs.Faults.{plan_shown}
 use Rattle.pf_check_run.specs.Found.{Finds, is_clean, is_empty}
 use Rattle.pf_plain.specs.declared.origin.Origin.{Origin}
 use Rattle.pf_plain.specs.declared.plain.PlainScript.{PlainScript}
@@ -25,17 +25,17 @@ use Rattle.pf_script.specs.declared.line.Line.TheVariants.{Edit}
 use Rattle.pf_scenario.specs.declared.change.Change.TheVariants.{Alter, Insert, Strike}
 use Rattle.pf_names.specs.Text.{is_letter_first, is_text}
 use Rattle.pf_text.specs.Page.{table_text}
-use Rattle.pf_version3.specs.declared.fault.Reason.{Reason}
-use Rattle.pf_version3.specs.declared.fault.Reason.TheVariants.{Fields, LabelTaken, LabelUnknown, NoChange, NoEvent, NoLabel, NoNumber, NoRecord, NoSettings}
-use Rattle.pf_version3.specs.declared.fault.RecordFault.{RecordFault}
-use Rattle.pf_version3.specs.declared.labels.Labelled.{Labelled}
-use Rattle.pf_version3.specs.declared.said.Said.{Said}
-use Rattle.pf_version3.specs.declared.said.Said.TheVariants.{Settings, Slot, Name, Asks}
-use Rattle.pf_version3.specs.declared.state.Progress.{Progress}
-use Rattle.pf_version3.specs.Heading.{is_third_heading}
-use Rattle.pf_version3.specs.Labels.{number_of_label}
-use Rattle.pf_version3.specs.Parsing.{◌>>=◌, alter_at, asked, edit_at, event_at, fault_at, id_at, label_at, labelled_at, name_at, number_or, of_length, opening_at, record_at, said_at, slot_at, steps_at, strike_at}
-use Rattle.pf_version3.specs.Progress.{at_heading, progress_after, with_label}
+use Rattle.pf_plan.specs.declared.fault.Reason.{Reason}
+use Rattle.pf_plan.specs.declared.fault.Reason.TheVariants.{Fields, LabelTaken, LabelUnknown, NoChange, NoEvent, NoLabel, NoNumber, NoRecord, NoSettings}
+use Rattle.pf_plan.specs.declared.fault.RecordFault.{RecordFault}
+use Rattle.pf_plan.specs.declared.labels.Labelled.{Labelled}
+use Rattle.pf_plan.specs.declared.said.Said.{Said}
+use Rattle.pf_plan.specs.declared.said.Said.TheVariants.{Settings, Slot, Name, Asks}
+use Rattle.pf_plan.specs.declared.state.Progress.{Progress}
+use Rattle.pf_plan.specs.Heading.{is_plan_heading}
+use Rattle.pf_plan.specs.Labels.{number_of_label}
+use Rattle.pf_plan.specs.Parsing.{◌>>=◌, alter_at, asked, edit_at, event_at, fault_at, id_at, label_at, labelled_at, name_at, number_or, of_length, opening_at, record_at, said_at, slot_at, steps_at, strike_at}
+use Rattle.pf_plan.specs.Progress.{at_heading, progress_after, with_label}
 
 -- the same but for the numbers of labels
 pub record AreAlike (p q : Progress) : Type 0 where
@@ -231,7 +231,7 @@ good_from (row ∷ rows) p c number n end alike h =
 
 good_of : (rs : List Row) (end : ℕ) (p : Plain) → plain_of end rs ≡ Some p → faults_of end rs ≡ [] → p.bad ≡ None
 good_of [] end p e h = let bad : None ≡ Some p = e in cc
-good_of (row ∷ rows) end p e h = by (is_third_heading row.fields) e
+good_of (row ∷ rows) end p e h = by (is_plan_heading row.fields) e
   where
     good : (plain_from start 2 end rows).bad ≡ None
     good = good_from rows at_heading start 2 2 end (record { labels = []; same = refl; names = refl }) h
@@ -263,15 +263,15 @@ only_memory bytes p fault e h stops =
     of_memory (told (table_text p.records)).rest.fault fault
     (no_fault p.origins (told (table_text p.records)).rest.fault (subst (λ (b : Option _). IsSameFault 1 p.origins b (told (table_text p.records)).rest.fault) good same)) stops
 
-none_of : (file : List ℕ) (shown : List FaultShown) → is_empty (map (third_shown file) shown) ≡ true → shown ≡ []
+none_of : (file : List ℕ) (shown : List FaultShown) → is_empty (map (plan_shown file) shown) ≡ true → shown ≡ []
 none_of file [] h = refl
 none_of file (f ∷ fs) h = let bad : false ≡ true = h in cc
 
--- Use: what stops the script of version 2, where a check of the one of version 3 found no fault.
-pub third_stopped : {A : Type 0} (answer : Result A Fault) (file script : List ℕ) (records : ℕ) (found : Found) (s : PlainScript) (p : Plain)
-    → Finds file records (map (third_shown file) (faults (rows script))) found → is_clean found ≡ true → Belongs script s p
-    → IfErr answer (Stops (told s.text.items).rest.fault) → IfErr answer (IsThirdStopped p)
-third_stopped (Ok a) file script records found s p finds clean b h = tt
-third_stopped (Err fault) file script records found s p finds clean b h =
+-- Use: what stops the script of version 2, where a check of the plan found no fault.
+pub plan_stopped : {A : Type 0} (answer : Result A Fault) (file script : List ℕ) (records : ℕ) (found : Found) (s : PlainScript) (p : Plain)
+    → Finds file records (map (plan_shown file) (faults (rows script))) found → is_clean found ≡ true → Belongs script s p
+    → IfErr answer (Stops (told s.text.items).rest.fault) → IfErr answer (IsPlanStopped p)
+plan_stopped (Ok a) file script records found s p finds clean b h = tt
+plan_stopped (Err fault) file script records found s p finds clean b h =
     inl (only_memory script p fault b.is (none_of file (faults (rows script)) (sym finds.clean ∙ clean))
     (subst (λ (text : List ℕ). Stops (told text).rest.fault fault) b.written.text h))

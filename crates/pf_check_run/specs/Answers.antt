@@ -1,7 +1,7 @@
 -- What is answered to a script that is checked and carried out.
 use Rattle.std.specs.Prelude.{ℕ, ◌≡◌, ◌<◌, ◌⊎◌, false, ◌^◌, ◌-◌, Option, None, Some, List, [], ◌∷◌, ◌++◌, codes, length, map}
 use Rattle.std.specs.Fmt.{decimal}
-use Rattle.pf_check3.specs.Checked.{faults as third_faults}
+use Rattle.pf_plan_check.specs.Checked.{faults as plan_faults}
 use Rattle.pf_desk.specs.Desk.{Seen}
 use Rattle.pf_fault.specs.Answers.{IsQuiet}
 use Rattle.pf_fault.specs.declared.answer.Answer.{Answer}
@@ -23,7 +23,7 @@ use Rattle.pf_script.specs.Script.{script_records}
 use Rattle.pf_script.specs.Told.{faults, told}
 use Rattle.pf_tally.specs.Misses.{misses_of}
 use Rattle.pf_text.specs.Page.{table_text}
-use Rattle.pf_check_run.specs.Faults.{FaultLine, faults_text, shown, third_shown}
+use Rattle.pf_check_run.specs.Faults.{FaultLine, faults_text, shown, plan_shown}
 
 -- lines are told of as many refusals, denials and tasks with missed windows as can be counted
 abbrev pub most_lines : ℕ
@@ -52,7 +52,7 @@ status_of_lines [] = Done
 status_of_lines (byte ∷ bytes) = BadScript
 
 -- a script of version 1 or 2 of this file, with so many records, was carried out: what was refused, denied and missed is told, of
--- what was seen at its end, and of what its records came to. Where it belongs to a script of version 3, `origins` are the records
+-- what was seen at its end, and of what its records came to. Where it belongs to a plan, `origins` are the records
 -- there that its own come from
 pub record Carries (file : List ℕ) (origins : Option (List Origin)) (names : List Named) (script : List ℕ) (records : ℕ) (answer : Answer) : Type 0 where
   pub seen : Seen
@@ -78,17 +78,17 @@ ChecksRun file script answer =
     IsAnswer file (length (script_records script)) (map (shown file) (faults script))
     (Carries file None [] script (length (script_records script))) answer
 
--- to one of version 3, to which the script `p` of version 2 belongs
-abbrev pub ChecksThirdRun : Plain → List ℕ → List ℕ → Answer → Type 0
-ChecksThirdRun p file script answer =
-    IsAnswer file (length (rows script).rows) (map (third_shown file) (third_faults (rows script)))
+-- to a plan, to which the script `p` of version 2 belongs
+abbrev pub ChecksPlanRun : Plain → List ℕ → List ℕ → Answer → Type 0
+ChecksPlanRun p file script answer =
+    IsAnswer file (length (rows script).rows) (map (plan_shown file) (plan_faults (rows script)))
     (Carries file (Some p.origins) p.titles.names (table_text p.records) (length (rows script).rows)) answer
 
--- this script of version 2 belongs to a script of version 3
+-- this script of version 2 belongs to a plan
 pub record Belongs (script : List ℕ) (s : PlainScript) (p : Plain) : Type 0 where
   pub is : plain script ≡ Some p
   pub written : IsPlain s p
 
 -- why there is no answer: memory was refused, or the script of version 2 is too long to be carried out
-abbrev pub IsThirdStopped : Plain → Fault → Type 0
-IsThirdStopped p fault = (fault ≡ why.NoMemory) ⊎ ((fault ≡ why.TooLong) × (longest_script < length (table_text p.records)))
+abbrev pub IsPlanStopped : Plain → Fault → Type 0
+IsPlanStopped p fault = (fault ≡ why.NoMemory) ⊎ ((fault ≡ why.TooLong) × (longest_script < length (table_text p.records)))

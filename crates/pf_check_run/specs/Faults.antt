@@ -2,15 +2,15 @@
 use Rattle.std.specs.Prelude.{ℕ, ◌+◌, ◌==◌, min, nat_le, not, Bool, true, false, if◌then◌else◌, List, [], ◌∷◌, ◌++◌, codes, count_by, filter}
 use Rattle.std.specs.List.{flat_map}
 use Rattle.std.specs.Fmt.{decimal}
-use Rattle.pf_check3.specs.Reports.{FaultShown}
-use Rattle.pf_fault_notes.specs.BadRecords.{fault_line, third_fault_line}
+use Rattle.pf_plan_check.specs.Reports.{FaultShown}
+use Rattle.pf_fault_notes.specs.BadRecords.{fault_line, plan_fault_line}
 use Rattle.pf_run_notes.specs.File.{place_text}
 use Rattle.pf_run_notes.specs.declared.place.Place.{Place}
 use Rattle.pf_script.specs.declared.fault.Reason.{Reason}
 use Rattle.pf_script.specs.declared.fault.Reason.TheVariants.{NoSettings}
 use Rattle.pf_script.specs.Told.{FaultTold}
-use Rattle.pf_version3.specs.declared.fault.Reason.{Reason as ThirdReason}
-use Rattle.pf_version3.specs.declared.fault.Reason.TheVariants as third
+use Rattle.pf_plan.specs.declared.fault.Reason.{Reason as PlanReason}
+use Rattle.pf_plan.specs.declared.fault.Reason.TheVariants as why
 
 -- a fault: where it lies, whether settings are lacking there, and its line
 pub record FaultLine : Type 0 where
@@ -22,11 +22,11 @@ abbrev pub lacks_settings : Reason → Bool
 lacks_settings NoSettings = true
 lacks_settings reason = false
 
-abbrev pub third_lacks_settings : ThirdReason → Bool
-third_lacks_settings third.NoSettings = true
-third_lacks_settings reason = false
+abbrev pub plan_lacks_settings : PlanReason → Bool
+plan_lacks_settings why.NoSettings = true
+plan_lacks_settings reason = false
 
--- a fault that a check of this file finds, in version 1 or 2, and in version 3
+-- a fault that a check of this file finds, in version 1 or 2, and in a plan
 abbrev pub shown : List ℕ → FaultTold → FaultLine
 shown file f = record {
   place = record { «record» = f.bad.number; line = f.bad.line };
@@ -34,11 +34,11 @@ shown file f = record {
   text = fault_line file f;
 }
 
-abbrev pub third_shown : List ℕ → FaultShown → FaultLine
-third_shown file f = record {
+abbrev pub plan_shown : List ℕ → FaultShown → FaultLine
+plan_shown file f = record {
   place = record { «record» = f.bad.number; line = f.bad.line };
-  lacks = third_lacks_settings f.bad.fault.reason;
-  text = third_fault_line file f;
+  lacks = plan_lacks_settings f.bad.fault.reason;
+  text = plan_fault_line file f;
 }
 
 -- how many of them lack settings

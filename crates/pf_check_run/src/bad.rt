@@ -1,8 +1,8 @@
 ghost use Rattle.std.specs.Prelude.{◌≡◌};
-ghost use Rattle.pf_check_run.specs.Faults.{lacks_settings, third_lacks_settings};
+ghost use Rattle.pf_check_run.specs.Faults.{lacks_settings, plan_lacks_settings};
 
+use pf_plan::fault::Reason as PlanReason;
 use pf_script::fault::Reason;
-use pf_version3::fault::Reason as ThirdReason;
 
 /// Whether a record is bad since the settings have not come yet.
 pub(crate) fn is_lacking(reason: Reason) -> bool
@@ -14,12 +14,12 @@ pub(crate) fn is_lacking(reason: Reason) -> bool
     }
 }
 
-/// The same in version 3.
-pub(crate) fn is_third_lacking(reason: ThirdReason) -> bool
-    ensures { result ≡ third_lacks_settings reason }
+/// The same in a plan.
+pub(crate) fn is_plan_lacking(reason: PlanReason) -> bool
+    ensures { result ≡ plan_lacks_settings reason }
 {
     match reason {
-        ThirdReason::NoSettings => true,
+        PlanReason::NoSettings => true,
         _ => false,
     }
 }

@@ -22,7 +22,7 @@ use pf_text::numbers::push_number;
 use std::alloc::{AllocError, Global};
 
 /// Carries a script of version 1 or 2 of this file out, which has so many records, and tells what was refused, denied and missed.
-/// Where it belongs to a script of version 3, `origins` are the records there that its own come from, and the names those of its
+/// Where it belongs to a plan, `origins` are the records there that its own come from, and the names those of its
 /// tasks.
 ///
 /// # Errors

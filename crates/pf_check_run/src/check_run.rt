@@ -3,10 +3,10 @@ ghost use Rattle.pf_fault.specs.declared.fault.Fault.TheVariants as why;
 ghost use Rattle.pf_fault.specs.Faults.{IsUnwritten};
 ghost use Rattle.pf_plain.specs.Plain.{IsPlain, Plain};
 ghost use Rattle.pf_stream.specs.Reading.{longest_script};
-ghost use Rattle.pf_check_run.specs.Answers.{Belongs, ChecksRun, ChecksThirdRun, IsThirdStopped};
+ghost use Rattle.pf_check_run.specs.Answers.{Belongs, ChecksRun, ChecksPlanRun, IsPlanStopped};
 
 use crate::carried::carried;
-use crate::faults::{plain_faults, third_faults};
+use crate::faults::{plain_faults, plan_faults};
 use pf_fault::answer::Answer;
 use pf_fault::fault::Fault;
 use pf_names::names::Names;
@@ -35,24 +35,24 @@ pub fn check_run(alloc: Global, file: &[u8], script: &[u8]) -> Result<Answer, Fa
     Ok(found.into_answer(alloc)?)
 }
 
-/// The same of one of version 3, to which this script of version 2 belongs.
+/// The same of a plan, to which this script of version 2 belongs.
 ///
 /// # Errors
 ///
 /// `NoMemory` where memory is refused; `TooLong` where the script has no fault, and that of version 2 is too long to be carried out.
-pub fn third_check_run(
+pub fn plan_check_run(
     alloc: Global,
     file: &[u8],
     script: &[u8],
     plain: &PlainScript,
 ) -> Result<Answer, Fault>
     requires { length script.now ≤ longest_script }
-    ensures made { (p : Plain) → IsPlain plain.now p → IfOk result (ChecksThirdRun p file.now script.now) }
-    ensures stopped { (p : Plain) → Belongs script.now plain.now p → IfErr result (IsThirdStopped p) }
+    ensures made { (p : Plain) → IsPlain plain.now p → IfOk result (ChecksPlanRun p file.now script.now) }
+    ensures stopped { (p : Plain) → Belongs script.now plain.now p → IfErr result (IsPlanStopped p) }
     ensures quiet { IfOk result (λ answer. answer.ending.notes.items ≡ []) }
     ensures unwritten { IfErr result IsUnwritten }
 {
-    let found = third_faults(alloc, file, script)?;
+    let found = plan_faults(alloc, file, script)?;
     if !found.is_clean() {
         return Ok(found.into_answer(alloc)?);
     }

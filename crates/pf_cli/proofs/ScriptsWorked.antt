@@ -32,7 +32,7 @@ bad : BadScripts
 unfolding digits escaped fields_text is_blank next_record records_from strip_bom release_of deadline_of bit_of group_of priority_cmp row_of run_cmp events_of done in_force inside load_of count_of shift_of member_of ready course_of rows_in denials_in number_of is_word number_at number_within join_at leave_at event_at strike_at alter_at change_at edit_at steps_at line_at settings_at names_line opening_at heading_at record_at lines_from readings_from reply_line report_text script_meaning
 bad = record {
   third = refl;
-  third_unshown = refl;
+  plan_unshown = refl;
   second = refl;
   settings = refl;
   empty = refl;

@@ -55,7 +55,7 @@ pub record Ranges : Type 0 where
 pub record BadScripts : Type 0 where
   -- the last record has no line end
   pub third : Means Tables (codes "settings,1,2,2,1\nstep\njoin,0,1") (codes "ready\nslot 0: -\n") (BadRecord 3)
-  pub third_unshown : Means (Schedule whole) (codes "settings,1,2,2,1\nstep\njoin,0,1") [] (BadRecord 3)
+  pub plan_unshown : Means (Schedule whole) (codes "settings,1,2,2,1\nstep\njoin,0,1") [] (BadRecord 3)
   pub second : Means Tables (codes "settings,1,2,2,1\nleave,0,1,9\n") (codes "ready\n") (BadRecord 2)
   pub settings : Means Tables (codes "settings,65,1,1,1\n") [] (BadRecord 1)
   pub empty : Means Tables [] [] (BadRecord 1)

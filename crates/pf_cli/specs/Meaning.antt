@@ -53,7 +53,7 @@ abbrev pub told_meaning : Format → Titles → List Refusal → Told → Meanin
 told_meaning format titles refusals t =
     text_and_then (text_if_replies format (replies_told t)) (ended_meaning format titles refusals (outcome_told t))
 
--- what a script's bytes mean, where its titles are these; origins where it belongs to a script of version 3
+-- what a script's bytes mean, where its titles are these; origins where it belongs to a plan
 unfoldable pub script_meaning : Format → Titles → Option (List Origin) → List ℕ → Meaning
 script_meaning format titles origins bytes =
     if nat_lt longest_script (length bytes) then record { text = []; end = TooLong }

@@ -12,7 +12,7 @@ use Rattle.pf_recount.specs.declared.refused_record.RefusedRecord.{RefusedRecord
 abbrev pub refusal_of : RefusedRecord → Refusal
 refusal_of r = record { «record» = r.place.record; fault = r.fault }
 
--- the refused records of a script of these bytes, up to its first bad record; origins where it belongs to a script of version 3
+-- the refused records of a script of these bytes, up to its first bad record; origins where it belongs to a plan
 abbrev pub refused_in : Option (List Origin) → List ℕ → List Refusal
 refused_in origins script = option_map_or (λ r. map refusal_of r.refused) (recounted [] [] origins 0 true script) []
 

@@ -16,7 +16,7 @@ use pf_recount::refused_record::RefusedRecord;
 use std::alloc::{AllocError, Global};
 
 /// The records of a script of which a command was refused, where the format tells of them; else none are sought. The desk carried
-/// the script out. Where it belongs to a script of version 3, `origins` are the records there that its own come from.
+/// the script out. Where it belongs to a plan, `origins` are the records there that its own come from.
 ///
 /// # Errors
 ///

@@ -40,7 +40,7 @@ use std::alloc::Global;
 
 /// Carries out a script of these bytes, and writes its replies and its report in the format: what it writes, and how it
 /// ends, is what the script's bytes mean. Hands over the desk that carried it out. The titles are those that the report tells
-/// of: of a script of version 1 or 2 none. Where the script belongs to one of version 3, `origins` are the records there that
+/// of: of a script of version 1 or 2 none. Where the script belongs to a plan, `origins` are the records there that
 /// its own come from, and records are told by them. Plain edits that follow one another, from the first of them that touches a
 /// slot that was stepped, are replayed together, 1,024 at most. The status is `FailedOn` where the run fails on what is listed:
 /// a command that was refused, an event that is denied in the run of the scenario as it stands at the end, a window that is

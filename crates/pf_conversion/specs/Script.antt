@@ -42,7 +42,7 @@ join_line number task =
 
 abbrev pub head_lines : ℕ → ℕ → ℕ × Unit → List ℕ
 head_lines processors base slot =
-    joined (codes "pfair,3\nsettings," ∷ decimal processors ∷ codes "," ∷ decimal base ∷ codes "," ∷ decimal (processors * base) ∷ codes ",64\nslot,"
+    joined (codes "plan,1\nsettings," ∷ decimal processors ∷ codes "," ∷ decimal base ∷ codes "," ∷ decimal (processors * base) ∷ codes ",64\nslot,"
     ∷ decimal slot.0 ∷ codes "," ∷ unit_word slot.1 ∷ codes "\n" ∷ [])
 
 abbrev pub step_line : ℕ → List ℕ

@@ -80,7 +80,7 @@ fn push_head(text: &mut Vec<u8>, processors: u64, base: u64, quantum: u64) -> Re
     push_parts(
         text,
         &[
-            Part::Words("pfair,3\nsettings,"),
+            Part::Words("plan,1\nsettings,"),
             Part::Number(processors),
             Part::Words(","),
             Part::Number(base),

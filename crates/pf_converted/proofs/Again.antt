@@ -10,10 +10,10 @@ use Rattle.csv.proofs.RoundTrip.{read-write}
 use Rattle.pf_rows.specs.Places.{lines_behind, record_lines, row_config}
 use Rattle.pf_rows.specs.Rows.{Row, is_blank, rows, rows_of, text_records}
 use Rattle.pf_text.specs.Page.{table_text}
-use Rattle.pf_check3.specs.Checked.{faults_from, faults_of}
-use Rattle.pf_version3.specs.declared.said.Said.{Said}
-use Rattle.pf_version3.specs.declared.state.Progress.{Progress}
-use Rattle.pf_version3.specs.Progress.{at_heading, progress_after}
+use Rattle.pf_plan_check.specs.Checked.{faults_from, faults_of}
+use Rattle.pf_plan.specs.declared.said.Said.{Said}
+use Rattle.pf_plan.specs.declared.state.Progress.{Progress}
+use Rattle.pf_plan.specs.Progress.{at_heading, progress_after}
 use Rattle.pf_converted.specs.Read.{AllSay}
 use Rattle.pf_converted.proofs.Alike.{record_alike}
 

@@ -2,7 +2,7 @@
 use Rattle.std.proofs.Common.{◌≡◌, ◌&&◌, ℕ, Bool, true, false, nat_le, Option, None, Some, Result, Ok, Err, List, [], length, inl, inr, arith, refl, sym, ap, subst}
 use Rattle.std.specs.Prelude.{if◌then◌else◌, slice_index}
 use Rattle.std.proofs.lemmas.Bool.Decides.{nat_tests}
-use Rattle.pf_check3.specs.Checked.{faults}
+use Rattle.pf_plan_check.specs.Checked.{faults}
 use Rattle.pf_rows.specs.Rows.{rows}
 use Rattle.pf_convert.specs.Slots.{IsQuantum}
 use Rattle.pf_convert_words.specs.declared.conversion.Conversion.{Conversion}

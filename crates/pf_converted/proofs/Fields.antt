@@ -12,7 +12,7 @@ use Rattle.std.proofs.lemmas.Slice.Eq.{bytes_eq-Decides}
 use Rattle.std.proofs.lemmas.Str.Parse.{numerals_by_value, tells_all_ascii_digits}
 use Rattle.pf_scenario.specs.System.{wide_horizon}
 use Rattle.pf_script.specs.declared.line.Line.TheVariants.{Steps}
-use Rattle.pf_version3.specs.declared.said.Said.TheVariants.{Asks}
+use Rattle.pf_plan.specs.declared.said.Said.TheVariants.{Asks}
 use Rattle.pf_convert.specs.declared.slotted.Slotted.{Slotted}
 use Rattle.pf_names.specs.declared.named.Named.{Named}
 use Rattle.pf_names.specs.declared.unit.Unit.{Unit}
@@ -21,10 +21,10 @@ use Rattle.pf_names.specs.Slots.{unit_named, unit_word}
 use Rattle.pf_names.specs.Text.{is_letter_first}
 use Rattle.pf_scenario.specs.declared.event.Event.TheVariants.{Join}
 use Rattle.pf_script.specs.Fields.{field, is_word, number_of}
-use Rattle.pf_version3.specs.declared.fault.Reason.TheVariants.{NoCap, NoNumber}
-use Rattle.pf_version3.specs.declared.state.Progress.{Progress}
-use Rattle.pf_version3.specs.Parsing.{cap_at, early_at, edit_at, event_at, every_at, join_at, number_or, number_within, opening_at, record_at, said_at, settings_at, slot_at, steps_at, task_at}
-use Rattle.pf_version3.specs.Progress.{at_heading}
+use Rattle.pf_plan.specs.declared.fault.Reason.TheVariants.{NoCap, NoNumber}
+use Rattle.pf_plan.specs.declared.state.Progress.{Progress}
+use Rattle.pf_plan.specs.Parsing.{cap_at, early_at, edit_at, event_at, every_at, join_at, number_or, number_within, opening_at, record_at, said_at, settings_at, slot_at, steps_at, task_at}
+use Rattle.pf_plan.specs.Progress.{at_heading}
 use Rattle.pf_converted.specs.Records.{join_record, settings_record, slot_record, step_record}
 use Rattle.pf_converted.specs.Read.{join_said, settings_said, slot_said}
 use Rattle.pf_converted.proofs.Numbers.{number_here, number_inside}

@@ -85,13 +85,13 @@ unit_field Microsecond = (refl, refl)
 unit_field Millisecond = (refl, refl)
 unit_field Second = (refl, refl)
 
-words : IsPlainField (codes "pfair") × IsPlainField (codes "3") × IsPlainField (codes "settings") × IsPlainField (codes "64") × IsPlainField (codes "slot")
+words : IsPlainField (codes "plan") × IsPlainField (codes "1") × IsPlainField (codes "settings") × IsPlainField (codes "64") × IsPlainField (codes "slot")
     × IsPlainField (codes "name") × IsPlainField (codes "join") × IsPlainField (codes "step")
 unfolding trim_start trim_end
 words = ((refl, refl), (refl, refl), (refl, refl), (refl, refl), (refl, refl), (refl, refl), (refl, refl), (refl, refl))
 
 pub heading_plain : IsPlainRow heading_record
-heading_plain = plain_row 112 (codes "fair") (codes "3") [] words.0 refl refl refl (All-cons IsPlainField (codes "3") [] words.1 no_fields)
+heading_plain = plain_row 112 (codes "lan") (codes "1") [] words.0 refl refl refl (All-cons IsPlainField (codes "1") [] words.1 no_fields)
 
 pub settings_fields : (m b : ℕ) → m < 10 ^ 15 → b < 10 ^ 15 → m * b < 10 ^ 15 → All IsPlainField (decimal m ∷ decimal b ∷ decimal (m * b) ∷ codes "64" ∷ [])
 settings_fields m b few low cap =

@@ -9,12 +9,12 @@ use Rattle.pf_names.specs.Text.{is_text}
 use Rattle.pf_names.specs.declared.named.Named.{Named}
 use Rattle.pf_script.specs.Fields.{is_word}
 use Rattle.pf_task_list.specs.declared.listed.Listed.{Listed}
-use Rattle.pf_version3.specs.declared.fault.Reason.TheVariants.{NoNumber}
-use Rattle.pf_version3.specs.declared.said.Said.{Said}
-use Rattle.pf_version3.specs.declared.said.Said.TheVariants.{Name}
-use Rattle.pf_version3.specs.declared.state.Progress.{Progress}
-use Rattle.pf_version3.specs.Parsing.{free_name_at, name_at, nameless_at, record_at, said_at}
-use Rattle.pf_version3.specs.Progress.{progress_after}
+use Rattle.pf_plan.specs.declared.fault.Reason.TheVariants.{NoNumber}
+use Rattle.pf_plan.specs.declared.said.Said.{Said}
+use Rattle.pf_plan.specs.declared.said.Said.TheVariants.{Name}
+use Rattle.pf_plan.specs.declared.state.Progress.{Progress}
+use Rattle.pf_plan.specs.Parsing.{free_name_at, name_at, nameless_at, record_at, said_at}
+use Rattle.pf_plan.specs.Progress.{progress_after}
 use Rattle.pf_converted.specs.Records.{each_numbered, name_record}
 use Rattle.pf_converted.specs.Read.{AllSay, AreNames, name_said}
 use Rattle.pf_converted.proofs.Numbers.{number_inside}

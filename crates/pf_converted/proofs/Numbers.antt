@@ -1,4 +1,4 @@
--- Numbers that are written as fields, and read by the grammar of version 3.
+-- Numbers that are written as fields, and read by the grammar of plans.
 use Rattle.std.proofs.Common.{◌≡◌, ◌∙◌, ◌^◌, ◌<◌, ◌≤◌, ◌==◌, ℕ, true, false, nat_lt, Some, Ok, List, length, ap, arith, refl}
 use Rattle.std.specs.Fmt.{decimal}
 use Rattle.std.specs.Str.{all_ascii_digits}
@@ -7,8 +7,8 @@ use Rattle.std.proofs.lemmas.Bool.Decides.{nat_tests}
 use Rattle.std.proofs.lemmas.Fmt.{digits_decimal, digits_value-decimal, length-decimal-le, decimal_nonempty}
 use Rattle.std.proofs.lemmas.Str.Parse.{numerals_by_value, tells_all_ascii_digits}
 use Rattle.pf_script.specs.Fields.{field, number_of}
-use Rattle.pf_version3.specs.declared.fault.Reason.{Reason}
-use Rattle.pf_version3.specs.Parsing.{number_or, number_within}
+use Rattle.pf_plan.specs.declared.fault.Reason.{Reason}
+use Rattle.pf_plan.specs.Parsing.{number_or, number_within}
 
 number_again : (n : ℕ) → n < 10 ^ 15 → number_of (decimal n) ≡ Some n
 unfolding number_of

@@ -6,10 +6,10 @@ use Rattle.pf_convert.specs.declared.slotted.Slotted.{Slotted}
 use Rattle.pf_convert.specs.Slots.{IsSlotted}
 use Rattle.pf_scenario.specs.System.{wide_horizon}
 use Rattle.pf_script.specs.declared.line.Line.TheVariants.{Steps}
-use Rattle.pf_version3.specs.declared.said.Said.{Said}
-use Rattle.pf_version3.specs.declared.said.Said.TheVariants.{Asks}
-use Rattle.pf_version3.specs.declared.state.Progress.{Progress}
-use Rattle.pf_version3.specs.Progress.{at_heading, progress_after}
+use Rattle.pf_plan.specs.declared.said.Said.{Said}
+use Rattle.pf_plan.specs.declared.said.Said.TheVariants.{Asks}
+use Rattle.pf_plan.specs.declared.state.Progress.{Progress}
+use Rattle.pf_plan.specs.Progress.{at_heading, progress_after}
 use Rattle.pf_conversion.specs.Script.{slot_of, steps_of}
 use Rattle.pf_converted.specs.Records.{each_numbered, join_record, step_record}
 use Rattle.pf_converted.specs.Read.{AllSay, ScriptsSayTheirPlans, join_said, settings_said, slot_said}

@@ -1,4 +1,4 @@
--- A plan's script, read as a script of version 3.
+-- A plan's script, read as a plan.
 use Rattle.std.proofs.Common.{◌≡◌, ◌∙◌, ◌^◌, ◌<◌, ◌≤◌, ◌+◌, ◌*◌, ℕ, List, [], ◌∷◌, ◌++◌, All, codes, length, map, ap, ap₂, arith, refl, sym, subst, append_assoc}
 use Rattle.std.specs.Fmt.{decimal}
 use Rattle.std.proofs.lemmas.List.Concat.{flat_map-append}
@@ -73,7 +73,7 @@ heads m b l u tail few low cap short =
     let slot = row_then (codes "slot") (decimal l) (unit_word u ∷ []) tail refl (slot_fields l u short) in
     let behind = codes "slot" ++ fields_then (decimal l ∷ unit_word u ∷ []) tail in
     let settings = row_then (codes "settings") (decimal m) (decimal b ∷ decimal (m * b) ∷ codes "64" ∷ []) behind refl (settings_fields m b few low cap) in
-    let parts = codes "pfair,3\nsettings," ∷ decimal m ∷ codes "," ∷ decimal b ∷ codes "," ∷ decimal (m * b) ∷ codes ",64\nslot," ∷ decimal l ∷ codes ","
+    let parts = codes "plan,1\nsettings," ∷ decimal m ∷ codes "," ∷ decimal b ∷ codes "," ∷ decimal (m * b) ∷ codes ",64\nslot," ∷ decimal l ∷ codes ","
     ∷ unit_word u ∷ codes "\n" ∷ [] in
     ap (λ (t : List ℕ). row_text default_writer heading_record ++ (row_text default_writer (settings_record m b) ++ t)) slot
     ∙ ap (λ (t : List ℕ). row_text default_writer heading_record ++ t) settings

@@ -13,14 +13,14 @@ use Rattle.pf_scenario.specs.declared.change.Change.TheVariants.{Insert}
 use Rattle.pf_script.specs.declared.line.Line.TheVariants.{Edit, Steps}
 use Rattle.pf_script.specs.declared.version.Version.TheVariants.{Second}
 use Rattle.pf_task_list.specs.declared.listed.Listed.{Listed}
-use Rattle.pf_version3.specs.declared.said.Said.{Said}
-use Rattle.pf_version3.specs.declared.said.Said.TheVariants.{Settings, Slot, Name, Asks}
-use Rattle.pf_version3.specs.declared.state.Progress.{Progress}
-use Rattle.pf_version3.specs.Parsing.{end_fault, said_at}
-use Rattle.pf_version3.specs.Progress.{at_heading, progress_after}
+use Rattle.pf_plan.specs.declared.said.Said.{Said}
+use Rattle.pf_plan.specs.declared.said.Said.TheVariants.{Settings, Slot, Name, Asks}
+use Rattle.pf_plan.specs.declared.state.Progress.{Progress}
+use Rattle.pf_plan.specs.Parsing.{end_fault, said_at}
+use Rattle.pf_plan.specs.Progress.{at_heading, progress_after}
 use Rattle.pf_weight.specs.declared.base.TheConstants.{LARGEST_BASE}
 use Rattle.pf_weight.specs.declared.task.TheConstants.{LARGEST_TASK}
-use Rattle.pf_check3.specs.Checked.{faults}
+use Rattle.pf_plan_check.specs.Checked.{faults}
 use Rattle.pf_rows.specs.Rows.{rows}
 use Rattle.pf_conversion.specs.Script.{script_text, slot_of, steps_of}
 use Rattle.pf_converted.specs.Records.{each_numbered, script_records}

@@ -31,7 +31,7 @@ each_numbered f number [] = []
 each_numbered f number (x ∷ xs) = f number x ∷ each_numbered f (number + 1) xs
 
 abbrev pub heading_record : List (List ℕ)
-heading_record = codes "pfair" ∷ codes "3" ∷ []
+heading_record = codes "plan" ∷ codes "1" ∷ []
 
 -- the records after the heading
 abbrev pub script_records : ℕ → ℕ → List Listed → Plan → List (List (List ℕ))

@@ -1,6 +1,6 @@
 -- Which lists a conversion makes into scripts, and of which plans.
 use Rattle.std.specs.Prelude.{ℕ, ◌*◌, ◌/◌, ◌%◌, ◌≡◌, ◌≤◌, ◌⊎◌, Option, IfSome, Ok, List, [], All, sum_by}
-use Rattle.pf_check3.specs.Checked.{faults}
+use Rattle.pf_plan_check.specs.Checked.{faults}
 use Rattle.pf_rows.specs.Rows.{rows}
 use Rattle.pf_convert.specs.declared.plan.Plan.{Plan}
 use Rattle.pf_convert.specs.declared.quantum.Quantum.{Quantum}

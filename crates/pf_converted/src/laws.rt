@@ -1,13 +1,13 @@
 ghost use Rattle.pf_converted.specs.Read.{ScriptsHaveNoFault, ScriptsSayTheirPlans};
 ghost use Rattle.pf_converted.specs.Written.{ConversionsHaveNoFault, ListsBecomePlans};
 
-/// The records of a plan's script say, by the grammar of version 3 and in their order, its settings, how long a slot is, the
+/// The records of a plan's script say, by the grammar of plans and in their order, its settings, how long a slot is, the
 /// name of each task, its join, and the steps; so none of them has a fault.
 pub fn scripts_say_their_plans()
     ensures { ScriptsSayTheirPlans }
 {}
 
-/// The script of a plan, read as a script of version 3 is, has no record with a fault: a check of it finds none.
+/// The script of a plan, read as a plan is, has no record with a fault: a check of it finds none.
 pub fn scripts_have_no_fault()
     ensures { ScriptsHaveNoFault }
 {}

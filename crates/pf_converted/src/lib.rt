@@ -1,4 +1,4 @@
-//! The script that a conversion writes, as a script of version 3 is read. The one contract of this crate: each of its records
+//! The script that a conversion writes, as a plan is read. The one contract of this crate: each of its records
 //! says what the plan says of it, and none has a fault.
 #![tactic(auto)]
 

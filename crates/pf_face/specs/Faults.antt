@@ -2,8 +2,8 @@
 use Rattle.std.specs.Prelude.{ℕ, ◌≡◌, ◌<◌, Bool, true, false, if◌then◌else◌, List, [], ◌++◌, length}
 use Rattle.std.specs.List.{flat_map}
 use Rattle.pf_check.specs.Reports.{report_text}
-use Rattle.pf_check3.specs.Checked.{faults as third_faults, is_third}
-use Rattle.pf_check3.specs.Reports.{FaultShown, third_report_text}
+use Rattle.pf_plan_check.specs.Checked.{faults as plan_faults, is_plan}
+use Rattle.pf_plan_check.specs.Reports.{FaultShown, plan_report_text}
 use Rattle.pf_rows.specs.Rows.{rows}
 use Rattle.pf_script.specs.Told.{FaultTold, Reading, faults, faults_in}
 
@@ -11,14 +11,14 @@ use Rattle.pf_script.specs.Told.{FaultTold, Reading, faults, faults_in}
 abbrev pub fault_lines : List FaultTold → List ℕ
 fault_lines faults = flat_map report_text faults
 
--- the same of a script of version 3
-abbrev pub third_lines : List FaultShown → List ℕ
-third_lines faults = flat_map third_report_text faults
+-- the same of a plan
+abbrev pub plan_lines : List FaultShown → List ℕ
+plan_lines faults = flat_map plan_report_text faults
 
 -- the lines of the faults of a script
 abbrev pub script_lines : List ℕ → List ℕ
 script_lines script =
-    if is_third (rows script) then third_lines (third_faults (rows script)) else fault_lines (faults script)
+    if is_plan (rows script) then plan_lines (plan_faults (rows script)) else fault_lines (faults script)
 
 -- one record more was read, and what was told and what is left to tell make the same text
 pub record IsOneOn (old new : List Reading) (text added : List ℕ) : Type 0 where

@@ -12,7 +12,7 @@ use Rattle.pf_script.specs.declared.record.ScriptSettings.{ScriptSettings}
 use Rattle.pf_script.specs.Told.{FaultTold, LinesTold, Told, told}
 use Rattle.pf_script.specs.Asked.{commands_in}
 use Rattle.pf_text.specs.Page.{table_text}
-use Rattle.pf_version3.specs.declared.fault.BadRecord.{BadRecord as BadThird}
+use Rattle.pf_plan.specs.declared.fault.BadRecord.{BadRecord as BadPlan}
 use Rattle.pf_face.specs.declared.held.Held.{Held}
 use Rattle.pf_face.specs.declared.raw_bad_record.RawBadRecord.{RawBadRecord}
 use Rattle.pf_face.specs.declared.status.TheConstants.{OK, ALREADY_OPEN, NO_MEMORY, BAD_RECORD}
@@ -21,9 +21,9 @@ use Rattle.pf_face.specs.Commanded.{IsNewDesk}
 abbrev pub raw_bad : BadRecord → RawBadRecord
 raw_bad bad = record { number = bad.number; line = bad.line; field = bad.fault.field }
 
--- the same of a script of version 3
-abbrev pub raw_bad_third : BadThird → RawBadRecord
-raw_bad_third bad = record { number = bad.number; line = bad.line; field = bad.fault.field }
+-- the same of a plan
+abbrev pub raw_bad_plan : BadPlan → RawBadRecord
+raw_bad_plan bad = record { number = bad.number; line = bad.line; field = bad.fault.field }
 
 -- the desk answered the caller's commands that a text tells, all before its first bad record, which is the answer where
 -- there is one; or memory was refused, and it answered the first of them
@@ -66,25 +66,25 @@ pub record ScriptTold : Type 0 where
 abbrev pub told_with : Told → Titles → ScriptTold
 told_with t titles = record { opening = t.opening; lines = t.rest.lines; bad = place_of t.rest.fault; titles = titles }
 
--- one of version 3: what the script of version 2 tells that belongs to it, but the place of its own bad record
-abbrev pub told_third : Told → Option BadThird → Titles → ScriptTold
-told_third t bad titles = record (told_with t titles) { bad = option_map raw_bad_third bad }
+-- a plan: what the script of version 2 tells that belongs to it, but the place of its own bad record
+abbrev pub told_plan : Told → Option BadPlan → Titles → ScriptTold
+told_plan t bad titles = record (told_with t titles) { bad = option_map raw_bad_plan bad }
 
 abbrev pub told_by : Option Plain → Told → ScriptTold
 told_by None t = told_with t untitled
-told_by (Some p) t = told_third (told (table_text p.records)) p.bad p.titles
+told_by (Some p) t = told_plan (told (table_text p.records)) p.bad p.titles
 
 -- what a script of these bytes tells
 abbrev pub script_told : List ℕ → ScriptTold
 script_told bytes = told_by (plain bytes) (told bytes)
 
--- the place that C has of a script of version 3 with this bad record, where it had that of the record that stands for it
-abbrev pub place_told : ℕ → Option BadThird → RawBadRecord → RawBadRecord
+-- the place that C has of a plan with this bad record, where it had that of the record that stands for it
+abbrev pub place_told : ℕ → Option BadPlan → RawBadRecord → RawBadRecord
 place_told status None place = place
-place_told status (Some bad) place = if status == BAD_RECORD then raw_bad_third bad else place
+place_told status (Some bad) place = if status == BAD_RECORD then raw_bad_plan bad else place
 
--- a record of a script of version 3 is bad exactly where one of the script of version 2 is
-abbrev pub AreBothBad : Option BadThird → Option FaultTold → Type 0
+-- a record of a plan is bad exactly where one of the script of version 2 is
+abbrev pub AreBothBad : Option BadPlan → Option FaultTold → Type 0
 AreBothBad None None = ⊤
 AreBothBad None (Some fault) = ⊥
 AreBothBad (Some bad) None = ⊥

@@ -6,6 +6,6 @@ use pf_names::titles::Titles;
 pub struct Held {
     /// The desk.
     pub desk: Desk,
-    /// The names of its tasks and how long a slot is, where it was opened with a script of version 3; else none.
+    /// The names of its tasks and how long a slot is, where it was opened with a plan; else none.
     pub titles: Titles,
 }

@@ -1,5 +1,5 @@
 ghost use Rattle.std.specs.Prelude.{◌≡◌};
-ghost use Rattle.pf_face.specs.Running.{raw_bad, raw_bad_third};
+ghost use Rattle.pf_face.specs.Running.{raw_bad, raw_bad_plan};
 
 use pf_script::fault::BadRecord;
 
@@ -27,9 +27,9 @@ impl RawBadRecord {
         }
     }
 
-    /// The same of a script of the third version.
-    pub fn third(bad: pf_version3::fault::BadRecord) -> RawBadRecord
-        ensures { result ≡ raw_bad_third bad }
+    /// The same of a plan.
+    pub fn of_plan(bad: pf_plan::fault::BadRecord) -> RawBadRecord
+        ensures { result ≡ raw_bad_plan bad }
     {
         let (number, line) = (bad.number, bad.line);
         RawBadRecord {

@@ -7,7 +7,7 @@ ghost use Rattle.pf_script.specs.Opened.{IsOpening};
 ghost use Rattle.pf_script.specs.Told.{readings_after, rest_in, told};
 ghost use Rattle.pf_face.specs.declared.status.TheConstants.{NOT_OPEN};
 ghost use Rattle.pf_face.specs.Commanded.{Changes};
-ghost use Rattle.pf_face.specs.Running.{AreBothBad, CarriesOut, OpensLines, OpensScript, OpensTold, RunsTold, place_told, script_told, told_third, told_with};
+ghost use Rattle.pf_face.specs.Running.{AreBothBad, CarriesOut, OpensLines, OpensScript, OpensTold, RunsTold, place_told, script_told, told_plan, told_with};
 
 use crate::handle::Handle;
 use crate::opening::boxed_desk;
@@ -19,12 +19,12 @@ use pf_desk::desk::Desk;
 use pf_names::titles::Titles;
 use pf_order::meter::Meter;
 use pf_plain::plain::{PlainScript, plain_script};
+use pf_plan::fault::BadRecord;
 use pf_script::fault::ScriptFault;
 use pf_script::line::Line;
 use pf_script::line_reader::LineReader;
 use pf_script::opened::OpenedScript;
 use pf_script::version::Version;
-use pf_version3::fault::BadRecord;
 use std::alloc::{AllocError, Global};
 
 /// Has the desk answer the commands of records, as they stand after the settings in a script of the second version, one
@@ -57,7 +57,7 @@ pub extern "C" fn pfair_run(
 }
 
 /// Opens a desk with the settings of a script at a closed handle, and has it answer the script's commands, up to the first
-/// bad record. A script of the third version is carried out by that of the second that belongs to it, and the texts of the desk
+/// bad record. A plan is carried out by that of the second that belongs to it, and the texts of the desk
 /// then show the names that it gave and how long a slot is.
 ///
 /// # Errors
@@ -85,7 +85,7 @@ pub extern "C" fn pfair_open_script(
 }
 
 /// The same at a handle that is closed.
-#[tactic(auto, using(crate::proofs::Titled::third_opens, crate::proofs::Titled::other_opens, crate::proofs::Titled::both_bad))]
+#[tactic(auto, using(crate::proofs::Titled::plan_opens, crate::proofs::Titled::other_opens, crate::proofs::Titled::both_bad))]
 fn open_script(
     alloc: Global,
     desk: &mut Handle,
@@ -97,15 +97,15 @@ fn open_script(
     ensures { OpensTold caller (script_told script.now).opening (script_told script.now) result bad.old bad.new desk.new.value }
 {
     match plain_script(alloc, script) {
-        Ok(Some(plain)) => open_third(alloc, desk, caller, plain, bad),
+        Ok(Some(plain)) => open_plan(alloc, desk, caller, plain, bad),
         Ok(None) => open_text(alloc, desk, caller, script, Titles::none(alloc), bad),
         Err(_) => NO_MEMORY,
     }
 }
 
-/// The same of a script of the third version, to which this one belongs.
+/// The same of a plan, to which this one belongs.
 #[tactic(auto, using(crate::proofs::Titled::opens_in_place))]
-fn open_third(
+fn open_plan(
     alloc: Global,
     desk: &mut Handle,
     caller: u32,
@@ -114,7 +114,7 @@ fn open_third(
 ) -> u32
     requires closed { desk.old.value ≡ None }
     requires bad { AreBothBad plain.bad (told plain.text.items).rest.fault }
-    ensures { OpensTold caller (told plain.text.items).opening (told_third (told plain.text.items) plain.bad plain.titles)
+    ensures { OpensTold caller (told plain.text.items).opening (told_plan (told plain.text.items) plain.bad plain.titles)
         result bad.old bad.new desk.new.value }
 {
     let PlainScript {
@@ -129,14 +129,14 @@ fn open_third(
     status
 }
 
-/// Puts the place of the bad record of a script of the third version for that of the record that stands for it.
+/// Puts the place of the bad record of a plan for that of the record that stands for it.
 fn put_place(status: u32, fault: Option<BadRecord>, bad: &mut RawBadRecord)
     ensures { bad.new ≡ place_told status fault bad.old }
 {
     if let Some(fault) = fault
         && status == BAD_RECORD
     {
-        *bad = RawBadRecord::third(fault);
+        *bad = RawBadRecord::of_plan(fault);
     }
 }
 

@@ -1,14 +1,14 @@
 ghost use Rattle.std.specs.Prelude.{◌≡◌, IfOk};
 ghost use Rattle.std.specs.String.{string_bytes};
-ghost use Rattle.pf_face.specs.Faults.{script_lines, third_lines};
+ghost use Rattle.pf_face.specs.Faults.{script_lines, plan_lines};
 
 use crate::faults::fault_lines;
 use csv::ByteRecord;
-use pf_check3::report::push_report;
-use pf_check3::third_faults::ThirdFaults;
+use pf_plan::heading::is_plan_heading;
+use pf_plan_check::plan_faults::PlanFaults;
+use pf_plan_check::report::push_report;
 use pf_script::fields::Fields;
 use pf_script::reader::ScriptReader;
-use pf_version3::heading::is_third_heading;
 use std::alloc::{AllocError, Global};
 
 /// The lines of the faults of a script.
@@ -16,21 +16,21 @@ pub(crate) fn script_lines(alloc: Global, script: &[u8]) -> Result<String, Alloc
     ensures { IfOk result (λ text. string_bytes text ≡ script_lines script.now) }
 {
     let mut row = ByteRecord::new(alloc);
-    let faults = ThirdFaults::new(alloc, script, &mut row)?;
-    if is_third_heading(&Fields::new(&row)) {
-        third_lines(alloc, faults, row)
+    let faults = PlanFaults::new(alloc, script, &mut row)?;
+    if is_plan_heading(&Fields::new(&row)) {
+        plan_lines(alloc, faults, row)
     } else {
         fault_lines(alloc, ScriptReader::new(alloc, script))
     }
 }
 
-/// The same of a script of the third version. Each record is read into `row`.
-fn third_lines(
+/// The same of a plan. Each record is read into `row`.
+fn plan_lines(
     alloc: Global,
-    mut faults: ThirdFaults,
+    mut faults: PlanFaults,
     mut row: ByteRecord,
 ) -> Result<String, AllocError>
-    ensures { IfOk result (λ text. string_bytes text ≡ third_lines faults.entry.faults) }
+    ensures { IfOk result (λ text. string_bytes text ≡ plan_lines faults.entry.faults) }
 {
     let mut text = String::new(alloc);
     'faults: while let Some(bad) = faults.next(&mut row)? {

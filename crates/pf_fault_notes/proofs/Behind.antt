@@ -6,9 +6,9 @@ use Rattle.std.specs.Fmt.{decimal}
 use Rattle.std.proofs.Math.Seq.{drop-append_seam}
 use Rattle.std.proofs.lemmas.List.{length-append}
 use Rattle.pf_check.specs.Reports.{field_text, reason_text, report_text}
-use Rattle.pf_check3.specs.Reports.{FaultShown, third_reason_text, third_report_text}
+use Rattle.pf_plan_check.specs.Reports.{FaultShown, plan_reason_text, plan_report_text}
 use Rattle.pf_script.specs.Told.{FaultTold}
-use Rattle.pf_fault_notes.specs.BadRecords.{report_behind, third_why_text, why_text}
+use Rattle.pf_fault_notes.specs.BadRecords.{report_behind, plan_why_text, why_text}
 
 -- how long four texts are
 pub length_four : (a b c d : List ℕ) → length (a ++ b ++ c ++ d) ≡ ((length a + length b) + length c) + length d
@@ -33,11 +33,11 @@ report_is f =
     four_behind (codes "line " ++ decimal f.bad.line ++ codes ", record " ++ decimal f.bad.number) (field_text f.bad.fault.field) (codes ": ")
     (reason_text f.at f.bad.fault.reason) (codes "\n")
 
-pub third_report_is : (f : FaultShown) → third_report_text f ≡ report_behind f.bad.line f.bad.number (third_why_text f)
-unfolding third_report_text
-third_report_is f =
+pub plan_report_is : (f : FaultShown) → plan_report_text f ≡ report_behind f.bad.line f.bad.number (plan_why_text f)
+unfolding plan_report_text
+plan_report_is f =
     four_behind (codes "line " ++ decimal f.bad.line ++ codes ", record " ++ decimal f.bad.number) (field_text f.bad.fault.field) (codes ": ")
-    (third_reason_text f.at f.bad.fault.reason) (codes "\n")
+    (plan_reason_text f.at f.bad.fault.reason) (codes "\n")
 
 -- Use: a text was added to a text that had been added to.
 pub added_behind : {A E : Type 0} (r : Result A E) (new mid old x y z : List ℕ) → mid ≡ old ++ x → y ≡ z

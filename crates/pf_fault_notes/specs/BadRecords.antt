@@ -2,8 +2,8 @@
 use Rattle.std.specs.Prelude.{ℕ, if◌then◌else◌, List, [], ◌∷◌, ◌++◌, codes}
 use Rattle.std.specs.Fmt.{decimal}
 use Rattle.pf_check.specs.Reports.{field_text, reason_text}
-use Rattle.pf_check3.specs.Checked.{faults as third_faults, is_third}
-use Rattle.pf_check3.specs.Reports.{FaultShown, third_reason_text}
+use Rattle.pf_plan_check.specs.Checked.{faults as plan_faults, is_plan}
+use Rattle.pf_plan_check.specs.Reports.{FaultShown, plan_reason_text}
 use Rattle.pf_rows.specs.Rows.{rows}
 use Rattle.pf_script.specs.Told.{FaultTold, faults}
 use Rattle.pf_run_notes.specs.File.{file_text}
@@ -23,12 +23,12 @@ why_text f = field_text f.bad.fault.field ++ codes ": " ++ reason_text f.at f.ba
 abbrev pub fault_line : List ℕ → FaultTold → List ℕ
 fault_line file f = place_in file f.bad.line f.bad.number ++ why_text f
 
--- the same of a record of a script of version 3
-abbrev pub third_why_text : FaultShown → List ℕ
-third_why_text f = field_text f.bad.fault.field ++ codes ": " ++ third_reason_text f.at f.bad.fault.reason ++ codes "\n"
+-- the same of a record of a plan
+abbrev pub plan_why_text : FaultShown → List ℕ
+plan_why_text f = field_text f.bad.fault.field ++ codes ": " ++ plan_reason_text f.at f.bad.fault.reason ++ codes "\n"
 
-abbrev pub third_fault_line : List ℕ → FaultShown → List ℕ
-third_fault_line file f = place_in file f.bad.line f.bad.number ++ third_why_text f
+abbrev pub plan_fault_line : List ℕ → FaultShown → List ℕ
+plan_fault_line file f = place_in file f.bad.line f.bad.number ++ plan_why_text f
 
 -- the line of the first fault, nothing where there is none
 abbrev pub first_line : {A : Type 0} → (A → List ℕ) → List A → List ℕ
@@ -38,5 +38,5 @@ first_line line (fault ∷ faults) = line fault
 -- what is told of the first fault that a check finds in a script of any version
 abbrev pub first_fault_note : List ℕ → List ℕ → List ℕ
 first_fault_note file script =
-    if is_third (rows script) then first_line (third_fault_line file) (third_faults (rows script))
+    if is_plan (rows script) then first_line (plan_fault_line file) (plan_faults (rows script))
     else first_line (fault_line file) (faults script)

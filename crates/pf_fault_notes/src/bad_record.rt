@@ -2,17 +2,17 @@ ghost use Rattle.std.specs.Prelude.{◌≡◌, ◌++◌, List, ℕ, codes, OnOk}
 ghost use Rattle.std.specs.Fmt.{decimal};
 ghost use Rattle.csv.specs.Records.{fields_of};
 ghost use Rattle.pf_check.specs.Reports.{fault_shown};
-ghost use Rattle.pf_check3.specs.Reports.{shown};
-ghost use Rattle.pf_fault_notes.specs.BadRecords.{fault_line, place_in, report_behind, third_fault_line};
+ghost use Rattle.pf_plan_check.specs.Reports.{shown};
+ghost use Rattle.pf_fault_notes.specs.BadRecords.{fault_line, place_in, report_behind, plan_fault_line};
 
 use itoa::Buffer;
 use pf_check::report::push_report;
-use pf_check3::report::push_report as push_third_report;
+use pf_plan::fault::BadRecord as PlanBadRecord;
+use pf_plan_check::report::push_report as push_plan_report;
 use pf_run_notes::file::push_file;
 use pf_script::fault::BadRecord;
 use pf_script::fields::Fields;
 use pf_text::numbers::push_number;
-use pf_version3::fault::BadRecord as ThirdBadRecord;
 use std::alloc::{AllocError, Global};
 
 /// Appends the line of a bad record of the file, which has these fields.
@@ -35,22 +35,22 @@ pub fn push_fault(
     text.extend_from_slice(behind_place(report.as_bytes(), bad.line, bad.number))
 }
 
-/// The same of a bad record of a script of version 3.
+/// The same of a bad record of a plan.
 ///
 /// # Errors
 ///
 /// Where memory is refused: the text is given up.
-pub fn push_third_fault(
+pub fn push_plan_fault(
     alloc: Global,
     text: &mut Vec<u8>,
     file: &[u8],
     fields: &Fields,
-    bad: ThirdBadRecord,
+    bad: PlanBadRecord,
 ) -> Result<(), AllocError>
-    ensures { OnOk result (text.new.items ≡ text.old.items ++ third_fault_line file.now (shown bad fields.now)) }
+    ensures { OnOk result (text.new.items ≡ text.old.items ++ plan_fault_line file.now (shown bad fields.now)) }
 {
     let mut report = String::new(alloc);
-    push_third_report(&mut report, fields, bad)?;
+    push_plan_report(&mut report, fields, bad)?;
     push_place(text, file, bad.line, bad.number)?;
     text.extend_from_slice(behind_place(report.as_bytes(), bad.line, bad.number))
 }

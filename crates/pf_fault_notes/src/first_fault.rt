@@ -2,15 +2,15 @@ ghost use Rattle.std.specs.Prelude.{◌≡◌, IfOk};
 ghost use Rattle.csv.specs.Records.{fields_of};
 ghost use Rattle.pf_check.specs.Reports.{fault_shown};
 ghost use Rattle.pf_script.specs.Told.{faults};
-ghost use Rattle.pf_fault_notes.specs.BadRecords.{fault_line, first_fault_note, first_line, third_fault_line};
+ghost use Rattle.pf_fault_notes.specs.BadRecords.{fault_line, first_fault_note, first_line, plan_fault_line};
 
-use crate::bad_record::{push_fault, push_third_fault};
+use crate::bad_record::{push_fault, push_plan_fault};
 use csv::ByteRecord;
-use pf_check3::third_faults::ThirdFaults;
+use pf_plan::heading::is_plan_heading;
+use pf_plan_check::plan_faults::PlanFaults;
 use pf_script::fault::{BadRecord, ScriptFault};
 use pf_script::fields::Fields;
 use pf_script::reader::ScriptReader;
-use pf_version3::heading::is_third_heading;
 use std::alloc::{AllocError, Global};
 
 /// What is told of the first record that is none of the script's of this file: the line of it, and why. Nothing where the script
@@ -23,9 +23,9 @@ pub fn first_fault_note(alloc: Global, file: &[u8], script: &[u8]) -> Result<Vec
     ensures { IfOk result (λ text. text.items ≡ first_fault_note file.now script.now) }
 {
     let mut row = ByteRecord::new(alloc);
-    let faults = ThirdFaults::new(alloc, script, &mut row)?;
-    if is_third_heading(&Fields::new(&row)) {
-        first_third_fault(alloc, file, faults, row)
+    let faults = PlanFaults::new(alloc, script, &mut row)?;
+    if is_plan_heading(&Fields::new(&row)) {
+        first_plan_fault(alloc, file, faults, row)
     } else {
         first_plain_fault(alloc, file, script, row)
     }
@@ -66,18 +66,18 @@ fn fault_note(
     Ok(text)
 }
 
-/// Of a script of version 3. Each record is read into `row`.
-fn first_third_fault(
+/// Of a plan. Each record is read into `row`.
+fn first_plan_fault(
     alloc: Global,
     file: &[u8],
-    mut faults: ThirdFaults,
+    mut faults: PlanFaults,
     mut row: ByteRecord,
 ) -> Result<Vec<u8>, AllocError>
-    ensures { IfOk result (λ text. text.items ≡ first_line (third_fault_line file.now) faults.entry.faults) }
+    ensures { IfOk result (λ text. text.items ≡ first_line (plan_fault_line file.now) faults.entry.faults) }
 {
     let mut text = Vec::new(alloc);
     if let Some(bad) = faults.next(&mut row)? {
-        push_third_fault(alloc, &mut text, file, &Fields::new(&row), bad)?;
+        push_plan_fault(alloc, &mut text, file, &Fields::new(&row), bad)?;
     }
     Ok(text)
 }

@@ -79,7 +79,7 @@ pub record IsSeenBehind (t : Told) (seen : Seen) : Type 0 where
   pub stands : StandsForHistory history seen
 
 -- the answer to a script of these bytes, in the file of this name: it was carried out, and the answer is that of what was seen at
--- its end and of what its records came to; origins where it belongs to a script of version 3
+-- its end and of what its records came to; origins where it belongs to a plan
 pub record FitMade (format : FitFormat) (file : List ℕ) (origins : Option (List Origin)) (titles : Titles) (script : List ℕ) (answer : Answer) : Type 0 where
   pub seen : Seen
   pub behind : IsSeenBehind (told script) seen

@@ -23,7 +23,7 @@ use pf_verdict::verdict::Verdict;
 use std::alloc::{AllocError, Global};
 
 /// Carries a script of these bytes out, of version 1 or 2, and answers whether it fits, in this format; the file is the name that
-/// its records are told with. Where it belongs to a script of version 3, `origins` are the records there that its own come from, and
+/// its records are told with. Where it belongs to a plan, `origins` are the records there that its own come from, and
 /// the titles what it calls its tasks. The status is `Done` where it fits, and else `FailedOn`.
 ///
 /// # Errors

@@ -28,7 +28,7 @@ ahead = seen_after (plan_with 1 6 6 (Join 0 1 2 6 1000 ∷ Join 0 2 1 3 0 ∷ []
 
 abbrev pub ahead_titles : Titles
 ahead_titles = record {
-  is_third = true;
+  is_plan = true;
   names = record { task = 1; name = codes "ahead" } ∷ [];
   slot = Some (record { length = 250; unit = Microsecond });
 }

@@ -39,9 +39,9 @@ module _ (denials : Items) (entries : ℕ) (events figures lags misses : Items) 
 
   object_parts : (titles : Titles) → IsParted titles
   unfolding serde_json_on_literals
-  object_parts titles = by titles.is_third titles.names titles.slot
+  object_parts titles = by titles.is_plan titles.names titles.slot
     where
-      by : (third : Bool) (names : List Named) (slot : Option SlotLength) → IsParted (record { is_third = third; names = names; slot = slot })
+      by : (is_plan : Bool) (names : List Named) (slot : Option SlotLength) → IsParted (record { is_plan = is_plan; names = names; slot = slot })
       by true names slot = refl
       by false names slot = refl
 

@@ -111,7 +111,7 @@ pub record Parts : Type 0 where
   pub schedule : Data
   pub settings : Data
 
--- the object, with the names of tasks and the length of a slot in version 3
+-- the object, with the names of tasks and the length of a slot in a plan
 abbrev pub object_of : Titles → Parts → Data
 object_of titles p =
     object (member (codes "denials") p.denials

@@ -87,7 +87,7 @@ fn numbered_key(alloc: Global, front: &[u8], number: u64, key: &[u8]) -> Result<
     Ok(text)
 }
 
-/// What stands before the refused records: the names, where the script is of version 3, and how many slots were stepped.
+/// What stands before the refused records: the names, where the script is a plan, and how many slots were stepped.
 fn refusals_key(alloc: Global, titles: &Titles, now: u64) -> Result<Vec<u8>, AllocError>
     ensures { IfOk result (λ text. text.items ≡ names_part titles.now ++ (codes ",\"now\":" ++ (decimal now ++ codes ",\"refusals\":"))) }
 {
@@ -97,7 +97,7 @@ fn refusals_key(alloc: Global, titles: &Titles, now: u64) -> Result<Vec<u8>, All
     Ok(text)
 }
 
-/// What stands after the settings: the length of a slot, where the script is of version 3, and the object's end.
+/// What stands after the settings: the length of a slot, where the script is a plan, and the object's end.
 fn end_text(alloc: Global, titles: &Titles) -> Result<Vec<u8>, AllocError>
     ensures { IfOk result (λ text. text.items ≡ slot_part titles.now ++ codes "}") }
 {
@@ -202,7 +202,7 @@ fn from_events<'a>(
 
 /// All that a run tells as one JSON object, in pieces: compact, its keys in byte order. Beside what the report has these are
 /// the events held, the figures of the tasks, the records of which a command was refused, and the settings, with so many
-/// slots between checkpoints; in version 3 the names of tasks and the length of a slot. The lags, the missed windows, the events and the figures are in memory until they are written.
+/// slots between checkpoints; in a plan the names of tasks and the length of a slot. The lags, the missed windows, the events and the figures are in memory until they are written.
 ///
 /// # Errors
 ///

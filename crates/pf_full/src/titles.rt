@@ -86,7 +86,7 @@ impl Elements for NameRows<'_> {
     }
 }
 
-/// The names after their key, where the script is of version 3, and else nothing.
+/// The names after their key, where the script is a plan, and else nothing.
 ///
 /// # Errors
 ///
@@ -94,7 +94,7 @@ impl Elements for NameRows<'_> {
 pub(crate) fn names_part(alloc: Global, titles: &Titles) -> Result<Vec<u8>, AllocError>
     ensures { IfOk result (λ text. text.items ≡ names_part titles.now) }
 {
-    if !titles.is_third {
+    if !titles.is_plan {
         return Ok(Vec::new(alloc));
     }
     let mut text = Vec::from_slice(alloc, b",\"names\":")?;
@@ -105,7 +105,7 @@ pub(crate) fn names_part(alloc: Global, titles: &Titles) -> Result<Vec<u8>, Allo
     Ok(text)
 }
 
-/// The length of a slot after its key, where the script is of version 3, and else nothing.
+/// The length of a slot after its key, where the script is a plan, and else nothing.
 ///
 /// # Errors
 ///
@@ -113,7 +113,7 @@ pub(crate) fn names_part(alloc: Global, titles: &Titles) -> Result<Vec<u8>, Allo
 pub(crate) fn slot_part(alloc: Global, titles: &Titles) -> Result<Vec<u8>, AllocError>
     ensures { IfOk result (λ text. text.items ≡ slot_part titles.now) }
 {
-    if !titles.is_third {
+    if !titles.is_plan {
         return Ok(Vec::new(alloc));
     }
     let mut text = Vec::from_slice(alloc, b",\"slot\":")?;

@@ -11,8 +11,8 @@ use Rattle.pf_options.specs.declared.format.Format.{Format}
 use Rattle.pf_options.specs.declared.slot_range.SlotRange.{SlotRange}
 use Rattle.pf_script.specs.Fields.{field, number}
 use Rattle.pf_heard.specs.declared.wanted.Wanted.TheVariants as wanted
-use Rattle.pf_version3.specs.declared.fault.Reason.TheVariants.{Fields, NoNumber, NoSettings, NoTask, Outside}
-use Rattle.pf_version3.specs.declared.state.Progress.{Progress}
+use Rattle.pf_plan.specs.declared.fault.Reason.TheVariants.{Fields, NoNumber, NoSettings, NoTask, Outside}
+use Rattle.pf_plan.specs.declared.state.Progress.{Progress}
 use Rattle.pf_weight.specs.declared.task.TheConstants.{LARGEST_TASK}
 use Rattle.pf_why_words.specs.declared.question.Question.{Question}
 use Rattle.pf_why_words.specs.declared.question.WhyFormat.TheVariants.{Text}

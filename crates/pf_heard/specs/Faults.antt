@@ -1,9 +1,9 @@
 -- What is wrong with a line, and its text.
 use Rattle.std.specs.Prelude.{⊤, ℕ, Bool, true, false, ◌+◌, nat_lt, if◌then◌else◌, List, ◌++◌, length, Result, Ok, Err, codes}
 use Rattle.pf_check.specs.Reports.{quoted}
-use Rattle.pf_check3.specs.Reports.{third_reason_text}
-use Rattle.pf_version3.specs.declared.fault.Reason.{Reason}
-use Rattle.pf_version3.specs.declared.fault.Reason.TheVariants.{NoRecord}
+use Rattle.pf_plan_check.specs.Reports.{plan_reason_text}
+use Rattle.pf_plan.specs.declared.fault.Reason.{Reason}
+use Rattle.pf_plan.specs.declared.fault.Reason.TheVariants.{NoRecord}
 use Rattle.pf_heard.specs.declared.fault.LineFault.{LineFault}
 use Rattle.pf_heard.specs.declared.fault.LineReason.{LineReason}
 use Rattle.pf_heard.specs.declared.fault.LineReason.TheVariants.{OfRecord, OneField, RangeFields, WhyFields}
@@ -20,7 +20,7 @@ is_no_record reason = false
 -- as a record would be; a word that is none of a record is none of the others either
 abbrev pub record_reason_text : List ℕ → Reason → List ℕ
 record_reason_text at reason =
-    if is_no_record reason then quoted at ++ (codes " is no record: " ++ words_listed) else third_reason_text at reason
+    if is_no_record reason then quoted at ++ (codes " is no record: " ++ words_listed) else plan_reason_text at reason
 
 -- why a line is bad, of its field that is at fault
 unfoldable pub line_reason_text : List ℕ → LineReason → List ℕ

@@ -2,11 +2,11 @@
 use Rattle.std.specs.Prelude.{ℕ, ◌-◌, ◌&&◌, Bool, nat_lt, if◌then◌else◌, Option, None, Some, Result, Ok, Err, List, length}
 use Rattle.std.specs.Str.Lines.{strip_carriage_return}
 use Rattle.pf_script.specs.Fields.{field}
-use Rattle.pf_version3.specs.Heading.{is_third_heading}
-use Rattle.pf_version3.specs.Parsing.{said_at}
-use Rattle.pf_version3.specs.declared.fault.RecordFault.{RecordFault}
-use Rattle.pf_version3.specs.declared.said.Said.{Said}
-use Rattle.pf_version3.specs.declared.state.Progress.{Progress}
+use Rattle.pf_plan.specs.Heading.{is_plan_heading}
+use Rattle.pf_plan.specs.Parsing.{said_at}
+use Rattle.pf_plan.specs.declared.fault.RecordFault.{RecordFault}
+use Rattle.pf_plan.specs.declared.said.Said.{Said}
+use Rattle.pf_plan.specs.declared.state.Progress.{Progress}
 use Rattle.pf_heard.specs.Asked.{asked_at}
 use Rattle.pf_heard.specs.Faults.{line_reason_text, too_long_text}
 use Rattle.pf_heard.specs.Lines.{fields_in, line_of}
@@ -49,7 +49,7 @@ heard_if p fields (Some word) = heard_word fields (asked_at p word fields)
 abbrev pub heard_fields : Bool → Progress → Option (List (List ℕ)) → Heard
 heard_fields is_first p None = Nothing
 heard_fields is_first p (Some fields) =
-    if is_first && is_third_heading fields then Heading else heard_if p fields (word_at fields)
+    if is_first && is_plan_heading fields then Heading else heard_if p fields (word_at fields)
 
 -- without the carriage return that may stand at its end
 abbrev pub heard_within : Bool → Progress → List ℕ → Heard

@@ -1,8 +1,8 @@
 ghost use Rattle.std.specs.Prelude.{◌≡◌, ◌≤◌};
 ghost use Rattle.pf_heard.specs.Faults.{fault_at, of_length};
 
+use pf_plan::fault::Reason;
 use pf_script::fields::Fields;
-use pf_version3::fault::Reason;
 
 /// Why a line is bad.
 #[derive(Clone, Copy)]

@@ -11,12 +11,12 @@ use crate::reason::reason_text;
 use crate::row_text::{line_of, row_text};
 use crate::word::Word;
 use csv::ByteRecord;
+use pf_plan::fault::RecordFault;
+use pf_plan::heading::is_plan_heading;
+use pf_plan::said::Said;
+use pf_plan::state::Progress;
 use pf_rows::rows::{NextRow, Rows};
 use pf_script::fields::Fields;
-use pf_version3::fault::RecordFault;
-use pf_version3::heading::is_third_heading;
-use pf_version3::said::Said;
-use pf_version3::state::Progress;
 use std::alloc::{AllocError, Global};
 
 /// The most bytes that a line may have, without its end.
@@ -96,7 +96,7 @@ fn hear_fields(
 ) -> Result<Heard, AllocError>
     ensures { IfOk result (λ h. h ≡ heard_fields is_first progress.now (Some fields.now)) }
 {
-    if is_first && is_third_heading(fields) {
+    if is_first && is_plan_heading(fields) {
         return Ok(Heard::Heading);
     }
     match Word::at(fields) {

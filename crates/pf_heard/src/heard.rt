@@ -1,13 +1,13 @@
 use crate::bytes::Bytes;
 use crate::wanted::Wanted;
-use pf_version3::said::Said;
+use pf_plan::said::Said;
 
 /// What a line is.
 #[derive(Drop)]
 pub enum Heard {
     /// It has no record and no answer.
     Nothing,
-    /// The heading `pfair,3`.
+    /// The heading `plan,1`.
     Heading,
     /// A record, and the line that goes after the script: its fields joined by commas, and a line feed.
     Record(Said, Bytes),

@@ -8,8 +8,8 @@ ghost use Rattle.pf_heard.specs.Words.{behind_word, help_text, words_listed};
 use crate::bytes::Bytes;
 use crate::fault::LineReason;
 use pf_check::report::push_quoted;
-use pf_check3::report::push_reason as push_record_reason;
-use pf_version3::fault::Reason;
+use pf_plan::fault::Reason;
+use pf_plan_check::report::push_reason as push_record_reason;
 use std::alloc::{AllocError, Global};
 
 /// All words, those of records first.

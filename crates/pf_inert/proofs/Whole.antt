@@ -113,14 +113,14 @@ next {ms} key d known inert more = record {
 }
 
 names_before_inert : {more : Members} (titles : Titles) → AreTexts titles.names → AreInertMembers more → AreInertMembers (names_before titles more)
-names_before_inert {more} titles texts inert = by titles.is_third
+names_before_inert {more} titles texts inert = by titles.is_plan
   where
-    by : (third : Bool) → AreInertMembers (if third then member (codes "names") (array_data name_data titles.names) more else more)
+    by : (is_plan : Bool) → AreInertMembers (if is_plan then member (codes "names") (array_data name_data titles.names) more else more)
     by true = next (codes "names") (array_data name_data titles.names) refl (names_inert titles.names texts) inert
     by false = inert
 
 slot_inert : (titles : Titles) → AreInertMembers (slot_member titles)
-slot_inert titles = by titles.is_third
+slot_inert titles = by titles.is_plan
   where
     of_unit : (unit : Unit) → is_inert (unit_word unit) ≡ true
     of_unit Nanosecond = refl
@@ -132,7 +132,7 @@ slot_inert titles = by titles.is_third
     of None = refl
     of (Some slot) = both (is_inert (unit_word slot.unit)) true (of_unit slot.unit) refl
 
-    by : (third : Bool) → AreInertMembers (if third then member (codes "slot") (slot_data titles.slot) no_members else no_members)
+    by : (is_plan : Bool) → AreInertMembers (if is_plan then member (codes "slot") (slot_data titles.slot) no_members else no_members)
     by true = next (codes "slot") (slot_data titles.slot) refl (of titles.slot) (record { are = refl })
     by false = record { are = refl }
 

@@ -44,7 +44,7 @@ IsPageAtEnd (Outside fault) text = text ≡ []
 abbrev pub MeansPage : Meaning → Type 0
 MeansPage m = IsPageAtEnd m.end m.text
 
--- scripts of versions 1 and 2 of any bytes, and those of version 3, by the script of version 2 that belongs to them
+-- scripts of versions 1 and 2 of any bytes, and those of a plan, by the script of version 2 that belongs to them
 pub record PagesAreInert : Type 0 where
   pub untitled : (script : List ℕ) → MeansPage (script_meaning Html untitled None script)
   pub titled : (script : List ℕ) (p : Plain) → plain script ≡ Some p

@@ -130,7 +130,7 @@ pub type JobPieces<'a> = Chain<Whole, SheetPieces<JobSheet<'a>>>;
 /// The jobs of the tasks of a list as a table, in pieces, by task number, then by their own: of each job that is finished, or
 /// whose deadline the task did not leave before, its release and its deadline, the slot after the one in which it was
 /// finished, how long it took from its release to there, 0 or less where it worked ahead of it, and by how many slots it was
-/// overdue. In version 3 the name of the task stands last, or nothing where it has none.
+/// overdue. In a plan the name of the task stands last, or nothing where it has none.
 ///
 /// # Errors
 ///

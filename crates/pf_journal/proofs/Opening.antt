@@ -22,23 +22,23 @@ is_either : (short few blank : Bool) → few ≡ true → blank ≡ true → (sh
 is_either true few blank is_few is_blank = refl
 is_either false few blank is_few is_blank = ap (λ (b : Bool). b && blank) is_few ∙ is_blank
 
-parts_of : (file : List ℕ) → is_new file ≡ true → (length file ≤ 1) ⊎ ((length file ≤ 10) × (slice_index file 0 ≡ 32))
-parts_of file is = elim (new_parts (nat_le (length file) 1) (nat_le (length file) 10) (slice_index file 0 == 32) is) [
+parts_of : (file : List ℕ) → is_new file ≡ true → (length file ≤ 1) ⊎ ((length file ≤ 9) × (slice_index file 0 ≡ 32))
+parts_of file is = elim (new_parts (nat_le (length file) 1) (nat_le (length file) 9) (slice_index file 0 == 32) is) [
   | inl short ↦ inl (leb-true (length file) 1 short)
-  | inr other ↦ inr (leb-true (length file) 10 other.0, (Decides-eqb (slice_index file 0) 32).0 other.1)
+  | inr other ↦ inr (leb-true (length file) 9 other.0, (Decides-eqb (slice_index file 0) 32).0 other.1)
 ]
 
-pub new_few : (file : List ℕ) → is_new file ≡ true → length file ≤ 10
+pub new_few : (file : List ℕ) → is_new file ≡ true → length file ≤ 9
 new_few file is = elim (parts_of file is) [
   | inl short ↦ omega (arith, short)
   | inr other ↦ other.0
 ]
 
 new_short : (file : List ℕ) → length file ≤ 1 → is_new file ≡ true
-new_short file short = ap (λ (b : Bool). b || (nat_le (length file) 10 && (slice_index file 0 == 32))) (le-leb (length file) 1 short)
+new_short file short = ap (λ (b : Bool). b || (nat_le (length file) 9 && (slice_index file 0 == 32))) (le-leb (length file) 1 short)
 
-new_blank : (rest : List ℕ) → length rest ≤ 9 → is_new (32 ∷ rest) ≡ true
-new_blank rest few = is_either (nat_le (length (32 ∷ rest)) 1) (nat_le (length (32 ∷ rest)) 10) true (le-leb (length (32 ∷ rest)) 10 (omega (arith, few))) refl
+new_blank : (rest : List ℕ) → length rest ≤ 8 → is_new (32 ∷ rest) ≡ true
+new_blank rest few = is_either (nat_le (length (32 ∷ rest)) 1) (nat_le (length (32 ∷ rest)) 9) true (le-leb (length (32 ∷ rest)) 9 (omega (arith, few))) refl
 
 -- what a file stands for
 pub records_new : (file : List ℕ) → is_new file ≡ true → records_of file ≡ []
@@ -52,7 +52,7 @@ bool_cases true = inl refl
 bool_cases false = inr refl
 
 -- a new file has room for the heading alone
-no_more : (file : List ℕ) (records : List (List ℕ)) → texts_of file ≡ heading ∷ records → length file ≤ 10 → records ≡ []
+no_more : (file : List ℕ) (records : List (List ℕ)) → texts_of file ≡ heading ∷ records → length file ≤ 9 → records ≡ []
 no_more file [] is few = refl
 no_more file (text ∷ records) is few =
     let within : length (lines_of (heading ∷ text ∷ records)) ≤ length file = subst (λ (ts : List (List ℕ)). length (lines_of ts) ≤ length file) is (size_within file) in
@@ -72,10 +72,10 @@ script_old file size old is =
     ∙ sym (ap (λ (b : Bool). if b then [] else lines_of (texts_of file)) old)
 
 -- the heading of a journal
-headed : (file : List ℕ) → starts_with nat_eq file (line_of heading) ≡ true → texts_of file ≡ heading ∷ texts_of (drop 9 file)
+headed : (file : List ℕ) → starts_with nat_eq file (line_of heading) ≡ true → texts_of file ≡ heading ∷ texts_of (drop 8 file)
 headed file is =
-    let begins : file ≡ line_of heading ++ drop 9 file = (starts_is Decides-eqb file (line_of heading) true (sym is)).0 refl in
-    ap texts_of begins ∙ line_read heading (drop 9 file) refl
+    let begins : file ≡ line_of heading ++ drop 8 file = (starts_is Decides-eqb file (line_of heading) true (sym is)).0 refl in
+    ap texts_of begins ∙ line_read heading (drop 8 file) refl
 
 is_headed : (file : List ℕ) → state_of file ≡ Journal → starts_with nat_eq file (line_of heading) ≡ true
 is_headed file is = elim (bool_cases (is_new file)) [
@@ -88,7 +88,7 @@ is_headed file is = elim (bool_cases (is_new file)) [
   ]
 ]
 
-pub journal_heading : (file : List ℕ) → state_of file ≡ Journal → texts_of file ≡ heading ∷ texts_of (drop 9 file)
+pub journal_heading : (file : List ℕ) → state_of file ≡ Journal → texts_of file ≡ heading ∷ texts_of (drop 8 file)
 journal_heading file is = headed file (is_headed file is)
 
 pub is_journal : (file : List ℕ) → is_new file ≡ false → state_of file ≢ Other → state_of file ≡ Journal
@@ -113,21 +113,21 @@ module _ (file : List ℕ) (short : length file ≤ 1) where
   )
 
 -- after a blank
-module _ (rest : List ℕ) (few : length rest ≤ 9) where
+module _ (rest : List ℕ) (few : length rest ≤ 8) where
   abbrev behind : List ℕ
   behind = drop 1 (journal_of (heading ∷ []))
 
-  pub heading_crash : (c : List ℕ) → Torn 1 9 (32 ∷ rest) c → records_of c ≡ []
+  pub heading_crash : (c : List ℕ) → Torn 1 8 (32 ∷ rest) c → records_of c ≡ []
   heading_crash c torn =
       let is : c ≡ 32 ∷ drop 1 c =
-      sym (take-append-drop 1 c) ∙ ap (λ (l : List ℕ). l ++ drop 1 c) (torn_front 1 9 (32 ∷ rest) c (omega arith) torn) in
-      let size : length (drop 1 c) ≤ 9 = omega (arith, few, torn.no_longer, length-drop 1 c) in
+      sym (take-append-drop 1 c) ∙ ap (λ (l : List ℕ). l ++ drop 1 c) (torn_front 1 8 (32 ∷ rest) c (omega arith) torn) in
+      let size : length (drop 1 c) ≤ 8 = omega (arith, few, torn.no_longer, length-drop 1 c) in
       records_new c (ap is_new is ∙ new_blank (drop 1 c) size)
 
-  pub heading_done : (c : List ℕ) → Torn 1 9 (32 ∷ rest) c → Holds c 1 behind → c ≡ journal_of (heading ∷ [])
+  pub heading_done : (c : List ℕ) → Torn 1 8 (32 ∷ rest) c → Holds c 1 behind → c ≡ journal_of (heading ∷ [])
   heading_done c torn holds =
       written 1 behind (32 ∷ rest) c (omega arith) torn holds
-      ∙ ap (λ (l : List ℕ). (32 ∷ behind) ++ l) (drop_all 9 rest few)
+      ∙ ap (λ (l : List ℕ). (32 ∷ behind) ++ l) (drop_all 8 rest few)
 
 -- the end of a journal is mended
 module _ (file : List ℕ) (size : ℕ) (is_size : size ≡ length (lines_of (texts_of file))) (journal : state_of file ≡ Journal) where
@@ -142,17 +142,17 @@ module _ (file : List ℕ) (size : ℕ) (is_size : size ≡ length (lines_of (te
 
   same : (c end : List ℕ) → c ≡ lines ++ end → texts_of end ≡ [] → records_of c ≡ records_of file
   same c end is none =
-      let rest = texts_of (drop 9 file) in
+      let rest = texts_of (drop 8 file) in
       let is_headed : texts_of file ≡ heading ∷ rest = journal_heading file journal in
       records_are c rest (ap texts_of is ∙ lines_then texts end all none ∙ is_headed) ∙ sym (records_are file rest is_headed)
 
   pub mended_rest : (new : List ℕ) → new ≡ journal_of texts → IsAtRest new size
   mended_rest new is =
-      let records = texts_of (drop 9 file) in
+      let records = texts_of (drop 8 file) in
       let is_headed : texts ≡ heading ∷ records = journal_heading file journal in
       record {
         records = records;
-        texts = texts_of-all (drop 9 file);
+        texts = texts_of-all (drop 8 file);
         is = is ∙ ap (λ (ts : List (List ℕ)). journal_of ts) is_headed;
         size = is_size ∙ ap (λ (ts : List (List ℕ)). length (lines_of ts)) is_headed;
       }

@@ -15,7 +15,7 @@ IsAdding lines added file =
 
 -- of a heading its gate was written, and of the rest a part, or any bytes within it
 abbrev pub IsBegun : List ℕ → Type 0
-IsBegun file = (rest : List ℕ) × (length rest ≤ 9) × (file ≡ 32 ∷ rest)
+IsBegun file = (rest : List ℕ) × (length rest ≤ 8) × (file ≡ 32 ∷ rest)
 
 -- the file stands for these records, with all of the new ones or with none of them
 abbrev pub IsBeforeOrAfter : List (List ℕ) → List (List ℕ) → List ℕ → Type 0

@@ -31,13 +31,13 @@ texts_from (Some line) (byte ∷ rest) = if byte == 10 then line ∷ texts_from 
 abbrev pub texts_of : List ℕ → List (List ℕ)
 texts_of file = texts_from None file
 
--- the first line of each journal, whose lines are a script of version 3
+-- the first line of each journal, whose lines are a plan
 abbrev pub heading : List ℕ
-heading = codes "pfair,3"
+heading = codes "plan,1"
 
 -- a file in which no record stands yet: it is empty, or what a crash may leave while its heading is written
 abbrev pub is_new : List ℕ → Bool
-is_new file = nat_le (length file) 1 || (nat_le (length file) 10 && slice_index file 0 == 32)
+is_new file = nat_le (length file) 1 || (nat_le (length file) 9 && slice_index file 0 == 32)
 
 abbrev pub state_of : List ℕ → State
 state_of file = if is_new file then New else (if starts_with nat_eq file (line_of heading) then Journal else Other)

@@ -47,14 +47,14 @@ impl<D: Disk + Drop> Found<D> {
     {
         if is_new(&self.bytes) {
             State::New
-        } else if self.bytes.starts_with(b" pfair,3\n") {
+        } else if self.bytes.starts_with(b" plan,1\n") {
             State::Journal
         } else {
             State::Other
         }
     }
 
-    /// The lines that stand in it, as a script of version 3: each begins with a blank, which is its gate. It is empty where
+    /// The lines that stand in it, as a plan: each begins with a blank, which is its gate. It is empty where
     /// the file is new.
     pub fn script(&self) -> &[u8]
         requires { IsFound D.Disk.seen D.Disk.may_leave D.Disk.is_usable D.Disk.is_clean self.now }
@@ -146,7 +146,7 @@ fn read_all<D: Disk>(alloc: Global, disk: &mut D) -> Result<Vec<u8>, JournalErro
 fn is_new(bytes: &[u8]) -> bool
     ensures { result ≡ is_new bytes.now }
 {
-    bytes.len() <= 1 || (bytes.len() <= 10 && bytes[0] == b' ')
+    bytes.len() <= 1 || (bytes.len() <= 9 && bytes[0] == b' ')
 }
 
 /// How many bytes the lines take that stand at the start of a file.

@@ -9,7 +9,7 @@ pub enum JournalError {
     #[error("{0}")]
     File(io::Error),
     /// The first line is no heading of a journal of this version.
-    #[error("the file is no journal of version 3")]
+    #[error("the file is no journal of a plan")]
     NoHeading,
     /// The journal has 2^60 bytes or more.
     #[error("the journal is too long")]

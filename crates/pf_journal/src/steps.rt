@@ -82,7 +82,7 @@ fn end_heading<D: Disk>(disk: &mut D) -> io::Result<()>
     ensures faults { CountsFault result (D.faults disk.old) (D.faults disk.new) }
     ensures crash { IsTrue (D.is_clean disk.old) → (c : List ℕ) → D.may_leave disk.new c → records_of c ≡ [] }
 {
-    write(disk, 1, b"pfair,3\n#")
+    write(disk, 1, b"plan,1\n#")
 }
 
 /// Makes a journal without records of a new file.

@@ -64,7 +64,7 @@ fault_text file Unwritten = named_line (codes "cannot write ") file (codes "\n")
 fault_text file NoMemory = codes "out of memory\n"
 
 abbrev pub no_heading_line : List ℕ → List ℕ
-no_heading_line file = named_line [] file (codes ":1: record 1: a journal begins with \" pfair,3\"\n")
+no_heading_line file = named_line [] file (codes ":1: record 1: a journal begins with \" plan,1\"\n")
 
 -- after it, where notes are told: why the file can't be read, or what a journal begins with
 abbrev pub note_behind : List ℕ → Bool → JournalFault → List ℕ

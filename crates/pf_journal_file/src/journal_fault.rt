@@ -163,7 +163,7 @@ fn no_heading_note(alloc: Global, file: &[u8]) -> Result<Vec<u8>, AllocError>
         &mut text,
         b"",
         file,
-        b":1: record 1: a journal begins with \" pfair,3\"\n",
+        b":1: record 1: a journal begins with \" plan,1\"\n",
     )?;
     Ok(text)
 }

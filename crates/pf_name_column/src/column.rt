@@ -6,7 +6,7 @@ use pf_names::titles::Titles;
 use pf_text::table::Table;
 use std::alloc::AllocError;
 
-/// Adds the heading of a table of tasks: these texts, and in version 3 `name`.
+/// Adds the heading of a table of tasks: these texts, and in a plan `name`.
 ///
 /// # Errors
 ///
@@ -18,13 +18,13 @@ pub fn push_heading(table: &mut Table, texts: &[&str], titles: &Titles) -> Resul
     for text in texts {
         table.show(*text)?;
     }
-    if titles.is_third {
+    if titles.is_plan {
         table.show("name")?;
     }
     table.end_record()
 }
 
-/// Adds the last field of a task's record: in version 3 its name, or nothing where it has none.
+/// Adds the last field of a task's record: in a plan its name, or nothing where it has none.
 ///
 /// # Errors
 ///
@@ -32,7 +32,7 @@ pub fn push_heading(table: &mut Table, texts: &[&str], titles: &Titles) -> Resul
 pub fn show_name(table: &mut Table, titles: &Titles, task: u64) -> Result<(), AllocError>
     ensures { OnOk result (table.new ≡ record { text = table.old.text; fields = table.old.fields ++ name_fields titles.now task }) }
 {
-    if !titles.is_third {
+    if !titles.is_plan {
         return Ok(());
     }
     match titles.names.of_task(task) {

@@ -1,5 +1,5 @@
-//! The last column of a table of tasks: in version 3 what the script calls each. The one contract of this crate: a heading
-//! and a record end in that column where the script is of version 3, and else they are as they were.
+//! The last column of a table of tasks: in a plan what the script calls each. The one contract of this crate: a heading
+//! and a record end in that column where the script is a plan, and else they are as they were.
 #![tactic(auto)]
 
 pub mod column;

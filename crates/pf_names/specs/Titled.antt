@@ -8,7 +8,7 @@ use Rattle.pf_names.specs.declared.titles.Titles.{Titles}
 
 -- nothing, as scripts of versions 1 and 2 do
 abbrev pub untitled : Titles
-untitled = record { is_third = false; names = []; slot = None }
+untitled = record { is_plan = false; names = []; slot = None }
 
 -- what a task is called: its name, or `task` and its number
 unfoldable pub number_label : ℕ → List ℕ

@@ -9,8 +9,8 @@ use std::alloc::{AllocError, Global};
 /// What a script tells of a desk that the desk itself does not hold: what its tasks are called, and how long a slot is.
 #[derive(Drop)]
 pub struct Titles {
-    /// Whether the script is of version 3, and reports tell of names, whether or not it gives one.
-    pub is_third: bool,
+    /// Whether the script is a plan, and reports tell of names, whether or not it gives one.
+    pub is_plan: bool,
     /// The names of its tasks.
     pub names: Names,
     /// How long a slot is, where that is told.
@@ -23,7 +23,7 @@ impl Titles {
         ensures { result ≡ untitled }
     {
         Titles {
-            is_third: false,
+            is_plan: false,
             names: Names::new(alloc),
             slot: None,
         }

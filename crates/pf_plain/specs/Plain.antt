@@ -1,18 +1,18 @@
--- The script of version 2 that belongs to a script of version 3.
+-- The script of version 2 that belongs to a plan.
 use Rattle.std.specs.Prelude.{ℕ, ◌+◌, ◌-◌, ◌≡◌, true, if◌then◌else◌, map, Option, None, Some, Result, Ok, Err, List, [], ◌∷◌, ◌++◌}
 use Rattle.pf_desk.specs.Machine.{State, opening_state}
 use Rattle.pf_names.specs.declared.titles.Titles.{Titles}
 use Rattle.pf_rows.specs.Rows.{Row, rows}
-use Rattle.pf_version3.specs.Line.{Line}
+use Rattle.pf_plan.specs.Line.{Line}
 use Rattle.pf_text.specs.Page.{table_text}
-use Rattle.pf_version3.specs.declared.fault.BadRecord.{BadRecord}
-use Rattle.pf_version3.specs.declared.fault.RecordFault.{RecordFault}
-use Rattle.pf_version3.specs.declared.said.Said.{Said}
-use Rattle.pf_version3.specs.declared.said.Said.TheVariants.{Settings, Slot, Name, Asks}
-use Rattle.pf_version3.specs.declared.state.Progress.{Progress}
-use Rattle.pf_version3.specs.Heading.{is_third_heading}
-use Rattle.pf_version3.specs.Parsing.{end_fault, said_at}
-use Rattle.pf_version3.specs.Progress.{at_heading, progress_after}
+use Rattle.pf_plan.specs.declared.fault.BadRecord.{BadRecord}
+use Rattle.pf_plan.specs.declared.fault.RecordFault.{RecordFault}
+use Rattle.pf_plan.specs.declared.said.Said.{Said}
+use Rattle.pf_plan.specs.declared.said.Said.TheVariants.{Settings, Slot, Name, Asks}
+use Rattle.pf_plan.specs.declared.state.Progress.{Progress}
+use Rattle.pf_plan.specs.Heading.{is_plan_heading}
+use Rattle.pf_plan.specs.Parsing.{end_fault, said_at}
+use Rattle.pf_plan.specs.Progress.{at_heading, progress_after}
 use Rattle.pf_plain.specs.declared.origin.Origin.{Origin}
 use Rattle.pf_plain.specs.declared.plain.PlainScript.{PlainScript}
 use Rattle.pf_plain.specs.Carried.{number_given, state_behind_line}
@@ -55,7 +55,7 @@ pub record Plain : Type 0 where
   pub last : ℕ
 
 abbrev pub titles_of : Progress → Titles
-titles_of p = record { is_third = true; names = p.names; slot = p.slot }
+titles_of p = record { is_plan = true; names = p.names; slot = p.slot }
 
 -- a bad record stands for one that no script has
 abbrev pub ended : Progress → Origin → Option RecordFault → Plain
@@ -89,10 +89,10 @@ plain_from c number end (row ∷ rows) =
 abbrev pub with_heading : ℕ → Plain → Plain
 with_heading line p = record p { records = heading_fields ∷ p.records; origins = record { number = 1; line = line } ∷ p.origins }
 
--- a text whose first row is no heading of version 3 is no script of version 3
+-- a text whose first row is no heading of a plan is no plan
 abbrev pub plain_of : ℕ → List Row → Option Plain
 plain_of end [] = None
-plain_of end (row ∷ rows) = if is_third_heading row.fields then Some (with_heading row.line (plain_from start 2 end rows)) else None
+plain_of end (row ∷ rows) = if is_plan_heading row.fields then Some (with_heading row.line (plain_from start 2 end rows)) else None
 
 abbrev pub plain : List ℕ → Option Plain
 plain bytes = plain_of (rows bytes).end (rows bytes).rows

@@ -1,8 +1,8 @@
 -- A script of version 2 that is being written.
 use Rattle.std.specs.Prelude.{ℕ, ◌≡◌, map, [], ◌∷◌, ◌++◌}
 use Rattle.pf_text.specs.Page.{table_text}
-use Rattle.pf_version3.specs.declared.said.Said.{Said}
-use Rattle.pf_version3.specs.Progress.{progress_after}
+use Rattle.pf_plan.specs.declared.said.Said.{Said}
+use Rattle.pf_plan.specs.Progress.{progress_after}
 use Rattle.pf_plain.specs.declared.origin.Origin.{Origin}
 use Rattle.pf_plain.specs.declared.plain.PlainScript.{PlainScript}
 use Rattle.pf_plain.specs.declared.writer.PlainWriter.{PlainWriter}

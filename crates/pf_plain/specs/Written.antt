@@ -5,11 +5,11 @@ use Rattle.pf_scenario.specs.declared.event.Event.{Event}
 use Rattle.pf_scenario.specs.declared.event.Event.TheVariants.{Join, Leave, Delay, Limit}
 use Rattle.pf_scenario.specs.declared.change.Change.{Change}
 use Rattle.pf_scenario.specs.declared.change.Change.TheVariants.{Insert, Alter, Strike}
-use Rattle.pf_version3.specs.Line.{Line}
-use Rattle.pf_version3.specs.Line.TheVariants.{Edit, Steps}
-use Rattle.pf_version3.specs.ScriptSettings.{ScriptSettings}
-use Rattle.pf_version3.specs.declared.said.Said.{Said}
-use Rattle.pf_version3.specs.declared.said.Said.TheVariants.{Settings, Slot, Name, Asks}
+use Rattle.pf_plan.specs.Line.{Line}
+use Rattle.pf_plan.specs.Line.TheVariants.{Edit, Steps}
+use Rattle.pf_plan.specs.ScriptSettings.{ScriptSettings}
+use Rattle.pf_plan.specs.declared.said.Said.{Said}
+use Rattle.pf_plan.specs.declared.said.Said.TheVariants.{Settings, Slot, Name, Asks}
 
 -- an event as it is inserted, EARLY written
 abbrev pub event_fields : Event → List (List ℕ)

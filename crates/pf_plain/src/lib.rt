@@ -1,4 +1,4 @@
-//! The script of version 2 that belongs to a script of version 3. The one contract of this crate: its text is that of the
+//! The script of version 2 that belongs to a plan. The one contract of this crate: its text is that of the
 //! script's records, with tasks by number, and labels by the numbers that a desk gave to the events they stand before.
 #![tactic(auto)]
 

@@ -1,4 +1,4 @@
-/// Where a record of a script of version 2 comes from: a record of the script of version 3.
+/// Where a record of a script of version 2 comes from: a record of the plan.
 #[derive(Clone, Copy)]
 pub struct Origin {
     /// Its number, counted from 1: the heading is 1.

@@ -5,13 +5,13 @@ use crate::origin::Origin;
 use crate::writer::PlainWriter;
 use csv::ByteRecord;
 use pf_names::titles::Titles;
+use pf_plan::fault::BadRecord;
+use pf_plan::fields::Fields;
+use pf_plan::heading::is_plan_heading;
 use pf_rows::rows::{NextRow, Rows};
-use pf_version3::fault::BadRecord;
-use pf_version3::fields::Fields;
-use pf_version3::heading::is_third_heading;
 use std::alloc::{AllocError, Global};
 
-/// The script of version 2 that belongs to a script of version 3, and what it does not tell.
+/// The script of version 2 that belongs to a plan, and what it does not tell.
 #[derive(Drop)]
 pub struct PlainScript {
     /// Its text: the heading, the settings in full, and each change and step, with tasks by number, and in place of a label the
@@ -27,7 +27,7 @@ pub struct PlainScript {
     pub last: u64,
 }
 
-/// The script of version 2 that belongs to a text; `None` where the text is no script of version 3.
+/// The script of version 2 that belongs to a text; `None` where the text is no plan.
 ///
 /// # Errors
 ///
@@ -40,7 +40,7 @@ pub fn plain_script(alloc: Global, bytes: &[u8]) -> Result<Option<PlainScript>, 
     let NextRow::Found(line) = rows.next(&mut row)? else {
         return Ok(None);
     };
-    if !is_third_heading(&Fields::new(&row)) {
+    if !is_plan_heading(&Fields::new(&row)) {
         return Ok(None);
     }
     let made = write_plain(alloc, rows, row, line)?;

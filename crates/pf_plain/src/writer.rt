@@ -7,10 +7,10 @@ use crate::plain::PlainScript;
 use crate::script_text::ScriptText;
 use crate::writing::{push_line, push_settings};
 use pf_names::titles::Titles;
-use pf_version3::fault::BadRecord;
-use pf_version3::line::Line;
-use pf_version3::said::Said;
-use pf_version3::state::Progress;
+use pf_plan::fault::BadRecord;
+use pf_plan::line::Line;
+use pf_plan::said::Said;
+use pf_plan::state::Progress;
 use std::alloc::{AllocError, Global};
 
 /// A script of version 2 on its way.
@@ -29,7 +29,7 @@ impl PlainWriter {
     ghost use Rattle.std.specs.Prelude.{◌≡◌, true, [], Some, IfOk, OnOk};
     ghost use Rattle.pf_plain.specs.Plain.{desk_behind, ended, given, titles_of};
     ghost use Rattle.pf_plain.specs.Ways.{Ends, HasTaken, HasWritten, IsFresh};
-    ghost use Rattle.pf_version3.specs.Parsing.{end_fault};
+    ghost use Rattle.pf_plan.specs.Parsing.{end_fault};
 
     /// The heading, which stands on this line.
     pub(crate) fn new(alloc: Global, line: u64) -> Result<Self, AllocError>
@@ -121,7 +121,7 @@ impl PlainWriter {
             text,
             origins: self.origins,
             titles: Titles {
-                is_third: true,
+                is_plan: true,
                 names: self.progress.names,
                 slot: self.progress.slot,
             },

@@ -4,10 +4,10 @@ ghost use Rattle.pf_text.specs.Page.{Page, with_record};
 ghost use Rattle.pf_plain.specs.Written.{change_fields, event_fields, line_fields, settings_fields, strict_fields};
 
 use crate::script_text::ScriptText;
+use pf_plan::line::Line;
+use pf_plan::record::ScriptSettings;
 use pf_scenario::change::Change;
 use pf_scenario::event::Event;
-use pf_version3::line::Line;
-use pf_version3::record::ScriptSettings;
 use std::alloc::AllocError;
 
 /// Adds the record of settings, in full.

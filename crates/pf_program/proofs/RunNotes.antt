@@ -21,11 +21,11 @@ use Rattle.pf_program.specs.Noted.{OneOf, notes_in}
 use Rattle.pf_program.specs.Tasks.{AnswersTask}
 use Rattle.pf_program.specs.Versions.{AnswersBytes, AnswersOf}
 
--- Use: of a script of version 3 the one that belongs to it is carried out, ..
-pub third_text : (q : Option Plain) (s : PlainScript) (script : List ℕ) → MakesPlain (Some s) q
+-- Use: of a plan the one that belongs to it is carried out, ..
+pub plan_text : (q : Option Plain) (s : PlainScript) (script : List ℕ) → MakesPlain (Some s) q
     → IsTextBy q script s.text.items (Some s.origins.items) s.titles.names
-third_text None s script made = absurd made
-third_text (Some p) s script made = record {
+plan_text None s script made = absurd made
+plan_text (Some p) s script made = record {
   text_is = made.text;
   origins_are = ap Some made.origins;
   names_are = ap (λ (t : Titles). t.names) made.titles;

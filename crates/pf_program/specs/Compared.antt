@@ -29,15 +29,15 @@ use Rattle.pf_program.specs.Versions.{numbered}
 abbrev pub ShowsText : List ℕ → Result Seen Fault → Type 0
 ShowsText script outcome = ShowsEnd (outcome_told (told script)) outcome
 
--- of one of version 3, by the script of version 2 that belongs to it, where that is short enough
-pub record ShowsThird (p : Plain) (outcome : Result Seen Fault) : Type 0 where
+-- of a plan, by the script of version 2 that belongs to it, where that is short enough
+pub record ShowsPlan (p : Plain) (outcome : Result Seen Fault) : Type 0 where
   pub short : length (table_text p.records) ≤ longest_script
       → (inner : Result Seen Fault) × ShowsText (table_text p.records) inner × (outcome ≡ numbered p.origins inner)
   pub long : longest_script < length (table_text p.records) → outcome ≡ Err why.TooLong
 
 abbrev pub ShowsOf : Option Plain → List ℕ → Result Seen Fault → Type 0
 ShowsOf None script outcome = ShowsText script outcome
-ShowsOf (Some p) script outcome = ShowsThird p outcome
+ShowsOf (Some p) script outcome = ShowsPlan p outcome
 
 -- of one of any version
 abbrev pub ShowsBytes : List ℕ → Result Seen Fault → Type 0

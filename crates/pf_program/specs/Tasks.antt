@@ -38,7 +38,7 @@ use Rattle.pf_drill.specs.Gates.{SomeArrived}
 use Rattle.pf_convert_words.specs.declared.conversion.Conversion.{Conversion}
 use Rattle.pf_conversion.specs.Conversions.{MakesConversion}
 
--- the script, which has these titles and origins where it belongs to one of version 3, was run in this format: the writer took what it means, or a front of that, and the status tells whether the run
+-- the script, which has these titles and origins where it belongs to a plan, was run in this format: the writer took what it means, or a front of that, and the status tells whether the run
 -- fails on what is listed, which it never does on nothing; where the range can't be shown the writer is as it was
 pub record RunsScript (format : Format) (titles : Titles) (origins : Option (List Origin)) (fail_on : FailOn) (script : List ℕ) (answer : Result Ending Fault) (old new : Option (List ℕ)) : Type 0 where
   pub meaning : Answers (script_meaning format titles origins script) answer old new
@@ -70,7 +70,7 @@ abbrev pub ListConverted : Conversion → List ℕ → Result Answer Fault → T
 ListConverted conversion list (Ok made) = MakesConversion conversion list made
 ListConverted conversion list (Err fault) = fault ≡ why.NoMemory
 
--- the answer to whether the script in the file of this name fits; origins where it belongs to a script of version 3
+-- the answer to whether the script in the file of this name fits; origins where it belongs to a plan
 pub record FitMade (format : FitFormat) (file : List ℕ) (origins : Option (List Origin)) (titles : Titles) (script : List ℕ) (made : Result Answer Fault) : Type 0 where
   pub answer : IfOk made (fit.FitMade format file origins titles script)
   pub stopped : IfErr made (carried.Stops (told script).rest.fault)
@@ -81,7 +81,7 @@ pub record CheckRunMade (file script : List ℕ) (made : Result Answer Fault) : 
   pub stopped : IfErr made (λ fault. fault ≡ why.NoMemory)
 
 -- the answer to a task with a script that has these titles, or with a list, in the file of this name, and what the writer took;
--- origins where it belongs to a script of version 3
+-- origins where it belongs to a plan
 abbrev pub AnswersTask : Titles → Option (List Origin) → Task → List ℕ → List ℕ → Result Ending Fault → Option (List ℕ) → Option (List ℕ) → Type 0
 AnswersTask titles origins (Run format fail_on) file script answer old new = RunsScript format titles origins fail_on script answer old new
 AnswersTask titles origins (RunTasks format words fail_on) file script answer old new = RunsTasks format titles words fail_on script answer old new

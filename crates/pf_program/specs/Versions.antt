@@ -1,10 +1,10 @@
--- What the program answers to a task with a script of any version: with one of version 3 by the script of version 2 that belongs
+-- What the program answers to a task with a script of any version: with a plan by the script of version 2 that belongs
 -- to it.
 use Rattle.std.specs.Prelude.{ℕ, ◌≡◌, ◌+◌, ◌-◌, ◌⊎◌, ◌<◌, ◌≤◌, ◌==◌, ◌||◌, nat_lt, if◌then◌else◌, List, [], ◌∷◌, length, Option, None, Some, IfOk, IfErr, Result, Ok, Err}
 use Rattle.std.specs.List.{slice_index_or}
 use Rattle.std.specs.Io.KnownBytes.{Keeps}
-use Rattle.pf_check3.specs.Checked.{ChecksThird}
-use Rattle.pf_check_run.specs.Answers.{ChecksThirdRun, IsThirdStopped}
+use Rattle.pf_plan_check.specs.Checked.{ChecksPlan}
+use Rattle.pf_check_run.specs.Answers.{ChecksPlanRun, IsPlanStopped}
 use Rattle.pf_fault.specs.declared.answer.Answer.{Answer}
 use Rattle.pf_fault.specs.declared.ending.Ending.{Ending}
 use Rattle.pf_fault.specs.declared.fault.Fault.{Fault}
@@ -57,18 +57,18 @@ numbered origins (Err fault) = Err (numbered_fault origins fault)
 
 -- the answer to a check
 abbrev pub IsChecked : List ℕ → Result Answer Fault → Type 0
-IsChecked script (Ok made) = ChecksThird script made
+IsChecked script (Ok made) = ChecksPlan script made
 IsChecked script (Err fault) = fault ≡ why.NoMemory
 
--- the answer to a script of version 3 that is checked and carried out
-pub record ThirdRunMade (p : Plain) (file script : List ℕ) (made : Result Answer Fault) : Type 0 where
-  pub answer : IfOk made (ChecksThirdRun p file script)
-  pub stopped : IfErr made (IsThirdStopped p)
+-- the answer to a plan that is checked and carried out
+pub record PlanRunMade (p : Plain) (file script : List ℕ) (made : Result Answer Fault) : Type 0 where
+  pub answer : IfOk made (ChecksPlanRun p file script)
+  pub stopped : IfErr made (IsPlanStopped p)
 
-abbrev pub AnswersThirdRun : Plain → List ℕ → List ℕ → Result Ending Fault → Option (List ℕ) → Option (List ℕ) → Type 0
-AnswersThirdRun p file script answer old new = (made : Result Answer Fault) × ThirdRunMade p file script made × AnswersMade made answer old new
+abbrev pub AnswersPlanRun : Plain → List ℕ → List ℕ → Result Ending Fault → Option (List ℕ) → Option (List ℕ) → Type 0
+AnswersPlanRun p file script answer old new = (made : Result Answer Fault) × PlanRunMade p file script made × AnswersMade made answer old new
 
--- the task was done with the script of version 2, whose records come from those of version 3
+-- the task was done with the script of version 2, whose records come from those of a plan
 abbrev pub AnswersRecords : Plain → Task → List ℕ → Result Ending Fault → Option (List ℕ) → Option (List ℕ) → Type 0
 AnswersRecords p task file inner old new = AnswersTask p.titles (Some p.origins) (task_in p task) file (table_text p.records) inner old new
 
@@ -81,22 +81,22 @@ pub record AnswersShort (p : Plain) (task : Task) (file : List ℕ) (answer : Re
   pub short : length (table_text p.records) ≤ longest_script → AnswersPlain p task file answer old new
   pub long : longest_script < length (table_text p.records) → (answer ≡ Err why.TooLong) × Keeps old new
 
--- the answer to a task with a script of version 3; a list of tasks is no script, however it begins
-abbrev pub AnswersThird : Plain → Task → List ℕ → List ℕ → Result Ending Fault → Option (List ℕ) → Option (List ℕ) → Type 0
-AnswersThird p Check file script answer old new = (made : Result Answer Fault) × IsChecked script made × AnswersMade made answer old new
-AnswersThird p CheckRun file script answer old new = AnswersThirdRun p file script answer old new
-AnswersThird p (Run format fail_on) file script answer old new = AnswersShort p (Run format fail_on) file answer old new
-AnswersThird p (RunTasks format words fail_on) file script answer old new = AnswersShort p (RunTasks format words fail_on) file answer old new
-AnswersThird p (Diff since options) file script answer old new = AnswersShort p (Diff since options) file answer old new
-AnswersThird p Drill file script answer old new = AnswersShort p Drill file answer old new
-AnswersThird p (Convert conversion) file list answer old new = AnswersTask untitled None (Convert conversion) file list answer old new
-AnswersThird p (Fit format) file script answer old new = AnswersShort p (Fit format) file answer old new
-AnswersThird p (Why question) file script answer old new = AnswersShort p (Why question) file answer old new
+-- the answer to a task with a plan; a list of tasks is no script, however it begins
+abbrev pub AnswersPlan : Plain → Task → List ℕ → List ℕ → Result Ending Fault → Option (List ℕ) → Option (List ℕ) → Type 0
+AnswersPlan p Check file script answer old new = (made : Result Answer Fault) × IsChecked script made × AnswersMade made answer old new
+AnswersPlan p CheckRun file script answer old new = AnswersPlanRun p file script answer old new
+AnswersPlan p (Run format fail_on) file script answer old new = AnswersShort p (Run format fail_on) file answer old new
+AnswersPlan p (RunTasks format words fail_on) file script answer old new = AnswersShort p (RunTasks format words fail_on) file answer old new
+AnswersPlan p (Diff since options) file script answer old new = AnswersShort p (Diff since options) file answer old new
+AnswersPlan p Drill file script answer old new = AnswersShort p Drill file answer old new
+AnswersPlan p (Convert conversion) file list answer old new = AnswersTask untitled None (Convert conversion) file list answer old new
+AnswersPlan p (Fit format) file script answer old new = AnswersShort p (Fit format) file answer old new
+AnswersPlan p (Why question) file script answer old new = AnswersShort p (Why question) file answer old new
 
 -- the answer to a task with a script of any version, in the file of this name
 abbrev pub AnswersOf : Option Plain → Task → List ℕ → List ℕ → Result Ending Fault → Option (List ℕ) → Option (List ℕ) → Type 0
 AnswersOf None task file script answer old new = AnswersTask untitled None task file script answer old new
-AnswersOf (Some p) task file script answer old new = AnswersThird p task file script answer old new
+AnswersOf (Some p) task file script answer old new = AnswersPlan p task file script answer old new
 
 abbrev pub AnswersBytes : Task → List ℕ → List ℕ → Result Ending Fault → Option (List ℕ) → Option (List ℕ) → Type 0
 AnswersBytes task file script answer old new =

@@ -68,7 +68,7 @@ pub(crate) fn with_notes(
 }
 
 /// The same of a task that ended so. What a script of any version has carried out is this text, of version 1 or 2, with these origins
-/// where it is of version 3, and these names: after a run the notes are made of the desk that it left.
+/// where it is a plan, and these names: after a run the notes are made of the desk that it left.
 #[tactic(auto, using(crate::proofs::RunNotes::run_noted))]
 pub(crate) fn end_with_notes(
     alloc: Global,

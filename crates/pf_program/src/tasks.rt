@@ -31,7 +31,7 @@ use std::sync::Wait;
 use std::thread::Threads;
 
 /// Does a task with a script of these bytes, which has these titles, in the file of this name, and writes what it answers. Where the
-/// script belongs to one of version 3, `origins` are the records there that its own come from. Threads are started for a drill alone,
+/// script belongs to a plan, `origins` are the records there that its own come from. Threads are started for a drill alone,
 /// and the call waits for them. Where it was not done, its fault is the outcome: `Write` where the writer fails or takes nothing. The
 /// writer's count of failures must be below `u64::MAX` before the call.
 pub(crate) fn do_task<H: AllocGlobal + Threads + Wait + Sync, W: Sink>(

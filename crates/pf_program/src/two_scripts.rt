@@ -3,7 +3,7 @@ ghost use Rattle.pf_fault.specs.Faults.{CountsWrites, IsPastReading, IsUnwritten
 ghost use Rattle.pf_plain.specs.Plain.{IsPlain, Plain};
 ghost use Rattle.pf_stream.specs.Reading.{longest_script};
 ghost use Rattle.pf_words.specs.Asked.{name_of, names_of};
-ghost use Rattle.pf_program.specs.Compared.{DifferenceMade, PairNotes, Shows, ShowsBytes, ShowsThird};
+ghost use Rattle.pf_program.specs.Compared.{DifferenceMade, PairNotes, Shows, ShowsBytes, ShowsPlan};
 ghost use Rattle.pf_program.specs.Status.{ComparesBehind, ComparesScripts, seen_streams};
 
 use crate::answering::write_answer;
@@ -184,9 +184,9 @@ fn show_script(alloc: Global, script: &[u8]) -> Result<Snapshot, Fault>
     }
 }
 
-/// What it shows at the end of the script of version 3 to which this one belongs. A bad record has its number in that one.
+/// What it shows at the end of the plan to which this one belongs. A bad record has its number in that one.
 fn show_plain(alloc: Global, plain: &PlainScript) -> Result<Snapshot, Fault>
-    ensures shows { (p : Plain) → IsPlain plain.now p → ShowsThird p result }
+    ensures shows { (p : Plain) → IsPlain plain.now p → ShowsPlan p result }
     ensures read { IsPastReading result }
     ensures unwritten { IfErr result IsUnwritten }
 {

@@ -7,7 +7,7 @@ ghost use Rattle.pf_words.specs.Asked.{IsSound};
 ghost use Rattle.pf_program.specs.Ends.{LeavesDesk, outcome_of};
 ghost use Rattle.pf_program.specs.Noted.{AreNotesOf, noting_behind, noting_of};
 ghost use Rattle.pf_program.specs.Tasks.{IsOfScript, IsQuietIfDone};
-ghost use Rattle.pf_program.specs.Versions.{AnswersBytes, AnswersRecords, AnswersShort, AnswersThird, IsChecked, count_below, number_from, numbered, numbered_fault, since_in, task_in};
+ghost use Rattle.pf_program.specs.Versions.{AnswersBytes, AnswersRecords, AnswersShort, AnswersPlan, IsChecked, count_below, number_from, numbered, numbered_fault, since_in, task_in};
 
 use crate::answering::write_answer;
 use crate::noted::Noted;
@@ -15,13 +15,13 @@ use crate::notes::{end_with_notes, with_notes};
 use crate::noting::Noting;
 use crate::task_end::TaskEnd;
 use crate::tasks::{convert_list, do_task};
-use pf_check_run::check_run::third_check_run;
-use pf_check3::check::third_check;
+use pf_check_run::check_run::plan_check_run;
 use pf_fault::answer::Answer;
 use pf_fault::fault::Fault;
 use pf_names::titles::Titles;
 use pf_plain::origin::Origin;
 use pf_plain::plain::{PlainScript, plain_script};
+use pf_plan_check::check::plan_check;
 use pf_stream::reading::LONGEST_SCRIPT;
 use pf_stream::sink::Sink;
 use pf_words::task::Task;
@@ -29,7 +29,7 @@ use std::alloc::Global;
 use std::sync::Wait;
 use std::thread::Threads;
 
-/// Does a task with a script of these bytes, of any version: with one of version 3 by the script of version 2 that belongs to
+/// Does a task with a script of these bytes, of any version: with a plan by the script of version 2 that belongs to
 /// it; or with a list of tasks of these bytes, however it begins. Has its notes, where they are asked for. The outcome is a fault of
 /// the task; `Write` where the writer fails or takes nothing. The writer's count of failures must be below `u64::MAX` before the call.
 pub(crate) fn do_script<H: AllocGlobal + Threads + Wait + Sync, W: Sink>(
@@ -58,7 +58,7 @@ pub(crate) fn do_script<H: AllocGlobal + Threads + Wait + Sync, W: Sink>(
 }
 
 /// The same with a script alone.
-#[tactic(auto, using(crate::proofs::RunNotes::third_text, crate::proofs::RunNotes::own_text))]
+#[tactic(auto, using(crate::proofs::RunNotes::plan_text, crate::proofs::RunNotes::own_text))]
 fn do_version<H: AllocGlobal + Threads + Wait + Sync, W: Sink>(
     rt: &H,
     task: Task,
@@ -78,7 +78,7 @@ fn do_version<H: AllocGlobal + Threads + Wait + Sync, W: Sink>(
     let alloc = rt.alloc();
     match plain_script(alloc, script) {
         Ok(Some(plain)) => {
-            let end = do_third(rt, task, file, script, &plain, writer);
+            let end = do_plan(rt, task, file, script, &plain, writer);
             let origins = plain.origins.as_slice();
             let names = &plain.titles.names;
             end_with_notes(
@@ -110,8 +110,8 @@ fn do_version<H: AllocGlobal + Threads + Wait + Sync, W: Sink>(
     }
 }
 
-/// Does a task with a script of version 3, to which this one belongs.
-fn do_third<H: AllocGlobal + Threads + Wait + Sync, W: Sink>(
+/// Does a task with a plan, to which this one belongs.
+fn do_plan<H: AllocGlobal + Threads + Wait + Sync, W: Sink>(
     rt: &H,
     task: Task,
     file: &[u8],
@@ -123,7 +123,7 @@ fn do_third<H: AllocGlobal + Threads + Wait + Sync, W: Sink>(
     requires script { IsOfScript task }
     requires writes { W.failed writer.old < 2 ^ 64 - 1 }
     ensures answers { (p : Plain) → Belongs script.now plain.now p →
-        AnswersThird p task file.now script.now (outcome_of result) (W.contents writer.old) (W.contents writer.new) }
+        AnswersPlan p task file.now script.now (outcome_of result) (W.contents writer.old) (W.contents writer.new) }
     ensures desk { LeavesDesk plain.now.text.items result }
     ensures quiet { IfOk (outcome_of result) IsQuietIfDone }
     ensures writes { CountsWrites (outcome_of result) (W.failed writer.old) (W.failed writer.new) }
@@ -131,14 +131,14 @@ fn do_third<H: AllocGlobal + Threads + Wait + Sync, W: Sink>(
     match task {
         Task::Check => TaskEnd::Other(write_answer(check_script(rt.alloc(), script), writer)),
         Task::CheckRun => TaskEnd::Other(write_answer(
-            third_check_run(rt.alloc(), file, script, plain),
+            plan_check_run(rt.alloc(), file, script, plain),
             writer,
         )),
         _ => do_plain(rt, task, file, plain, writer),
     }
 }
 
-/// Does a task with this script of version 2, and tells records by their numbers in that of version 3.
+/// Does a task with this script of version 2, and tells records by their numbers in that of a plan.
 fn do_plain<H: AllocGlobal + Threads + Wait + Sync, W: Sink>(
     rt: &H,
     task: Task,
@@ -189,20 +189,20 @@ fn do_records<H: AllocGlobal + Threads + Wait + Sync, W: Sink>(
     )
 }
 
-/// The answer to a check of a script of version 3.
+/// The answer to a check of a plan.
 fn check_script(alloc: Global, script: &[u8]) -> Result<Answer, Fault>
     ensures made { IsChecked script.now result }
     ensures quiet { IfOk result (λ answer. answer.ending.notes.items ≡ []) }
     ensures unwritten { IfErr result IsUnwritten }
 {
-    match third_check(alloc, script) {
+    match plan_check(alloc, script) {
         Ok(answer) => Ok(answer),
         Err(_) => Err(Fault::NoMemory),
     }
 }
 
 /// The task with the script of version 2: what its records from one on changed, where the one is told by its number in the
-/// script of version 3.
+/// plan.
 fn task_in(task: Task, plain: &PlainScript) -> Task
     requires { IsOfScript task }
     ensures script { IsOfScript result }

@@ -70,7 +70,7 @@ pub places_above : (origins : Option (List Origin)) (script : List ℕ) (bound m
 places_above origins script bound more (Origins told) h are = are
 places_above origins script bound more (Lines left) h are = (are.0, are.1, omega (arith, are.2, h))
 
--- Use: of a script that belongs to one of version 3.
+-- Use: of a script that belongs to a plan.
 module _ (origins : Option (List Origin)) (script : List ℕ) (bound number : ℕ) (p : Places) (are : ArePlaces origins script bound p) where
   pub origin_stands : (told : Bor (List Origin)) (place : Place) → p ≡ Origins told
       → place ≡ place_of_origin (slice_index_or told.now (number - 1) (record { number = number; line = 0 })) → place ≡ place_of origins script number

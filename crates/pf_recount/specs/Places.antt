@@ -10,7 +10,7 @@ use Rattle.pf_recount.specs.declared.places.Places.TheVariants.{Origins, Lines}
 abbrev pub place_of_origin : Origin → Place
 place_of_origin origin = record { «record» = origin.number; line = origin.line }
 
--- the place of the record of this number of a script of these bytes; where it belongs to a script of version 3, that of the
+-- the place of the record of this number of a script of these bytes; where it belongs to a plan, that of the
 -- record there that it comes from
 abbrev pub place_of : Option (List Origin) → List ℕ → ℕ → Place
 place_of None script number = record { «record» = number; line = slice_index_or (record_lines script) (number - 1) 0 }

@@ -105,7 +105,7 @@ recounted_told file names whole place_at most t =
     option_map (λ s. behind_lines file names whole place_at (opening_state s.settings) t.rest.lines (none_yet most)) t.opening
 
 -- the same of a script of these bytes, up to its first bad record: with the lines of the first `most` refused records of this file,
--- and with all refused records where they are kept; origins where it belongs to a script of version 3
+-- and with all refused records where they are kept; origins where it belongs to a plan
 unfoldable pub recounted : List ℕ → List Named → Option (List Origin) → ℕ → Bool → List ℕ → Option Recounted
 recounted file names origins most whole script =
     recounted_told file names whole (place_of origins script) most (told script)

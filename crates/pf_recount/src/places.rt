@@ -9,7 +9,7 @@ use pf_script::record_lines::RecordLines;
 /// Where the records of a script stand, asked for by numbers that rise.
 #[derive(Drop)]
 pub(crate) enum Places<'a> {
-    /// Of a script that belongs to one of version 3: the records that its own come from.
+    /// Of a script that belongs to a plan: the records that its own come from.
     Origins(&'a [Origin]),
     /// Of any other.
     Lines(LinesLeft<'a>),
@@ -30,7 +30,7 @@ impl<'a> Places<'a> {
     ghost use Rattle.pf_plain.specs.declared.origin.Origin.{Origin};
     ghost use Rattle.pf_recount.specs.Places.{ArePlaces, place_of};
 
-    /// Those of a script of these bytes, with the records that its own come from, where it belongs to one of version 3.
+    /// Those of a script of these bytes, with the records that its own come from, where it belongs to a plan.
     pub(crate) fn new(script: &'a [u8], origins: Option<&'a [Origin]>) -> Self
         ensures { ArePlaces (option_map (λ o. o.now) origins.entry) script.now 0 result }
     {

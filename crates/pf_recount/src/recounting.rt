@@ -249,7 +249,7 @@ fn recount_script<'a>(
 
 /// What the records of a script came to that was carried out on this desk, up to its first bad record: the record that made each
 /// event as it stands, the lines of the first `most` refused records of this file, and, where `whole` is asked for, each refused
-/// record. The script is the text of version 1 or 2 that was carried out; where it belongs to a script of version 3, `origins` are
+/// record. The script is the text of version 1 or 2 that was carried out; where it belongs to a plan, `origins` are
 /// the records there that its own come from, and records are told by them. `None` where the desk has other settings than the
 /// script, or answered other commands.
 ///

@@ -1,4 +1,4 @@
--- The script of a desk in version 3, run again.
+-- The script of a desk as a plan, run again.
 use Rattle.std.proofs.Common.{◌≡◌, ◌∙◌, ◌≤◌, ℕ, Bool, true, false, List, Some, None, Option, ap₂, sym, subst, arith, refl}
 use Rattle.std.specs.Prelude.{◌&&◌, if◌then◌else◌, nat_le, not}
 use Rattle.std.proofs.lemmas.Bool.Decides.{nat_tests}

@@ -1,4 +1,4 @@
--- The script of a desk in version 3, run by the program.
+-- The script of a desk as a plan, run by the program.
 use Rattle.std.specs.Prelude.{ℕ, ◌≡◌, Some}
 use Rattle.pf_scenario.specs.System.{wide_horizon}
 use Rattle.pf_desk.specs.Desk.{Seen}

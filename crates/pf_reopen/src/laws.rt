@@ -62,7 +62,7 @@ pub fn schedule_is_written_again()
     ensures { ScheduleIsWrittenAgain }
 {}
 
-/// The script of a snapshot in version 3, with names of tasks and the length of a slot, run in the format `script`, writes itself
+/// The script of a snapshot as a plan, with names of tasks and the length of a slot, run in the format `script`, writes itself
 /// byte for byte.
 pub fn titled_scripts_run_again()
     ensures { TitledScriptsRunAgain }

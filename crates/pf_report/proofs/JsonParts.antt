@@ -22,10 +22,10 @@ IsParted titles denials entries lags misses now schedule =
 object_parts : (titles : Titles) (denials : Items) (entries : ℕ) (lags misses : Items) (now : ℕ) (schedule : Items)
     → IsParted titles denials entries lags misses now schedule
 unfolding serde_json_on_literals
-object_parts titles denials entries lags misses now schedule = by titles.is_third titles.names titles.slot
+object_parts titles denials entries lags misses now schedule = by titles.is_plan titles.names titles.slot
   where
-    by : (third : Bool) (names : List Named) (slot : Option SlotLength)
-        → IsParted (record { is_third = third; names = names; slot = slot }) denials entries lags misses now schedule
+    by : (is_plan : Bool) (names : List Named) (slot : Option SlotLength)
+        → IsParted (record { is_plan = is_plan; names = names; slot = slot }) denials entries lags misses now schedule
     by true names slot = refl
     by false names slot = refl
 

@@ -65,12 +65,12 @@ length_data slot =
 abbrev pub slot_data : Option SlotLength → Data
 slot_data slot = option_map_or length_data slot null
 
--- members that stand in version 3 alone: the names of tasks, by task, before others, and the length of a slot at the end
+-- members that stand in a plan alone: the names of tasks, by task, before others, and the length of a slot at the end
 abbrev pub names_before : Titles → Members → Members
-names_before titles more = if titles.is_third then member (codes "names") (array_data name_data titles.names) more else more
+names_before titles more = if titles.is_plan then member (codes "names") (array_data name_data titles.names) more else more
 
 abbrev pub slot_member : Titles → Members
-slot_member titles = if titles.is_third then member (codes "slot") (slot_data titles.slot) no_members else no_members
+slot_member titles = if titles.is_plan then member (codes "slot") (slot_data titles.slot) no_members else no_members
 
 -- the object of a report, of its parts
 abbrev pub report_object : Titles → Data → ℕ → Data → Data → ℕ → Data → Data
@@ -94,9 +94,9 @@ report_data seen titles =
 abbrev pub json_text : Seen → Titles → List ℕ
 json_text seen titles = compact_text (report_data seen titles)
 
--- the text of the members of version 3, each after its key
+-- the text of the members of a plan, each after its key
 abbrev pub names_part : Titles → List ℕ
-names_part titles = if titles.is_third then codes ",\"names\":" ++ compact_text (array_data name_data titles.names) else []
+names_part titles = if titles.is_plan then codes ",\"names\":" ++ compact_text (array_data name_data titles.names) else []
 
 abbrev pub slot_part : Titles → List ℕ
-slot_part titles = if titles.is_third then codes ",\"slot\":" ++ compact_text (slot_data titles.slot) else []
+slot_part titles = if titles.is_plan then codes ",\"slot\":" ++ compact_text (slot_data titles.slot) else []

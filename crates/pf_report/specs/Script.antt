@@ -13,10 +13,10 @@ use Rattle.pf_scenario.specs.declared.event.Numbered.{Numbered}
 use Rattle.pf_desk.specs.Desk.{Seen}
 use Rattle.pf_text.specs.Page.{table_text}
 
--- `pfair,3` in version 3; else `pfair,2` where the settings are wide
+-- `plan,1` in a plan; else `pfair,2` where the settings are wide
 abbrev pub heading_records : System → Titles → List (List (List ℕ))
 heading_records settings titles =
-    if titles.is_third then (codes "pfair" ∷ codes "3" ∷ []) ∷ []
+    if titles.is_plan then (codes "plan" ∷ codes "1" ∷ []) ∷ []
     else if settings.horizon == near_horizon then []
     else (codes "pfair" ∷ codes "2" ∷ []) ∷ []
 

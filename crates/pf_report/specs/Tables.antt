@@ -38,7 +38,7 @@ abbrev pub lag_record : Lag → List (List ℕ)
 lag_record lag =
     decimal lag.task ∷ decimal lag.cost ∷ decimal lag.period ∷ decimal lag.received ∷ signed_decimal lag.scaled ∷ []
 
--- after it in version 3 the name of its task
+-- after it in a plan the name of its task
 abbrev pub named_lag_record : Titles → Lag → List (List ℕ)
 named_lag_record titles lag = lag_record lag ++ name_fields titles lag.task
 

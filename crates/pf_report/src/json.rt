@@ -177,7 +177,7 @@ fn keyed<E: Elements, B: Pieces>(key: Vec<u8>, elements: E, behind: B) -> KeyedA
     )
 }
 
-/// What stands before the schedule: the names, where the script is of version 3, and how many slots were stepped.
+/// What stands before the schedule: the names, where the script is a plan, and how many slots were stepped.
 fn schedule_key(alloc: Global, titles: &Titles, now: u64) -> Result<Vec<u8>, AllocError>
     ensures { IfOk result (λ text. text.items ≡ names_part titles.now ++ (codes ",\"now\":" ++ (decimal now ++ codes ",\"schedule\":"))) }
 {
@@ -187,7 +187,7 @@ fn schedule_key(alloc: Global, titles: &Titles, now: u64) -> Result<Vec<u8>, All
     Ok(text)
 }
 
-/// What stands after the schedule: the length of a slot, where the script is of version 3, and the object's end.
+/// What stands after the schedule: the length of a slot, where the script is a plan, and the object's end.
 fn end_text(alloc: Global, titles: &Titles) -> Result<Vec<u8>, AllocError>
     ensures { IfOk result (λ text. text.items ≡ slot_part titles.now ++ codes "}") }
 {
@@ -196,7 +196,7 @@ fn end_text(alloc: Global, titles: &Titles) -> Result<Vec<u8>, AllocError>
     Ok(text)
 }
 
-/// The whole report as one JSON object, in pieces: compact, its keys in byte order. In version 3 it tells the names of tasks and
+/// The whole report as one JSON object, in pieces: compact, its keys in byte order. In a plan it tells the names of tasks and
 /// the length of a slot too. The lags and the missed windows are in memory until it is written.
 ///
 /// # Errors

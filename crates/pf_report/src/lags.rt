@@ -103,7 +103,7 @@ impl Records for NamedLagRows<'_> {
 /// How far each task inside is from its fair share, as a table, by task number, in pieces: the heading, and then the records.
 pub type LagPieces<'a> = Chain<Whole, RecordPieces<NamedLagRows<'a>>>;
 
-/// How far each task inside is from its fair share, as a table, by task number, in pieces. In version 3 the name of the task
+/// How far each task inside is from its fair share, as a table, by task number, in pieces. In a plan the name of the task
 /// stands last, or nothing where it has none.
 ///
 /// # Errors

@@ -94,13 +94,13 @@ impl Pieces for InsertPieces<'_> {
     }
 }
 
-/// The heading of a script of version 3, and of one of wide settings; nothing for others.
+/// The heading of a plan, and of one of wide settings; nothing for others.
 fn heading_text(alloc: Global, settings: Settings, titles: &Titles) -> Result<Vec<u8>, AllocError>
     ensures { IfOk result (λ text. text.items ≡ table_text (heading_records settings titles.now)) }
 {
     let mut table = Table::new(alloc);
-    if titles.is_third {
-        table.push_texts(&["pfair", "3"])?;
+    if titles.is_plan {
+        table.push_texts(&["plan", "1"])?;
     } else if settings.horizon() != NEAR_HORIZON {
         table.push_texts(&["pfair", "2"])?;
     }
@@ -191,8 +191,8 @@ fn steps_text(alloc: Global, count: u64) -> Result<Vec<u8>, AllocError>
 /// A script in pieces: its opening, then the events, then the steps.
 pub type ScriptPieces<'a> = Chain<Whole, Chain<InsertPieces<'a>, Whole>>;
 
-/// A script of what was seen, in pieces: the heading `pfair,3` in version 3, else `pfair,2` where the settings are wide; the
-/// settings, with `every` slots between checkpoints, which a snapshot does not tell; in version 3 the length of a slot and the
+/// A script of what was seen, in pieces: the heading `plan,1` in a plan, else `pfair,2` where the settings are wide; the
+/// settings, with `every` slots between checkpoints, which a snapshot does not tell; in a plan the length of a slot and the
 /// names; an insert for each event held, by number; the steps, where there are some. Scripts with ordinary settings have no limits of processors: where such a desk holds one, its record stands
 /// here too, but no script of that version may have it.
 ///

@@ -16,15 +16,15 @@ use Rattle.pf_names.specs.Names.{task_of}
 use Rattle.pf_names.specs.Text.{is_letter_first, is_text}
 use Rattle.pf_names.specs.declared.named.Named.{Named}
 use Rattle.pf_script.specs.Fields.{field, is_word, number, number_of}
-use Rattle.pf_version3.specs.Labels.{number_of_label}
-use Rattle.pf_version3.specs.Parsing.{◌>>=◌, early_at, fault_at, id_at, number_or, number_within, of_length, task_at, within}
-use Rattle.pf_version3.specs.declared.fault.Reason.{Reason}
-use Rattle.pf_version3.specs.declared.fault.Reason.TheVariants.{LabelUnknown, NoNumber, NoTask}
-use Rattle.pf_version3.specs.declared.fault.RecordFault.{RecordFault}
-use Rattle.pf_version3.specs.declared.labels.Labelled.{Labelled}
-use Rattle.pf_version3.specs.declared.said.Said.{Said}
-use Rattle.pf_version3.specs.declared.said.Said.TheVariants.{Settings, Slot, Name, Asks}
-use Rattle.pf_version3.specs.declared.state.Progress.{Progress}
+use Rattle.pf_plan.specs.Labels.{number_of_label}
+use Rattle.pf_plan.specs.Parsing.{◌>>=◌, early_at, fault_at, id_at, number_or, number_within, of_length, task_at, within}
+use Rattle.pf_plan.specs.declared.fault.Reason.{Reason}
+use Rattle.pf_plan.specs.declared.fault.Reason.TheVariants.{LabelUnknown, NoNumber, NoTask}
+use Rattle.pf_plan.specs.declared.fault.RecordFault.{RecordFault}
+use Rattle.pf_plan.specs.declared.labels.Labelled.{Labelled}
+use Rattle.pf_plan.specs.declared.said.Said.{Said}
+use Rattle.pf_plan.specs.declared.said.Said.TheVariants.{Settings, Slot, Name, Asks}
+use Rattle.pf_plan.specs.declared.state.Progress.{Progress}
 use Rattle.pf_resumed.proofs.Reading.{IsPlain}
 
 -- names and labels are texts

@@ -107,21 +107,21 @@ headed file old known = elim (cases_Bool (starts_with nat_eq file (gated_line he
       ∙ ap (λ (b : Bool). if b then Journal else Other) other))
 ]
 
-first_text : (file : List ℕ) → starts_with nat_eq file (gated_line heading) ≡ true → texts_of file ≡ heading ∷ texts_from None (drop 9 file)
+first_text : (file : List ℕ) → starts_with nat_eq file (gated_line heading) ≡ true → texts_of file ≡ heading ∷ texts_from None (drop 8 file)
 first_text file is = ap texts_of ((starts_is Decides-eqb file (gated_line heading) true (sym is)).0 refl)
 
 script_is : (file : List ℕ) (rs : List (List (List ℕ))) → is_new file ≡ false → (state_of file ≡ Other → ⊥) → records_of file ≡ map body rs
     → script_of file ≡ lines_text true (heading_fields ∷ rs)
 script_is file rs old known is =
     let texts = first_text file (headed file old known) in
-    let behind : records_of file ≡ texts_from None (drop 9 file) =
+    let behind : records_of file ≡ texts_from None (drop 8 file) =
     ap (λ (b : Bool). if b then [] else drop 1 (texts_of file)) old ∙ ap (λ (ts : List (List ℕ)). drop 1 ts) texts in
     ap (λ (b : Bool). if b then [] else lines_of (texts_of file)) old
     ∙ ap lines_of (texts ∙ ap (λ (ts : List (List ℕ)). heading ∷ ts) (sym behind ∙ is))
     ∙ ap (λ (t : List ℕ). gated_line heading ++ t) (gates_text rs)
 
 -- a session without a record
-none_again : (manner : Manner) (s : SessionState) → IsScripted s → s.course ≡ start → s.script ≡ codes "pfair,3\n" → IsAgain manner s (Ok (at_start manner))
+none_again : (manner : Manner) (s : SessionState) → IsScripted s → s.course ≡ start → s.script ≡ codes "plan,1\n" → IsAgain manner s (Ok (at_start manner))
 none_again manner s is at script = (
   at_start manner,
   refl,
@@ -139,7 +139,7 @@ file_again : (manner : Manner) (s : SessionState) (file : List ℕ) (is : IsScri
     → (state_of file ≡ Other → ⊥) → IsAgain manner s (behind_file manner (records_of file) (script_of file))
 file_again manner s file is [] are records known =
     let course : s.course ≡ start = subst (λ (rs : List (List (List ℕ))). Runs start rs s.course) are is.runs in
-    let script : s.script ≡ codes "pfair,3\n" = is.script_is ∙ ap (λ (rs : List (List (List ℕ))). codes "pfair,3\n" ++ lines_text false rs) are in
+    let script : s.script ≡ codes "plan,1\n" = is.script_is ∙ ap (λ (rs : List (List (List ℕ))). codes "plan,1\n" ++ lines_text false rs) are in
     subst (λ (ls : List (List ℕ)). IsAgain manner s (behind_file manner ls (script_of file))) (sym records) (none_again manner s is course script)
 file_again manner s file is (r ∷ rs) are records known =
     let came : s.course.progress.opened ≡ true = some is.came in

@@ -12,8 +12,8 @@ use Rattle.pf_script.specs.Told.{told}
 use Rattle.pf_journaled.specs.Manner.{Manner}
 use Rattle.pf_journaled.specs.Opening.{behind_rows, opened, opened_plain, opened_rows}
 use Rattle.pf_session.specs.Session.{SessionState, at_start, behind_record}
-use Rattle.pf_version3.specs.Heading.{is_third_heading}
-use Rattle.pf_version3.specs.Parsing.{said_at}
+use Rattle.pf_plan.specs.Heading.{is_plan_heading}
+use Rattle.pf_plan.specs.Parsing.{said_at}
 use Rattle.pf_resumed.specs.Resumed.{IsAgain, ScriptsBeginAgain}
 use Rattle.pf_resumed.proofs.Reading.{IsPlain, IsRead, lines_text, rows_again}
 use Rattle.pf_resumed.proofs.Scripted.{IsScripted, Runs, session_scripted}
@@ -55,24 +55,24 @@ runs_on (row ∷ found) (r ∷ rs) u n d is runs settled =
     )
 
 abbrev pub heading_fields : List (List ℕ)
-heading_fields = codes "pfair" ∷ codes "3" ∷ []
+heading_fields = codes "plan" ∷ codes "1" ∷ []
 
 heading_read : IsRead heading_fields
 unfolding trim_start trim_end
-heading_read = (refl, (refl, refl), All-cons IsPlain (codes "3") [] (refl, refl) (All-nil IsPlain))
+heading_read = (refl, (refl, refl), All-cons IsPlain (codes "1") [] (refl, refl) (All-nil IsPlain))
 
-third_opened : (manner : Manner) (bytes : List ℕ) (found : List Row) (rs : List (List (List ℕ))) (d : Course) → map (λ row. row.fields) found ≡ heading_fields ∷ rs
+plan_opened : (manner : Manner) (bytes : List ℕ) (found : List Row) (rs : List (List (List ℕ))) (d : Course) → map (λ row. row.fields) found ≡ heading_fields ∷ rs
     → Runs start rs d → d.progress.opened ≡ true
     → (v : SessionState) × (opened_rows (at_start manner) bytes found ≡ Ok v) × Follows (record (at_start manner) { is_first = false }) rs d v
-unfolding is_third_heading is_word
-third_opened manner bytes [] rs d is runs came = cc
-third_opened manner bytes (row ∷ found) rs d is runs came =
+unfolding is_plan_heading is_word
+plan_opened manner bytes [] rs d is runs came = cc
+plan_opened manner bytes (row ∷ found) rs d is runs came =
     let same : row.fields ≡ heading_fields = cc in
     let rest : map (λ row. row.fields) found ≡ rs = cc in
     let more = runs_on found rs (record (at_start manner) { is_first = false }) 2 d rest runs came in (
       more.0,
       subst
-          (λ (f : List (List ℕ)). (if is_third_heading f then behind_rows (record (at_start manner) { is_first = false }) 2 found
+          (λ (f : List (List ℕ)). (if is_plan_heading f then behind_rows (record (at_start manner) { is_first = false }) 2 found
           else opened_plain (at_start manner) (row ∷ found) (told bytes).rest.fault) ≡ Ok more.0)
           (sym same) more.1,
       more.2,
@@ -89,7 +89,7 @@ pub text_again : (g : Bool) (manner : Manner) (s : SessionState) (is : IsScripte
 text_again g manner s is came =
     let text = lines_text g (heading_fields ∷ is.rows) in
     let found = rows_again g (heading_fields ∷ is.rows) (heading_read, is.read) (unmarked g is.rows) in
-    let made = third_opened manner text (rows text).rows is.rows s.course found is.runs came in
+    let made = plan_opened manner text (rows text).rows is.rows s.course found is.runs came in
     let f = made.2 in
     let first : made.0.is_first ≡ not s.course.progress.opened = f.first refl ∙ sym (ap not came) in
     let script : made.0.script ≡ s.script = f.script ∙ sym is.script_is in (

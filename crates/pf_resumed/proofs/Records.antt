@@ -21,15 +21,15 @@ use Rattle.pf_script.specs.Fields.{field, is_word}
 use Rattle.pf_script.specs.declared.line.Line.TheVariants.{Edit, Steps}
 use Rattle.pf_script.specs.declared.record.ScriptSettings.{ScriptSettings}
 use Rattle.pf_script.specs.declared.version.Version.TheVariants.{Second}
-use Rattle.pf_version3.specs.Labels.{number_of_label}
-use Rattle.pf_version3.specs.Parsing.{◌>>=◌, alter_at, asked, cap_at, delay_at, early_at, edit_at, event_at, every_at, fault_at, free_name_at, id_at, join_at, label_at, labelled_at, leave_at, limit_at, name_at, name_unless, nameless_at, names_record, number_or, number_within, of_length, opening_at, record_at, said_at, settings_at, slot_at, steps_at, strike_at, task_at}
-use Rattle.pf_version3.specs.declared.fault.Reason.{Reason}
-use Rattle.pf_version3.specs.declared.fault.Reason.TheVariants.{Fields, JoinFields, LabelTaken, LateSettings, LateSlot, NoCap, NoChange, NoEvent, NoLabel, NoName, NoNumber, NoRecord, NoSettings, NoUnit, SettingsFields, StepFields}
-use Rattle.pf_version3.specs.declared.fault.RecordFault.{RecordFault}
-use Rattle.pf_version3.specs.declared.labels.Labelled.{Labelled}
-use Rattle.pf_version3.specs.declared.said.Said.{Said}
-use Rattle.pf_version3.specs.declared.said.Said.TheVariants.{Settings, Slot, Name, Asks}
-use Rattle.pf_version3.specs.declared.state.Progress.{Progress}
+use Rattle.pf_plan.specs.Labels.{number_of_label}
+use Rattle.pf_plan.specs.Parsing.{◌>>=◌, alter_at, asked, cap_at, delay_at, early_at, edit_at, event_at, every_at, fault_at, free_name_at, id_at, join_at, label_at, labelled_at, leave_at, limit_at, name_at, name_unless, nameless_at, names_record, number_or, number_within, of_length, opening_at, record_at, said_at, settings_at, slot_at, steps_at, strike_at, task_at}
+use Rattle.pf_plan.specs.declared.fault.Reason.{Reason}
+use Rattle.pf_plan.specs.declared.fault.Reason.TheVariants.{Fields, JoinFields, LabelTaken, LateSettings, LateSlot, NoCap, NoChange, NoEvent, NoLabel, NoName, NoNumber, NoRecord, NoSettings, NoUnit, SettingsFields, StepFields}
+use Rattle.pf_plan.specs.declared.fault.RecordFault.{RecordFault}
+use Rattle.pf_plan.specs.declared.labels.Labelled.{Labelled}
+use Rattle.pf_plan.specs.declared.said.Said.{Said}
+use Rattle.pf_plan.specs.declared.said.Said.TheVariants.{Settings, Slot, Name, Asks}
+use Rattle.pf_plan.specs.declared.state.Progress.{Progress}
 use Rattle.pf_resumed.proofs.Reading.{IsPlain, IsRead}
 use Rattle.pf_resumed.proofs.Fields.{AreTexts, GivesText, IsWorded, PlainFrom, at_most, both, change_words, early_plain, event_words, id_plain, none_from, one_more, or_plain, record_words, some_from, task_plain, unit_words, within_plain, word_is, worded}
 

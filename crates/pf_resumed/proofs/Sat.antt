@@ -154,9 +154,9 @@ waits : (a b : SessionState) (is : IsScripted a) (next : IsScripted b) (new : Li
     → b.script ≡ a.script ++ more → more ≡ lines_text false new
 waits a b is next new more rows script =
     append_cancel_left a.script more (lines_text false new)
-    (sym script ∙ next.script_is ∙ ap (λ (rs : List (List (List ℕ))). codes "pfair,3\n" ++ lines_text false rs) rows
-    ∙ ap (λ (t : List ℕ). codes "pfair,3\n" ++ t) (text_both is.rows new)
-    ∙ sym (append_assoc (codes "pfair,3\n") (lines_text false is.rows) (lines_text false new))
+    (sym script ∙ next.script_is ∙ ap (λ (rs : List (List (List ℕ))). codes "plan,1\n" ++ lines_text false rs) rows
+    ∙ ap (λ (t : List ℕ). codes "plan,1\n" ++ t) (text_both is.rows new)
+    ∙ sym (append_assoc (codes "plan,1\n") (lines_text false is.rows) (lines_text false new))
     ∙ ap (λ (t : List ℕ). t ++ lines_text false new) (sym is.script_is))
 
 went_one : {D : Type 0} (r : Recording SessionState D) (is : IsScripted r.machine) (line text : List ℕ) (going : Going) (t : Recording SessionState D)

@@ -34,12 +34,12 @@ use Rattle.pf_sitting.specs.declared.answers.Going.{Going}
 use Rattle.pf_sitting.specs.declared.answers.Going.TheVariants.{On}
 use Rattle.pf_journaled.specs.Turns.{GoesOn, Saves, behind_showing, heard_of}
 use Rattle.pf_session.specs.Session.{SessionState, at_start, behind_bad, behind_record, behind_undo_of, newest_of}
-use Rattle.pf_version3.specs.Heading.{is_third_heading}
-use Rattle.pf_version3.specs.Parsing.{end_fault, said_at}
-use Rattle.pf_version3.specs.declared.fault.RecordFault.{RecordFault}
-use Rattle.pf_version3.specs.declared.said.Said.{Said}
-use Rattle.pf_version3.specs.declared.said.Said.TheVariants.{Asks}
-use Rattle.pf_version3.specs.declared.state.Progress.{Progress}
+use Rattle.pf_plan.specs.Heading.{is_plan_heading}
+use Rattle.pf_plan.specs.Parsing.{end_fault, said_at}
+use Rattle.pf_plan.specs.declared.fault.RecordFault.{RecordFault}
+use Rattle.pf_plan.specs.declared.said.Said.{Said}
+use Rattle.pf_plan.specs.declared.said.Said.TheVariants.{Asks}
+use Rattle.pf_plan.specs.declared.state.Progress.{Progress}
 use Rattle.pf_resumed.specs.Resumed.{IsBegun, IsBehind, IsSession}
 use Rattle.pf_resumed.proofs.Reading.{AreRead, IsRead, lines_text}
 use Rattle.pf_resumed.proofs.Records.{said_read}
@@ -55,7 +55,7 @@ Runs c (fields ∷ rs) d = (said : Said) × (said_at c.progress fields ≡ Ok sa
 pub record IsScripted (s : SessionState) : Type 0 where
   pub rows : List (List (List ℕ))
   pub read : AreRead rows
-  pub script_is : s.script ≡ codes "pfair,3\n" ++ lines_text false rows
+  pub script_is : s.script ≡ codes "plan,1\n" ++ lines_text false rows
   pub runs : Runs start rows s.course
   pub sound : IsSound s.course
   pub made : ShortMade s.made
@@ -80,11 +80,11 @@ text_more : (rs : List (List (List ℕ))) (fields : List (List ℕ)) → lines_t
 text_more [] fields = append-nil (line_of fields)
 text_more (r ∷ rs) fields = ap (λ (t : List ℕ). line_of r ++ t) (text_more rs fields) ∙ sym (append_assoc (line_of r) (lines_text false rs) (line_of fields))
 
-script_more : (script : List ℕ) (rs : List (List (List ℕ))) (fields : List (List ℕ)) → script ≡ codes "pfair,3\n" ++ lines_text false rs
-    → script ++ line_of fields ≡ codes "pfair,3\n" ++ lines_text false (rs ++ fields ∷ [])
+script_more : (script : List ℕ) (rs : List (List (List ℕ))) (fields : List (List ℕ)) → script ≡ codes "plan,1\n" ++ lines_text false rs
+    → script ++ line_of fields ≡ codes "plan,1\n" ++ lines_text false (rs ++ fields ∷ [])
 script_more script rs fields is =
-    ap (λ (t : List ℕ). t ++ line_of fields) is ∙ append_assoc (codes "pfair,3\n") (lines_text false rs) (line_of fields)
-    ∙ ap (λ (t : List ℕ). codes "pfair,3\n" ++ t) (sym (text_more rs fields))
+    ap (λ (t : List ℕ). t ++ line_of fields) is ∙ append_assoc (codes "plan,1\n") (lines_text false rs) (line_of fields)
+    ∙ ap (λ (t : List ℕ). codes "plan,1\n" ++ t) (sym (text_more rs fields))
 
 -- after a record
 record_next : (s : SessionState) (is : IsScripted s) (fields : List (List ℕ)) (said : Said) → said_at s.course.progress fields ≡ Ok said
@@ -210,7 +210,7 @@ if_said p fields (Some word) = word_said p fields (asked_at p word fields)
 fields_said : (is_first : Bool) (p : Progress) (fields : Option (List (List ℕ))) → IsSaid p (heard_fields is_first p fields)
 fields_said is_first p None = tt
 fields_said is_first p (Some fields) =
-    either_said p (is_first && is_third_heading fields) Heading _ tt (if_said p fields (word_at fields))
+    either_said p (is_first && is_plan_heading fields) Heading _ tt (if_said p fields (word_at fields))
 
 heard_said : (is_first : Bool) (p : Progress) (line : List ℕ) → IsSaid p (heard is_first p line)
 heard_said is_first p line =
@@ -286,16 +286,16 @@ plain_scripted : (s : SessionState) (found : List Row) (fault : Option FaultTold
 plain_scripted s found None t is e = rows_scripted (behind_heading found) s 1 t is e
 plain_scripted s found (Some fault) t is e = let bad : Err fault.bad.number ≡ Ok t = e in cc
 
-third_scripted : (s : SessionState) (bytes : List ℕ) (found : List Row) (t : SessionState) → IsScripted s → opened_rows s bytes found ≡ Ok t → IsScripted t
-third_scripted s bytes [] t is e = plain_scripted s [] (told bytes).rest.fault t is e
-third_scripted s bytes (row ∷ found) t is e = by (is_third_heading row.fields) e
+plan_scripted : (s : SessionState) (bytes : List ℕ) (found : List Row) (t : SessionState) → IsScripted s → opened_rows s bytes found ≡ Ok t → IsScripted t
+plan_scripted s bytes [] t is e = plain_scripted s [] (told bytes).rest.fault t is e
+plan_scripted s bytes (row ∷ found) t is e = by (is_plan_heading row.fields) e
   where
     by : (b : Bool) → (if b then behind_rows (record s { is_first = false }) 2 found else opened_plain s (row ∷ found) (told bytes).rest.fault) ≡ Ok t → IsScripted t
     by true e = rows_scripted found (record s { is_first = false }) 2 t (heading_next s is).0 e
     by false e = plain_scripted s (row ∷ found) (told bytes).rest.fault t is e
 
 opened_scripted : (manner : Manner) (bytes : List ℕ) (t : SessionState) → opened manner bytes ≡ Ok t → IsScripted t
-opened_scripted manner bytes t e = third_scripted (at_start manner) bytes (rows_in bytes).rows t (start_scripted manner) e
+opened_scripted manner bytes t e = plan_scripted (at_start manner) bytes (rows_in bytes).rows t (start_scripted manner) e
 
 file_scripted : (manner : Manner) (records : List (List ℕ)) (lines : List ℕ) (t : SessionState) → behind_file manner records lines ≡ Ok t → IsScripted t
 file_scripted manner [] lines t e = let same : at_start manner ≡ t = cc in subst (λ (q : SessionState). IsScripted q) same (start_scripted manner)

@@ -32,11 +32,11 @@ use Rattle.pf_session.specs.Made.{event_before, left_behind, made_behind_undo, m
 use Rattle.pf_session.specs.Session.{made_behind_line, made_behind_said, newest_of}
 use Rattle.pf_session.specs.declared.made.Made.{Made}
 use Rattle.pf_session.specs.declared.made.Made.TheVariants.{Inserted, Altered, Struck}
-use Rattle.pf_version3.specs.Parsing.{said_at}
-use Rattle.pf_version3.specs.Progress.{with_label}
-use Rattle.pf_version3.specs.declared.labels.Labelled.{Labelled}
-use Rattle.pf_version3.specs.declared.said.Said.{Said}
-use Rattle.pf_version3.specs.declared.said.Said.TheVariants.{Settings, Slot, Name, Asks}
+use Rattle.pf_plan.specs.Parsing.{said_at}
+use Rattle.pf_plan.specs.Progress.{with_label}
+use Rattle.pf_plan.specs.declared.labels.Labelled.{Labelled}
+use Rattle.pf_plan.specs.declared.said.Said.{Said}
+use Rattle.pf_plan.specs.declared.said.Said.TheVariants.{Settings, Slot, Name, Asks}
 use Rattle.pf_resumed.proofs.Fields.{AreTexts, GivesText}
 use Rattle.pf_resumed.proofs.Records.{said_text}
 

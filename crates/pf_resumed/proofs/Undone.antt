@@ -24,11 +24,11 @@ use Rattle.pf_scenario.specs.declared.event.Event.TheVariants.{Join, Leave, Dela
 use Rattle.pf_script.specs.Fields.{field, is_word}
 use Rattle.pf_script.specs.declared.line.Line.TheVariants.{Edit}
 use Rattle.pf_session.specs.Made.{change_line}
-use Rattle.pf_version3.specs.Parsing.{alter_at, delay_at, edit_at, event_at, id_at, join_at, leave_at, limit_at, opening_at, record_at, said_at, strike_at}
-use Rattle.pf_version3.specs.declared.fault.Reason.TheVariants.{NoEvent, NoNumber, NoRecord}
-use Rattle.pf_version3.specs.declared.labels.Labelled.{Labelled}
-use Rattle.pf_version3.specs.declared.said.Said.TheVariants.{Asks}
-use Rattle.pf_version3.specs.declared.state.Progress.{Progress}
+use Rattle.pf_plan.specs.Parsing.{alter_at, delay_at, edit_at, event_at, id_at, join_at, leave_at, limit_at, opening_at, record_at, said_at, strike_at}
+use Rattle.pf_plan.specs.declared.fault.Reason.TheVariants.{NoEvent, NoNumber, NoRecord}
+use Rattle.pf_plan.specs.declared.labels.Labelled.{Labelled}
+use Rattle.pf_plan.specs.declared.said.Said.TheVariants.{Asks}
+use Rattle.pf_plan.specs.declared.state.Progress.{Progress}
 
 -- a number is no label
 digit_first : (bytes : List ℕ) → all_ascii_digits bytes ≡ true → is_letter_first bytes ≡ false

@@ -8,10 +8,10 @@ use Rattle.std.proofs.lemmas.Bool.Decides.{nat_tests}
 use Rattle.std.proofs.lemmas.Fmt.{digits_decimal, digits_value-decimal, length-decimal-le, decimal_nonempty}
 use Rattle.std.proofs.lemmas.Str.Parse.{digits_value_short, numerals_by_value, tells_all_ascii_digits}
 use Rattle.pf_script.specs.Fields.{field, number, number_of}
-use Rattle.pf_version3.specs.declared.fault.Reason.{Reason}
-use Rattle.pf_version3.specs.declared.fault.Reason.TheVariants.{Outside}
-use Rattle.pf_version3.specs.declared.fault.RecordFault.{RecordFault}
-use Rattle.pf_version3.specs.Parsing.{◌>>=◌, fault_at, number_or, number_within, within}
+use Rattle.pf_plan.specs.declared.fault.Reason.{Reason}
+use Rattle.pf_plan.specs.declared.fault.Reason.TheVariants.{Outside}
+use Rattle.pf_plan.specs.declared.fault.RecordFault.{RecordFault}
+use Rattle.pf_plan.specs.Parsing.{◌>>=◌, fault_at, number_or, number_within, within}
 
 -- a written number is read again
 pub number_again : (n : ℕ) → n < 10 ^ 15 → number_of (decimal n) ≡ Some n

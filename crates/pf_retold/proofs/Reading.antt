@@ -9,14 +9,14 @@ use Rattle.csv.proofs.RoundTrip.{read-write}
 use Rattle.pf_rows.specs.Rows.{Row}
 use Rattle.pf_script.specs.Script.{script_records}
 use Rattle.pf_text.specs.Page.{table_text}
-use Rattle.pf_version3.specs.Parsing.{end_fault, said_at}
-use Rattle.pf_version3.specs.declared.fault.RecordFault.{RecordFault}
-use Rattle.pf_version3.specs.declared.said.Said.{Said}
-use Rattle.pf_version3.specs.declared.said.Said.TheVariants.{Settings, Slot, Name, Asks}
+use Rattle.pf_plan.specs.Parsing.{end_fault, said_at}
+use Rattle.pf_plan.specs.declared.fault.RecordFault.{RecordFault}
+use Rattle.pf_plan.specs.declared.said.Said.{Said}
+use Rattle.pf_plan.specs.declared.said.Said.TheVariants.{Settings, Slot, Name, Asks}
 use Rattle.pf_plain.specs.declared.origin.Origin.{Origin}
 use Rattle.pf_plain.specs.Plain.{Course, Plain, course_behind, ended, plain_from, plain_next, with_said}
 use Rattle.pf_plain.specs.Written.{heading_fields, line_fields, settings_fields}
-use Rattle.pf_version3.specs.declared.state.Progress.{Progress}
+use Rattle.pf_plan.specs.declared.state.Progress.{Progress}
 use Rattle.pf_retold.proofs.Writing.{line_kept}
 
 -- a record has a byte at least: the end of its line

@@ -1,4 +1,4 @@
--- What records of version 3 say can be written in version 2.
+-- What records of a plan say can be written in version 2.
 use Rattle.std.proofs.Common.{◌≡◌, ◌^◌, ◌<◌, ◌≤◌, ◌+◌, ◌*◌, ◌==◌, ℕ, Bool, true, false, Some, None, Ok, Err, Option, Result, List, [], ◌∷◌, All, length, subst, arith, refl}
 use Rattle.std.specs.Prelude.{if◌then◌else◌, nat_le, not, is_some, ok_or, ◌||◌, codes}
 use Rattle.std.specs.Str.{bytes_eq}
@@ -19,15 +19,15 @@ use Rattle.pf_script.specs.declared.line.Line.{Line}
 use Rattle.pf_script.specs.declared.line.Line.TheVariants.{Edit, Steps}
 use Rattle.pf_script.specs.declared.record.ScriptSettings.{ScriptSettings}
 use Rattle.pf_script.specs.declared.version.Version.TheVariants.{Second}
-use Rattle.pf_version3.specs.Labels.{number_of_label}
-use Rattle.pf_version3.specs.declared.labels.Labelled.{Labelled}
-use Rattle.pf_version3.specs.Parsing.{◌>>=◌, alter_at, asked, cap_at, delay_at, early_at, edit_at, event_at, every_at, fault_at, free_name_at, id_at, join_at, label_at, labelled_at, leave_at, limit_at, name_at, nameless_at, name_unless, names_record, number_or, number_within, of_length, opening_at, record_at, said_at, settings_at, slot_at, steps_at, strike_at, task_at}
-use Rattle.pf_version3.specs.declared.fault.Reason.{Reason}
-use Rattle.pf_version3.specs.declared.fault.Reason.TheVariants.{NoCap, NoChange, NoEvent, NoNumber, NoRecord, NoSettings, NoTask, NoUnit, LabelUnknown, LateSettings, LateSlot, NoName, Fields, JoinFields, SettingsFields, StepFields, HasName}
-use Rattle.pf_version3.specs.declared.fault.RecordFault.{RecordFault}
-use Rattle.pf_version3.specs.declared.said.Said.{Said}
-use Rattle.pf_version3.specs.declared.said.Said.TheVariants.{Settings, Slot, Name, Asks}
-use Rattle.pf_version3.specs.declared.state.Progress.{Progress}
+use Rattle.pf_plan.specs.Labels.{number_of_label}
+use Rattle.pf_plan.specs.declared.labels.Labelled.{Labelled}
+use Rattle.pf_plan.specs.Parsing.{◌>>=◌, alter_at, asked, cap_at, delay_at, early_at, edit_at, event_at, every_at, fault_at, free_name_at, id_at, join_at, label_at, labelled_at, leave_at, limit_at, name_at, nameless_at, name_unless, names_record, number_or, number_within, of_length, opening_at, record_at, said_at, settings_at, slot_at, steps_at, strike_at, task_at}
+use Rattle.pf_plan.specs.declared.fault.Reason.{Reason}
+use Rattle.pf_plan.specs.declared.fault.Reason.TheVariants.{NoCap, NoChange, NoEvent, NoNumber, NoRecord, NoSettings, NoTask, NoUnit, LabelUnknown, LateSettings, LateSlot, NoName, Fields, JoinFields, SettingsFields, StepFields, HasName}
+use Rattle.pf_plan.specs.declared.fault.RecordFault.{RecordFault}
+use Rattle.pf_plan.specs.declared.said.Said.{Said}
+use Rattle.pf_plan.specs.declared.said.Said.TheVariants.{Settings, Slot, Name, Asks}
+use Rattle.pf_plan.specs.declared.state.Progress.{Progress}
 use Rattle.pf_retold.specs.Titles.{IsGivable, IsSlot}
 use Rattle.pf_retold.proofs.Numbers.{both, or_small, some_from, within_small}
 

@@ -1,4 +1,4 @@
--- The titles that a script of version 3 tells.
+-- The titles that a plan tells.
 use Rattle.std.proofs.Common.{◌≡◌, ◌∙◌, ◌+◌, ◌<◌, ◌==◌, ℕ, Bool, true, false, List, [], ◌∷◌, Option, None, Some, Ok, Err, Result, All, subst, arith, refl}
 use Rattle.std.specs.Prelude.{if◌then◌else◌, nat_lt}
 use Rattle.std.specs.Str.{bytes_eq}
@@ -8,12 +8,12 @@ use Rattle.std.proofs.lemmas.List.Elements.{All-cons, All-head, All-nil, All-tai
 use Rattle.pf_names.specs.Names.{name_of, task_of, with_name}
 use Rattle.pf_names.specs.declared.named.Named.{Named}
 use Rattle.pf_rows.specs.Rows.{Row, rows}
-use Rattle.pf_version3.specs.Heading.{is_third_heading}
-use Rattle.pf_version3.specs.Parsing.{end_fault, said_at}
-use Rattle.pf_version3.specs.declared.fault.RecordFault.{RecordFault}
-use Rattle.pf_version3.specs.declared.said.Said.{Said}
-use Rattle.pf_version3.specs.declared.said.Said.TheVariants.{Settings, Slot, Name, Asks}
-use Rattle.pf_version3.specs.declared.state.Progress.{Progress}
+use Rattle.pf_plan.specs.Heading.{is_plan_heading}
+use Rattle.pf_plan.specs.Parsing.{end_fault, said_at}
+use Rattle.pf_plan.specs.declared.fault.RecordFault.{RecordFault}
+use Rattle.pf_plan.specs.declared.said.Said.{Said}
+use Rattle.pf_plan.specs.declared.said.Said.TheVariants.{Settings, Slot, Name, Asks}
+use Rattle.pf_plan.specs.declared.state.Progress.{Progress}
 use Rattle.pf_plain.specs.declared.origin.Origin.{Origin}
 use Rattle.pf_plain.specs.Plain.{Course, Plain, course_behind, ended, plain_from, plain_next, plain_of, start, with_heading}
 use Rattle.pf_retold.specs.Titles.{AreGivable, AreTold, IsGivable, IsLength, TitlesAreTold}
@@ -91,8 +91,8 @@ titled_behind (Name task name) c t can = record {
 titled_behind (Asks line label) c t can = record { names = t.names; slot = t.slot }
 
 ended_told : (p : Progress) (origin : Origin) (fault : Option RecordFault) → IsTitled p → AreTold (ended p origin fault).titles
-ended_told p origin None t = record { third = refl; names = t.names; slot = t.slot }
-ended_told p origin (Some fault) t = record { third = refl; names = t.names; slot = t.slot }
+ended_told p origin None t = record { is_plan = refl; names = t.names; slot = t.slot }
+ended_told p origin (Some fault) t = record { is_plan = refl; names = t.names; slot = t.slot }
 
 told_from : (rows : List Row) (c : Course) (n end : ℕ) → IsGood c → IsTitled c.progress → AreTold (plain_from c n end rows).titles
 told_from [] c n end good t = ended_told c.progress (record { number = n; line = end }) (end_fault c.progress) t
@@ -112,7 +112,7 @@ untold = record { names = tt; slot = tt }
 
 of_rows : (rs : List Row) (end : ℕ) (p : Plain) → plain_of end rs ≡ Some p → AreTold p.titles
 of_rows [] end p e = let bad : None ≡ Some p = e in cc
-of_rows (row ∷ rows) end p e = by (is_third_heading row.fields) e
+of_rows (row ∷ rows) end p e = by (is_plan_heading row.fields) e
   where
     by : (b : Bool) → (if b then Some (with_heading row.line (plain_from start 2 end rows)) else None) ≡ Some p → AreTold p.titles
     by true e =

@@ -1,4 +1,4 @@
--- The script of version 2 that belongs to a script of version 3, read record by record.
+-- The script of version 2 that belongs to a plan, read record by record.
 use Rattle.std.proofs.Common.{◌≡◌, ◌+◌, ◌^◌, ◌<◌, ℕ, Bool, true, false, List, [], ◌∷◌, Option, None, Some, Ok, Err, Result, All, length, ap, sym, subst, arith, refl}
 use Rattle.std.specs.Prelude.{⊤, if◌then◌else◌, nat_lt}
 use Rattle.std.proofs.lemmas.List.Elements.{All-append, All-cons, All-head, All-nil, All-tail}
@@ -19,16 +19,16 @@ use Rattle.pf_script.specs.declared.stage.Stage.{Stage}
 use Rattle.pf_script.specs.declared.stage.Stage.TheVariants.{Beginning, Headed, Opened}
 use Rattle.pf_script.specs.declared.version.Version.TheVariants.{Second}
 use Rattle.pf_text.specs.Page.{table_text}
-use Rattle.pf_version3.specs.Heading.{is_third_heading}
-use Rattle.pf_version3.specs.declared.labels.Labelled.{Labelled}
-use Rattle.pf_version3.specs.Parsing.{fault_at, said_at}
-use Rattle.pf_version3.specs.Progress.{with_label}
-use Rattle.pf_version3.specs.declared.fault.BadRecord.{BadRecord}
-use Rattle.pf_version3.specs.declared.fault.Reason.TheVariants.{NoSettings}
-use Rattle.pf_version3.specs.declared.fault.RecordFault.{RecordFault}
-use Rattle.pf_version3.specs.declared.said.Said.{Said}
-use Rattle.pf_version3.specs.declared.said.Said.TheVariants.{Settings, Slot, Name, Asks}
-use Rattle.pf_version3.specs.declared.state.Progress.{Progress}
+use Rattle.pf_plan.specs.Heading.{is_plan_heading}
+use Rattle.pf_plan.specs.declared.labels.Labelled.{Labelled}
+use Rattle.pf_plan.specs.Parsing.{fault_at, said_at}
+use Rattle.pf_plan.specs.Progress.{with_label}
+use Rattle.pf_plan.specs.declared.fault.BadRecord.{BadRecord}
+use Rattle.pf_plan.specs.declared.fault.Reason.TheVariants.{NoSettings}
+use Rattle.pf_plan.specs.declared.fault.RecordFault.{RecordFault}
+use Rattle.pf_plan.specs.declared.said.Said.{Said}
+use Rattle.pf_plan.specs.declared.said.Said.TheVariants.{Settings, Slot, Name, Asks}
+use Rattle.pf_plan.specs.declared.state.Progress.{Progress}
 use Rattle.pf_plain.specs.declared.origin.Origin.{Origin}
 use Rattle.pf_plain.specs.Plain.{Course, Plain, course_behind, desk_behind, ended, given, plain_from, plain_next, plain_of, start, with_heading, with_said}
 use Rattle.pf_plain.specs.Written.{heading_fields}
@@ -212,7 +212,7 @@ retold line end rows =
 
 of_rows : (rs : List Row) (end : ℕ) (p : Plain) → plain_of end rs ≡ Some p → IsRetold (saids_of rs) p (told (table_text p.records))
 of_rows [] end p e = let bad : None ≡ Some p = e in cc
-of_rows (row ∷ rows) end p e = by (is_third_heading row.fields) e
+of_rows (row ∷ rows) end p e = by (is_plan_heading row.fields) e
   where
     by : (b : Bool) → (if b then Some (with_heading row.line (plain_from start 2 end rows)) else None) ≡ Some p
         → IsRetold (saids_from start rows) p (told (table_text p.records))

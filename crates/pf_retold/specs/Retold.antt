@@ -1,19 +1,19 @@
--- What the script of version 2 tells that belongs to a script of version 3.
+-- What the script of version 2 tells that belongs to a plan.
 use Rattle.std.specs.Prelude.{⊤, ℕ, ◌≡◌, ◌+◌, Option, None, Some, Result, Ok, Err, List, [], ◌∷◌, ◌++◌, length}
 use Rattle.pf_rows.specs.Rows.{Row, rows}
 use Rattle.pf_script.specs.declared.record.LineTold.{LineTold}
 use Rattle.pf_script.specs.declared.record.ScriptSettings.{ScriptSettings}
 use Rattle.pf_script.specs.Told.{FaultTold, Told, told}
 use Rattle.pf_text.specs.Page.{table_text}
-use Rattle.pf_version3.specs.declared.fault.BadRecord.{BadRecord}
-use Rattle.pf_version3.specs.declared.fault.RecordFault.{RecordFault}
-use Rattle.pf_version3.specs.declared.said.Said.{Said}
-use Rattle.pf_version3.specs.declared.said.Said.TheVariants.{Settings, Slot, Name, Asks}
-use Rattle.pf_version3.specs.Parsing.{said_at}
+use Rattle.pf_plan.specs.declared.fault.BadRecord.{BadRecord}
+use Rattle.pf_plan.specs.declared.fault.RecordFault.{RecordFault}
+use Rattle.pf_plan.specs.declared.said.Said.{Said}
+use Rattle.pf_plan.specs.declared.said.Said.TheVariants.{Settings, Slot, Name, Asks}
+use Rattle.pf_plan.specs.Parsing.{said_at}
 use Rattle.pf_plain.specs.declared.origin.Origin.{Origin}
 use Rattle.pf_plain.specs.Plain.{Course, Plain, course_behind, plain, start}
 
--- what these records of version 3 say, up to the first bad one
+-- what these records of a plan say, up to the first bad one
 abbrev pub saids_next : (Course → List Said) → Course → Result Said RecordFault → List Said
 saids_next more c (Ok said) = said ∷ more (course_behind c said)
 saids_next more c (Err fault) = []
@@ -49,7 +49,7 @@ pub record IsLast (number : ℕ) (origins : List Origin) (last : ℕ) (origin : 
   pub whole : origins ≡ before ++ origin ∷ []
   pub count : last ≡ number + length before
 
--- a fault is told where a record of version 3 is bad, and lies in the record of version 2 that stands for it, the last one
+-- a fault is told where a record of a plan is bad, and lies in the record of version 2 that stands for it, the last one
 abbrev pub IsSameFault : ℕ → List Origin → Option BadRecord → Option FaultTold → Type 0
 IsSameFault number origins None None = ⊤
 IsSameFault number origins None (Some told) = ⊥
@@ -63,6 +63,6 @@ pub record IsRetold (saids : List Said) (p : Plain) (t : Told) : Type 0 where
   pub lines : t.rest.lines ≡ lines_said 2 saids
   pub fault : IsSameFault 1 p.origins p.bad t.rest.fault
 
--- the script of version 2 that belongs to a script of version 3 tells what that one says
+-- the script of version 2 that belongs to a plan tells what that one says
 abbrev pub ScriptsAreRetold : Type 0
 ScriptsAreRetold = (bytes : List ℕ) (p : Plain) → plain bytes ≡ Some p → IsRetold (saids_of (rows bytes).rows) p (told (table_text p.records))

@@ -1,4 +1,4 @@
--- What a script of version 3 tells that no desk holds.
+-- What a plan tells that no desk holds.
 use Rattle.std.specs.Prelude.{⊤, ℕ, ◌≡◌, ◌<◌, ◌≤◌, true, false, Option, None, Some, List, [], ◌∷◌, All}
 use Rattle.std.specs.Str.{bytes_eq}
 use Rattle.pf_names.specs.Text.{is_text}
@@ -30,12 +30,12 @@ abbrev pub IsLength : Option SlotLength → Type 0
 IsLength None = ⊤
 IsLength (Some slot) = IsSlot slot
 
--- titles that a script of version 3 may tell
+-- titles that a plan may tell
 pub record AreTold (titles : Titles) : Type 0 where
-  pub third : titles.is_third ≡ true
+  pub is_plan : titles.is_plan ≡ true
   pub names : AreGivable titles.names
   pub slot : IsLength titles.slot
 
--- a script of version 3 tells no others
+-- a plan tells no others
 abbrev pub TitlesAreTold : Type 0
 TitlesAreTold = (bytes : List ℕ) (p : Plain) → plain bytes ≡ Some p → AreTold p.titles

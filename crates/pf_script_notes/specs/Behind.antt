@@ -18,7 +18,7 @@ abbrev pub most_lines : ℕ
 most_lines = 20
 
 -- the notes after a run of the script in this file, of version 1 or 2: of what was seen at its end, and of what its records came
--- to. Where it belongs to a script of version 3, `origins` are the records there that its own come from
+-- to. Where it belongs to a plan, `origins` are the records there that its own come from
 pub record RunNotes (file : List ℕ) (origins : Option (List Origin)) (names : List Named) (script text : List ℕ) : Type 0 where
   pub seen : Seen
   pub behind : IsSeenBehind (told script) seen

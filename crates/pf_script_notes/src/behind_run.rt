@@ -36,7 +36,7 @@ pub fn script_notes(alloc: Global, file: &[u8], script: &[u8]) -> Result<Vec<u8>
     }
 }
 
-/// Those of a script of version 3, to which this one belongs.
+/// Those of a plan, to which this one belongs.
 fn plain_notes(alloc: Global, file: &[u8], plain: &PlainScript) -> Result<Vec<u8>, Fault>
     ensures made { IfOk result (λ text. RunNotes file.now (Some plain.now.origins.items) plain.now.titles.names plain.now.text.items text.items) }
     ensures stopped { IfErr result (Stops (told plain.now.text.items).rest.fault) }
@@ -45,7 +45,7 @@ fn plain_notes(alloc: Global, file: &[u8], plain: &PlainScript) -> Result<Vec<u8
     run_notes(alloc, file, &plain.text, Some(origins), &plain.titles.names)
 }
 
-/// Those of a script of version 1 or 2. Where it belongs to a script of version 3, `origins` are the records there that its own come
+/// Those of a script of version 1 or 2. Where it belongs to a plan, `origins` are the records there that its own come
 /// from, and the names those of its tasks.
 fn run_notes(
     alloc: Global,
@@ -67,7 +67,7 @@ fn run_notes(
 }
 
 /// The notes after a run of the script of this file, of version 1 or 2, by the desk that carried it out. Where it belongs to a
-/// script of version 3, `origins` are the records there that its own come from, and the names those of its tasks.
+/// plan, `origins` are the records there that its own come from, and the names those of its tasks.
 ///
 /// # Errors
 ///

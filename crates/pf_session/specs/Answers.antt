@@ -18,8 +18,8 @@ use Rattle.pf_scenario.specs.Scenario.{plan_after}
 use Rattle.pf_scenario.specs.declared.change.Change.{Change}
 use Rattle.pf_script.specs.declared.line.Line.{Line}
 use Rattle.pf_script.specs.declared.line.Line.TheVariants.{Edit, Steps}
-use Rattle.pf_version3.specs.declared.said.Said.{Said}
-use Rattle.pf_version3.specs.declared.said.Said.TheVariants.{Settings, Slot, Name, Asks}
+use Rattle.pf_plan.specs.declared.said.Said.{Said}
+use Rattle.pf_plan.specs.declared.said.Said.TheVariants.{Settings, Slot, Name, Asks}
 use Rattle.pf_session.specs.Made.{taking_back}
 use Rattle.pf_session.specs.declared.made.Made.{Made}
 

@@ -8,9 +8,9 @@ use Rattle.pf_desk.specs.declared.command.Command.TheVariants as command
 use Rattle.pf_plain.specs.Plain.{Course, course_behind, start}
 use Rattle.pf_script.specs.declared.line.Line.{Line}
 use Rattle.pf_script.specs.declared.line.Line.TheVariants.{Edit, Steps}
-use Rattle.pf_version3.specs.Progress.{with_label}
-use Rattle.pf_version3.specs.declared.said.Said.{Said}
-use Rattle.pf_version3.specs.declared.said.Said.TheVariants.{Settings, Slot, Name, Asks}
+use Rattle.pf_plan.specs.Progress.{with_label}
+use Rattle.pf_plan.specs.declared.said.Said.{Said}
+use Rattle.pf_plan.specs.declared.said.Said.TheVariants.{Settings, Slot, Name, Asks}
 use Rattle.pf_session.specs.Made.{change_line, made_behind, made_behind_undo, number_made, taking_back}
 use Rattle.pf_session.specs.declared.made.Made.{Made}
 
@@ -29,7 +29,7 @@ at_start manner = record {
   manner = manner;
   is_first = true;
   course = start;
-  script = codes "pfair,3\n";
+  script = codes "plan,1\n";
   made = [];
   has_bad = false;
 }

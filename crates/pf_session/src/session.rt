@@ -6,7 +6,7 @@ use pf_answers::manner::Manner;
 use pf_answers::shown::push_shown;
 use pf_answers::telling::{push_told, taken};
 use pf_desk::desk::Desk;
-use pf_version3::state::Progress;
+use pf_plan::state::Progress;
 use std::alloc::{AllocError, Global};
 use std::marker::Model;
 
@@ -66,7 +66,7 @@ impl Session {
             is_first: true,
             progress: Progress::new(alloc),
             desk: None,
-            script: Vec::from_slice(alloc, b"pfair,3\n")?,
+            script: Vec::from_slice(alloc, b"plan,1\n")?,
             made: Vec::new(alloc),
             has_bad: false,
         })

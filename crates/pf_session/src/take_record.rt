@@ -3,7 +3,7 @@ ghost use Rattle.pf_answers.specs.Telling.{ready_text, taken_text};
 ghost use Rattle.pf_session.specs.Answers.{said_answer};
 ghost use Rattle.pf_session.specs.Session.{behind_asked, behind_record};
 ghost use Rattle.pf_session.specs.declared.stop.Stop.TheVariants as stop;
-ghost use Rattle.pf_version3.specs.declared.said.Said.TheVariants as says;
+ghost use Rattle.pf_plan.specs.declared.said.Said.TheVariants as says;
 ghost use Rattle.pf_script.specs.declared.line.Line.TheVariants as asked;
 
 use crate::edit::change_desk;
@@ -17,10 +17,10 @@ use pf_answers::manner::Manner;
 use pf_answers::telling::{ready, taken};
 use pf_names::name::Name;
 use pf_names::slot_length::SlotLength;
+use pf_plan::said::Said;
 use pf_scenario::change::Change;
 use pf_script::line::Line;
 use pf_script::record::ScriptSettings;
-use pf_version3::said::Said;
 use std::alloc::AllocError;
 
 impl Session {

@@ -13,9 +13,9 @@ use Rattle.pf_plain.specs.declared.origin.Origin.{Origin}
 use Rattle.pf_plain.specs.declared.plain.PlainScript.{PlainScript}
 use Rattle.pf_plain.specs.Plain.{IsPlain, MakesPlain, Plain, plain}
 use Rattle.pf_stream.specs.Reading.{longest_script}
-use Rattle.pf_version3.specs.declared.fault.BadRecord.{BadRecord}
+use Rattle.pf_plan.specs.declared.fault.BadRecord.{BadRecord}
 use Rattle.pf_shown.specs.Answered.{Answers}
-use Rattle.pf_shown.specs.Shown.{IsShown, Shows, ShowsAnswer, ShowsOf, ShowsShort, ShowsThird}
+use Rattle.pf_shown.specs.Shown.{IsShown, Shows, ShowsAnswer, ShowsOf, ShowsShort, ShowsPlan}
 use Rattle.pf_shown.specs.declared.showing.Showing.{Showing}
 use Rattle.pf_shown.specs.declared.showing.Showing.TheVariants.{Text}
 use Rattle.pf_heard.specs.declared.wanted.Wanted.{Wanted}
@@ -32,24 +32,24 @@ pub too_long : (bad : Option BadRecord) (titles : Titles) (origins : Option (Lis
     → longest_script < length script → IsShown bad (Err why.TooLong) showing → ShowsShort bad titles origins w script showing
 too_long bad titles origins w script showing long shown = record { short = λ h. absurd (omega arith); long = λ h. shown }
 
--- Use: it belongs to this script of version 3.
-pub third_shown : (p : Plain) (s : PlainScript) (w : Wanted) (showing : Showing) → IsPlain s p
-    → ShowsShort s.bad s.titles (Some s.origins.items) w s.text.items showing → ShowsThird p w showing
-third_shown p s w showing is h =
+-- Use: it belongs to this plan.
+pub plan_shown : (p : Plain) (s : PlainScript) (w : Wanted) (showing : Showing) → IsPlain s p
+    → ShowsShort s.bad s.titles (Some s.origins.items) w s.text.items showing → ShowsPlan p w showing
+plan_shown p s w showing is h =
     subst (λ x. ShowsShort p.bad p.titles (Some p.origins) w x showing) is.text
     (subst (λ o. ShowsShort p.bad p.titles (Some o) w s.text.items showing) is.origins
     (subst (λ t. ShowsShort p.bad t (Some s.origins.items) w s.text.items showing) is.titles
     (subst (λ b. ShowsShort b s.titles (Some s.origins.items) w s.text.items showing) is.bad h)))
 
-third_of : {E : Type 0} → (q : Option Plain) (s : PlainScript) (w : Wanted) (script : List ℕ) (made : Result Showing E) → MakesPlain (Some s) q
-    → ((p : Plain) → IsPlain s p → IfOk made (ShowsThird p w)) → IfOk made (ShowsOf q w script)
-third_of None s w script made is h = absurd is
-third_of (Some p) s w script made is h = h p is
+plan_of : {E : Type 0} → (q : Option Plain) (s : PlainScript) (w : Wanted) (script : List ℕ) (made : Result Showing E) → MakesPlain (Some s) q
+    → ((p : Plain) → IsPlain s p → IfOk made (ShowsPlan p w)) → IfOk made (ShowsOf q w script)
+plan_of None s w script made is h = absurd is
+plan_of (Some p) s w script made is h = h p is
 
--- Use: the script is of version 3.
-pub third_shows : {E : Type 0} → (s : PlainScript) (w : Wanted) (script : List ℕ) (made : Result Showing E) → MakesPlain (Some s) (plain script)
-    → ((p : Plain) → IsPlain s p → IfOk made (ShowsThird p w)) → IfOk made (Shows w script)
-third_shows s w script made is h = third_of (plain script) s w script made is h
+-- Use: the script is a plan.
+pub plan_shows : {E : Type 0} → (s : PlainScript) (w : Wanted) (script : List ℕ) (made : Result Showing E) → MakesPlain (Some s) (plain script)
+    → ((p : Plain) → IsPlain s p → IfOk made (ShowsPlan p w)) → IfOk made (Shows w script)
+plan_shows s w script made is h = plan_of (plain script) s w script made is h
 
 other_of : (q : Option Plain) (w : Wanted) (script : List ℕ) (showing : Showing) → MakesPlain None q → ShowsShort None untitled None w script showing
     → ShowsOf q w script showing

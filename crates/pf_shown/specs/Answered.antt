@@ -27,7 +27,7 @@ pub record Fits (titles : Titles) (origins : Option (List Origin)) (script : Lis
   pub answer : IfOk made (FitMade fit.Text (codes "-") origins titles script)
   pub stopped : IfErr made (Stops (told script).rest.fault)
 
--- the answer to a script of version 1 or 2 with these titles; origins where it belongs to a script of version 3
+-- the answer to a script of version 1 or 2 with these titles; origins where it belongs to a plan
 abbrev pub Answers : Wanted → Titles → Option (List Origin) → List ℕ → Result Answer Fault → Type 0
 Answers (Report format) titles origins script made = Runs (script_meaning format titles origins script) made
 Answers (Why question) titles origins script made = WhyMade titles.names question script made

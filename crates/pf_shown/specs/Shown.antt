@@ -14,9 +14,9 @@ use Rattle.pf_plain.specs.Plain.{Plain, plain}
 use Rattle.pf_plain.specs.declared.origin.Origin.{Origin}
 use Rattle.pf_stream.specs.Reading.{longest_script}
 use Rattle.pf_text.specs.Page.{table_text}
-use Rattle.pf_version3.specs.declared.fault.BadRecord.{BadRecord}
-use Rattle.pf_version3.specs.declared.fault.Reason.{Reason}
-use Rattle.pf_version3.specs.declared.fault.Reason.TheVariants.{NoSettings}
+use Rattle.pf_plan.specs.declared.fault.BadRecord.{BadRecord}
+use Rattle.pf_plan.specs.declared.fault.Reason.{Reason}
+use Rattle.pf_plan.specs.declared.fault.Reason.TheVariants.{NoSettings}
 use Rattle.pf_shown.specs.Answered.{Answers}
 use Rattle.pf_shown.specs.declared.showing.Showing.{Showing}
 use Rattle.pf_shown.specs.declared.showing.Showing.TheVariants.{Text, Bad}
@@ -30,7 +30,7 @@ abbrev pub reason_words : Reason → ℕ → List ℕ
 reason_words NoSettings number = codes "settings are expected"
 reason_words reason number = bad_record number
 
--- by the first bad record of the script of version 3, where there is one
+-- by the first bad record of the plan, where there is one
 abbrev pub record_words : Option BadRecord → ℕ → List ℕ
 record_words None number = bad_record number
 record_words (Some bad) number = reason_words bad.fault.reason bad.number
@@ -63,19 +63,19 @@ IsShown bad (Ok answer) showing = ShowsAnswer answer.ending.status answer showin
 IsShown bad (Err fault) (Bad words) = AreWords bad fault words.items
 IsShown bad (Err fault) (Text text) = ⊥
 
--- of a script of version 1 or 2, where it is short enough; `bad`, the titles and the origins are those of the script of version 3
+-- of a script of version 1 or 2, where it is short enough; `bad`, the titles and the origins are those of the plan
 -- that it belongs to
 pub record ShowsShort (bad : Option BadRecord) (titles : Titles) (origins : Option (List Origin)) (w : Wanted) (script : List ℕ) (showing : Showing) : Type 0 where
   pub short : length script ≤ longest_script → (made : Result Answer Fault) × Answers w titles origins script made × IsShown bad made showing
   pub long : longest_script < length script → IsShown bad (Err why.TooLong) showing
 
--- of one of version 3, by the script of version 2 that belongs to it
-abbrev pub ShowsThird : Plain → Wanted → Showing → Type 0
-ShowsThird p w showing = ShowsShort p.bad p.titles (Some p.origins) w (table_text p.records) showing
+-- of a plan, by the script of version 2 that belongs to it
+abbrev pub ShowsPlan : Plain → Wanted → Showing → Type 0
+ShowsPlan p w showing = ShowsShort p.bad p.titles (Some p.origins) w (table_text p.records) showing
 
 abbrev pub ShowsOf : Option Plain → Wanted → List ℕ → Showing → Type 0
 ShowsOf None w script showing = ShowsShort None untitled None w script showing
-ShowsOf (Some p) w script showing = ShowsThird p w showing
+ShowsOf (Some p) w script showing = ShowsPlan p w showing
 
 -- of one of any version
 abbrev pub Shows : Wanted → List ℕ → Showing → Type 0

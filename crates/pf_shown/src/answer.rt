@@ -18,7 +18,7 @@ use pf_stream::sink::CountedWriter;
 use pf_why_answer::why::why;
 use std::alloc::Global;
 
-/// What the program answers to a script of version 1 or 2, of what is wanted. Where it belongs to one of version 3, `origins` are the
+/// What the program answers to a script of version 1 or 2, of what is wanted. Where it belongs to a plan, `origins` are the
 /// records there that its own come from, and the titles those that it gives.
 ///
 /// # Errors

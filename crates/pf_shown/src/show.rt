@@ -1,7 +1,7 @@
 ghost use Rattle.std.specs.Prelude.{IfOk};
 ghost use Rattle.std.specs.Option.{option_map};
 ghost use Rattle.pf_plain.specs.Plain.{IsPlain, Plain};
-ghost use Rattle.pf_shown.specs.Shown.{IsShown, Shows, ShowsAnswer, ShowsShort, ShowsThird};
+ghost use Rattle.pf_shown.specs.Shown.{IsShown, Shows, ShowsAnswer, ShowsShort, ShowsPlan};
 
 use crate::answer::answer;
 use crate::showing::Showing;
@@ -13,13 +13,13 @@ use pf_heard::wanted::Wanted;
 use pf_names::titles::Titles;
 use pf_plain::origin::Origin;
 use pf_plain::plain::{PlainScript, plain_script};
+use pf_plan::fault::BadRecord;
 use pf_stream::reading::LONGEST_SCRIPT;
-use pf_version3::fault::BadRecord;
 use std::alloc::{AllocError, Global};
 
 /// What a script of these bytes shows of what is wanted: the text that `pfair run`, `pfair why` or `pfair fit` gives of it, with `-`
-/// for the name of its file. One of version 3 is read by the script of version 2 that belongs to it, and its titles and records are
-/// those of version 3. Where the program gives no text, the words of why: `settings are expected`, `range not within N slots`,
+/// for the name of its file. A plan is read by the script of version 2 that belongs to it, and its titles and records are
+/// those of a plan. Where the program gives no text, the words of why: `settings are expected`, `range not within N slots`,
 /// `range too long`, `slot not below N slots`, and of another bad record and of a script that is too long the line of that fault.
 ///
 /// # Errors
@@ -30,15 +30,15 @@ pub fn show(alloc: Global, script: &[u8], wanted: &Wanted) -> Result<Showing, Al
     ensures { IfOk result (Shows wanted.now script.now) }
 {
     match plain_script(alloc, script)? {
-        Some(plain) => show_third(alloc, &plain, wanted),
+        Some(plain) => show_plan(alloc, &plain, wanted),
         None => show_short(alloc, script, None, &Titles::none(alloc), None, wanted),
     }
 }
 
-/// The same of a script of version 3, to which this one belongs.
-#[tactic(auto, using(crate::proofs::Shown::third_shown))]
-fn show_third(alloc: Global, plain: &PlainScript, wanted: &Wanted) -> Result<Showing, AllocError>
-    ensures { (p : Plain) → IsPlain plain.now p → IfOk result (ShowsThird p wanted.now) }
+/// The same of a plan, to which this one belongs.
+#[tactic(auto, using(crate::proofs::Shown::plan_shown))]
+fn show_plan(alloc: Global, plain: &PlainScript, wanted: &Wanted) -> Result<Showing, AllocError>
+    ensures { (p : Plain) → IsPlain plain.now p → IfOk result (ShowsPlan p wanted.now) }
 {
     let origins = plain.origins.as_slice();
     show_short(
@@ -51,7 +51,7 @@ fn show_third(alloc: Global, plain: &PlainScript, wanted: &Wanted) -> Result<Sho
     )
 }
 
-/// The same of a script of version 1 or 2, where it is short enough. Where it belongs to one of version 3, `bad` is the first bad
+/// The same of a script of version 1 or 2, where it is short enough. Where it belongs to a plan, `bad` is the first bad
 /// record there, and `origins` are the records that its own come from.
 #[tactic(auto, using(crate::proofs::Shown::short_enough, crate::proofs::Shown::too_long))]
 fn show_short(

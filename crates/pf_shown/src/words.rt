@@ -4,10 +4,10 @@ ghost use Rattle.pf_shown.specs.Shown.{AreWords, bad_record, range_words, record
 
 use pf_fault::fault::Fault;
 use pf_fault::range_fault::RangeFault;
-use pf_version3::fault::{BadRecord, Reason};
+use pf_plan::fault::{BadRecord, Reason};
 use std::alloc::{AllocError, Global};
 
-/// The words of a fault that a script has; those of a bad record by the first one of the script of version 3 that it belongs to,
+/// The words of a fault that a script has; those of a bad record by the first one of the plan that it belongs to,
 /// where it belongs to one.
 ///
 /// # Errors

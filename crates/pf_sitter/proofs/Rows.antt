@@ -4,9 +4,9 @@ use Rattle.pf_fault.specs.declared.fault.Fault.{Fault}
 use Rattle.pf_fault.specs.declared.fault.Fault.TheVariants as why
 use Rattle.pf_rows.specs.Rows.{Table}
 use Rattle.pf_session.specs.Session.{SessionState}
-use Rattle.pf_version3.specs.Parsing.{end_fault, said_at}
-use Rattle.pf_version3.specs.declared.fault.RecordFault.{RecordFault}
-use Rattle.pf_version3.specs.declared.said.Said.{Said}
+use Rattle.pf_plan.specs.Parsing.{end_fault, said_at}
+use Rattle.pf_plan.specs.declared.fault.RecordFault.{RecordFault}
+use Rattle.pf_plan.specs.declared.said.Said.{Said}
 use Rattle.pf_sitter.specs.Opening.{IsOpened, IsTaken, IsTakenOne, behind_rows, ended, next}
 
 -- Use: one was taken, ..

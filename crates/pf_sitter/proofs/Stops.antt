@@ -7,7 +7,7 @@ use Rattle.pf_fault.specs.declared.fault.Fault.TheVariants as why
 use Rattle.pf_rows.specs.Rows.{Row}
 use Rattle.pf_script.specs.Told.{FaultTold, told}
 use Rattle.pf_session.specs.Session.{SessionState}
-use Rattle.pf_version3.specs.Heading.{is_third_heading}
+use Rattle.pf_plan.specs.Heading.{is_plan_heading}
 use Rattle.pf_sitter.specs.Opening.{IsOpened, behind_rows, opened_plain, opened_rows}
 
 -- Use: it is not opened.
@@ -23,10 +23,10 @@ stopped_plain s found told why.Write h = absurd h
 stopped_plain s found told why.NoReader h = absurd h
 stopped_plain s found told why.GateShut h = absurd h
 
--- Use: nor are its rows, where the first is no heading of version 3.
-pub stopped_rows : (s : SessionState) (bytes : List ℕ) (row : Row) (rest : List Row) (fault : Fault) → is_third_heading row.fields ≡ false
+-- Use: nor are its rows, where the first is no heading of a plan.
+pub stopped_rows : (s : SessionState) (bytes : List ℕ) (row : Row) (rest : List Row) (fault : Fault) → is_plan_heading row.fields ≡ false
     → Stops (told bytes).rest.fault fault → IsOpened (opened_rows s bytes (row ∷ rest)) (Err fault)
-stopped_rows s bytes row rest fault third stops =
+stopped_rows s bytes row rest fault is_plan stops =
     subst
     (λ (b : Bool). IsOpened (if b then behind_rows (record s { is_first = false }) 2 rest else opened_plain s (row ∷ rest) (told bytes).rest.fault) (Err fault))
-    (sym third) (stopped_plain s (row ∷ rest) (told bytes).rest.fault fault stops)
+    (sym is_plan) (stopped_plain s (row ∷ rest) (told bytes).rest.fault fault stops)

@@ -27,11 +27,11 @@ use Rattle.pf_sitting.specs.Scripts.{GrowsTo}
 use Rattle.pf_sitting.specs.declared.answers.Going.{Going}
 use Rattle.pf_sitter.specs.Turns.{GoesOn, Saves, behind_showing, heard_of}
 use Rattle.pf_session.specs.Session.{SessionState, behind_undo_of, newest_of}
-use Rattle.pf_version3.specs.Heading.{is_third_heading}
-use Rattle.pf_version3.specs.Parsing.{said_at}
-use Rattle.pf_version3.specs.declared.fault.RecordFault.{RecordFault}
-use Rattle.pf_version3.specs.declared.said.Said.{Said}
-use Rattle.pf_version3.specs.declared.state.Progress.{Progress}
+use Rattle.pf_plan.specs.Heading.{is_plan_heading}
+use Rattle.pf_plan.specs.Parsing.{said_at}
+use Rattle.pf_plan.specs.declared.fault.RecordFault.{RecordFault}
+use Rattle.pf_plan.specs.declared.said.Said.{Said}
+use Rattle.pf_plan.specs.declared.state.Progress.{Progress}
 
 abbrev EndsLine : List ℕ → Type 0
 EndsLine text = (front : List ℕ) × (text ≡ front ++ 10 ∷ [])
@@ -84,7 +84,7 @@ if_lined p fields (Some word) = word_lined fields (asked_at p word fields)
 fields_lined : (is_first : Bool) (p : Progress) (fields : Option (List (List ℕ))) → IsLined (heard_fields is_first p fields)
 fields_lined is_first p None = tt
 fields_lined is_first p (Some fields) =
-    either_lined (is_first && is_third_heading fields) Heading _ tt (if_lined p fields (word_at fields))
+    either_lined (is_first && is_plan_heading fields) Heading _ tt (if_lined p fields (word_at fields))
 
 heard_lined : (is_first : Bool) (p : Progress) (line : List ℕ) → IsLined (heard is_first p line)
 heard_lined is_first p line =

@@ -8,10 +8,10 @@ use Rattle.pf_rows.specs.Rows.{Row, rows}
 use Rattle.pf_script.specs.Fields.{is_word}
 use Rattle.pf_script.specs.Told.{FaultTold, told}
 use Rattle.pf_session.specs.Session.{SessionState, at_start, behind_record}
-use Rattle.pf_version3.specs.Heading.{is_third_heading}
-use Rattle.pf_version3.specs.Parsing.{end_fault, said_at}
-use Rattle.pf_version3.specs.declared.fault.RecordFault.{RecordFault}
-use Rattle.pf_version3.specs.declared.said.Said.{Said}
+use Rattle.pf_plan.specs.Heading.{is_plan_heading}
+use Rattle.pf_plan.specs.Parsing.{end_fault, said_at}
+use Rattle.pf_plan.specs.declared.fault.RecordFault.{RecordFault}
+use Rattle.pf_plan.specs.declared.said.Said.{Said}
 
 -- a script that ends after a session lacks its settings, or lacks nothing; the record that it lacks would have this number
 abbrev pub ended : SessionState → ℕ → Option RecordFault → Result SessionState ℕ
@@ -23,7 +23,7 @@ abbrev pub next : (SessionState → Result SessionState ℕ) → SessionState �
 next more s number fields (Ok said) = more (behind_record s said (line_of fields))
 next more s number fields (Err fault) = Err number
 
--- after these rows of version 3, of which the first has this number: each is taken without an answer, or is the first bad one
+-- after these rows of a plan, of which the first has this number: each is taken without an answer, or is the first bad one
 abbrev pub behind_rows : SessionState → ℕ → List Row → Result SessionState ℕ
 behind_rows s number [] = ended s number (end_fault s.course.progress)
 behind_rows s number (row ∷ rest) = next (λ t. behind_rows t (number + 1) rest) s number row.fields (said_at s.course.progress row.fields)
@@ -33,7 +33,7 @@ abbrev pub behind_heading : List Row → List Row
 behind_heading [] = []
 behind_heading (row ∷ rest) = if is_word row.fields 0 (codes "pfair") then rest else row ∷ rest
 
--- a script of version 1 or 2 that has no fault stands after the heading of version 3
+-- a script of version 1 or 2 that has no fault stands after the heading of a plan
 abbrev pub opened_plain : SessionState → List Row → Option FaultTold → Result SessionState ℕ
 opened_plain s found None = behind_rows s 1 (behind_heading found)
 opened_plain s found (Some fault) = Err fault.bad.number
@@ -41,7 +41,7 @@ opened_plain s found (Some fault) = Err fault.bad.number
 abbrev pub opened_rows : SessionState → List ℕ → List Row → Result SessionState ℕ
 opened_rows s bytes [] = opened_plain s [] (told bytes).rest.fault
 opened_rows s bytes (row ∷ rest) =
-    if is_third_heading row.fields then behind_rows (record s { is_first = false }) 2 rest
+    if is_plan_heading row.fields then behind_rows (record s { is_first = false }) 2 rest
     else opened_plain s (row ∷ rest) (told bytes).rest.fault
 
 -- a session of this manner after a script of any version, or the number of its first bad record

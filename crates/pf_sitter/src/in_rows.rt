@@ -4,18 +4,18 @@ ghost use Rattle.pf_session.specs.Session.{behind_record};
 ghost use Rattle.pf_heard.specs.Lines.{line_of};
 ghost use Rattle.csv.specs.Records.{fields_of};
 ghost use Rattle.pf_sitter.specs.Opening.{IsTaken, IsTakenOne, behind_rows, ended, next};
-ghost use Rattle.pf_version3.specs.Parsing.{end_fault, said_at};
+ghost use Rattle.pf_plan.specs.Parsing.{end_fault, said_at};
 
 use csv::ByteRecord;
 use pf_fault::fault::Fault;
 use pf_heard::row_text::line_of;
+use pf_plan::said::Said;
 use pf_rows::rows::{NextRow, Rows};
 use pf_script::fields::Fields;
 use pf_session::session::Session;
-use pf_version3::said::Said;
 use std::alloc::Global;
 
-/// Takes rows of version 3, without answers, of which the first has this number. Each is read into `row`.
+/// Takes rows of a plan, without answers, of which the first has this number. Each is read into `row`.
 ///
 /// # Errors
 ///

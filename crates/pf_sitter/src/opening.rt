@@ -8,16 +8,16 @@ use crate::in_rows::{take_from, take_rows};
 use csv::ByteRecord;
 use pf_answers::manner::Manner;
 use pf_fault::fault::Fault;
+use pf_plan::heading::is_plan_heading;
 use pf_rows::rows::{NextRow, Rows};
 use pf_script::fields::Fields;
 use pf_script::line_reader::LineReader;
 use pf_script::opened::OpenedScript;
 use pf_session::session::Session;
-use pf_version3::heading::is_third_heading;
 use std::alloc::Global;
 
 /// A session that begins with the records of a script of any version, without answers. Those of versions 1 and 2 are read by the rules
-/// of their version, and then stand after the heading of version 3.
+/// of their version, and then stand after the heading of a plan.
 ///
 /// # Errors
 ///
@@ -57,8 +57,8 @@ fn open_rows(
     requires { length rows.rows < 2 ^ 64 - 9 }
     ensures { IsOpened (opened_rows session script.now (record { line = 0; fields = fields_of row } ∷ rows.entry.rows)) result }
 {
-    if is_third_heading(&Fields::new(&row)) {
-        return open_third(alloc, session, rows, row);
+    if is_plan_heading(&Fields::new(&row)) {
+        return open_plan(alloc, session, rows, row);
     }
     match check_plain(alloc, script) {
         Ok(()) => open_plain(alloc, session, rows, row),
@@ -66,9 +66,9 @@ fn open_rows(
     }
 }
 
-/// The session after the rows that a script of version 3 has after its heading.
+/// The session after the rows that a plan has after its heading.
 #[tactic(auto, using(crate::proofs::Rows::taken_opened))]
-fn open_third(
+fn open_plan(
     alloc: Global,
     mut session: Session,
     rows: Rows<'_>,

@@ -38,7 +38,7 @@ stats_heading =
     ∷ codes "response_min" ∷ codes "response_max" ∷ codes "missed" ∷ codes "tardiness_max" ∷ codes "lag_min"
     ∷ codes "lag_max" ∷ []
 
--- after all of it in version 3 the name of the task
+-- after all of it in a plan the name of the task
 abbrev pub named_figures_record : Titles → Figures → List (List ℕ)
 named_figures_record titles f = figures_record f ++ name_fields titles f.task
 

@@ -86,7 +86,7 @@ fn push_figures(table: &mut Table, figures: Figures, titles: &Titles) -> Result<
 
 /// What every simulator tells of each task admitted in a slot below now, as a table, by task number: its weight, the
 /// quanta that it received, its migrations and preemptions, the jobs that were done, their least and greatest response,
-/// the missed windows, the greatest tardiness, the least and the greatest lag; in version 3 its name, or nothing where it has
+/// the missed windows, the greatest tardiness, the least and the greatest lag; in a plan its name, or nothing where it has
 /// none.
 ///
 /// # Errors

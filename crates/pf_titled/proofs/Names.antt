@@ -5,10 +5,10 @@ use Rattle.std.specs.Str.{bytes_eq}
 use Rattle.pf_names.specs.Names.{task_of}
 use Rattle.pf_names.specs.declared.named.Named.{Named}
 use Rattle.pf_report.specs.Script.{name_record}
-use Rattle.pf_version3.specs.Progress.{progress_after}
-use Rattle.pf_version3.specs.declared.said.Said.{Said}
-use Rattle.pf_version3.specs.declared.said.Said.TheVariants.{Name}
-use Rattle.pf_version3.specs.declared.state.Progress.{Progress}
+use Rattle.pf_plan.specs.Progress.{progress_after}
+use Rattle.pf_plan.specs.declared.said.Said.{Said}
+use Rattle.pf_plan.specs.declared.said.Said.TheVariants.{Name}
+use Rattle.pf_plan.specs.declared.state.Progress.{Progress}
 use Rattle.pf_converted.specs.Read.{AllSay}
 use Rattle.pf_converted.proofs.Named.{named_last, none_below, still_free}
 use Rattle.pf_retold.specs.Titles.{AreGivable}

@@ -5,9 +5,9 @@ use Rattle.std.specs.List.{flat_map}
 use Rattle.pf_rows.specs.Rows.{Row}
 use Rattle.pf_scenario.specs.declared.event.Numbered.{Numbered}
 use Rattle.pf_script.specs.declared.line.Line.TheVariants.{Steps}
-use Rattle.pf_version3.specs.declared.said.Said.{Said}
-use Rattle.pf_version3.specs.declared.said.Said.TheVariants.{Settings, Slot, Name, Asks}
-use Rattle.pf_version3.specs.declared.state.Progress.{Progress}
+use Rattle.pf_plan.specs.declared.said.Said.{Said}
+use Rattle.pf_plan.specs.declared.said.Said.TheVariants.{Settings, Slot, Name, Asks}
+use Rattle.pf_plan.specs.declared.state.Progress.{Progress}
 use Rattle.pf_plain.specs.Plain.{Course, Plain, course_behind, plain_from, titles_of}
 use Rattle.pf_plain.specs.Written.{said_records}
 use Rattle.pf_converted.specs.Read.{AllSay}

@@ -1,4 +1,4 @@
--- The rows of a desk's script in version 3 are read as they were written.
+-- The rows of a desk's plan are read as they were written.
 use Rattle.std.proofs.Common.{◌≡◌, ◌^◌, ◌<◌, ◌≤◌, ◌==◌, ℕ, Bool, true, false, List, [], ◌∷◌, ◌++◌, Option, None, Some, All, map, codes, arith, refl}
 use Rattle.std.specs.Prelude.{if◌then◌else◌}
 use Rattle.std.specs.Fmt.{decimal}
@@ -80,18 +80,18 @@ steps_plain n small = by (n == 0)
 -- Use: all rows of the script.
 pub rows_plain : (s : System) (every n : ℕ) (titles : Titles) (xs : List Numbered) → IsInLimits s.processors s.base s.cap → (1 ≤ every) × (every ≤ 4096)
     → IsLength titles.slot → AreGivable titles.names → All (λ x. AreShort x.event) xs → n < 10 ^ 15
-    → All IsPlainRow ((codes "pfair" ∷ codes "3" ∷ []) ∷ settings_record s every ∷ (title_records titles ++ (insert_records xs ++ step_records n)))
+    → All IsPlainRow ((codes "plan" ∷ codes "1" ∷ []) ∷ settings_record s every ∷ (title_records titles ++ (insert_records xs ++ step_records n)))
 rows_plain s every n titles xs limits distance slot names short small =
     let events = All-append IsPlainRow (insert_records xs) (step_records n) (inserts_plain xs short) (steps_plain n small) in
     let told = All-append IsPlainRow (slot_records titles.slot) (map name_record titles.names) (slots_plain titles.slot slot) (names_plain titles.names names) in
     let behind = title_records titles ++ (insert_records xs ++ step_records n) in
-    All-cons IsPlainRow (codes "pfair" ∷ codes "3" ∷ []) (settings_record s every ∷ behind) heading_plain
+    All-cons IsPlainRow (codes "plan" ∷ codes "1" ∷ []) (settings_record s every ∷ behind) heading_plain
     (All-cons IsPlainRow (settings_record s every) behind (settings_plain s every limits distance)
     (All-append IsPlainRow (title_records titles) (insert_records xs ++ step_records n) told events))
 
 -- Use: the script begins with no byte order mark.
 pub unmarked : (s : System) (every : ℕ) (rows : List (List (List ℕ)))
-    → strip_bom (table_text ((codes "pfair" ∷ codes "3" ∷ []) ∷ settings_record s every ∷ rows))
-    ≡ table_text ((codes "pfair" ∷ codes "3" ∷ []) ∷ settings_record s every ∷ rows)
+    → strip_bom (table_text ((codes "plan" ∷ codes "1" ∷ []) ∷ settings_record s every ∷ rows))
+    ≡ table_text ((codes "plan" ∷ codes "1" ∷ []) ∷ settings_record s every ∷ rows)
 unfolding strip_bom escaped fields_text is_blank
 unmarked s every rows = refl

@@ -1,4 +1,4 @@
--- What the records of a desk's script say in version 3.
+-- What the records of a desk's script say in a plan.
 use Rattle.std.proofs.Common.{◌≡◌, ◌≤◌, ◌==◌, ℕ, Bool, true, false, Ok, List, [], ◌∷◌, ◌++◌, None, All, map, codes, sym, arith, refl}
 use Rattle.std.specs.Prelude.{if◌then◌else◌}
 use Rattle.std.specs.Fmt.{decimal}
@@ -15,12 +15,12 @@ use Rattle.pf_script.specs.Fields.{is_word}
 use Rattle.pf_script.specs.declared.line.Line.TheVariants.{Edit, Steps}
 use Rattle.pf_script.specs.declared.record.ScriptSettings.{ScriptSettings}
 use Rattle.pf_script.specs.declared.version.Version.TheVariants.{Second}
-use Rattle.pf_version3.specs.Parsing.{cap_at, delay_at, edit_at, event_at, every_at, free_name_at, leave_at, limit_at, name_at, nameless_at, opening_at, record_at, said_at, settings_at}
-use Rattle.pf_version3.specs.Progress.{at_heading, progress_after}
-use Rattle.pf_version3.specs.declared.fault.Reason.TheVariants.{NoCap, NoNumber}
-use Rattle.pf_version3.specs.declared.said.Said.{Said}
-use Rattle.pf_version3.specs.declared.said.Said.TheVariants.{Settings, Name, Asks}
-use Rattle.pf_version3.specs.declared.state.Progress.{Progress}
+use Rattle.pf_plan.specs.Parsing.{cap_at, delay_at, edit_at, event_at, every_at, free_name_at, leave_at, limit_at, name_at, nameless_at, opening_at, record_at, said_at, settings_at}
+use Rattle.pf_plan.specs.Progress.{at_heading, progress_after}
+use Rattle.pf_plan.specs.declared.fault.Reason.TheVariants.{NoCap, NoNumber}
+use Rattle.pf_plan.specs.declared.said.Said.{Said}
+use Rattle.pf_plan.specs.declared.said.Said.TheVariants.{Settings, Name, Asks}
+use Rattle.pf_plan.specs.declared.state.Progress.{Progress}
 use Rattle.pf_report.specs.Script.{insert_record, insert_records, name_record, settings_record, step_records}
 use Rattle.pf_converted.specs.Read.{AllSay}
 use Rattle.pf_converted.proofs.Fields.{early_told, join_told, not_full, steps_say, task_told}

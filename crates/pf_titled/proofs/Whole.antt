@@ -1,4 +1,4 @@
--- The script of a desk in version 3, read again.
+-- The script of a desk as a plan, read again.
 use Rattle.std.proofs.Common.{◌≡◌, ◌∙◌, ◌==◌, ℕ, Bool, true, false, List, [], ◌∷◌, ◌++◌, Option, None, Some, All, map, codes, append_assoc, ap, ap₂, sym, subst, arith, refl}
 use Rattle.std.specs.Prelude.{if◌then◌else◌}
 use Rattle.std.specs.Fmt.{decimal}
@@ -18,11 +18,11 @@ use Rattle.pf_scenario.specs.declared.event.Numbered.{Numbered}
 use Rattle.pf_script.specs.Fields.{is_word}
 use Rattle.pf_script.specs.declared.line.Line.TheVariants.{Steps}
 use Rattle.pf_text.specs.Page.{table_text}
-use Rattle.pf_version3.specs.Heading.{is_third_heading}
-use Rattle.pf_version3.specs.Progress.{at_heading}
-use Rattle.pf_version3.specs.declared.said.Said.{Said}
-use Rattle.pf_version3.specs.declared.said.Said.TheVariants.{Settings, Slot, Asks}
-use Rattle.pf_version3.specs.declared.state.Progress.{Progress}
+use Rattle.pf_plan.specs.Heading.{is_plan_heading}
+use Rattle.pf_plan.specs.Progress.{at_heading}
+use Rattle.pf_plan.specs.declared.said.Said.{Said}
+use Rattle.pf_plan.specs.declared.said.Said.TheVariants.{Settings, Slot, Asks}
+use Rattle.pf_plan.specs.declared.state.Progress.{Progress}
 use Rattle.pf_plain.specs.Plain.{Plain, plain, plain_from, plain_of, start, titles_of, with_heading}
 use Rattle.pf_plain.specs.Written.{event_fields, heading_fields, said_records}
 use Rattle.pf_converted.specs.Read.{AllSay}
@@ -38,7 +38,7 @@ use Rattle.pf_titled.proofs.Names.{behind, name_said, names_all, names_behind, n
 use Rattle.pf_titled.proofs.Plain.{HaveNoLabel, events_behind, events_plain, said_plain}
 
 abbrev heading : List (List ℕ)
-heading = codes "pfair" ∷ codes "3" ∷ []
+heading = codes "plan" ∷ codes "1" ∷ []
 
 abbrev slot_saids : Option SlotLength → List Said
 slot_saids None = []
@@ -139,7 +139,7 @@ module _ (every : ℕ) (seen : Seen) (titles : Titles) (can : CanBeTitled every 
       ap titles_of (slot_behind titles.slot (map name_said titles.names ++ event_saids events n)
       ∙ names_behind titles.names (with_slot opened titles.slot) (event_saids events n) told.names (none_ahead titles.names))
       ∙ events_behind events n (record (with_slot opened titles.slot) { names = [] ++ titles.names })
-      ∙ (λ k. record { is_third = sym told.third k; names = titles.names; slot = titles.slot })
+      ∙ (λ k. record { is_plan = sym told.is_plan k; names = titles.names; slot = titles.slot })
 
   not_near : (s.horizon == near_horizon) ≡ false
   not_near = grind (arith, nat_tests, can.wide)
@@ -150,15 +150,15 @@ module _ (every : ℕ) (seen : Seen) (titles : Titles) (can : CanBeTitled every 
       (ap (λ (rs : List (List (List ℕ))). heading_fields ∷ settings_record s every ∷ rs)
       (titles_written titles.slot titles.names (event_saids events n) ∙ events_written events n))
 
-  third : script_rows every seen titles ≡ heading ∷ records
-  third = rw told.third refl
+  is_plan : script_rows every seen titles ≡ heading ∷ records
+  is_plan = rw told.is_plan refl
 
   of_rows : (rs : List Row) (end : ℕ) → map (λ row. row.fields) rs ≡ heading ∷ records
       → (p : Plain) × (plain_of end rs ≡ Some p) × TellsTitled every seen titles p
-  unfolding is_third_heading is_word script_text_of
+  unfolding is_plan_heading is_word script_text_of
   of_rows [] end is = cc
   of_rows (row ∷ rs) end is =
-      let first : row.fields ≡ codes "pfair" ∷ codes "3" ∷ [] = cc in
+      let first : row.fields ≡ codes "plan" ∷ codes "1" ∷ [] = cc in
       let rest : map (λ row. row.fields) rs ≡ records = cc in
       let said = said_plain rs start 2 end script (subst (λ (t : List (List (List ℕ))). AllSay at_heading t script) (sym rest) all_say)
       (no_labels titles.slot titles.names events n) in (
@@ -178,7 +178,7 @@ module _ (every : ℕ) (seen : Seen) (titles : Titles) (can : CanBeTitled every 
       let all = rows_plain s every n titles events can.scenario.settings.limits (can.some, can.within) told.slot told.names events_short (omega (arith, can.stepped)) in
       let fields = rows_again (heading ∷ records) all (unmarked s every (title_records titles ++ (insert_records events ++ step_records n))) in
       let made = of_rows (rows text).rows (rows text).end fields in
-      subst (λ (rs : List (List (List ℕ))). (p : Plain) × (plain (table_text rs) ≡ Some p) × TellsTitled every seen titles p) (sym third) made
+      subst (λ (rs : List (List (List ℕ))). (p : Plain) × (plain (table_text rs) ≡ Some p) × TellsTitled every seen titles p) (sym is_plan) made
 
 pub titled_scripts_are_read : TitledScriptsAreRead
 titled_scripts_are_read every seen titles can told = read every seen titles can told

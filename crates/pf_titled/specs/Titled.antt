@@ -1,4 +1,4 @@
--- The script of a desk in version 3, read again.
+-- The script of a desk as a plan, read again.
 use Rattle.std.specs.Prelude.{ℕ, ◌≡◌, ◌≤◌, None, Some}
 use Rattle.pf_scenario.specs.System.{wide_horizon}
 use Rattle.pf_scenario.specs.Edit.{IsScenario}
@@ -11,7 +11,7 @@ use Rattle.pf_text.specs.Page.{table_text}
 use Rattle.pf_plain.specs.Plain.{Plain, plain}
 use Rattle.pf_retold.specs.Titles.{AreTold}
 
--- what a script of version 3 can say of a snapshot: a scenario in wide settings, steps up to the horizon, a distance of checkpoints
+-- what a plan can say of a snapshot: a scenario in wide settings, steps up to the horizon, a distance of checkpoints
 pub record CanBeTitled (every : ℕ) (seen : Seen) : Type 0 where
   pub scenario : IsScenario seen.state.plan
   pub wide : seen.state.plan.settings.horizon ≡ wide_horizon

@@ -1,4 +1,4 @@
-//! The script of a desk in version 3, read again. The one contract of this crate: it tells the desk and its titles.
+//! The script of a desk as a plan, read again. The one contract of this crate: it tells the desk and its titles.
 #![tactic(auto)]
 
 pub mod laws;

@@ -56,7 +56,7 @@ pub type WindowPieces<'a> = Chain<Whole, SheetPieces<WindowSheet<'a>>>;
 /// The windows of the tasks of a list as a table, in pieces, by task number, then by subtask: of each subtask that ran, or was
 /// released before the task left, the job that it is of, the first slot in which it could run, its release and deadline, its
 /// bit and its group deadline, and where it ran. Those are shown of which a slot, up to the task's leave, or the quantum is one
-/// of the slots from `from` on and below `to`. In version 3 the name of the task stands last, or nothing where it has none.
+/// of the slots from `from` on and below `to`. In a plan the name of the task stands last, or nothing where it has none.
 ///
 /// # Errors
 ///

@@ -55,7 +55,7 @@ class Desk:
     def of_script(cls, script: str, caller: int = 0) -> "Desk":
         """A desk with the settings of a whole script of any version, which carried out the records behind them.
 
-        The texts of a desk that a script of version 3 opened tell the names of its tasks and how long a slot is. Raises
+        The texts of a desk that a plan opened tell the names of its tasks and how long a slot is. Raises
         BadRecord.
         """
         desk = cls.__new__(cls)

@@ -161,10 +161,10 @@ class Calls(unittest.TestCase):
             Desk.of_script("settings,65,2,2,64\n")
         self.assertEqual(str(bad.exception), "line 1, record 1, field 2: 65 is not within 1 to 64")
 
-    def test_a_script_of_version_3_tells_names(self) -> None:
-        rig = ["# camera rig", "pfair, 3", "settings, 2, 6", "slot, 500, us", "name, 1, camera"]
+    def test_a_plan_tells_names(self) -> None:
+        rig = ["# camera rig", "plan, 1", "settings, 2, 6", "slot, 500, us", "name, 1, camera"]
         rig += ["label, in, join, 0, camera, 2, 3", "step, 6", "label, out, leave, 6, camera", "step, 3", ""]
-        again = "pfair,3\nsettings,2,6,12,64\nslot,500,us\nname,1,camera\njoin,0,1,2,3,0\nleave,6,1\nstep,9\n"
+        again = "plan,1\nsettings,2,6,12,64\nslot,500,us\nname,1,camera\njoin,0,1,2,3,0\nleave,6,1\nstep,9\n"
         with Desk.of_script("\n".join(rig)) as desk:
             self.assertEqual(desk.text("script"), again)
             self.assertEqual(desk.report()["names"], [{"name": "camera", "task": 1}])
@@ -172,7 +172,7 @@ class Calls(unittest.TestCase):
             with self.assertRaises(BadRecord):
                 desk.run("name,2,lidar\n")
         with self.assertRaises(BadRecord) as bad:
-            Desk.of_script("pfair,3\nsettings,1,2\nstrike,x\nlabel,x,join,0,1,1,2\n")
+            Desk.of_script("plan,1\nsettings,1,2\nstrike,x\nlabel,x,join,0,1,1,2\n")
         self.assertEqual(str(bad.exception), 'line 3, record 3, field 2: "x" labels no event so far')
 
     def test_what_is_wrong_with_records(self) -> None:

@@ -38,7 +38,7 @@ impl Desk {
     }
 
     /// Opens a desk with the settings of a whole script of any version, and carries out the records behind them. The texts of a
-    /// desk that a script of version 3 opened tell the names of its tasks and how long a slot is.
+    /// desk that a plan opened tell the names of its tasks and how long a slot is.
     ///
     /// # Errors
     ///

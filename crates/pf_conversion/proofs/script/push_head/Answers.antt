@@ -11,7 +11,7 @@ returns c =
     on_ok_weaker c.push_parts.result
     (λ e.
     e
-    ∙ ap (λ w. c.args.text.now.items ++ joined (codes "pfair,3\nsettings," ∷ decimal p ∷ codes "," ∷ decimal b ∷ codes "," ∷ decimal (p * b) ∷ codes ",64\nslot,"
+    ∙ ap (λ w. c.args.text.now.items ++ joined (codes "plan,1\nsettings," ∷ decimal p ∷ codes "," ∷ decimal b ∷ codes "," ∷ decimal (p * b) ∷ codes ",64\nslot,"
     ∷ decimal c.slot_of-length.result.0 ∷ codes "," ∷ w ∷ codes "\n" ∷ [])) c.word.ensures
     ∙ ap (λ s. c.args.text.now.items ++ head_lines p b s) c.slot_of-length.ensures)
     c.push_parts.ensures

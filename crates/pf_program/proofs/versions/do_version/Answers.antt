@@ -2,13 +2,13 @@ use Rattle.std.proofs.Common.{None, subst, sym}
 use Rattle.pf_names.specs.declared.titles.Titles.{Titles}
 use Rattle.pf_plain.specs.Plain.{plain}
 use Rattle.pf_program.specs.Ends.{IsTextBy}
-use Rattle.pf_program.proofs.RunNotes.{own_answered, own_text, third_text}
+use Rattle.pf_program.proofs.RunNotes.{own_answered, own_text, plan_text}
 use Rattle.pf_program.proofs.versions.do_version.Goals as goal
 
 pub end_with_notes-requires-clause-carried : goal.end_with_notes-requires-clause-carried
 end_with_notes-requires-clause-carried g c =
     let made = rw c.in-Ok-Some.field-0-is at c.in-Ok-Some.ensures in
-    rw (c.deref.ensures.value, c.as_slice-origins.ensures.value) (third_text (plain c.args.script.now) c.in-Ok-Some.plain c.args.script.now made)
+    rw (c.deref.ensures.value, c.as_slice-origins.ensures.value) (plan_text (plain c.args.script.now) c.in-Ok-Some.plain c.args.script.now made)
 
 pub end_with_notes-requires-in-Ok-None-clause-carried : goal.end_with_notes-requires-in-Ok-None-clause-carried
 end_with_notes-requires-in-Ok-None-clause-carried g c =

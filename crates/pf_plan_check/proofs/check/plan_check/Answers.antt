@@ -1,0 +1,15 @@
+use Rattle.std.proofs.Common.{◌∙◌, ap}
+use Rattle.pf_rows.specs.Rows.{rows}
+use Rattle.pf_plan_check.specs.Checked.{faults}
+use Rattle.pf_plan_check.specs.Unread.{Unread}
+use Rattle.pf_plan_check.proofs.Told.{ending_is, told_all}
+use Rattle.pf_plan_check.proofs.check.plan_check.Goals as goal
+
+pub returns : goal.returns
+returns c =
+    let t = rows c.args.script.now in
+    let inv = c.faults.invariant in
+    let none = rw c.in_default.is at c.in_ok-bad.ensures in
+    let records = c.records.ensures ∙ ap (λ (u : Unread). u.read) none.1 ∙ inv.records in
+    let told = told_all t _ _ _ c.faults.count _ none.0 inv.text inv.count records (ap (λ v. v.items) c.into_bytes.ensures.value ∙ c.in_ok-push_totals.ensures) in
+    record { text = told.0; ending = ending_is (faults t) c.faults.count _ _ told.1 c.status_of.ensures c.quiet.ensures }

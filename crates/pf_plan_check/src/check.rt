@@ -1,0 +1,49 @@
+ghost use Rattle.std.specs.Prelude.{◌≡◌, ◌==◌, if◌then◌else◌, IfOk};
+ghost use Rattle.pf_fault.specs.declared.status.Status.TheVariants.{BadScript, Done};
+ghost use Rattle.pf_plan_check.specs.Checked.{ChecksPlan};
+
+use crate::plan_faults::PlanFaults;
+use crate::report::push_report;
+use csv::ByteRecord;
+use pf_check::fields::Fields;
+use pf_check::report::push_totals;
+use pf_fault::answer::Answer;
+use pf_fault::ending::Ending;
+use pf_fault::status::Status;
+use std::alloc::{AllocError, Global};
+
+/// What a check of a plan finds: a line for each record that the format does not allow, taking those before it
+/// that it does not allow as though they were not there, and then how many records and faults there are. Nothing is carried
+/// out. The first record is the heading. The status is `BadScript` where there is a fault.
+///
+/// # Errors
+///
+/// Where memory is refused.
+pub fn plan_check(alloc: Global, script: &[u8]) -> Result<Answer, AllocError>
+    ensures { IfOk result (ChecksPlan script.now) }
+{
+    let mut row = ByteRecord::new(alloc);
+    let mut faults = PlanFaults::new(alloc, script, &mut row)?;
+    let mut text = String::new(alloc);
+    let mut count = 0;
+    'faults: while let Some(bad) = faults.next(&mut row)? {
+        push_report(&mut text, &Fields::new(&row), bad)?;
+        count += 1;
+    }
+    push_totals(&mut text, faults.records(), count)?;
+    Ok(Answer {
+        text: text.into_bytes(),
+        ending: Ending::quiet(alloc, status_of(count)),
+    })
+}
+
+/// The status after so many faults.
+fn status_of(faults: u64) -> Status
+    ensures { result ≡ (if faults == 0 then Done else BadScript) }
+{
+    if faults == 0 {
+        Status::Done
+    } else {
+        Status::BadScript
+    }
+}

@@ -1,0 +1,141 @@
+ghost use Rattle.std.specs.Prelude.{◌≡◌, [], IfSome};
+ghost use Rattle.pf_plan.specs.Parsing.{end_fault};
+ghost use Rattle.pf_plan_check.specs.Checked.{faults_at_end};
+ghost use Rattle.pf_plan_check.specs.Unread.{with_fault};
+
+use csv::ByteRecord;
+use pf_check::fields::Fields;
+use pf_plan::fault::BadRecord;
+use pf_plan::state::Progress;
+use pf_rows::rows::{NextRow, Rows};
+use std::alloc::{AllocError, Global};
+use std::marker::Model;
+
+/// The faults of a plan that are not found yet. One of its records is in memory at a time, in the record of the
+/// caller's. One with a fault is taken as though it were not there, and nothing is carried out. Contracts see what is left: the
+/// faults; and how many records were read, and how many there are.
+#[derive(Drop)]
+pub struct PlanFaults<'a> {
+    rows: Rows<'a>,
+    // What came before the next record.
+    progress: Progress,
+    // How many records were read.
+    number: u64,
+    ended: bool,
+}
+
+impl<'a> Model for PlanFaults<'a> {
+    ghost use Rattle.std.specs.Prelude.{◌≡◌, ◌<◌, ◌+◌, ◌-◌, ◌^◌, false, length};
+    ghost use Rattle.pf_plan_check.specs.Unread.{Unread, unread};
+
+    ghost Value = { Unread };
+
+    ghost view = { λ f. unread f.ended f.progress f.number f.rows };
+
+    ghost invariant = { λ f. f.ended ≡ false → f.number + length f.rows.rows < 2 ^ 64 - 2 };
+}
+
+impl<'a> PlanFaults<'a> {
+    ghost use Rattle.std.specs.Prelude.{◌≡◌, ◌≤◌, ◌<◌, ◌+◌, ◌-◌, ◌^◌, Bool, false, length, IfOk, OnOk};
+    ghost use Rattle.csv.specs.Records.{fields_of};
+    ghost use Rattle.pf_rows.specs.Rows.{rows};
+    ghost use Rattle.pf_plan.specs.Progress.{at_heading};
+    ghost use Rattle.pf_plan_check.specs.Checked.{faults, first_fields};
+    ghost use Rattle.pf_plan_check.specs.Unread.{ReadsFault, unread};
+
+    /// All faults of a script, whose first record is its heading: that is read into `row`, which is empty where there is none.
+    ///
+    /// # Errors
+    ///
+    /// Where memory is refused.
+    #[tactic(auto, using(crate::proofs::Told::few_from))]
+    pub fn new(alloc: Global, script: &'a [u8], row: &mut ByteRecord) -> Result<Self, AllocError>
+        ensures faults { IfOk result (λ f. f.faults ≡ faults (rows script.now)) }
+        ensures records { IfOk result (λ f. f.records ≡ length (rows script.now).rows) }
+        ensures few { IfOk result (λ f. (length f.faults ≤ f.records) × (f.records ≤ length script.now + 1)) }
+        ensures heading { OnOk result (fields_of row.new ≡ first_fields (rows script.now).rows) }
+    {
+        let mut rows = Rows::new(alloc, script);
+        match rows.next(row)? {
+            NextRow::Found(_) => Ok(PlanFaults::at(alloc, rows, 1, false)),
+            NextRow::End(_) => {
+                row.clear();
+                Ok(PlanFaults::at(alloc, rows, 0, true))
+            }
+        }
+    }
+
+    /// Those after the heading, where so many records were read.
+    fn at(alloc: Global, rows: Rows<'a>, number: u64, ended: bool) -> Self
+        requires { ended ≡ false → number + length rows.rows < 2 ^ 64 - 2 }
+        ensures { result ≡ unread ended at_heading number rows.entry }
+    {
+        PlanFaults {
+            rows,
+            progress: Progress::new(alloc),
+            number,
+            ended,
+        }
+    }
+
+    /// The next fault, and the fields of its record in `row`; `None` after the last one. After the last record a script may lack
+    /// one, which has no fields.
+    ///
+    /// # Errors
+    ///
+    /// Where memory is refused. Nothing is then promised of a further call.
+    pub fn next(&mut self, row: &mut ByteRecord) -> Result<Option<BadRecord>, AllocError>
+        ensures { IfOk result (λ found. ReadsFault found (fields_of row.new) self.old self.new) }
+    {
+        if self.ended {
+            return Ok(None);
+        }
+        'rows: loop {
+            let Ok(next) = self.rows.next(row) else {
+                self.ended = true;
+                return Err(AllocError);
+            };
+            match next {
+                NextRow::Found(line) => {
+                    self.number += 1;
+                    match self.progress.read(&Fields::new(row)) {
+                        Ok(said) => self.progress.note(said, 0)?,
+                        Err(fault) => {
+                            let number = self.number;
+                            return Ok(Some(BadRecord {
+                                number,
+                                line,
+                                fault,
+                            }));
+                        }
+                    }
+                }
+                NextRow::End(line) => {
+                    self.ended = true;
+                    row.clear();
+                    return Ok(lacking(&self.progress, self.number + 1, line));
+                }
+            }
+        }
+    }
+
+    /// How many records were read.
+    pub fn records(&self) -> u64
+        ensures { result ≡ self.now.read }
+    {
+        self.number
+    }
+}
+
+/// What a script lacks that ends on this line, where its next record would have this number.
+fn lacking(progress: &Progress, number: u64, line: u64) -> Option<BadRecord>
+    ensures fault { faults_at_end number line (end_fault progress.now) ≡ with_fault result [] [] }
+    ensures number { IfSome result (λ bad. bad.number ≡ number) }
+{
+    let fault = progress.end_fault()?;
+    Some(BadRecord {
+        number,
+        line,
+        fault,
+    })
+}
