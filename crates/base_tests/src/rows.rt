@@ -5,7 +5,7 @@ ghost use Rattle.pf_place.specs.Occupancy.{idle_row};
 
 use crate::refused::say;
 use pf_order::pick::Pick;
-use pf_place::row::Row;
+use pf_place::row::{Row, idle, place};
 use pf_place::rows::Rows;
 use std::alloc::{AllocError, Global};
 use std::process::Abort;
@@ -16,11 +16,11 @@ const FIVE: Pick = Pick { task: 5, sub: 1 };
 fn idle_again(rt: &(impl Abort + Print), alloc: Global) -> Row
     ensures { result ≡ idle_row 2 }
 {
-    match Row::idle(alloc, 2) {
+    match idle(alloc, 2) {
         Ok(row) => row,
         Err(AllocError) => {
-            say(rt, "Row::idle");
-            Row::idle(alloc, 2).expect(rt, "memory is ample")
+            say(rt, "idle");
+            idle(alloc, 2).expect(rt, "memory is ample")
         }
     }
 }
@@ -29,11 +29,11 @@ fn idle_again(rt: &(impl Abort + Print), alloc: Global) -> Row
 fn place_again(rt: &(impl Abort + Print), alloc: Global, before: &Row) -> Row
     requires { before.now ≡ idle_row 2 }
 {
-    match Row::place(alloc, 2, 1, before, &[FIVE]) {
+    match place(alloc, 2, 1, before, &[FIVE]) {
         Ok(row) => row,
         Err(AllocError) => {
-            say(rt, "Row::place");
-            Row::place(alloc, 2, 1, before, &[FIVE]).expect(rt, "memory is ample")
+            say(rt, "place");
+            place(alloc, 2, 1, before, &[FIVE]).expect(rt, "memory is ample")
         }
     }
 }

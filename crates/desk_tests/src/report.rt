@@ -107,10 +107,10 @@ fn text(
     let titles = Titles::none(alloc);
     match call {
         Call::Schedule => schedule_csv(alloc, after),
-        Call::Lags => lags_csv(alloc, after, &titles),
+        Call::Lags => lags_csv(alloc, after),
         Call::Misses => misses_csv(alloc, after),
         Call::Denials => denials_csv(alloc, after),
-        Call::Object => report_json(alloc, after, &titles),
+        Call::Object => report_json(alloc, after),
         Call::Script => script_text(alloc, after, 64, &titles),
         Call::Diff => diff(alloc, before, after),
         Call::Chart => chart(alloc, after, &titles),

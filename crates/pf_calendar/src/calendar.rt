@@ -17,6 +17,7 @@ use pf_heap::arena::{Arena, HeapId};
 use pf_order::key::Key;
 use pf_order::meter::Meter;
 use pf_table::table::Table;
+use pf_weight::task::LARGEST_TASK;
 use std::alloc::{AllocError, Global};
 use std::marker::Model;
 
@@ -80,12 +81,29 @@ impl Calendar {
         self.held
     }
 
-    /// Makes room for at least n more keys: with those held no more than 2^32 - 3, for which heaps can be named.
+    /// Makes room for at least n more keys, of any tasks: with those held no more than 2^32 - 3, for which heaps can be named.
+    ///
+    /// # Errors
+    ///
+    /// Where memory is refused: all is as before, but for the room, which may be greater.
+    pub fn reserve(&mut self, n: usize) -> Result<(), AllocError>
+        requires few { key_count self.old + n ≤ 2 ^ 32 - 3 }
+        ensures ready { self.new.ready ≡ self.old.ready }
+        ensures waiting { self.new.waiting ≡ self.old.waiting }
+        ensures grows { self.old.spare ≤ self.new.spare }
+        ensures ok { OnOk result ((n ≤ self.new.spare) × (LARGEST_TASK < self.new.tasks)) }
+        ensures err { OnErr result (self.new.tasks ≡ self.old.tasks) }
+    {
+        self.reserve_room(n)?;
+        self.reserve_task(LARGEST_TASK as u32)
+    }
+
+    /// Makes room for at least n more keys, of tasks that have theirs: with those held no more than 2^32 - 3, for which heaps can be named.
     ///
     /// # Errors
     ///
     /// Where memory is refused: all is as before.
-    pub fn reserve(&mut self, n: usize) -> Result<(), AllocError>
+    pub fn reserve_room(&mut self, n: usize) -> Result<(), AllocError>
         requires few { key_count self.old + n ≤ 2 ^ 32 - 3 }
         ensures ready { self.new.ready ≡ self.old.ready }
         ensures waiting { self.new.waiting ≡ self.old.waiting }
@@ -99,7 +117,7 @@ impl Calendar {
         }
         let limit = self.held + n;
         let more = limit.saturating_sub(self.waiting.len() + self.unused.len());
-        self.heaps.reserve(n)?;
+        self.heaps.reserve_room(n)?;
         self.waiting.reserve(self.unused.len() + more)?;
         self.unused.reserve(self.waiting.len() + more)?;
         add_heaps(&mut self.heaps, &mut self.unused, more)?;

@@ -15,7 +15,7 @@ use crate::command::Command;
 use crate::reply::{Fault, Reply};
 use crate::snapshot::Snapshot;
 use pf_order::meter::Meter;
-use pf_place::row::Row;
+use pf_place::row::{Row, idle};
 use pf_place::rows::Rows;
 use pf_run::denied::Denied;
 use pf_scenario::change::Change;
@@ -145,7 +145,7 @@ impl ScenarioRun {
         if slot == settings.horizon() {
             return Ok(Reply::Refused(Fault::AtHorizon));
         }
-        let mut row = Row::idle(alloc, settings.processors())?;
+        let mut row = idle(alloc, settings.processors())?;
         self.timeline.advance(meter, &self.scenario)?;
         fill(&mut row, self.timeline.rows(), slot);
         Ok(Reply::Stepped { slot, row })

@@ -11,3 +11,5 @@ mod roster;
 pub mod saved_engine;
 mod saved_task;
 mod state;
+
+pub use pf_run::denied;

@@ -88,7 +88,7 @@ impl SavedEngine {
         let mut tasks = Roster::new(alloc);
         let mut calendar = Calendar::new(alloc)?;
         tasks.reserve(self.tasks.len())?;
-        calendar.reserve(self.tasks.len())?;
+        calendar.reserve_room(self.tasks.len())?;
         for saved in &self.tasks {
             let member = saved.member(self.settings.base());
             tasks.reserve_task(saved.task)?;

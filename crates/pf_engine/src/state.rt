@@ -109,7 +109,7 @@ impl State {
         let room = Room::new(self.tasks.allocator(), more, picks)?;
         self.tasks.reserve(more)?;
         self.tasks.reserve_joins(events)?;
-        self.calendar.reserve(more)?;
+        self.calendar.reserve_room(more)?;
         reserve_joins(&mut self.calendar, events)?;
         Ok(room)
     }

@@ -14,6 +14,7 @@ use crate::table::Roots;
 use crate::taking::{merge, take, take_first, take_from};
 use pf_order::key::Key;
 use pf_order::meter::Meter;
+use pf_weight::task::LARGEST_TASK;
 use std::alloc::{AllocError, Global};
 use std::marker::Model;
 
@@ -97,12 +98,28 @@ impl Arena {
         Ok(HeapId { index })
     }
 
-    /// Makes room for at least n more keys. They take no memory here: a key has that of its task's number.
+    /// Makes room for at least n more keys, of any tasks.
+    ///
+    /// # Errors
+    ///
+    /// Where memory is refused, or n is more than 2^63: all is as before, but for the room, which may be greater.
+    pub fn reserve(&mut self, n: usize) -> Result<(), AllocError>
+        ensures main { self.new.main ≡ self.old.main }
+        ensures lists { self.new.lists ≡ self.old.lists }
+        ensures grows { self.old.spare ≤ self.new.spare }
+        ensures ok { OnOk result ((n ≤ self.new.spare) × (LARGEST_TASK < self.new.tasks)) }
+        ensures err { OnErr result (self.new.tasks ≡ self.old.tasks) }
+    {
+        self.reserve_room(n)?;
+        self.reserve_task(LARGEST_TASK as u32)
+    }
+
+    /// Makes room for at least n more keys, of tasks that have theirs. They take no memory here: a key has that of its task's number.
     ///
     /// # Errors
     ///
     /// Where n is more than 2^63: the arena is as before.
-    pub fn reserve(&mut self, n: usize) -> Result<(), AllocError>
+    pub fn reserve_room(&mut self, n: usize) -> Result<(), AllocError>
         ensures main { self.new.main ≡ self.old.main }
         ensures lists { self.new.lists ≡ self.old.lists }
         ensures tasks { self.new.tasks ≡ self.old.tasks }

@@ -11,7 +11,7 @@ use sqlite_disk::Disk;
 use std::io;
 
 /// The bytes of the heading's line.
-const HEADING_SIZE: usize = 9;
+const HEADING_SIZE: usize = 8;
 
 /// Writes bytes at an offset, and syncs them.
 fn write<D: Disk>(disk: &mut D, at: usize, bytes: &[u8]) -> io::Result<()>

@@ -49,54 +49,6 @@ impl Eq for Row {
 }
 
 impl Row {
-    /// The row of m idle processors. It stands before slot 0.
-    ///
-    /// # Errors
-    ///
-    /// Where memory is refused.
-    pub fn idle(alloc: Global, m: u32) -> Result<Self, AllocError>
-        ensures row { IfOk result (λ row. row ≡ idle_row m) }
-        ensures empty { IfOk result (λ row. sitters row ≡ []) }
-    {
-        let places = vec![in alloc; Place::idle(); m as usize]?;
-        Ok(Row { places })
-    }
-
-    /// The row of a slot in which `picks` run on the processors below `count`, where `before` is the row of the
-    /// slot before. A task that ran there keeps its processor where that is in use; the other picks, in order, take
-    /// the lowest free ones in use.
-    ///
-    /// `count` must be at most m, `before` a row of m processors, and the picks at most `count`; their tasks are
-    /// numbered from 1. Neither the picks nor `before` may have a task twice.
-    ///
-    /// # Errors
-    ///
-    /// Where memory is refused.
-    pub fn place(
-        alloc: Global,
-        m: u32,
-        count: u32,
-        before: &Row,
-        picks: &[Pick],
-    ) -> Result<Self, AllocError>
-        requires in_use { count ≤ m }
-        requires places { length before.now ≡ m }
-        requires few { length picks.now ≤ count }
-        requires picks { NoTaskTwice picks.now }
-        requires numbered { All (λ pick. 1 ≤ pick.task) picks.now }
-        requires before { NoTaskTwice (sitters before.now) }
-        ensures row { IfOk result (λ row. row ≡ row_of m count before.now picks.now) }
-        ensures long { IfOk result (λ row. length row ≡ m) }
-
-        // Each pick sits on one place, and nobody else sits; so the next row can be placed from this one.
-        ensures seated { IfOk result (λ row. IsPermutation picks.now (sitters row)) }
-        ensures once { IfOk result (λ row. NoTaskTwice (sitters row)) }
-    {
-        let mut places = vec![in alloc; Place::idle(); m as usize]?;
-        seat(&mut places, count as usize, before.view(), picks);
-        Ok(Row { places })
-    }
-
     /// The row as `Rows` lends one.
     pub fn view(&self) -> RowView<'_>
         ensures { lent_row result ≡ self.now }
@@ -137,4 +89,52 @@ impl Row {
         let places = self.places.clone()?;
         Ok(Row { places })
     }
+}
+
+/// The row of m idle processors. It stands before slot 0.
+///
+/// # Errors
+///
+/// Where memory is refused.
+pub fn idle(alloc: Global, m: u32) -> Result<Row, AllocError>
+    ensures row { IfOk result (λ row. row ≡ idle_row m) }
+    ensures empty { IfOk result (λ row. sitters row ≡ []) }
+{
+    let places = vec![in alloc; Place::idle(); m as usize]?;
+    Ok(Row { places })
+}
+
+/// The row of a slot in which `picks` run on the processors below `count`, where `before` is the row of the
+/// slot before. A task that ran there keeps its processor where that is in use; the other picks, in order, take
+/// the lowest free ones in use.
+///
+/// `count` must be at most m, `before` a row of m processors, and the picks at most `count`; their tasks are
+/// numbered from 1. Neither the picks nor `before` may have a task twice.
+///
+/// # Errors
+///
+/// Where memory is refused.
+pub fn place(
+    alloc: Global,
+    m: u32,
+    count: u32,
+    before: &Row,
+    picks: &[Pick],
+) -> Result<Row, AllocError>
+    requires in_use { count ≤ m }
+    requires places { length before.now ≡ m }
+    requires few { length picks.now ≤ count }
+    requires picks { NoTaskTwice picks.now }
+    requires numbered { All (λ pick. 1 ≤ pick.task) picks.now }
+    requires before { NoTaskTwice (sitters before.now) }
+    ensures row { IfOk result (λ row. row ≡ row_of m count before.now picks.now) }
+    ensures long { IfOk result (λ row. length row ≡ m) }
+
+    // Each pick sits on one place, and nobody else sits; so the next row can be placed from this one.
+    ensures seated { IfOk result (λ row. IsPermutation picks.now (sitters row)) }
+    ensures once { IfOk result (λ row. NoTaskTwice (sitters row)) }
+{
+    let mut places = vec![in alloc; Place::idle(); m as usize]?;
+    seat(&mut places, count as usize, before.view(), picks);
+    Ok(Row { places })
 }

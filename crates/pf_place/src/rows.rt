@@ -147,7 +147,7 @@ impl Rows {
         self.last.assign_last(row);
     }
 
-    /// Makes the last row the row of a slot in which `picks` run on the processors below `count`, as `Row::place` does:
+    /// Makes the last row the row of a slot in which `picks` run on the processors below `count`, as `place` does:
     /// after the row before it, or an idle one where it is the only row. It takes no memory.
     ///
     /// There must be a row. Its processors are m: `count` must be at most m, the row before it of m processors, and the

@@ -3,6 +3,7 @@ ghost use Rattle.std.specs.Fmt.{decimal};
 ghost use Rattle.serde_json.specs.Data.{array};
 ghost use Rattle.serde_json.specs.View.{items_of, view};
 ghost use Rattle.serde_json.specs.Written.{compact_text};
+ghost use Rattle.pf_names.specs.Titled.{untitled};
 ghost use Rattle.pf_place.specs.Lent.{lent_row};
 ghost use Rattle.pf_report.specs.Json.{array_data, sitter_data, denial_data, lag_data, miss_data, json_text, names_part, slot_part};
 
@@ -223,17 +224,14 @@ pub fn json_pieces<'a>(
     Ok(keyed(denials_key, DenialRows::of(snapshot), lags))
 }
 
-/// The whole report as one JSON object: compact, its keys in byte order.
+/// The whole report as one JSON object, without names: compact, its keys in byte order.
 ///
 /// # Errors
 ///
 /// Where memory is refused.
-pub fn report_json(
-    alloc: Global,
-    snapshot: &Snapshot,
-    titles: &Titles,
-) -> Result<Vec<u8>, AllocError>
-    ensures { IfOk result (λ text. text.items ≡ json_text snapshot.now titles.now) }
+pub fn report_json(alloc: Global, snapshot: &Snapshot) -> Result<Vec<u8>, AllocError>
+    ensures { IfOk result (λ text. text.items ≡ json_text snapshot.now untitled) }
 {
-    gathered(alloc, json_pieces(alloc, snapshot, titles)?)
+    let titles = Titles::none(alloc);
+    gathered(alloc, json_pieces(alloc, snapshot, &titles)?)
 }

@@ -1,4 +1,5 @@
 ghost use Rattle.std.specs.Prelude.{◌≡◌, [], IfOk, OnOk};
+ghost use Rattle.pf_names.specs.Titled.{untitled};
 ghost use Rattle.pf_text.specs.Page.{with_record};
 ghost use Rattle.pf_report.specs.Tables.{lags_table, lags_text, named_lag_record};
 
@@ -140,13 +141,14 @@ pub fn pieces_of_lags<'a>(
     Ok(Chain::new(heading, RecordPieces::new(named)))
 }
 
-/// How far each task inside is from its fair share, as a table, by task number, in whole.
+/// How far each task inside is from its fair share, as a table without names, by task number, in whole.
 ///
 /// # Errors
 ///
 /// Where memory is refused.
-pub fn lags_csv(alloc: Global, snapshot: &Snapshot, titles: &Titles) -> Result<Vec<u8>, AllocError>
-    ensures { IfOk result (λ text. text.items ≡ lags_text snapshot.now titles.now) }
+pub fn lags_csv(alloc: Global, snapshot: &Snapshot) -> Result<Vec<u8>, AllocError>
+    ensures { IfOk result (λ text. text.items ≡ lags_text snapshot.now untitled) }
 {
-    gathered(alloc, lag_pieces(alloc, snapshot, titles)?)
+    let titles = Titles::none(alloc);
+    gathered(alloc, lag_pieces(alloc, snapshot, &titles)?)
 }

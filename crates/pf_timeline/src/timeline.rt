@@ -12,11 +12,11 @@ ghost use Rattle.pf_timeline.specs.declared.fault.NewFault.TheVariants.{BadSetti
 use crate::checkpoints::Checkpoints;
 use crate::fault::{NewFault, StepFault};
 use crate::near_checkpoints::{NearCheckpoints, last_of};
+use pf_engine::denied::Denied;
 use pf_engine::engine::Engine;
 use pf_list::shared_vec::SharedVec;
 use pf_order::meter::Meter;
 use pf_place::rows::Rows;
-use pf_run::denied::Denied;
 use pf_scenario::scenario::Scenario;
 use pf_scenario::settings::Settings;
 use std::alloc::{AllocError, Global};

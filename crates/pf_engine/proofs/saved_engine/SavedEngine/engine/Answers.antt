@@ -15,8 +15,8 @@ use Rattle.pf_engine.proofs.Saving.{next_comes, next_inside, next_weight, next_a
 use Rattle.pf_engine.proofs.saved_engine.SavedEngine.engine.Goals.{After-deref-saved-items, After-base, After-member-member, In_ok-reserve_task-2}
 use Rattle.pf_engine.proofs.saved_engine.SavedEngine.engine.Goals as goal
 
-pub reserve-requires-2 : goal.reserve-requires-2
-reserve-requires-2 c = record {
+pub reserve_room-requires : goal.reserve_room-requires
+reserve_room-requires c = record {
   few = omega (
     arith,
     ap key_count c.in_ok-calendar.ensures,
@@ -34,10 +34,10 @@ loop-saved-init c =
     sym (length-map c.self.inside.tasks.items (task_of c.self.inside.settings.base)) ∙ ap (λ (k : Kept). length k.tasks) c.self.view_is in
     record {
       tasks = c.reserve.ensures.tasks ∙ c.new-tasks.ensures;
-      agenda = agenda_seen c.in_ok-reserve-2.ensures.ready c.in_ok-reserve-2.ensures.waiting (omega (arith, c.in_ok-reserve-2.ensures.tasks))
+      agenda = agenda_seen c.in_ok-reserve_room.ensures.ready c.in_ok-reserve_room.ensures.waiting (omega (arith, c.in_ok-reserve_room.ensures.tasks))
           (agenda_none c.in_ok-calendar.calendar c.args.self.now.now c.reserve.new.self.tasks c.in_ok-calendar.ensures (c.reserve.ensures.tasks ∙ c.new-tasks.ensures));
       spare = omega (arith, long, c.in_ok-reserve.ensures.room, c.len.ensures, c.self.inside.tasks.ok.0);
-      key_spare = omega (arith, long, c.in_ok-reserve-2.ensures.ok, c.len-2.ensures, c.self.inside.tasks.ok.0);
+      key_spare = omega (arith, long, c.in_ok-reserve_room.ensures.ok, c.len-2.ensures, c.self.inside.tasks.ok.0);
       comparisons = none_made _ c.args.meter.now;
     }
 

@@ -7,8 +7,8 @@ use Rattle.pf_engine.proofs.state.State.prepare.Goals as goal
 pub reserve_joins-requires : goal.reserve_joins-requires
 reserve_joins-requires c = all_join_below c.args.self.now.kept c.args.events.now (at_taking _ _ c.requires)
 
-pub reserve-requires-2 : goal.reserve-requires-2
-reserve-requires-2 c = omega (
+pub reserve_room-requires : goal.reserve_room-requires
+reserve_room-requires c = omega (
   arith,
   few_at c.args.self.now.kept c.args.events.now (at_taking _ _ c.requires),
   ap (λ (s : Keeping). length s.kept.tasks) c.self.view_is,

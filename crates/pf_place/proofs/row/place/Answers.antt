@@ -1,7 +1,7 @@
 use Rattle.std.proofs.Common.{arith}
 use Rattle.std.proofs.lemmas.Grind.{common_steps}
 use Rattle.pf_place.proofs.Seated.{row_seats_picks, row_seats_once}
-use Rattle.pf_place.proofs.row.Row.place.Goals as goal
+use Rattle.pf_place.proofs.row.place.Goals as goal
 
 pub returns-clause-row : goal.returns-clause-row
 returns-clause-row c = grind (arith, common_steps)

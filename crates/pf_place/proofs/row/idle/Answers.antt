@@ -1,7 +1,7 @@
 use Rattle.std.proofs.Common.{◌≡◌, rules}
 use Rattle.pf_place.specs.Occupancy.{idle_row}
 use Rattle.pf_place.proofs.Seated.{idle_seat_nobody}
-use Rattle.pf_place.proofs.row.Row.idle.Goals as goal
+use Rattle.pf_place.proofs.row.idle.Goals as goal
 
 pub returns-clause-empty : goal.returns-clause-empty
 returns-clause-empty c =
