@@ -1,7 +1,8 @@
-pub mod Answering
-pub mod Checking
-pub mod Ends
-pub mod Listed
-pub mod Outside
-pub mod Refusing
-pub mod ScriptsWorked
+mod Comparing
+pub mod FaultLines
+mod Journals
+pub mod Quiet
+pub mod RunNotes
+mod Sittings
+pub mod Telling
+mod WordsAnswered

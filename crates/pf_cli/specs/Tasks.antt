@@ -1,59 +1,106 @@
--- What a run means of which some tasks alone are shown.
-use Rattle.std.specs.Prelude.{ℕ, ◌≡◌, ◌⊎◌, List, [], ◌++◌, codes, Option, None, Some, Result, Ok, Err, IfOk, IfErr}
-use Rattle.std.specs.Io.KnownBytes.{Keeps}
+-- What the program answers to a task with a script, or with a list of tasks, and what it writes.
+use Rattle.std.specs.Prelude.{ℕ, ⊤, ◌≡◌, List, [], Option, Some, option_map, IfOk, IfErr, Result, Ok, Err}
+use Rattle.std.specs.Io.KnownBytes.{Appends, Keeps}
+use Rattle.pf_fault.specs.declared.answer.Answer.{Answer}
 use Rattle.pf_fault.specs.declared.ending.Ending.{Ending}
 use Rattle.pf_fault.specs.declared.fault.Fault.{Fault}
 use Rattle.pf_fault.specs.declared.fault.Fault.TheVariants as why
-use Rattle.pf_fault.specs.declared.status.Status.TheVariants.{BadWords}
+use Rattle.pf_fault.specs.declared.status.Status.TheVariants.{Done}
 use Rattle.pf_fault.specs.Answers.{IsQuiet}
-use Rattle.pf_formats.specs.TaskReport.{task_report_text}
+use Rattle.pf_fault.specs.Faults.{IsOutside}
+use Rattle.pf_stream.specs.Written.{TookFront}
 use Rattle.pf_names.specs.declared.titles.Titles.{Titles}
-use Rattle.pf_options.specs.Formats.{range_fault}
+use Rattle.pf_script.specs.Asked.{script_asked}
+use Rattle.pf_options.specs.declared.diff_options.DiffOptions.{DiffOptions}
 use Rattle.pf_options.specs.declared.fail_on.FailOn.{FailOn}
 use Rattle.pf_options.specs.declared.format.Format.{Format}
+use Rattle.pf_words.specs.declared.task.Task.{Task}
+use Rattle.pf_words.specs.declared.task.Task.TheVariants.{Run, RunTasks, Check, CheckRun, Diff, Drill, Convert, Fit, Why}
+use Rattle.pf_options.specs.FailLists.{on_nothing}
+use Rattle.pf_commands.specs.Answers.{Answers}
+use Rattle.pf_commands.specs.Checks.{ChecksBytes}
+use Rattle.pf_commands.specs.Ended.{fails_on, run_status}
+use Rattle.pf_commands.specs.Meaning.{script_meaning}
+use Rattle.pf_commands.specs.Tasks.{RunsTasks}
+use Rattle.pf_change.specs.Change.{change_meaning}
+use Rattle.pf_check_run.specs.Answers.{ChecksRun}
+use Rattle.pf_change.specs.Difference.{told_by}
+use Rattle.pf_change.specs.Made as change
+use Rattle.pf_why_answer.specs.Answer.{WhyMade}
+use Rattle.pf_carry.specs.Carried as carried
+use Rattle.pf_check_run.specs.Fit as fit
+use Rattle.pf_fit_text.specs.declared.fit_format.FitFormat.{FitFormat}
+use Rattle.pf_plain.specs.declared.origin.Origin.{Origin}
 use Rattle.pf_script.specs.Told.{told}
-use Rattle.pf_task_words.specs.Finding.{ranges_of, unnamed_in}
-use Rattle.pf_task_words.specs.declared.task_word.TaskWord.{TaskWord}
-use Rattle.pf_tasks.specs.declared.task_range.TaskRange.{TaskRange}
-use Rattle.pf_cli.specs.Answers.{Answers}
-use Rattle.pf_course.specs.Carried.{StopsAt}
-use Rattle.pf_cli.specs.Ended.{is_failing, run_status}
-use Rattle.pf_course.specs.Course.{ScriptCourse, outcome_told, seen_at}
-use Rattle.pf_cli.specs.Meaning.{Meaning, text_unless}
+use Rattle.pf_drill.specs.Drilled.{Drills}
+use Rattle.pf_drill.specs.Drilled as drill
+use Rattle.pf_drill.specs.Gates.{SomeArrived}
+use Rattle.pf_convert_words.specs.declared.conversion.Conversion.{Conversion}
+use Rattle.pf_conversion.specs.Conversions.{MakesConversion}
 
--- what is shown of the tasks of these ranges at a course, where the format can be shown of the slots stepped, and else nothing
-abbrev pub tasks_meaning : Format → Titles → List TaskRange → ScriptCourse → Meaning
-tasks_meaning format titles tasks c =
-    text_unless (range_fault format c.state.now) (task_report_text format (seen_at c) titles tasks)
+-- the script, which has these titles and origins where it belongs to a plan, was run in this format: the writer took what it means, or a front of that, and the status tells whether the run
+-- fails on what is listed, which it never does on nothing; where the range can't be shown the writer is as it was
+pub record RunsScript (format : Format) (titles : Titles) (origins : Option (List Origin)) (fail_on : FailOn) (script : List ℕ) (answer : Result Ending Fault) (old new : Option (List ℕ)) : Type 0 where
+  pub meaning : Answers (script_meaning format titles origins script) answer old new
+  pub failing : IfOk answer (λ ending. option_map run_status (fails_on fail_on script) ≡ Some ending.status)
+  pub unasked : fail_on ≡ on_nothing → IfOk answer (λ ending. ending.status ≡ Done)
+  pub outside : IsOutside answer → Keeps old new
 
--- a name is told that is that of no task
-abbrev pub unnamed_line : List ℕ → List ℕ
-unnamed_line name = codes "\"" ++ (name ++ codes "\" names no task\n")
+-- a text was made whole, and then written, all of it or a front; where none was made the writer is as it was
+abbrev pub AnswersMade : Result Answer Fault → Result Ending Fault → Option (List ℕ) → Option (List ℕ) → Type 0
+AnswersMade (Ok made) (Ok ending) old new = (ending ≡ made.ending) × Appends old new made.text.items
+AnswersMade (Ok made) (Err why.Write) old new = TookFront old new made.text.items
+AnswersMade (Ok made) (Err fault) old new = ⊥
+AnswersMade (Err fault) answer old new = (answer ≡ Err fault) × Keeps old new
 
-pub record IsUnnamed (name : List ℕ) (ending : Ending) : Type 0 where
-  pub status : ending.status ≡ BadWords
-  pub notes : ending.notes.items ≡ unnamed_line name
+-- the answer to what the script's records from one on changed, or the last one
+pub record ChangeMade (since : Option ℕ) (options : DiffOptions) (script : List ℕ) (made : Result Answer Fault) : Type 0 where
+  pub tells : IfOk made (λ answer. change_meaning options since script ≡ Ok (told_by answer))
+  pub quiet : IfOk made (λ answer. answer.ending.notes.items ≡ [])
+  pub stopped : IfErr made (change.Stops (change_meaning options since script))
 
--- The answer where the script ends at this course. A name of the list that is that of no task is told, and the writer is as it
--- was; else the writer took what the tasks of the list mean, or a front of it, and the status tells whether the run fails on that.
-abbrev pub AnswersListed : Format → Titles → List TaskWord → FailOn → ScriptCourse → Option (List ℕ) → Result Ending Fault → Option (List ℕ) → Option (List ℕ) → Type 0
-AnswersListed format titles words on c (Some name) answer old new =
-    IfOk answer (IsUnnamed name) × IfErr answer (λ fault. fault ≡ why.NoMemory) × Keeps old new
-AnswersListed format titles words on c None answer old new =
-    Answers (tasks_meaning format titles (ranges_of titles.names words) c) answer old new
-    × IfOk answer (IsQuiet (run_status (is_failing on c)))
+-- the answer to a drill of the script at gates that are open
+pub record DrillMade (script : List ℕ) (made : Result Answer Fault) : Type 0 where
+  pub text : IfOk made (λ answer. Drills (λ worker quantum. ⊤) (script_asked script) answer.text.items)
+  pub quiet : IfOk made (λ answer. IsQuiet Done answer.ending)
+  pub stopped : IfErr made (drill.Stops (SomeArrived (λ worker quantum. ⊥)) (script_asked script))
 
--- the script is carried out to its end, and answered there
-abbrev pub EndsListed : Format → Titles → List TaskWord → FailOn → List ℕ → Result Ending Fault → Option (List ℕ) → Option (List ℕ) → Type 0
-EndsListed format titles words on script answer old new =
-    (c : ScriptCourse) × (outcome_told (told script) ≡ Ok c)
-    × AnswersListed format titles words on c (unnamed_in titles.names words) answer old new
+-- the answer to a list of tasks that is converted
+abbrev pub ListConverted : Conversion → List ℕ → Result Answer Fault → Type 0
+ListConverted conversion list (Ok made) = MakesConversion conversion list made
+ListConverted conversion list (Err fault) = fault ≡ why.NoMemory
 
--- or it is not, and the writer is as it was
-abbrev pub StopsUnwritten : List ℕ → Result Ending Fault → Option (List ℕ) → Option (List ℕ) → Type 0
-StopsUnwritten script answer old new = (fault : Fault) × (answer ≡ Err fault) × StopsAt (outcome_told (told script)) fault × Keeps old new
+-- the answer to whether the script in the file of this name fits; origins where it belongs to a plan
+pub record FitMade (format : FitFormat) (file : List ℕ) (origins : Option (List Origin)) (titles : Titles) (script : List ℕ) (made : Result Answer Fault) : Type 0 where
+  pub answer : IfOk made (fit.FitMade format file origins titles script)
+  pub stopped : IfErr made (carried.Stops (told script).rest.fault)
 
--- the answer to a script of which the tasks of a list are shown, and what the writer took
-abbrev pub RunsTasks : Format → Titles → List TaskWord → FailOn → List ℕ → Result Ending Fault → Option (List ℕ) → Option (List ℕ) → Type 0
-RunsTasks format titles words on script answer old new =
-    EndsListed format titles words on script answer old new ⊎ StopsUnwritten script answer old new
+-- the answer to a script that is checked and carried out, in the file of this name
+pub record CheckRunMade (file script : List ℕ) (made : Result Answer Fault) : Type 0 where
+  pub answer : IfOk made (ChecksRun file script)
+  pub stopped : IfErr made (λ fault. fault ≡ why.NoMemory)
+
+-- the answer to a task with a script that has these titles, or with a list, in the file of this name, and what the writer took;
+-- origins where it belongs to a plan
+abbrev pub AnswersTask : Titles → Option (List Origin) → Task → List ℕ → List ℕ → Result Ending Fault → Option (List ℕ) → Option (List ℕ) → Type 0
+AnswersTask titles origins (Run format fail_on) file script answer old new = RunsScript format titles origins fail_on script answer old new
+AnswersTask titles origins (RunTasks format words fail_on) file script answer old new = RunsTasks format titles words fail_on script answer old new
+AnswersTask titles origins Check file script answer old new = ChecksBytes script answer old new
+AnswersTask titles origins CheckRun file script answer old new = (made : Result Answer Fault) × CheckRunMade file script made × AnswersMade made answer old new
+AnswersTask titles origins (Diff since options) file script answer old new = (made : Result Answer Fault) × ChangeMade since options script made × AnswersMade made answer old new
+AnswersTask titles origins Drill file script answer old new = (made : Result Answer Fault) × DrillMade script made × AnswersMade made answer old new
+AnswersTask titles origins (Convert conversion) file list answer old new =
+    (made : Result Answer Fault) × ListConverted conversion list made × AnswersMade made answer old new
+AnswersTask titles origins (Fit format) file script answer old new =
+    (made : Result Answer Fault) × FitMade format file origins titles script made × AnswersMade made answer old new
+AnswersTask titles origins (Why question) file script answer old new =
+    (made : Result Answer Fault) × WhyMade titles.names question script made × AnswersMade made answer old new
+
+-- a task with a script, and not with a list
+abbrev pub IsOfScript : Task → Type 0
+IsOfScript (Convert conversion) = ⊥
+IsOfScript task = ⊤
+
+-- where the status is `Done`, there is nothing to tell on standard error
+abbrev pub IsQuietIfDone : Ending → Type 0
+IsQuietIfDone ending = ending.status ≡ Done → ending.notes.items ≡ []

@@ -1,14 +1,28 @@
-//! The program's scripts, run and checked. A desk carries a script out; replies and reports go to a writer in pieces. The one
-//! contract of this crate: what `run` writes, and how it ends, is what the script's bytes mean, or a front of that text where the
-//! writer failed or memory was refused.
+//! The program's words carried out. The one contract of this crate: words that ask for a run, and no others, have
+//! `main_words` run the script, in the format that they ask for; words that ask for a check have it check the script, those
+//! that ask what its last records changed have it tell that, those that name two scripts have it tell what differs between them, those that ask for a drill have it drilled, and those that ask for a desk have a session held.
 #![tactic(auto)]
 
-pub mod check;
-mod failing;
-pub mod laws;
-pub mod ran;
-mod refusals;
-pub mod run;
-pub mod task_run;
+mod answering;
+mod desk;
+mod ending;
+mod fault_line;
+mod gone;
+mod kept_desk;
+mod kept_made;
+mod noted;
+mod notes;
+mod noting;
+mod open_gate;
+mod pair_notes;
+pub mod program;
+mod sat;
+mod script_source;
+mod task_end;
+mod tasks;
+mod two_scripts;
+mod versions;
 
-pub use pf_course::at_end;
+pub use pf_journaled::host_journals;
+pub use pf_kept::{kept_writer, pipe};
+pub use pf_stream::{sink, source};

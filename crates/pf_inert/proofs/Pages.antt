@@ -3,7 +3,7 @@ use Rattle.std.proofs.Common.{◌≡◌, ℕ, Bool, true, false, nat_lt, List, [
 use Rattle.std.proofs.lemmas.List.Elements.{All-nil}
 use Rattle.std.specs.Prelude.{if◌then◌else◌}
 use Rattle.pf_fault.specs.declared.range_fault.RangeFault.{RangeFault}
-use Rattle.pf_cli.specs.Report.{report_text}
+use Rattle.pf_commands.specs.Report.{report_text}
 use Rattle.pf_full.specs.Full.{full_text}
 use Rattle.pf_full.specs.declared.refusal.Refusal.{Refusal}
 use Rattle.pf_names.specs.Text.{is_text}
@@ -15,9 +15,9 @@ use Rattle.pf_plain.specs.declared.origin.Origin.{Origin}
 use Rattle.pf_retold.specs.Titles.{TitlesAreTold}
 use Rattle.pf_script.specs.Told.{told}
 use Rattle.pf_stream.specs.Reading.{longest_script}
-use Rattle.pf_cli.specs.Course.{ScriptCourse, outcome_told, seen_at}
-use Rattle.pf_cli.specs.Meaning.{TooLong, ended_meaning, script_meaning, text_unless, told_meaning}
-use Rattle.pf_cli.specs.Refusals.{refusals_for}
+use Rattle.pf_commands.specs.Course.{ScriptCourse, outcome_told, seen_at}
+use Rattle.pf_commands.specs.Meaning.{TooLong, ended_meaning, script_meaning, text_unless, told_meaning}
+use Rattle.pf_commands.specs.Refusals.{refusals_for}
 use Rattle.pf_inert.specs.Page.{AreTexts, IsInertPage, MeansPage, PagesAreInert}
 use Rattle.pf_inert.proofs.Names.{given_texts}
 use Rattle.pf_inert.proofs.Whole.{data_is_inert}

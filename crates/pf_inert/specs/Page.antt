@@ -12,7 +12,7 @@ use Rattle.pf_text.specs.Page.{table_text}
 use Rattle.pf_page.specs.Page.{page_text}
 use Rattle.pf_options.specs.declared.format.Format.TheVariants.{Html}
 use Rattle.pf_plain.specs.Plain.{Plain, plain}
-use Rattle.pf_cli.specs.Meaning.{End, Done, BadRecord, TooLong, Outside, Meaning, script_meaning}
+use Rattle.pf_commands.specs.Meaning.{End, Done, BadRecord, TooLong, Outside, Meaning, script_meaning}
 
 -- no byte is `<`
 abbrev pub is_inert : List ℕ → Bool

@@ -25,9 +25,9 @@ use Rattle.pf_recount.specs.Places.{place_of}
 use Rattle.pf_recount.specs.Recount.{none_yet, recounted, recounted_told}
 use Rattle.pf_text.specs.Page.{table_text}
 use Rattle.pf_formats.specs.Report.{report_text}
-use Rattle.pf_cli.specs.Course.{ScriptCourse, course_behind, opening_course, ready_line, reply_lines, seen_at, text_if_replies}
-use Rattle.pf_cli.specs.Meaning.{Meaning, report_meaning, script_meaning, text_and_then, text_unless, told_meaning}
-use Rattle.pf_cli.specs.Refusals.{refusal_of, refused_in, refusals_for}
+use Rattle.pf_commands.specs.Course.{ScriptCourse, course_behind, opening_course, ready_line, reply_lines, seen_at, text_if_replies}
+use Rattle.pf_commands.specs.Meaning.{Meaning, report_meaning, script_meaning, text_and_then, text_unless, told_meaning}
+use Rattle.pf_commands.specs.Refusals.{refusal_of, refused_in, refusals_for}
 use Rattle.pf_reopen.specs.Reopen.{first_number, insert_lines, lines_told, step_lines}
 use Rattle.pf_reopen.specs.Rerun.{CanBeRerun, ScheduleIsWrittenAgain, ScriptsRunAgain, replies_again, report_of, seen_again}
 use Rattle.pf_reopen.specs.Taken.{renumbered, events_held, numbered_from}

@@ -9,7 +9,7 @@ use Rattle.pf_options.specs.Formats.{range_fault}
 use Rattle.pf_options.specs.declared.format.Format.TheVariants.{Script}
 use Rattle.pf_report.specs.Script.{script_text_of}
 use Rattle.pf_text.specs.Page.{table_text}
-use Rattle.pf_cli.specs.Meaning.{Done, script_meaning, text_unless}
+use Rattle.pf_commands.specs.Meaning.{Done, script_meaning, text_unless}
 use Rattle.pf_plain.specs.declared.origin.Origin.{Origin}
 use Rattle.pf_plain.specs.Plain.{Plain, plain}
 use Rattle.pf_titled.specs.Titled.{CanBeTitled}

@@ -10,8 +10,8 @@ use Rattle.pf_options.specs.declared.format.Format.TheVariants.{Schedule, Lags, 
 use Rattle.pf_options.specs.declared.slot_range.SlotRange.{SlotRange}
 use Rattle.pf_options.specs.Formats.{range_fault}
 use Rattle.pf_formats.specs.Report.{report_text}
-use Rattle.pf_cli.specs.Course.{opening_course, ready_line, reply_lines, text_if_replies}
-use Rattle.pf_cli.specs.Meaning.{Meaning, script_meaning, text_and_then, text_unless}
+use Rattle.pf_commands.specs.Course.{opening_course, ready_line, reply_lines, text_if_replies}
+use Rattle.pf_commands.specs.Meaning.{Meaning, script_meaning, text_and_then, text_unless}
 use Rattle.pf_reopen.specs.Reopen.{CanBeWritten}
 use Rattle.pf_reopen.specs.Taken.{renumbered}
 use Rattle.pf_reopen.specs.Renumbered.{denied_under, new_number}

@@ -6,7 +6,7 @@ use Rattle.pf_names.specs.declared.titles.Titles.{Titles}
 use Rattle.pf_options.specs.declared.format.Format.TheVariants.{Script}
 use Rattle.pf_report.specs.Script.{script_text_of}
 use Rattle.pf_text.specs.Page.{table_text}
-use Rattle.pf_cli.specs.Meaning.{Done, script_meaning}
+use Rattle.pf_commands.specs.Meaning.{Done, script_meaning}
 use Rattle.pf_plain.specs.Plain.{Plain, plain}
 use Rattle.pf_retold.specs.Titles.{AreTold}
 use Rattle.pf_reopen.specs.Rerun.{CanBeRerun}

@@ -1,7 +1,7 @@
 -- What a run gives whose text is kept in memory.
 use Rattle.std.proofs.Common.{◌≡◌, ℕ, List, [], Some, Ok, Err, subst}
-use Rattle.pf_cli.specs.Answers.{Answers as Means}
-use Rattle.pf_cli.specs.Meaning.{Meaning}
+use Rattle.pf_commands.specs.Answers.{Answers as Means}
+use Rattle.pf_commands.specs.Meaning.{Meaning}
 use Rattle.pf_fault.specs.declared.answer.Answer.{Answer}
 use Rattle.pf_fault.specs.declared.ending.Ending.{Ending}
 use Rattle.pf_fault.specs.declared.fault.Fault.{Fault}

@@ -1,8 +1,8 @@
 -- What the program answers to a script, of what is wanted.
 use Rattle.std.specs.Prelude.{ℕ, List, [], codes, Option, Some, IfOk, IfErr, Result, Ok, Err}
 use Rattle.pf_fit_command.specs.Carried.{Stops}
-use Rattle.pf_cli.specs.Answers.{Answers as Means}
-use Rattle.pf_cli.specs.Meaning.{Meaning, script_meaning}
+use Rattle.pf_commands.specs.Answers.{Answers as Means}
+use Rattle.pf_commands.specs.Meaning.{Meaning, script_meaning}
 use Rattle.pf_fault.specs.Answers.{IsQuiet}
 use Rattle.pf_fault.specs.declared.answer.Answer.{Answer}
 use Rattle.pf_fault.specs.declared.ending.Ending.{Ending}

@@ -1,10 +1,10 @@
 ghost use Rattle.std.specs.Prelude.{◌≡◌, ◌≤◌, length};
 ghost use Rattle.std.specs.Option.{option_map};
-ghost use Rattle.pf_cli.specs.Meaning.{script_meaning};
+ghost use Rattle.pf_commands.specs.Meaning.{script_meaning};
 ghost use Rattle.pf_shown.specs.Answered.{Answers, Fits, Runs};
 ghost use Rattle.pf_stream.specs.Reading.{longest_script};
 
-use pf_cli::run::run;
+use pf_commands::run::run;
 use pf_fault::answer::Answer;
 use pf_fault::fault::Fault;
 use pf_fit_command::fit::fit;

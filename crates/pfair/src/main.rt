@@ -2,11 +2,11 @@
 //! input is a terminal, `prompt_words` may tell how a script ends there.
 #![tactic(auto)]
 
-use pf_program::host_journals::HostJournals;
-use pf_program::kept_writer::KeptWriter;
-use pf_program::program::{main_words, prompt_words, tell_unread};
-use pf_program::sink::CountedWriter;
-use pf_program::source::CountedReader;
+use pf_cli::host_journals::HostJournals;
+use pf_cli::kept_writer::KeptWriter;
+use pf_cli::program::{main_words, prompt_words, tell_unread};
+use pf_cli::sink::CountedWriter;
+use pf_cli::source::CountedReader;
 use std::io::IsTerminal;
 use std::process::ExitCode;
 use std::{env, io};

@@ -1,5 +1,0 @@
-use Rattle.pf_cli.proofs.Outside.{nothing_outside}
-use Rattle.pf_cli.proofs.laws.nothing_is_written_outside.Goals as goal
-
-pub returns : goal.returns
-returns c = nothing_outside

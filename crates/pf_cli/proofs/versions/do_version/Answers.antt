@@ -1,0 +1,22 @@
+use Rattle.std.proofs.Common.{None, subst, sym}
+use Rattle.pf_names.specs.declared.titles.Titles.{Titles}
+use Rattle.pf_plain.specs.Plain.{plain}
+use Rattle.pf_cli.specs.Ends.{IsTextBy}
+use Rattle.pf_cli.proofs.RunNotes.{own_answered, own_text, plan_text}
+use Rattle.pf_cli.proofs.versions.do_version.Goals as goal
+
+pub end_with_notes-requires-clause-carried : goal.end_with_notes-requires-clause-carried
+end_with_notes-requires-clause-carried g c =
+    let made = rw c.in-Ok-Some.field-0-is at c.in-Ok-Some.ensures in
+    rw (c.deref.ensures.value, c.as_slice-origins.ensures.value) (plan_text (plain c.args.script.now) c.in-Ok-Some.plain c.args.script.now made)
+
+pub end_with_notes-requires-in-Ok-None-clause-carried : goal.end_with_notes-requires-in-Ok-None-clause-carried
+end_with_notes-requires-in-Ok-None-clause-carried g c =
+    let made = rw c.in-Ok-None.field-0-is at c.in-Ok-None.ensures in
+    subst (λ (t : Titles). IsTextBy (plain c.args.script.now) c.args.script.now c.args.script.now None t.names) (sym c.none-titles.ensures)
+    (own_text (plain c.args.script.now) c.args.script.now made)
+
+pub returns-in-Ok-None-clause-answers : goal.returns-in-Ok-None-clause-answers
+returns-in-Ok-None-clause-answers g c =
+    own_answered c.args.task c.args.file.now c.args.script.now c.none-titles.result _ _ _ _ (rw c.in-Ok-None.field-0-is at c.in-Ok-None.ensures)
+    c.none-titles.ensures c.do_task-end.ensures.answers c.end_with_notes-in-Ok-None.ensures.outcome

@@ -1,0 +1,217 @@
+//! A session with a journal, as it begins.
+ghost use Rattle.std.specs.Prelude.{◌≡◌, ℕ, List, [], not, if◌then◌else◌, is_some, IfErr, IfOk, option_map, None};
+ghost use Rattle.pf_journaled.specs.Faults.{IsOutcome};
+ghost use Rattle.pf_journaled.specs.Journaled.{DoesNotBegin as IsNotBegun};
+ghost use Rattle.pf_journaled.specs.Kept.{IsFound};
+ghost use Rattle.pf_journaled.specs.Sizes.{sizes_line};
+ghost use Rattle.pf_script_notes.specs.Faults.{IsFaultNote};
+ghost use Rattle.pf_words.specs.Asked.{desk_named};
+ghost use Rattle.pf_cli.specs.Desks.{manner_of};
+ghost use Rattle.pf_cli.specs.Journals.{BeginsOn, DoesNotBeginOn};
+ghost use Rattle.pf_cli.specs.Noted.{OneOf, notes_in};
+
+use crate::noted::Noted;
+use crate::notes::unread_note;
+use crate::script_source::{read_file, told_name};
+use pf_fault::fault::Fault;
+use pf_journaled::Disk;
+use pf_journaled::begun::{Opened, open_journal};
+use pf_journaled::files::FileSaver;
+use pf_journaled::found::Found;
+use pf_journaled::journal_fault::JournalFault;
+use pf_journaled::journals::{Journals, find_journal};
+use pf_journaled::manner::Manner;
+use pf_journaled::recorder::Recorder;
+use pf_journaled::sitter::Sitter;
+use pf_journaled::sizes::Sizes;
+use pf_journaled::unopened::Unopened;
+use pf_script_notes::behind_fault::fault_note;
+use pf_words::desk_words::DeskWords;
+use std::alloc::{AllocError, Global};
+use std::rt::Files;
+
+/// A session with a journal, as it begins.
+#[derive(Drop)]
+pub(crate) struct Made<'a, H: AllocGlobal + Files, D: Disk> {
+    /// Who answers, and keeps what was answered.
+    pub(crate) recorder: Recorder<Sitter<FileSaver<'a, H>>, D>,
+    /// What is told of the journal.
+    pub(crate) note: Vec<u8>,
+}
+
+/// The session that begins on the file of this path, after the records of a script where one is named.
+///
+/// # Errors
+///
+/// Where the file can't be had or keeps no such session, where the script can't be read, where a record of either is bad, and where
+/// memory is refused: what is told of that.
+pub(crate) fn make_of<'a, H: AllocGlobal + Files, J: Journals>(
+    rt: &'a H,
+    words: &DeskWords,
+    path: &'a str,
+    journals: J,
+) -> Result<Made<'a, H, J::File>, Noted>
+    ensures made { IfOk result (λ m. BeginsOn J.File.seen J.File.may_leave J.File.is_usable J.File.is_clean (manner_of (desk_named words.now)) (desk_named words.now).script path.now m.recorder m.note.items) }
+    ensures unmade { IfErr result (λ n. DoesNotBeginOn (manner_of (desk_named words.now)) (desk_named words.now).script path.now n) }
+{
+    match find_journal(rt.alloc(), journals, path) {
+        Ok(found) => make_on(rt, words, path, found),
+        Err(fault) => Err(refused(rt.alloc(), words, path, fault)),
+    }
+}
+
+/// The session that begins on a file as it was found.
+fn make_on<'a, H: AllocGlobal + Files, D: Disk + Drop>(
+    rt: &'a H,
+    words: &DeskWords,
+    path: &'a str,
+    found: Found<D>,
+) -> Result<Made<'a, H, D>, Noted>
+    requires { IsFound D.Disk.seen D.Disk.may_leave D.Disk.is_usable D.Disk.is_clean found }
+    ensures made { IfOk result (λ m. BeginsOn D.Disk.seen D.Disk.may_leave D.Disk.is_usable D.Disk.is_clean (manner_of (desk_named words.now)) (desk_named words.now).script path.now m.recorder m.note.items) }
+    ensures unmade { IfErr result (λ n. DoesNotBeginOn (manner_of (desk_named words.now)) (desk_named words.now).script path.now n) }
+{
+    let Some(file) = &words.script else {
+        return make_with(rt, words, path, found, None);
+    };
+    match read_file(rt, file.as_str()) {
+        Ok(script) => make_with(rt, words, path, found, Some(&script)),
+        Err(reading) => {
+            drop(found);
+            let fault = Fault::from(reading);
+            let notes = unread_note(rt, !words.quiet, &words.script, fault);
+            Err(Noted {
+                outcome: Err(fault),
+                notes,
+            })
+        }
+    }
+}
+
+/// The session that begins on a file as it was found, after these bytes of a script where one is named.
+fn make_with<'a, H: AllocGlobal + Files, D: Disk + Drop>(
+    rt: &'a H,
+    words: &DeskWords,
+    path: &'a str,
+    found: Found<D>,
+    script: Option<&[u8]>,
+) -> Result<Made<'a, H, D>, Noted>
+    requires found { IsFound D.Disk.seen D.Disk.may_leave D.Disk.is_usable D.Disk.is_clean found }
+    requires named { is_some script ≡ is_some words.now.script }
+    ensures made { IfOk result (λ m. BeginsOn D.Disk.seen D.Disk.may_leave D.Disk.is_usable D.Disk.is_clean (manner_of (desk_named words.now)) (desk_named words.now).script path.now m.recorder m.note.items) }
+    ensures unmade { IfErr result (λ n. DoesNotBeginOn (manner_of (desk_named words.now)) (desk_named words.now).script path.now n) }
+{
+    let manner = Manner {
+        json: words.json,
+        quiet: words.quiet,
+    };
+    match open_journal(
+        rt.alloc(),
+        found,
+        manner,
+        script,
+        FileSaver::beside(rt, path),
+    ) {
+        Ok(opened) => with_note(rt.alloc(), words, path, opened),
+        Err(unopened) => Err(noted_of(rt.alloc(), words, path, script, unopened)),
+    }
+}
+
+/// The session that began, with what is told of its journal.
+///
+/// # Errors
+///
+/// Where memory is refused for that.
+fn with_note<'a, H: AllocGlobal + Files, D: Disk + Drop>(
+    alloc: Global,
+    words: &DeskWords,
+    path: &str,
+    opened: Opened<FileSaver<'a, H>, D>,
+) -> Result<Made<'a, H, D>, Noted>
+    ensures made { IfOk result (λ m. (m.recorder ≡ opened.entry.recorder) × (m.note.items ≡ (if words.now.quiet then [] else sizes_line path.now opened.entry.sizes))) }
+    ensures unmade { IfErr result (λ n. DoesNotBeginOn (manner_of (desk_named words.now)) (desk_named words.now).script path.now n) }
+{
+    match opening_note(alloc, words.quiet, path.as_bytes(), opened.sizes) {
+        Ok(note) => Ok(Made {
+            recorder: opened.recorder,
+            note,
+        }),
+        Err(_) => {
+            drop(opened);
+            Err(refused(alloc, words, path, JournalFault::NoMemory))
+        }
+    }
+}
+
+/// How much a journal has, as it is told, unless the words ask for quiet.
+fn opening_note(
+    alloc: Global,
+    quiet: bool,
+    path: &[u8],
+    sizes: Sizes,
+) -> Result<Vec<u8>, AllocError>
+    ensures { IfOk result (λ note. note.items ≡ (if quiet then [] else sizes_line path.now sizes)) }
+{
+    if quiet {
+        return Ok(Vec::new(alloc));
+    }
+    sizes.line(alloc, path)
+}
+
+/// What is told where no session begins on a file that was found.
+fn noted_of(
+    alloc: Global,
+    words: &DeskWords,
+    path: &str,
+    script: Option<&[u8]>,
+    unopened: Unopened,
+) -> Noted
+    requires named { is_some script ≡ is_some words.now.script }
+    requires unopened { (bytes : List ℕ) × IsNotBegun (manner_of (desk_named words.now)) (option_map (λ s. s.now) script) bytes unopened }
+    ensures { DoesNotBeginOn (manner_of (desk_named words.now)) (desk_named words.now).script path.now result }
+{
+    match unopened {
+        Unopened::Journal(fault) => refused(alloc, words, path, fault),
+        Unopened::Record(fault, lines) => Noted {
+            outcome: Err(fault),
+            notes: note_of(alloc, !words.quiet, path.as_bytes(), &lines, fault),
+        },
+        Unopened::Script(fault) => Noted {
+            outcome: Err(fault),
+            notes: note_of(
+                alloc,
+                !words.quiet,
+                told_name(&words.script),
+                script.unwrap_or(b""),
+                fault,
+            ),
+        },
+    }
+}
+
+/// What is told where a file can't be had, or keeps no such session.
+fn refused(alloc: Global, words: &DeskWords, path: &str, fault: JournalFault) -> Noted
+    ensures outcome { IsOutcome path.now (not words.now.quiet) fault result.outcome }
+    ensures notes { notes_in result.notes ≡ [] }
+{
+    Noted {
+        outcome: fault.outcome(alloc, path.as_bytes(), !words.quiet),
+        notes: Ok(Vec::new(alloc)),
+    }
+}
+
+/// The note after a fault of these lines in the file of this name, where it is asked for.
+fn note_of(
+    alloc: Global,
+    asked: bool,
+    file: &[u8],
+    lines: &[u8],
+    fault: Fault,
+) -> Result<Vec<u8>, Fault>
+    ensures { OneOf asked (IfOk result (λ note. IsFaultNote file.now lines.now None fault note.items)) (notes_in result ≡ []) }
+{
+    if !asked {
+        return Ok(Vec::new(alloc));
+    }
+    fault_note(alloc, file, lines, None, fault)
+}

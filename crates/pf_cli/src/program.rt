@@ -1,0 +1,202 @@
+ghost use Rattle.std.specs.Prelude.{false, true, not, None, ◌&&◌, ◌≡◌, ◌≢◌, ◌^◌, ◌-◌, ◌<◌, ◌≤◌, ◌+◌, [], map, IfOk, IfSome, IsSome};
+ghost use Rattle.std.specs.IoError.{error_kind};
+ghost use Rattle.std.specs.Io.KnownBytes.{Keeps};
+ghost use Rattle.pf_held.specs.Streams.{streams_of};
+ghost use Rattle.pf_cli.specs.Journals.{HoldsWith};
+ghost use Rattle.pf_words.specs.Asked.{IsSound, desk_asked, name_of, reads_input, task_asked, telling_asked};
+ghost use Rattle.pf_cli.specs.Noted.{notes_in};
+ghost use Rattle.pf_cli.specs.Tasks.{IsOfScript, IsQuietIfDone};
+ghost use Rattle.pf_cli.specs.Status.{AnswersWords, IsDone, IsPrompted, IsWritten, Tells, seen_streams, status_of_words, told_of};
+
+use crate::desk::hold_desk;
+use crate::ending::{end, end_unwritten, tell, tell_fault, tell_text};
+use crate::gone::{gone_diff, gone_of};
+use crate::noted::Noted;
+use crate::notes::unread_note;
+use crate::script_source::{read_source, told_name};
+use crate::two_scripts::compare_scripts;
+use crate::versions::do_script;
+use pf_fault::fault::Fault;
+use pf_fault::status::Status;
+use pf_journaled::journals::Journals;
+use pf_kept::pipe::Pipe;
+use pf_stream::sink::Sink;
+use pf_stream::source::Source;
+use pf_stream::writing::write_out;
+use pf_words::request::{Request, WordsFault};
+use pf_words::task::Task;
+use pf_words::words::read_words;
+use std::alloc::Global;
+use std::convert::AsStr;
+use std::io;
+use std::io::{ErrorKind, Write};
+use std::rt::Files;
+use std::sync::Wait;
+use std::thread::Threads;
+
+/// What a terminal is told before a script is read from it.
+pub const PROMPT: &str =
+    "reading the script from the terminal: end it with Ctrl-D; pfair --help tells more\n";
+
+// What is told where a word is no text.
+const NO_TEXT: &str = "error: invalid UTF-8 was detected in one or more arguments";
+
+/// Does what the program's words say, its own name not among them: runs a script and writes its answer to the writer, or
+/// checks it and writes what it finds there, or writes what its last records changed, or what differs between two, or whether it fits, or drills it
+/// at gates that are always open and writes what came of that, or converts a list of tasks, or holds a session at a desk, on the file of `journals` that they name as its journal, if one, or writes help or the version. The
+/// script is that of the file that the words name, and else the reader's, and so is the list; a drill's is always the reader's.
+/// Of two the first is read first, and the second where the first has no fault. Without words the script is run in the format
+/// `Tables`. The text of a fault goes to `faults`, whose own faults are passed over, and so do notes, where the words ask for them
+/// or name a file: which file, record or word a fault is of, and after a script that was carried out what was refused, denied and
+/// missed. Where the output fails since nobody reads it any more, nothing is told. Answers the status to exit with: 0 where the
+/// script was done, a check found no fault, a plan or a quantum fits, or help was shown, 1 where the script has a bad record or is
+/// too long, where the list has a fault, or where something differs and the words ask for a status of that, 2 where the words are
+/// refused or mistaken, or ask for slots that can't be shown, 3 where the reader or the writer failed or the file can't be opened
+/// or read, 4 where memory was refused, or a drill has no place for a reader, 6 where the script was done, all was written, and
+/// the run fails on what the words list, or no plan fits. Words that ask for a session, those that ask for a run, a check, a diff or a conversion and name no
+/// file, or `-` as one of two, or for a drill, and no others, have the reader read; with any other the reader is as before. Where
+/// the words ask for a drill, and only there, threads are started, and the call waits for them. The counts of failures of all
+/// three streams must be below `u64::MAX` before the call.
+pub fn main_words<
+    H: AllocGlobal + Files + Threads + Wait + Sync,
+    S: AsStr,
+    R: Source,
+    W: Pipe,
+    F: Sink,
+    J: Journals + Drop,
+>(
+    rt: &H,
+    words: &[S],
+    is_terminal: bool,
+    journals: J,
+    reader: &mut R,
+    writer: &mut W,
+    faults: &mut F,
+) -> u8
+    requires reads { R.failed reader.old < 2 ^ 64 - 1 }
+    requires writes { W.failed writer.old < 2 ^ 64 - 1 }
+    requires tells { F.failed faults.old < 2 ^ 64 - 1 }
+    ensures streams { AnswersWords (map S.text words.now) (W.closed writer.new) result
+        (seen_streams (R.remaining reader.old) (R.failed reader.old) (W.contents writer.old) (W.failed writer.old))
+        (seen_streams (R.remaining reader.new) (R.failed reader.new) (W.contents writer.new) (W.failed writer.new))
+        (Tells (F.contents faults.old) (F.contents faults.new) (F.failed faults.old) (F.failed faults.new))
+        (λ desk. HoldsWith J.File.seen J.File.may_leave J.File.is_usable J.File.is_clean desk.journal desk (is_terminal && not desk.quiet) (W.closed writer.new) result
+        (streams_of (R.remaining reader.old) (R.failed reader.old) (W.contents writer.old) (W.failed writer.old) (F.contents faults.old) (F.failed faults.old) false)
+        (streams_of (R.remaining reader.new) (R.failed reader.new) (W.contents writer.new) (W.failed writer.new) (F.contents faults.new) (F.failed faults.new) false)) }
+    ensures unread { reads_input (map S.text words.now) ≡ false → reader.new ≡ reader.old }
+    ensures quiet { IfSome (task_asked (map S.text words.now)) IsOfScript → (telling_asked (map S.text words.now)).notes ≡ false → desk_asked (map S.text words.now) ≡ None →
+        result ≡ 0 → Keeps (F.contents faults.old) (F.contents faults.new) }
+{
+    match read_words(rt.alloc(), words) {
+        Ok(Request::Do(task, file, telling)) => {
+            let gone = gone_of(&task);
+            let noted = do_asked(rt, task, &file, telling.notes, reader, writer);
+            end(noted, writer.is_closed(), gone, faults)
+        }
+        Ok(Request::Compare(pair, telling)) => {
+            let gone = gone_diff(pair.options);
+            let noted = compare_scripts(rt, &pair, telling.notes, reader, writer);
+            end(noted, writer.is_closed(), gone, faults)
+        }
+        Ok(Request::Sit(desk)) => {
+            hold_desk(rt, &desk, is_terminal, journals, reader, writer, faults)
+        }
+        Ok(Request::Show(text)) => show(text.as_str(), writer, faults),
+        Err(fault) => refuse(&fault, faults),
+    }
+}
+
+/// Does a task with the script of a file, or of the reader where none is named, and has its notes, where they are asked for.
+fn do_asked<H: AllocGlobal + Files + Threads + Wait + Sync, R: Source, W: Sink>(
+    rt: &H,
+    task: Task,
+    file: &Option<String>,
+    notes: bool,
+    reader: &mut R,
+    writer: &mut W,
+) -> Noted
+    requires sound { IsSound task }
+    requires reads { R.failed reader.old < 2 ^ 64 - 1 }
+    requires writes { W.failed writer.old < 2 ^ 64 - 1 }
+    ensures done { IsDone task (name_of file.now) notes result
+        (seen_streams (R.remaining reader.old) (R.failed reader.old) (W.contents writer.old) (W.failed writer.old))
+        (seen_streams (R.remaining reader.new) (R.failed reader.new) (W.contents writer.new) (W.failed writer.new)) }
+    ensures unread { IsSome file.now → reader.new ≡ reader.old }
+    ensures quiet { IsOfScript task → IfOk result.outcome IsQuietIfDone }
+    ensures unasked { notes ≡ false → notes_in result.notes ≡ [] }
+{
+    match read_source(rt, file, reader) {
+        Ok(script) => do_script(rt, task, told_name(file), notes, &script, writer),
+        Err(fault) => Noted {
+            outcome: Err(fault),
+            notes: unread_note(rt, notes, file, fault),
+        },
+    }
+}
+
+/// Tells a terminal how a script ends that is read from it, where the words have one read and name none, and do not ask for quiet.
+/// The count of failures must be below `u64::MAX` before the call.
+#[tactic(auto, using(crate::proofs::Telling::told_none))]
+pub fn prompt_words<H: AllocGlobal, S: AsStr, F: Sink>(rt: &H, words: &[S], faults: &mut F)
+    requires { F.failed faults.old < 2 ^ 64 - 1 }
+    ensures told { IsPrompted (telling_asked (map S.text words.now)).prompt (Tells (F.contents faults.old) (F.contents faults.new) (F.failed faults.old) (F.failed faults.new)) }
+    ensures few { F.failed faults.new ≤ F.failed faults.old + 1 }
+{
+    if asks_prompt(rt.alloc(), words) {
+        tell_text(PROMPT.as_bytes(), faults);
+    }
+}
+
+/// Whether words have a script read and name none, and do not ask for quiet; where memory is refused for them, they do not.
+fn asks_prompt<S: AsStr>(alloc: Global, words: &[S]) -> bool
+    ensures { result ≡ true → (telling_asked (map S.text words.now)).prompt ≡ true }
+{
+    match read_words(alloc, words) {
+        Ok(Request::Do(_, _, telling)) => telling.prompt,
+        _ => false,
+    }
+}
+
+/// Tells why the program's words could not be had, and answers the status to exit with: 4 where memory was refused,
+/// and else 2, since a word is no text.
+pub fn tell_unread<F: Write>(fault: &io::Error, faults: &mut F) -> u8
+    ensures memory { error_kind fault.now ≡ ErrorKind.OutOfMemory → result ≡ 4 }
+    ensures no_text { error_kind fault.now ≢ ErrorKind.OutOfMemory → result ≡ 2 }
+{
+    if fault.kind() == ErrorKind::OutOfMemory {
+        tell(&Fault::NoMemory, faults);
+        return Status::NoMemory.number();
+    }
+    tell(&NO_TEXT, faults);
+    Status::BadWords.number()
+}
+
+/// Writes a text that was asked for, and answers the status.
+fn show<W: Pipe, F: Sink>(text: &str, writer: &mut W, faults: &mut F) -> u8
+    requires writes { W.failed writer.old < 2 ^ 64 - 1 }
+    requires tells { F.failed faults.old < 2 ^ 64 - 1 }
+    ensures shown { IsWritten (W.closed writer.new) result (W.contents writer.old) (W.contents writer.new) (W.failed writer.old) (W.failed writer.new) text.now }
+    ensures quiet { result ≡ 0 → Keeps (F.contents faults.old) (F.contents faults.new) }
+{
+    match write_out(writer, text.as_bytes()) {
+        Ok(()) => Status::Done.number(),
+        Err(_) => end_unwritten(b"", writer.is_closed(), Status::Done, faults),
+    }
+}
+
+/// Tells why the words ask for nothing, and answers the status.
+fn refuse<F: Sink>(fault: &WordsFault, faults: &mut F) -> u8
+    requires { F.failed faults.old < 2 ^ 64 - 1 }
+    ensures status { result ≡ status_of_words fault.now }
+    ensures told { Tells (F.contents faults.old) (F.contents faults.new) (F.failed faults.old) (F.failed faults.new) (told_of fault.now) }
+{
+    match fault {
+        WordsFault::Refused(text) => tell_text(text, faults),
+        WordsFault::Mistaken(line) => tell_text(line, faults),
+        WordsFault::NoMemory => {
+            tell_fault(Fault::NoMemory, b"", faults);
+            return Status::NoMemory.number();
+        }
+    }
+    Status::BadWords.number()
+}

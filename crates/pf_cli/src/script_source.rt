@@ -1,0 +1,53 @@
+ghost use Rattle.std.specs.Prelude.{◌≡◌, ◌-◌, ◌^◌, ◌<◌, ◌≤◌, IfOk, IsSome, vec_len};
+ghost use Rattle.pf_stream.specs.Reading.{longest_script};
+ghost use Rattle.pf_words.specs.Asked.{name_of};
+ghost use Rattle.pf_cli.specs.Source.{IsHad, IsSource, told_name};
+
+use pf_fault::fault::Fault;
+use pf_stream::reading::{ReadingFault, read_script};
+use pf_stream::source::{CountedReader, Source};
+use std::fs::File;
+use std::rt::Files;
+
+/// The script that lies in a file, or all that the reader has left where none is named. The reader's count of failures must
+/// be below `u64::MAX` before the call.
+///
+/// # Errors
+///
+/// `Read` where the file can't be opened or read, or the reader fails; `TooLong` where there are more bytes than a script may
+/// have, of which one is read; `NoMemory` where memory is refused.
+pub(crate) fn read_source<H: AllocGlobal + Files, R: Source>(
+    rt: &H,
+    file: &Option<String>,
+    reader: &mut R,
+) -> Result<Vec<u8>, Fault>
+    requires { R.failed reader.old < 2 ^ 64 - 1 }
+    ensures had { IsHad result }
+    ensures source { IsSource (name_of file.now) result (R.remaining reader.old) (R.failed reader.old) (R.remaining reader.new) (R.failed reader.new) }
+    ensures kept { IsSome file.now → reader.new ≡ reader.old }
+{
+    match file {
+        None => Ok(read_script(rt.alloc(), reader)?),
+        Some(path) => Ok(read_file(rt, path.as_str())?),
+    }
+}
+
+/// The name by which a file is told: `-` for standard input.
+pub(crate) fn told_name(file: &Option<String>) -> &[u8]
+    ensures { result.now ≡ told_name (name_of file.now) }
+{
+    match file {
+        Some(name) => name.as_bytes(),
+        None => b"-",
+    }
+}
+
+/// The script that lies in a file.
+pub(crate) fn read_file<H: AllocGlobal + Files>(rt: &H, path: &str) -> Result<Vec<u8>, ReadingFault>
+    ensures { IfOk result (λ script. vec_len script ≤ longest_script) }
+{
+    match File::open(rt, path) {
+        Ok(file) => read_script(rt.alloc(), &mut CountedReader::new(file)),
+        Err(_) => Err(ReadingFault::Read),
+    }
+}

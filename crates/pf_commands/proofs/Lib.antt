@@ -1,0 +1,7 @@
+pub mod Answering
+pub mod Checking
+pub mod Ends
+pub mod Listed
+pub mod Outside
+pub mod Refusing
+pub mod ScriptsWorked

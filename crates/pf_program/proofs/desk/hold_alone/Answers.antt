@@ -1,9 +1,0 @@
-use Rattle.std.proofs.Common.{refl}
-use Rattle.pf_words.specs.Asked.{desk_named}
-use Rattle.pf_program.proofs.Sittings.{desk_not_held}
-use Rattle.pf_program.proofs.desk.hold_alone.Goals as goal
-
-pub returns-in-Err : goal.returns-in-Err
-returns-in-Err g c =
-    desk_not_held (desk_named c.args.words.now) _ _ c.is_closed-closed.result c.end.result _ _ c.in-Err.field-0.fault c.in-Err.field-0.notes
-    c.in-Err.ensures.unbegun c.is_closed-closed.ensures c.end.ensures.status c.end.ensures.told refl refl refl refl

@@ -1,5 +1,0 @@
-use Rattle.pf_program.proofs.Telling.{few_failed}
-use Rattle.pf_program.proofs.ending.tell_text.Goals as goal
-
-pub returns-clause-few : goal.returns-clause-few
-returns-clause-few g c = few_failed c.write_out.result _ _ c.write_out.ensures.count

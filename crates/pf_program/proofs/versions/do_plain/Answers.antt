@@ -1,4 +1,0 @@
-use Rattle.pf_program.proofs.versions.do_plain.Goals as goal
-
-pub returns-clause-desk : goal.returns-clause-desk
-returns-clause-desk g c = c.numbered.ensures.desk c.args.plain.now.text.items c.do_records-end.ensures.desk
