@@ -33,5 +33,6 @@ Stops told why.Read = ⊥
 Stops told why.Write = ⊥
 Stops told why.TooLong = ⊥
 Stops told (why.BadRange range) = ⊥
-Stops told why.NoReader = ⊥
+Stops told why.NoViewer = ⊥
+Stops told why.Unread = ⊥
 Stops told why.GateShut = ⊥

@@ -14,5 +14,6 @@ stops_unwritten change why.Read h = tt
 stops_unwritten change why.Write h = absurd h
 stops_unwritten change why.TooLong h = tt
 stops_unwritten change (why.BadRange fault) h = tt
-stops_unwritten change why.NoReader h = tt
+stops_unwritten change why.NoViewer h = tt
+stops_unwritten change why.Unread h = tt
 stops_unwritten change why.GateShut h = tt

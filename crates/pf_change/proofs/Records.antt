@@ -69,7 +69,8 @@ module _ (options : DiffOptions) (since : Option ℕ) (bytes : List ℕ) where
     lines_stop why.Write h = absurd h
     lines_stop why.TooLong h = absurd h
     lines_stop (why.BadRange range) h = absurd h
-    lines_stop why.NoReader h = absurd h
+    lines_stop why.NoViewer h = absurd h
+    lines_stop why.Unread h = absurd h
     lines_stop why.GateShut h = absurd h
 
     -- Use: it was told.

@@ -251,7 +251,8 @@ of_memory t why.Read none h = absurd h
 of_memory t why.Write none h = absurd h
 of_memory t why.TooLong none h = absurd h
 of_memory t (why.BadRange range) none h = absurd h
-of_memory t why.NoReader none h = absurd h
+of_memory t why.NoViewer none h = absurd h
+of_memory t why.Unread none h = absurd h
 of_memory t why.GateShut none h = absurd h
 
 -- Use: where a check finds no fault, nothing but running out of memory stops the script of version 2.

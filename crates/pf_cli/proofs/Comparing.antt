@@ -24,7 +24,8 @@ unwritten_counts fault count answer h is = subst (λ (a : Result Ending Fault). 
     by why.Read h = refl
     by why.Write h = absurd h
     by why.NoMemory h = refl
-    by why.NoReader h = refl
+    by why.NoViewer h = refl
+    by why.Unread h = refl
     by why.GateShut h = refl
 
 -- Use: the first script had a fault, ..

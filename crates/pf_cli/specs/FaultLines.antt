@@ -21,5 +21,6 @@ fault_line (why.BadRange fault) = range_line fault
 fault_line why.Read = codes "cannot read the script\n"
 fault_line why.Write = codes "cannot write the output\n"
 fault_line why.NoMemory = codes "out of memory\n"
-fault_line why.NoReader = codes "no place for a reader\n"
+fault_line why.NoViewer = codes "no place for a reader\n"
+fault_line why.Unread = codes "no place for a reader\n"
 fault_line why.GateShut = codes "a gate stayed shut\n"

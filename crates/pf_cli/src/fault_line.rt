@@ -33,7 +33,7 @@ pub(crate) fn write_fault<F: Sink>(fault: Fault, faults: &mut F) -> Result<(), W
         Fault::Read => write_out(faults, b"cannot read the script\n"),
         Fault::Write => write_out(faults, b"cannot write the output\n"),
         Fault::NoMemory => write_out(faults, b"out of memory\n"),
-        Fault::NoReader => write_out(faults, b"no place for a reader\n"),
+        Fault::NoViewer | Fault::Unread => write_out(faults, b"no place for a reader\n"),
         Fault::GateShut => write_out(faults, b"a gate stayed shut\n"),
     }
 }

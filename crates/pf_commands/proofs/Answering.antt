@@ -71,7 +71,8 @@ unopened format titles refusals t why.Read x h = absurd h
 unopened format titles refusals t why.Write x h = absurd h
 unopened format titles refusals t why.TooLong x h = absurd h
 unopened format titles refusals t (why.BadRange fault) x h = absurd h
-unopened format titles refusals t why.NoReader x h = absurd h
+unopened format titles refusals t why.NoViewer x h = absurd h
+unopened format titles refusals t why.Unread x h = absurd h
 unopened format titles refusals t why.GateShut x h = absurd h
 
 -- Use: the writing of the replies was stopped.
@@ -97,7 +98,8 @@ carried format titles refusals t (Err why.Read) outcome old new text is same wro
 carried format titles refusals t (Err why.Write) outcome old new text is same wrote ends = absurd ends
 carried format titles refusals t (Err why.TooLong) outcome old new text is same wrote ends = absurd ends
 carried format titles refusals t (Err (why.BadRange fault)) outcome old new text is same wrote ends = absurd ends
-carried format titles refusals t (Err why.NoReader) outcome old new text is same wrote ends = absurd ends
+carried format titles refusals t (Err why.NoViewer) outcome old new text is same wrote ends = absurd ends
+carried format titles refusals t (Err why.Unread) outcome old new text is same wrote ends = absurd ends
 carried format titles refusals t (Err why.GateShut) outcome old new text is same wrote ends = absurd ends
 
 -- a text was written, and then what follows it
@@ -107,7 +109,8 @@ behind_text m (Ok desk) text old mid new wrote past a = (a.0, Appends-trans old 
 behind_text m (Err (why.BadRecord number)) text old mid new wrote past a = (a.0, Appends-trans old mid new text m.text wrote a.1)
 behind_text m (Err why.TooLong) text old mid new wrote past a = (a.0, Appends-trans old mid new text m.text wrote a.1)
 behind_text m (Err (why.BadRange fault)) text old mid new wrote past a = (a.0, Appends-trans old mid new text m.text wrote a.1)
-behind_text m (Err why.NoReader) text old mid new wrote past a = absurd a
+behind_text m (Err why.NoViewer) text old mid new wrote past a = absurd a
+behind_text m (Err why.Unread) text old mid new wrote past a = absurd a
 behind_text m (Err why.GateShut) text old mid new wrote past a = absurd a
 behind_text m (Err why.Read) text old mid new wrote past a = absurd past
 behind_text m (Err why.Write) text old mid new wrote past a = took-after old mid new text m.text wrote a
@@ -167,7 +170,8 @@ module _ (A B : Type 0) where
   past_as why.Write past = tt
   past_as why.TooLong past = tt
   past_as (why.BadRange fault) past = tt
-  past_as why.NoReader past = tt
+  past_as why.NoViewer past = tt
+  past_as why.Unread past = tt
   past_as why.GateShut past = tt
   past_as why.NoMemory past = tt
 
@@ -177,7 +181,8 @@ module _ (A B : Type 0) where
   counts_as why.Write old new h = h
   counts_as why.TooLong old new h = h
   counts_as (why.BadRange fault) old new h = h
-  counts_as why.NoReader old new h = h
+  counts_as why.NoViewer old new h = h
+  counts_as why.Unread old new h = h
   counts_as why.GateShut old new h = h
   counts_as why.NoMemory old new h = h
 
@@ -189,7 +194,8 @@ opens_past format t why.Read h = absurd h
 opens_past format t why.Write h = absurd h
 opens_past format t why.TooLong h = absurd h
 opens_past format t (why.BadRange fault) h = absurd h
-opens_past format t why.NoReader h = absurd h
+opens_past format t why.NoViewer h = absurd h
+opens_past format t why.Unread h = absurd h
 opens_past format t why.GateShut h = absurd h
 
 pub opens_counts : (format : Format) (t : Told) (fault : Fault) (n : ℕ) → OpensReplies format t (Err fault) → CountsWrites {A = Shown} (Err fault) n n
@@ -199,7 +205,8 @@ opens_counts format t why.Read n h = absurd h
 opens_counts format t why.Write n h = absurd h
 opens_counts format t why.TooLong n h = absurd h
 opens_counts format t (why.BadRange fault) n h = absurd h
-opens_counts format t why.NoReader n h = absurd h
+opens_counts format t why.NoViewer n h = absurd h
+opens_counts format t why.Unread n h = absurd h
 opens_counts format t why.GateShut n h = absurd h
 
 pub ends_past : (outcome : Result ScriptCourse ℕ) (result : Result Shown Fault) → EndsBy outcome result → IsPastReading result
@@ -210,7 +217,8 @@ ends_past outcome (Err why.Read) h = absurd h
 ends_past outcome (Err why.Write) h = absurd h
 ends_past outcome (Err why.TooLong) h = absurd h
 ends_past outcome (Err (why.BadRange fault)) h = absurd h
-ends_past outcome (Err why.NoReader) h = absurd h
+ends_past outcome (Err why.NoViewer) h = absurd h
+ends_past outcome (Err why.Unread) h = absurd h
 ends_past outcome (Err why.GateShut) h = absurd h
 
 pub ends_counts : (outcome : Result ScriptCourse ℕ) (result : Result Shown Fault) (old new : ℕ) → new ≡ old → EndsBy outcome result → CountsWrites result old new
@@ -221,5 +229,6 @@ ends_counts outcome (Err why.Read) old new same h = absurd h
 ends_counts outcome (Err why.Write) old new same h = absurd h
 ends_counts outcome (Err why.TooLong) old new same h = absurd h
 ends_counts outcome (Err (why.BadRange fault)) old new same h = absurd h
-ends_counts outcome (Err why.NoReader) old new same h = absurd h
+ends_counts outcome (Err why.NoViewer) old new same h = absurd h
+ends_counts outcome (Err why.Unread) old new same h = absurd h
 ends_counts outcome (Err why.GateShut) old new same h = absurd h

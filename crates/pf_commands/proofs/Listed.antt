@@ -53,7 +53,8 @@ stopped_counts outcome why.Read n h = absurd h
 stopped_counts outcome why.Write n h = absurd h
 stopped_counts outcome why.TooLong n h = absurd h
 stopped_counts outcome (why.BadRange fault) n h = absurd h
-stopped_counts outcome why.NoReader n h = absurd h
+stopped_counts outcome why.NoViewer n h = absurd h
+stopped_counts outcome why.Unread n h = absurd h
 stopped_counts outcome why.GateShut n h = absurd h
 
 -- Use: what is shown of the tasks was written, or its writing stopped.

@@ -94,5 +94,6 @@ outside_keeps A B m (why.BadRange range) old new silent answers is = kept old ne
 outside_keeps A B m why.Read old new silent answers is = absurd is
 outside_keeps A B m why.Write old new silent answers is = absurd is
 outside_keeps A B m why.NoMemory old new silent answers is = absurd is
-outside_keeps A B m why.NoReader old new silent answers is = absurd is
+outside_keeps A B m why.NoViewer old new silent answers is = absurd is
+outside_keeps A B m why.Unread old new silent answers is = absurd is
 outside_keeps A B m why.GateShut old new silent answers is = absurd is

@@ -15,7 +15,8 @@ AnswersFault m (why.BadRange fault) old new = (m.end ≡ Outside fault) × Appen
 AnswersFault m why.Read old new = Keeps old new
 AnswersFault m why.Write old new = TookFront old new m.text
 AnswersFault m why.NoMemory old new = TookFront old new m.text
-AnswersFault m why.NoReader old new = ⊥
+AnswersFault m why.NoViewer old new = ⊥
+AnswersFault m why.Unread old new = ⊥
 AnswersFault m why.GateShut old new = ⊥
 
 -- whatever is answered where the script ends well

@@ -18,7 +18,8 @@ unopened_stops format t why.Read h = absurd h
 unopened_stops format t why.Write h = absurd h
 unopened_stops format t why.TooLong h = absurd h
 unopened_stops format t (why.BadRange fault) h = absurd h
-unopened_stops format t why.NoReader h = absurd h
+unopened_stops format t why.NoViewer h = absurd h
+unopened_stops format t why.Unread h = absurd h
 unopened_stops format t why.GateShut h = absurd h
 
 -- Use: nothing was written.
@@ -29,7 +30,8 @@ stops_unwritten outcome why.Read h = absurd h
 stops_unwritten outcome why.Write h = absurd h
 stops_unwritten outcome why.TooLong h = absurd h
 stops_unwritten outcome (why.BadRange fault) h = absurd h
-stops_unwritten outcome why.NoReader h = absurd h
+stops_unwritten outcome why.NoViewer h = absurd h
+stops_unwritten outcome why.Unread h = absurd h
 stops_unwritten outcome why.GateShut h = absurd h
 
 pub ends_unwritten : (outcome : Result ScriptCourse ℕ) (result : Result Shown Fault) → EndsBy outcome result → IfErr result IsUnwritten

@@ -14,5 +14,6 @@ stops_unwritten shut asked why.Write h = absurd h
 stops_unwritten shut asked why.TooLong h = tt
 stops_unwritten shut asked (why.BadRange range) h = tt
 stops_unwritten shut asked why.GateShut h = tt
-stops_unwritten shut asked why.NoReader h = tt
+stops_unwritten shut asked why.NoViewer h = tt
+stops_unwritten shut asked why.Unread h = tt
 stops_unwritten shut asked why.NoMemory h = tt

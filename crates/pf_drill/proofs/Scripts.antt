@@ -66,7 +66,8 @@ any_stop shut asked why.Write h = absurd h
 any_stop shut asked why.TooLong h = absurd h
 any_stop shut asked (why.BadRange range) h = absurd h
 any_stop shut asked why.GateShut h = absurd h
-any_stop shut asked why.NoReader h = h
+any_stop shut asked why.NoViewer h = h
+any_stop shut asked why.Unread h = h
 any_stop shut asked why.NoMemory h = h
 
 -- Use: a halt stops whatever was asked for.
@@ -77,7 +78,8 @@ stopped shut asked why.Write halt = halt
 stopped shut asked why.TooLong halt = halt
 stopped shut asked why.GateShut halt = halt
 stopped shut asked (why.BadRange range) halt = absurd halt
-stopped shut asked why.NoReader halt = halt
+stopped shut asked why.NoViewer halt = halt
+stopped shut asked why.Unread halt = halt
 stopped shut asked why.NoMemory halt = halt
 
 -- Use: the rest of a drill, whose commands are all known.

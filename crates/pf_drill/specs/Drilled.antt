@@ -58,7 +58,8 @@ IsHalt shut why.Write = ⊥
 IsHalt shut why.TooLong = ⊥
 IsHalt shut why.GateShut = shut
 IsHalt shut (why.BadRange range) = ⊥
-IsHalt shut why.NoReader = ⊤
+IsHalt shut why.NoViewer = ⊤
+IsHalt shut why.Unread = ⊤
 IsHalt shut why.NoMemory = ⊤
 
 -- the drill of what was asked for was stopped: by the first bad record, or by a halt

@@ -31,7 +31,7 @@ type Hired<'s, G> = PromisedHandle<Shift, AtGate<'s, G>>;
 ///
 /// # Errors
 ///
-/// `BadRecord` at the first record that is none of the script's. `GateShut` where the gate was shut to a worker. `NoReader` where
+/// `BadRecord` at the first record that is none of the script's. `GateShut` where the gate was shut to a worker. `Unread` where
 /// the history has other entries. `NoMemory` where memory or a thread is refused.
 pub(crate) fn drill_staffed<
     'a,
@@ -193,7 +193,7 @@ fn is_any_shut(shifts: &[Shift]) -> bool
 ///
 /// # Errors
 ///
-/// `NoReader` where one took another quantum, and `NoMemory`.
+/// `Unread` where one took another quantum, and `NoMemory`.
 fn check_taken(alloc: Global, issued: &[Quantum], shifts: &[Shift]) -> Result<(), Fault>
     ensures taken { OnOk result (All (HasTaken shifts.now) issued.now) }
     ensures halt { IfErr result (IsHalt ⊥) }
@@ -203,7 +203,7 @@ fn check_taken(alloc: Global, issued: &[Quantum], shifts: &[Shift]) -> Result<()
     };
     for quantum in issued {
         if !is_next(quantum, shifts, &mut counts) {
-            return Err(Fault::NoReader);
+            return Err(Fault::Unread);
         }
     }
     Ok(())

@@ -28,7 +28,7 @@ use std::thread::Threads;
 /// # Errors
 ///
 /// `BadRecord` at the first record that is none of the script's. `GateShut` where the gate was shut to a worker, once all
-/// are back. `NoReader` where the readers' table gives no place or no entry. `NoMemory` where memory is refused.
+/// are back. `NoViewer` where the readers' table gives no place, `Unread` where it gives no entry. `NoMemory` where memory is refused.
 pub fn drill<R: Threads + Wait + Sync, G: Gate + Sync>(
     rt: &R,
     alloc: Global,
@@ -63,7 +63,7 @@ fn drill_script<R: Threads + Wait + Sync, G: Gate + Sync>(
     let blank = match Blank::open(rt, alloc, opening.settings, opening.every, passes, 1) {
         Ok(blank) => blank,
         Err(OpenFault::BadSettings) => unreachable!(),
-        Err(OpenFault::NoViewer) => return Err(Fault::NoReader),
+        Err(OpenFault::NoViewer) => return Err(Fault::NoViewer),
         Err(OpenFault::NoMemory) => return Err(Fault::NoMemory),
     };
     drill_lines::<Brand, _, _, _>(rt, alloc, blank, script.lines, row, gate)

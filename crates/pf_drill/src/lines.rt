@@ -57,10 +57,10 @@ pub(crate) fn drill_lines<
         mut viewers,
     } = blank.start::<N>();
     let Some(mut viewer) = viewers.pop() else {
-        return Err(Fault::NoReader);
+        return Err(Fault::NoViewer);
     };
     let Some(pass) = passes.pop() else {
-        return Err(Fault::NoReader);
+        return Err(Fault::NoViewer);
     };
     let planner = Planner::new::<N>(alloc, pass);
     let rounds = Rounds::new(passes.len() as u64);
@@ -77,7 +77,7 @@ pub(crate) fn drill_lines<
 ///
 /// # Errors
 ///
-/// `NoReader` and `NoMemory`.
+/// `Unread` and `NoMemory`.
 fn finish<N: Naming, H: Wait + Drop>(
     rt: &impl Wait,
     alloc: Global,
@@ -171,7 +171,8 @@ fn take_steps<N: Naming, H: Wait + Drop>(
 ///
 /// # Errors
 ///
-/// `NoReader` where the readers' table gives no entry, the snapshot takes no further owner, or it is of a longer history.
+/// `NoMemory` where memory is refused; `Unread` where the readers' table gives no entry, the snapshot takes no further owner, or it
+/// is of a longer history.
 fn last_snapshot<N: Naming, H: Wait + Drop>(
     rt: &impl Wait,
     shared: &Shared<N, Locked<N, H>>,
@@ -185,13 +186,13 @@ fn last_snapshot<N: Naming, H: Wait + Drop>(
     ensures halt { IfErr result (IsHalt ⊥) }
 {
     let Ok(()) = shared.tell(rt, &mut planner.pass, viewer) else {
-        return Err(Fault::NoReader);
+        return Err(Fault::NoMemory);
     };
     let Ok(snapshot) = shared.read(viewer) else {
-        return Err(Fault::NoReader);
+        return Err(Fault::Unread);
     };
     if snapshot.version() != planner.answered {
-        return Err(Fault::NoReader);
+        return Err(Fault::Unread);
     }
     Ok(snapshot)
 }

@@ -50,7 +50,7 @@ impl Planner {
     ///
     /// # Errors
     ///
-    /// `NoMemory` where memory is refused, or a worker gave up; `NoReader` where the history has other entries.
+    /// `NoMemory` where memory is refused, or a worker gave up; `Unread` where the history has other entries.
     pub(crate) fn answer<N: Naming, H: Wait + Drop>(
         &mut self,
         rt: &impl Wait,
@@ -89,7 +89,7 @@ impl Planner {
             return Err(Fault::NoMemory);
         };
         if done.front - 1 != self.answered {
-            return Err(Fault::NoReader);
+            return Err(Fault::Unread);
         }
         self.answered = done.front;
         let Ok(()) = note_issued(&mut self.issued, &done.reply) else {

@@ -22,7 +22,8 @@ status_behind (fault.BadRange range) = BadWords
 status_behind fault.Read = StreamFailed
 status_behind fault.Write = StreamFailed
 status_behind fault.NoMemory = NoMemory
-status_behind fault.NoReader = NoMemory
+status_behind fault.NoViewer = NoMemory
+status_behind fault.Unread = NoMemory
 status_behind fault.GateShut = GateShut
 
 -- the reader failed once where the answer is `Read`, and else not at all; the writer alike

@@ -27,10 +27,13 @@ pub enum Fault {
     /// Memory was refused.
     #[error("out of memory")]
     NoMemory,
-    /// The readers' table of a drill gives no place or no entry to a reader, its snapshot takes no further owner, or others
-    /// than the drill have entries in the desk's history, which no run does.
+    /// The readers' table of a drill gives no reader's place.
     #[error("no place for a reader")]
-    NoReader,
+    NoViewer,
+    /// The readers' table of a drill gives no entry, its snapshot takes no further owner, or others than the drill have entries
+    /// in the desk's history, which no run does.
+    #[error("no place for a reader")]
+    Unread,
     /// A gate of a drill stayed shut.
     #[error("a gate stayed shut")]
     GateShut,
@@ -48,7 +51,7 @@ impl Fault {
             Fault::BadRecord(_) | Fault::TooLong => Status::BadScript,
             Fault::BadRange(_) => Status::BadWords,
             Fault::Read | Fault::Write => Status::StreamFailed,
-            Fault::NoMemory | Fault::NoReader => Status::NoMemory,
+            Fault::NoMemory | Fault::NoViewer | Fault::Unread => Status::NoMemory,
             Fault::GateShut => Status::GateShut,
         }
     }

@@ -49,5 +49,6 @@ stops_unwritten told why.Read h = tt
 stops_unwritten told why.Write h = absurd h
 stops_unwritten told why.TooLong h = tt
 stops_unwritten told (why.BadRange range) h = tt
-stops_unwritten told why.NoReader h = tt
+stops_unwritten told why.NoViewer h = tt
+stops_unwritten told why.Unread h = tt
 stops_unwritten told why.GateShut h = tt

@@ -20,7 +20,8 @@ stopped_plain s found told why.TooLong h = absurd h
 stopped_plain s found told (why.BadRange range) h = absurd h
 stopped_plain s found told why.Read h = absurd h
 stopped_plain s found told why.Write h = absurd h
-stopped_plain s found told why.NoReader h = absurd h
+stopped_plain s found told why.NoViewer h = absurd h
+stopped_plain s found told why.Unread h = absurd h
 stopped_plain s found told why.GateShut h = absurd h
 
 -- Use: nor are its rows, where the first is no heading of a plan.

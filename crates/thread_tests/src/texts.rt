@@ -36,7 +36,8 @@ fn of_drills_not_carried_out(rt: HostRuntime) {
         (Fault::Write, "cannot write the output"),
         (Fault::TooLong, "the script is longer than 16777216 bytes"),
         (Fault::GateShut, "a gate stayed shut"),
-        (Fault::NoReader, "no place for a reader"),
+        (Fault::NoViewer, "no place for a reader"),
+        (Fault::Unread, "no place for a reader"),
         (Fault::NoMemory, "out of memory"),
     ] {
         tells(&rt, fault, wanted);
