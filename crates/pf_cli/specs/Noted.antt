@@ -101,6 +101,8 @@ gone_of (Run format fail_on) = if fails_on_some fail_on then StreamFailed else D
 gone_of (RunTasks format words fail_on) = if fails_on_some fail_on then StreamFailed else Done
 gone_of Check = StreamFailed
 gone_of CheckRun = StreamFailed
+gone_of (Convert conversion) = StreamFailed
+gone_of (Fit format) = StreamFailed
 gone_of (Diff since options) = gone_diff options
 gone_of task = Done
 

@@ -12,7 +12,7 @@ pub(crate) fn gone_of(task: &Task) -> Status
     ensures { result ≡ gone_of task.now }
 {
     match task {
-        Task::Check | Task::CheckRun => Status::StreamFailed,
+        Task::Check | Task::CheckRun | Task::Fit(_) | Task::Convert(_) => Status::StreamFailed,
         Task::Run(_, fail_on) | Task::RunTasks(_, _, fail_on) if fails_on_some(*fail_on) => {
             Status::StreamFailed
         }

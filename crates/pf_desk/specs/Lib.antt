@@ -24,6 +24,7 @@ pub mod Horizon
 pub mod Applied
 pub mod Plain
 pub mod Gathered
+pub mod Refusals
 pub mod Views
 pub mod Laid
 pub mod Small

@@ -1,3 +1,6 @@
+ghost use Rattle.std.specs.Prelude.{◌≡◌};
+ghost use Rattle.pf_desk.specs.Refusals.{open_fault_code};
+
 use pf_timeline::timeline::LARGEST_DISTANCE;
 use std::error::Error;
 use std::fmt;
@@ -9,6 +12,18 @@ pub enum OpenFault {
     BadSettings,
     /// Memory was refused.
     NoMemory,
+}
+
+impl OpenFault {
+    /// Its number in the table of refusals, 33 or 90.
+    pub fn code(self) -> u64
+        ensures { result ≡ open_fault_code self }
+    {
+        match self {
+            OpenFault::BadSettings => 33,
+            OpenFault::NoMemory => 90,
+        }
+    }
 }
 
 impl fmt::Display for OpenFault {

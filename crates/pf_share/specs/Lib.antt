@@ -5,4 +5,5 @@ pub mod Issuing
 pub mod Locked
 pub mod Opening
 pub mod Reads
+pub mod Refusals
 pub mod Stories

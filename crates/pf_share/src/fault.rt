@@ -1,4 +1,5 @@
 ghost use Rattle.std.specs.Prelude.{◌≡◌};
+ghost use Rattle.pf_share.specs.Refusals.{open_fault_code};
 
 use pf_desk::fault::OpenFault as DeskFault;
 use std::alloc::AllocError;
@@ -15,6 +16,19 @@ pub enum OpenFault {
     NoViewer,
     /// Memory was refused.
     NoMemory,
+}
+
+impl OpenFault {
+    /// Its number in the table of refusals, 33, 34 or 90.
+    pub fn code(self) -> u64
+        ensures { result ≡ open_fault_code self }
+    {
+        match self {
+            OpenFault::BadSettings => 33,
+            OpenFault::NoViewer => 34,
+            OpenFault::NoMemory => 90,
+        }
+    }
 }
 
 impl From<AllocError> for OpenFault {

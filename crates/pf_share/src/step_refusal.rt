@@ -1,3 +1,6 @@
+ghost use Rattle.std.specs.Prelude.{◌≡◌};
+ghost use Rattle.pf_share.specs.Refusals.{step_refusal_code};
+
 use std::alloc::AllocError;
 use std::error::Error;
 use std::fmt;
@@ -11,8 +14,19 @@ pub enum StepRefusal {
     NoMemory,
 }
 
+impl StepRefusal {
+    /// Its number in the table of refusals, 32 or 90.
+    pub fn code(self) -> u64
+        ensures { result ≡ step_refusal_code self }
+    {
+        match self {
+            StepRefusal::Pending { processor: _ } => 32,
+            StepRefusal::NoMemory => 90,
+        }
+    }
+}
+
 impl From<AllocError> for StepRefusal {
-    ghost use Rattle.std.specs.Prelude.{◌≡◌};
     ghost use Rattle.pf_share.specs.declared.step_refusal.StepRefusal.TheVariants.{NoMemory};
 
     ghost from_gives = { λ _ refusal. refusal ≡ NoMemory };
