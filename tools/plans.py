@@ -61,7 +61,8 @@ def plain_field(text, place):
 
 
 def is_plan(script):
-    return rows(script)[:1] == [["pfair", "3"]]
+    """Whether the first record begins a plan; its heading may have a fault."""
+    return any(fields[0] == "plan" for fields in rows(script)[:1])
 
 
 @dataclass
@@ -164,6 +165,8 @@ def replies(read, lines):
     """Puts the replies behind the lines. Gives the desk at the script's end and what it was told, or the number of the bad
     record."""
     told = Told()
+    if read[0] != ["plan", "1"]:
+        return 1
     try:
         desk = model.Desk(settings_of(read[1] if len(read) > 1 else [""]))
     except BadRecord:

@@ -1,5 +1,5 @@
 -- `fit` ends as the conversion does.
-use Rattle.std.proofs.Common.{◌≡◌, ◌∙◌, ◌*◌, ◌≤◌, ℕ, Bool, true, false, nat_le, None, Some, List, [], ◌∷◌, map, inl, inr, refl, sym, ap, subst, arith}
+use Rattle.std.proofs.Common.{◌≡◌, ◌∙◌, ◌*◌, ◌≤◌, ℕ, Bool, true, false, nat_le, Option, None, Some, List, [], ◌∷◌, map, inl, inr, refl, sym, ap, subst, arith}
 use Rattle.std.specs.Prelude.{◌↔◌, if◌then◌else◌}
 use Rattle.std.proofs.lemmas.Bool.Decides.{nat_tests}
 use Rattle.pf_conversion.specs.Answers.{fit_status}
@@ -7,19 +7,20 @@ use Rattle.pf_conversion.specs.Script.{script_text}
 use Rattle.pf_converted.specs.Records.{heading_record, script_records}
 use Rattle.pf_converted.specs.Written.{WritesPlan}
 use Rattle.pf_converted.proofs.Planned.{lists_become_plans}
-use Rattle.pf_converted.proofs.Whole.{rows_of_script}
+use Rattle.pf_converted.proofs.Whole.{heading_good, rows_of_script}
 use Rattle.pf_fault.specs.declared.status.Status.TheVariants.{Done, FailedOn}
 use Rattle.pf_fit_command.specs.Fit.{status_of_verdict}
 use Rattle.pf_verdict.specs.Findings.{grounds_of}
 use Rattle.pf_verdict.specs.Verdict.{verdict_of}
 use Rattle.pf_verdict.specs.declared.verdict.Verdict.{Verdict}
 use Rattle.pf_verdict.specs.declared.verdict.Verdict.TheVariants.{Fits, FitsSoFar, DoesNotFit}
-use Rattle.pf_plain.specs.Plain.{Plain, plain, plain_from, plain_of, start, with_heading}
+use Rattle.pf_plain.specs.Plain.{Plain, plain, plain_behind, plain_from, plain_of, start, with_heading}
 use Rattle.pf_rows.specs.Rows.{Row, rows}
 use Rattle.pf_task_list.specs.declared.listed.Listed.{Listed}
 use Rattle.pf_text.specs.Page.{table_text}
 use Rattle.pf_script.specs.Fields.{is_word}
-use Rattle.pf_plan.specs.Heading.{is_plan_heading}
+use Rattle.pf_plan.specs.declared.fault.RecordFault.{RecordFault}
+use Rattle.pf_plan.specs.Heading.{heading_fault, is_plan_heading}
 use Rattle.pf_retold.specs.Retold.{ScriptsAreRetold}
 use Rattle.pf_agree.proofs.Counted.{fits_are_done}
 use Rattle.pf_agree.specs.Agree.{ConvertAndFitAgree, IsFitAlike}
@@ -36,8 +37,9 @@ plain_under end (r ∷ rs) behind is =
     let both : r.fields ∷ map (λ row. row.fields) rs ≡ heading_record ∷ behind = is in
     let same : r.fields ≡ heading_record = cc in
     let begins : is_plan_heading r.fields ≡ true = ap is_plan_heading same ∙ heading_is_plan in
-    let p : Plain = with_heading r.line (plain_from start 2 end rs) in
-    (p, ap (λ b. if b then Some p else None) begins)
+    let good : heading_fault r.fields ≡ None = ap heading_fault same ∙ heading_good in
+    let under : Option RecordFault → Plain = λ fault. with_heading r.line (plain_behind fault r.line end rs) in
+    (with_heading r.line (plain_from start 2 end rs), ap (λ b. if b then Some (under (heading_fault r.fields)) else None) begins ∙ ap (λ fault. Some (under fault)) good)
 
 -- one of two statuses, the same just where both are done
 one_of : (v : Verdict) (load room : ℕ) → (status_of_verdict v ≡ Done) ↔ (load ≤ room) → status_of_verdict v ≡ fit_status load room

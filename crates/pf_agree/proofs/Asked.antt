@@ -15,6 +15,7 @@ use Rattle.pf_text.specs.Page.{table_text}
 use Rattle.pf_plan.specs.declared.said.Said.{Said}
 use Rattle.pf_plan.specs.declared.said.Said.TheVariants.{Settings, Slot, Name, Asks}
 use Rattle.pf_plan.specs.declared.state.Progress.{Progress}
+use Rattle.pf_plan.specs.Heading.{heading_fault}
 use Rattle.pf_plan.specs.Progress.{progress_after}
 use Rattle.pf_plain.specs.Plain.{Course, Plain, course_behind, plain, start}
 use Rattle.pf_conversion.specs.Script.{script_text, slot_of, steps_of}
@@ -22,10 +23,10 @@ use Rattle.pf_converted.specs.Records.{each_numbered, heading_record, script_rec
 use Rattle.pf_converted.specs.Read as read
 use Rattle.pf_converted.specs.Read.{AllSay, IsWritten, plan_said}
 use Rattle.pf_converted.proofs.Saying.{plans_said}
-use Rattle.pf_converted.proofs.Whole.{rows_of_script}
+use Rattle.pf_converted.proofs.Whole.{heading_good, rows_of_script}
 use Rattle.pf_plan_fits.specs.Laws.{join_asked, plan_settings}
 use Rattle.pf_agree.specs.Fitted.{AsksPlan}
-use Rattle.pf_retold.specs.Retold.{ScriptsAreRetold, lines_said, saids_from, saids_next, saids_of, settings_said}
+use Rattle.pf_retold.specs.Retold.{ScriptsAreRetold, lines_said, saids_behind, saids_from, saids_next, saids_of, settings_said}
 
 -- it gives no label
 abbrev HasNoLabel : Said → Type 0
@@ -93,8 +94,10 @@ saids_of_rows : (rs : List Row) (behind : List (List (List ℕ))) (saids : List 
 saids_of_rows [] behind saids is none say = cc
 saids_of_rows (r ∷ rs) behind saids is none say =
     let both : r.fields ∷ map (λ row. row.fields) rs ≡ heading_record ∷ behind = is in
+    let first : r.fields ≡ heading_record = cc in
     let same : map (λ row. row.fields) rs ≡ behind = cc in
-    saids_are start rs saids none (subst (λ (t : List (List (List ℕ))). AllSay start.progress t saids) (sym same) say)
+    ap (λ fault. saids_behind fault rs) (ap heading_fault first ∙ heading_good)
+    ∙ saids_are start rs saids none (subst (λ (t : List (List (List ℕ))). AllSay start.progress t saids) (sym same) say)
 
 pub asks_plan : ScriptsAreRetold → (m q : ℕ) (tasks : List Listed) (plan : Plan) (p : Plain) → IsWritten m q tasks plan → plain (script_text m q tasks plan) ≡ Some p
     → AsksPlan m plan (told (table_text p.records))

@@ -83,7 +83,7 @@ told_some records (f ∷ fs) = by (of_records records (f ∷ fs))
 
 -- Use: all of it.
 pub found_all : (file : List ℕ) (records : ℕ) (faults : List FaultLine) (f : Found) → AreOf records faults
-    → f.lines ≡ fold (behind_fault file records) no_lines faults → f.records ≡ records → f.lines.others ≤ f.records → f.records < 2 ^ 64 - 2
+    → f.lines ≡ fold (behind_fault file records) no_lines faults → f.records ≡ records → f.lines.others ≤ f.records + 1 → f.records < 2 ^ 64 - 2
     → Finds file records faults f
 found_all file records faults f are lines count others few =
     let told = lines ∙ all_faults file records faults are in

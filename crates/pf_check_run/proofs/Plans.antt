@@ -1,11 +1,12 @@
 -- The faults of a plan, one record after another.
-use Rattle.std.proofs.Common.{◌≡◌, ◌+◌, ℕ, Bool, true, false, List, [], ◌∷◌, length, map, Result, Ok, Err, refl, arith}
+use Rattle.std.proofs.Common.{◌≡◌, ◌≤◌, ◌+◌, ℕ, Bool, true, false, List, [], ◌∷◌, length, map, Option, None, Some, Result, Ok, Err, refl, arith}
 use Rattle.std.specs.Prelude.{nat_le}
 use Rattle.std.proofs.lemmas.Bool.Decides.{nat_tests}
-use Rattle.pf_plan_check.specs.Checked.{faults, faults_at_end, faults_from, faults_next, faults_of}
+use Rattle.pf_plan_check.specs.Checked.{bad_if, faults, faults_at_end, faults_from, faults_next, faults_of, with_fault}
 use Rattle.pf_plan_check.specs.Reports.{FaultShown}
 use Rattle.pf_rows.specs.Rows.{Row, Table}
 use Rattle.pf_plan.specs.declared.fault.RecordFault.{RecordFault}
+use Rattle.pf_plan.specs.Heading.{heading_fault}
 use Rattle.pf_plan.specs.declared.said.Said.{Said}
 use Rattle.pf_plan.specs.declared.state.Progress.{Progress}
 use Rattle.pf_plan.specs.Parsing.{end_fault, said_at}
@@ -34,10 +35,20 @@ of_rows file records number end (row ∷ rows) p is =
     of_next file records number row (λ q. faults_from q (number + 1) end rows) p (said_at p row.fields) (grind (arith, nat_tests, is))
     (λ q. of_rows file records (number + 1) end rows q (omega (arith, is)))
 
+-- that of the heading comes first
+of_heading : (file : List ℕ) (records line : ℕ) (fields : List (List ℕ)) (fault : Option RecordFault) (more : List FaultShown) → 1 ≤ records
+    → AreOf records (map (plan_shown file) more) → AreOf records (map (plan_shown file) (with_fault (bad_if 1 line fault) fields more))
+of_heading file records line fields None more some rest = rest
+of_heading file records line fields (Some fault) more some rest =
+    let low : nat_le 1 records ≡ true = grind (arith, nat_tests, some) in rw low rest
+
 -- Use: all faults of a script.
 pub of_plan : (file : List ℕ) (t : Table) → AreOf (length t.rows) (map (plan_shown file) (faults t))
 of_plan file t = by t.rows
   where
     by : (rows : List Row) → AreOf (length rows) (map (plan_shown file) (faults_of t.end rows))
     by [] = tt
-    by (heading ∷ rows) = of_rows file (length (heading ∷ rows)) 2 t.end rows at_heading (omega arith)
+    by (heading ∷ rows) =
+        let records = length (heading ∷ rows) in
+        of_heading file records heading.line heading.fields (heading_fault heading.fields) (faults_from at_heading 2 t.end rows) (omega arith)
+        (of_rows file records 2 t.end rows at_heading (omega arith))

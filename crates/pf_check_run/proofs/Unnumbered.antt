@@ -4,7 +4,7 @@ use Rattle.std.specs.Prelude.{⊤, IfErr, codes, if◌then◌else◌, is_some, n
 use Rattle.std.specs.Str.{bytes_eq}
 use Rattle.std.proofs.lemmas.List.{map-append}
 use Rattle.pf_carry.specs.Carried.{Stops}
-use Rattle.pf_plan_check.specs.Checked.{fault_shown, faults, faults_at_end, faults_from, faults_next, faults_of}
+use Rattle.pf_plan_check.specs.Checked.{bad_if, fault_shown, faults, faults_at_end, faults_from, faults_next, faults_of, with_fault}
 use Rattle.pf_plan_check.specs.Reports.{FaultShown}
 use Rattle.pf_fault.specs.declared.fault.Fault.{Fault}
 use Rattle.pf_fault.specs.declared.fault.Fault.TheVariants as why
@@ -14,7 +14,7 @@ use Rattle.pf_check_run.specs.Faults.{plan_shown}
 use Rattle.pf_check_run.specs.Found.{Finds, is_clean, is_empty}
 use Rattle.pf_plain.specs.declared.origin.Origin.{Origin}
 use Rattle.pf_plain.specs.declared.plain.PlainScript.{PlainScript}
-use Rattle.pf_plain.specs.Plain.{Course, Plain, course_behind, ended, given, plain, plain_from, plain_next, plain_of, start, with_heading}
+use Rattle.pf_plain.specs.Plain.{Course, Plain, course_behind, ended, given, plain, plain_behind, plain_from, plain_next, plain_of, start, with_heading}
 use Rattle.pf_retold.specs.Retold.{IsSameFault}
 use Rattle.pf_retold.proofs.Whole.{scripts_are_retold}
 use Rattle.pf_rows.specs.Rows.{Row, rows}
@@ -32,7 +32,7 @@ use Rattle.pf_plan.specs.declared.labels.Labelled.{Labelled}
 use Rattle.pf_plan.specs.declared.said.Said.{Said}
 use Rattle.pf_plan.specs.declared.said.Said.TheVariants.{Settings, Slot, Name, Asks}
 use Rattle.pf_plan.specs.declared.state.Progress.{Progress}
-use Rattle.pf_plan.specs.Heading.{is_plan_heading}
+use Rattle.pf_plan.specs.Heading.{heading_fault, is_plan_heading}
 use Rattle.pf_plan.specs.Labels.{number_of_label}
 use Rattle.pf_plan.specs.Parsing.{◌>>=◌, alter_at, asked, edit_at, event_at, fault_at, id_at, label_at, labelled_at, name_at, number_or, of_length, opening_at, record_at, said_at, slot_at, steps_at, strike_at}
 use Rattle.pf_plan.specs.Progress.{at_heading, progress_after, with_label}
@@ -229,16 +229,22 @@ good_from (row ∷ rows) p c number n end alike h =
     by (Ok a) (Err fault) lead h more = absurd lead
     by (Err fault) s lead h more = let bad : fault_shown number row fault ∷ faults_from p (number + 1) end rows ≡ [] = h in cc
 
+-- the heading is the first of them
+good_behind : (fault : Option RecordFault) (line end : ℕ) (fields : List (List ℕ)) (rows : List Row)
+    → with_fault (bad_if 1 line fault) fields (faults_from at_heading 2 end rows) ≡ [] → (plain_behind fault line end rows).bad ≡ None
+good_behind None line end fields rows h = good_from rows at_heading start 2 2 end (record { labels = []; same = refl; names = refl }) h
+good_behind (Some fault) line end fields rows h =
+    let bad : fault_shown 1 (record { line = line; fields = fields }) fault ∷ faults_from at_heading 2 end rows ≡ [] = h in cc
+
 good_of : (rs : List Row) (end : ℕ) (p : Plain) → plain_of end rs ≡ Some p → faults_of end rs ≡ [] → p.bad ≡ None
 good_of [] end p e h = let bad : None ≡ Some p = e in cc
-good_of (row ∷ rows) end p e h = by (is_plan_heading row.fields) e
+good_of (row ∷ rows) end p e h =
+    let fault = heading_fault row.fields in
+    by (is_plan_heading row.fields) (plain_behind fault row.line end rows) (good_behind fault row.line end row.fields rows h) e
   where
-    good : (plain_from start 2 end rows).bad ≡ None
-    good = good_from rows at_heading start 2 2 end (record { labels = []; same = refl; names = refl }) h
-
-    by : (b : Bool) → (if b then Some (with_heading row.line (plain_from start 2 end rows)) else None) ≡ Some p → p.bad ≡ None
-    by true e = let same : with_heading row.line (plain_from start 2 end rows) ≡ p = cc in subst (λ (q : Plain). q.bad ≡ None) same good
-    by false e = let bad : None ≡ Some p = e in cc
+    by : (b : Bool) (made : Plain) → made.bad ≡ None → (if b then Some (with_heading row.line made) else None) ≡ Some p → p.bad ≡ None
+    by true made good e = let same : with_heading row.line made ≡ p = cc in subst (λ (q : Plain). q.bad ≡ None) same good
+    by false made good e = let bad : None ≡ Some p = e in cc
 
 no_fault : (origins : List Origin) (t : Option FaultTold) → IsSameFault 1 origins None t → t ≡ None
 no_fault origins None h = refl

@@ -33,4 +33,4 @@ pub record Finds (file : List ℕ) (records : ℕ) (faults : List FaultLine) (f 
   pub count : count_of f.lines ≡ count_lines (told_of records faults)
   pub clean : is_clean f ≡ is_empty faults
   pub counted : f.records ≡ records
-  pub few : (f.lines.others ≤ f.records) × (f.records < 2 ^ 64 - 2)
+  pub few : (f.lines.others ≤ f.records + 1) × (f.records < 2 ^ 64 - 2)

@@ -1,5 +1,5 @@
 -- The rows of a text that is a table, without comments and blanks.
-use Rattle.std.proofs.Common.{◌≡◌, ◌∙◌, ◌<◌, ◌+◌, ◌==◌, ℕ, zero, suc, false, List, [], ◌∷◌, ◌++◌, Some, All, map, length, length-append, refl, sym, ap, ap₂, subst, arith}
+use Rattle.std.proofs.Common.{◌≡◌, ◌∙◌, ◌<◌, ◌+◌, ◌==◌, ℕ, zero, suc, false, List, [], ◌∷◌, ◌++◌, None, Some, All, map, length, length-append, refl, sym, ap, ap₂, subst, arith}
 use Rattle.std.proofs.lemmas.List.Elements.{All-head, All-tail}
 use Rattle.csv.specs.Machine.{next_record}
 use Rattle.csv.specs.Reading.{records, records_from, default_config, strip_bom}
@@ -13,6 +13,7 @@ use Rattle.pf_text.specs.Page.{table_text}
 use Rattle.pf_plan_check.specs.Checked.{faults_from, faults_of}
 use Rattle.pf_plan.specs.declared.said.Said.{Said}
 use Rattle.pf_plan.specs.declared.state.Progress.{Progress}
+use Rattle.pf_plan.specs.Heading.{heading_fault}
 use Rattle.pf_plan.specs.Progress.{at_heading, progress_after}
 use Rattle.pf_converted.specs.Read.{AllSay}
 use Rattle.pf_converted.proofs.Alike.{record_alike}
@@ -79,8 +80,10 @@ no_faults p n end (r ∷ rs) [] say = absurd say
 no_faults p n end (r ∷ rs) (s ∷ ss) say = rw say.0 (no_faults (progress_after p s 0) (n + 1) end rs ss say.1)
 
 pub none_found : (end : ℕ) (rs : List Row) (heading : List (List ℕ)) (behind : List (List (List ℕ))) (saids : List Said)
-    → map (λ row. row.fields) rs ≡ heading ∷ behind → AllSay at_heading behind saids → faults_of end rs ≡ []
-none_found end [] heading behind saids is say = cc
-none_found end (r ∷ rs) heading behind saids is say =
+    → map (λ row. row.fields) rs ≡ heading ∷ behind → heading_fault heading ≡ None → AllSay at_heading behind saids → faults_of end rs ≡ []
+none_found end [] heading behind saids is good say = cc
+none_found end (r ∷ rs) heading behind saids is good say =
+    let first : r.fields ≡ heading = cc in
     let same : map (λ row. row.fields) rs ≡ behind = cc in
-    no_faults at_heading 2 end rs saids (subst (λ (t : List (List (List ℕ))). AllSay at_heading t saids) (sym same) say)
+    rw (ap heading_fault first ∙ good)
+    (no_faults at_heading 2 end rs saids (subst (λ (t : List (List (List ℕ))). AllSay at_heading t saids) (sym same) say))

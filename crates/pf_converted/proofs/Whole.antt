@@ -1,5 +1,5 @@
 -- A plan's script, read as a plan.
-use Rattle.std.proofs.Common.{◌≡◌, ◌∙◌, ◌^◌, ◌<◌, ◌≤◌, ◌+◌, ◌*◌, ℕ, List, [], ◌∷◌, ◌++◌, All, codes, length, map, ap, ap₂, arith, refl, sym, subst, append_assoc}
+use Rattle.std.proofs.Common.{◌≡◌, ◌∙◌, ◌^◌, ◌<◌, ◌≤◌, ◌+◌, ◌*◌, ℕ, None, List, [], ◌∷◌, ◌++◌, All, codes, length, map, ap, ap₂, arith, refl, sym, subst, append_assoc}
 use Rattle.std.specs.Fmt.{decimal}
 use Rattle.std.proofs.lemmas.List.Concat.{flat_map-append}
 use Rattle.std.proofs.lemmas.List.Elements.{All-append, All-cons, All-head, All-tail}
@@ -10,6 +10,8 @@ use Rattle.pf_convert.specs.declared.plan.Plan.{Plan}
 use Rattle.pf_convert.specs.declared.slotted.Slotted.{Slotted}
 use Rattle.pf_convert.specs.Slots.{IsSlotted}
 use Rattle.pf_names.specs.declared.unit.Unit.{Unit}
+use Rattle.pf_plan.specs.Heading.{heading_fault}
+use Rattle.pf_script.specs.Fields.{is_word}
 use Rattle.pf_names.specs.Slots.{unit_word}
 use Rattle.pf_rows.specs.Rows.{rows}
 use Rattle.pf_task_list.specs.declared.listed.Listed.{Listed}
@@ -140,8 +142,13 @@ rows_of_script m q tasks plan w =
     (no_mark m plan.base (slot_record (slot_of q) ∷ (each_numbered name_record 1 tasks ++ (each_numbered join_record 1 plan.tasks.items ++ step_record (steps_of plan.base plan.tasks.items) ∷ [])))) in
     subst (λ (t : List ℕ). map (λ row. row.fields) (rows t).rows ≡ heading_record ∷ behind) (whole_text m q tasks plan w) read
 
+-- Use: the heading has none.
+pub heading_good : heading_fault heading_record ≡ None
+unfolding heading_fault is_word
+heading_good = refl
+
 pub no_fault : ScriptsHaveNoFault
 no_fault m q tasks plan w =
     let text = script_text m q tasks plan in
     none_found (rows text).end (rows text).rows heading_record (script_records m q tasks plan) (plan_said m q tasks plan) (rows_of_script m q tasks plan w)
-    (plans_said m q tasks plan w)
+    heading_good (plans_said m q tasks plan w)

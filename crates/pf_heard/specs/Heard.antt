@@ -2,7 +2,7 @@
 use Rattle.std.specs.Prelude.{ℕ, ◌-◌, ◌&&◌, Bool, nat_lt, if◌then◌else◌, Option, None, Some, Result, Ok, Err, List, length}
 use Rattle.std.specs.Str.Lines.{strip_carriage_return}
 use Rattle.pf_script.specs.Fields.{field}
-use Rattle.pf_plan.specs.Heading.{is_plan_heading}
+use Rattle.pf_plan.specs.Heading.{heading_fault, is_plan_heading}
 use Rattle.pf_plan.specs.Parsing.{said_at}
 use Rattle.pf_plan.specs.declared.fault.RecordFault.{RecordFault}
 use Rattle.pf_plan.specs.declared.said.Said.{Said}
@@ -24,10 +24,19 @@ use Rattle.pf_heard.specs.declared.word.Word.{Word}
 abbrev pub bad : List (List ℕ) → LineFault → Heard
 bad fields fault = Bad fault.field (line_reason_text (field fields (fault.field - 1)) fault.reason)
 
+-- one that is a bad record of a script
+abbrev pub heard_fault : List (List ℕ) → RecordFault → Heard
+heard_fault fields fault = bad fields (record { field = fault.field; reason = OfRecord fault.reason })
+
 -- what a record says goes after the script as a line of its fields
 abbrev pub heard_record : List (List ℕ) → Result Said RecordFault → Heard
 heard_record fields (Ok said) = Record said (line_of fields)
-heard_record fields (Err fault) = bad fields (record { field = fault.field; reason = OfRecord fault.reason })
+heard_record fields (Err fault) = heard_fault fields fault
+
+-- a heading, which may have a fault
+abbrev pub heard_heading : List (List ℕ) → Option RecordFault → Heard
+heard_heading fields None = Heading
+heard_heading fields (Some fault) = heard_fault fields fault
 
 abbrev pub heard_asked : List (List ℕ) → Asked → Heard
 heard_asked fields (asks.Shown wanted) = Shown wanted
@@ -49,7 +58,7 @@ heard_if p fields (Some word) = heard_word fields (asked_at p word fields)
 abbrev pub heard_fields : Bool → Progress → Option (List (List ℕ)) → Heard
 heard_fields is_first p None = Nothing
 heard_fields is_first p (Some fields) =
-    if is_first && is_plan_heading fields then Heading else heard_if p fields (word_at fields)
+    if is_first && is_plan_heading fields then heard_heading fields (heading_fault fields) else heard_if p fields (word_at fields)
 
 -- without the carriage return that may stand at its end
 abbrev pub heard_within : Bool → Progress → List ℕ → Heard

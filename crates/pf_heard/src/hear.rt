@@ -1,6 +1,6 @@
 ghost use Rattle.std.specs.Prelude.{◌≡◌, Some, IfOk, codes};
 ghost use Rattle.std.specs.Str.Lines.{strip_carriage_return};
-ghost use Rattle.pf_heard.specs.Heard.{bad, heard, heard_asked, heard_fields, heard_record, heard_within, heard_word};
+ghost use Rattle.pf_heard.specs.Heard.{bad, heard, heard_asked, heard_fault, heard_fields, heard_heading, heard_record, heard_within, heard_word};
 
 use crate::ask::ask;
 use crate::asked::Asked;
@@ -12,7 +12,7 @@ use crate::row_text::{line_of, row_text};
 use crate::word::Word;
 use csv::ByteRecord;
 use pf_plan::fault::RecordFault;
-use pf_plan::heading::is_plan_heading;
+use pf_plan::heading::{heading_fault, is_plan_heading};
 use pf_plan::said::Said;
 use pf_plan::state::Progress;
 use pf_rows::rows::{NextRow, Rows};
@@ -97,11 +97,25 @@ fn hear_fields(
     ensures { IfOk result (λ h. h ≡ heard_fields is_first progress.now (Some fields.now)) }
 {
     if is_first && is_plan_heading(fields) {
-        return Ok(Heard::Heading);
+        return hear_heading(alloc, fields, heading_fault(fields));
     }
     match Word::at(fields) {
         Some(word) => hear_word(alloc, fields, ask(progress, word, fields)),
         None => hear_record(alloc, fields, progress.read(fields)),
+    }
+}
+
+/// A heading with these fields, which may have a fault.
+fn hear_heading(
+    alloc: Global,
+    fields: &Fields,
+    fault: Option<RecordFault>,
+) -> Result<Heard, AllocError>
+    ensures { IfOk result (λ h. h ≡ heard_heading fields.now fault) }
+{
+    match fault {
+        None => Ok(Heard::Heading),
+        Some(fault) => hear_fault(alloc, fields, fault),
     }
 }
 
@@ -142,11 +156,17 @@ fn hear_record(
 {
     match read {
         Ok(said) => Ok(Heard::Record(said, Bytes::of(line_of(alloc, fields)?))),
-        Err(RecordFault { field, reason }) => {
-            let reason = LineReason::OfRecord(reason);
-            hear_bad(alloc, fields, LineFault { field, reason })
-        }
+        Err(fault) => hear_fault(alloc, fields, fault),
     }
+}
+
+/// A bad record with these fields.
+fn hear_fault(alloc: Global, fields: &Fields, fault: RecordFault) -> Result<Heard, AllocError>
+    ensures { IfOk result (λ h. h ≡ heard_fault fields.now fault) }
+{
+    let RecordFault { field, reason } = fault;
+    let reason = LineReason::OfRecord(reason);
+    hear_bad(alloc, fields, LineFault { field, reason })
 }
 
 /// A bad line with these fields.

@@ -10,7 +10,7 @@ use Rattle.pf_plan.specs.declared.fault.RecordFault.{RecordFault}
 use Rattle.pf_plan.specs.declared.said.Said.{Said}
 use Rattle.pf_plan.specs.declared.said.Said.TheVariants.{Settings, Slot, Name, Asks}
 use Rattle.pf_plan.specs.declared.state.Progress.{Progress}
-use Rattle.pf_plan.specs.Heading.{is_plan_heading}
+use Rattle.pf_plan.specs.Heading.{heading_fault, is_plan_heading}
 use Rattle.pf_plan.specs.Parsing.{end_fault, said_at}
 use Rattle.pf_plan.specs.Progress.{at_heading, progress_after}
 use Rattle.pf_plain.specs.declared.origin.Origin.{Origin}
@@ -89,10 +89,16 @@ plain_from c number end (row ∷ rows) =
 abbrev pub with_heading : ℕ → Plain → Plain
 with_heading line p = record p { records = heading_fields ∷ p.records; origins = record { number = 1; line = line } ∷ p.origins }
 
+-- behind a heading on this line, which may have a fault: then it is the first bad record, and no other is read
+abbrev pub plain_behind : Option RecordFault → ℕ → ℕ → List Row → Plain
+plain_behind None line end rows = plain_from start 2 end rows
+plain_behind (Some fault) line end rows = ended start.progress (record { number = 1; line = line }) (Some fault)
+
 -- a text whose first row is no heading of a plan is no plan
 abbrev pub plain_of : ℕ → List Row → Option Plain
 plain_of end [] = None
-plain_of end (row ∷ rows) = if is_plan_heading row.fields then Some (with_heading row.line (plain_from start 2 end rows)) else None
+plain_of end (row ∷ rows) =
+    if is_plan_heading row.fields then Some (with_heading row.line (plain_behind (heading_fault row.fields) row.line end rows)) else None
 
 abbrev pub plain : List ℕ → Option Plain
 plain bytes = plain_of (rows bytes).end (rows bytes).rows

@@ -1,13 +1,15 @@
-ghost use Rattle.std.specs.Prelude.{◌≡◌, ◌-◌, ◌<◌, ◌^◌, length, IfOk};
-ghost use Rattle.pf_plain.specs.Plain.{IsPlain, MakesPlain, plain, plain_from, start, with_heading};
+ghost use Rattle.std.specs.Prelude.{◌≡◌, ◌-◌, ◌<◌, ◌^◌, Some, length, IfOk};
+ghost use Rattle.csv.specs.Records.{fields_of};
+ghost use Rattle.pf_plan.specs.Heading.{heading_fault};
+ghost use Rattle.pf_plain.specs.Plain.{IsPlain, MakesPlain, ended, plain, plain_behind, plain_from, start, with_heading};
 
 use crate::origin::Origin;
 use crate::writer::PlainWriter;
 use csv::ByteRecord;
 use pf_names::titles::Titles;
-use pf_plan::fault::BadRecord;
+use pf_plan::fault::{BadRecord, RecordFault};
 use pf_plan::fields::Fields;
-use pf_plan::heading::is_plan_heading;
+use pf_plan::heading::{heading_fault, is_plan_heading};
 use pf_rows::rows::{NextRow, Rows};
 use std::alloc::{AllocError, Global};
 
@@ -43,8 +45,39 @@ pub fn plain_script(alloc: Global, bytes: &[u8]) -> Result<Option<PlainScript>, 
     if !is_plan_heading(&Fields::new(&row)) {
         return Ok(None);
     }
-    let made = write_plain(alloc, rows, row, line)?;
+    let made = write_under(alloc, rows, row, line)?;
     Ok(Some(made))
+}
+
+/// Of a script whose heading was read into `row` and stands on a line, and whose other rows are left.
+fn write_under(
+    alloc: Global,
+    rows: Rows,
+    row: ByteRecord,
+    line: u64,
+) -> Result<PlainScript, AllocError>
+    requires { length rows.rows < 2 ^ 64 - 3 }
+    ensures { IfOk result (λ made.
+        IsPlain made (with_heading line (plain_behind (heading_fault (fields_of row)) line rows.entry.end rows.entry.rows))) }
+{
+    match heading_fault(&Fields::new(&row)) {
+        Some(fault) => write_bad(alloc, line, fault),
+        None => write_plain(alloc, rows, row, line),
+    }
+}
+
+/// Of a script whose heading has this fault and stands on a line.
+fn write_bad(alloc: Global, line: u64, fault: RecordFault) -> Result<PlainScript, AllocError>
+    ensures { IfOk result (λ made.
+        IsPlain made (with_heading line (ended start.progress (record { number = 1; line = line }) (Some fault)))) }
+{
+    let number = 1;
+    let writer = PlainWriter::new(alloc, line)?;
+    writer.stop(BadRecord {
+        number,
+        line,
+        fault,
+    })
 }
 
 /// Of a script whose heading stands on a line, and whose other rows are left. Each is read into `row`.

@@ -3,6 +3,8 @@
 pub enum Reason {
     /// Its word names no record.
     NoRecord,
+    /// A field of the heading names no version of plans.
+    NoVersion,
     /// The word after `strict` names no change.
     NoChange,
     /// The word after `alter,ID` or `label,TEXT` names no event.

@@ -1,8 +1,9 @@
 -- What a check tells, and how many faults a script has.
-use Rattle.std.proofs.Common.{◌≡◌, ◌≤◌, ◌+◌, ℕ, List, [], ◌∷◌, ◌++◌, length, Option, None, Some, Result, Ok, Err, refl, sym, subst, ap, ◌∙◌, append-nil, suc, arith}
-use Rattle.std.specs.Prelude.{OnOk, ◌==◌, if◌then◌else◌}
+use Rattle.std.proofs.Common.{◌≡◌, ◌≤◌, ◌+◌, ℕ, List, [], ◌∷◌, ◌++◌, length, Bool, true, false, Option, None, Some, Result, Ok, Err, refl, sym, subst, ap, ◌∙◌, append-nil, suc, arith}
+use Rattle.std.specs.Prelude.{OnOk, ◌==◌, nat_le, if◌then◌else◌}
 use Rattle.std.specs.List.{flat_map}
 use Rattle.std.proofs.lemmas.Bool.{ne_eqb}
+use Rattle.std.proofs.lemmas.Bool.Decides.{nat_tests}
 use Rattle.std.proofs.lemmas.List.{append_assoc}
 use Rattle.pf_check.specs.Reports.{totals_text}
 use Rattle.pf_fault.specs.Answers.{IsQuiet}
@@ -10,13 +11,15 @@ use Rattle.pf_fault.specs.declared.ending.Ending.{Ending}
 use Rattle.pf_fault.specs.declared.status.Status.{Status}
 use Rattle.pf_fault.specs.declared.status.Status.TheVariants.{BadScript, Done}
 use Rattle.pf_rows.specs.Rows.{Row, Table}
+use Rattle.pf_plan.specs.declared.fault.BadRecord.{BadRecord}
 use Rattle.pf_plan.specs.declared.fault.RecordFault.{RecordFault}
 use Rattle.pf_plan.specs.declared.said.Said.{Said}
 use Rattle.pf_plan.specs.declared.state.Progress.{Progress}
 use Rattle.pf_plan.specs.Parsing.{end_fault, said_at}
 use Rattle.pf_plan.specs.Progress.{progress_after}
-use Rattle.pf_plan_check.specs.Checked.{faults, faults_at_end, faults_from, faults_next, status_of_faults, text_of}
+use Rattle.pf_plan_check.specs.Checked.{faults, faults_at_end, faults_from, faults_next, status_of_faults, text_of, with_fault}
 use Rattle.pf_plan_check.specs.Reports.{FaultShown, plan_report_text}
+use Rattle.pf_plan_check.specs.Unread.{unread}
 
 -- Use: a text was added to a text that had been added to.
 pub added_to : {A E : Type 0} (r : Result A E) (new mid old x y : List ℕ) → mid ≡ old ++ x → OnOk r (new ≡ mid ++ y) → OnOk r (new ≡ old ++ (x ++ y))
@@ -38,11 +41,23 @@ few_at_end : (number end : ℕ) (fault : Option RecordFault) → length (faults_
 few_at_end number end None = omega arith
 few_at_end number end (Some fault) = omega arith
 
--- Use: the faults after the heading can be counted.
-pub few_from : (p : Progress) (number end : ℕ) (rows : List Row) → length (faults_from p number end rows) ≤ length rows + 1
+-- the faults after the heading can be counted
+few_from : (p : Progress) (number end : ℕ) (rows : List Row) → length (faults_from p number end rows) ≤ length rows + 1
 few_from p number end [] = few_at_end number end (end_fault p)
 few_from p number end (row ∷ rows) =
     few_next (λ q. faults_from q (number + 1) end rows) p number (length rows) row (said_at p row.fields) (λ q. few_from q (number + 1) end rows)
+
+-- Use: with that of the heading they are one more.
+pub few_under : (bad : Option BadRecord) (fields : List (List ℕ)) (p : Progress) (number end : ℕ) (rows : List Row)
+    → length (with_fault bad fields (faults_from p number end rows)) ≤ length rows + 2
+few_under None fields p number end rows = let h = few_from p number end rows in omega (arith, h)
+few_under (Some bad) fields p number end rows = let h = few_from p number end rows in omega (arith, h)
+
+-- Use: the heading is among the records that were read.
+pub within_read : (ended : Bool) (p : Progress) (first number : ℕ) (t : Table) → first ≤ number
+    → nat_le first (unread ended p number t).read ≡ nat_le first (unread ended p number t).records
+within_read true p first number t low = refl
+within_read false p first number t low = grind (arith, nat_tests, low)
 
 -- Use: all faults were told.
 pub told_all : (t : Table) (left : List FaultShown) (old text : List ℕ) (count records : ℕ) → left ≡ []

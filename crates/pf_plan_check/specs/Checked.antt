@@ -7,10 +7,11 @@ use Rattle.pf_fault.specs.declared.status.Status.{Status}
 use Rattle.pf_fault.specs.declared.status.Status.TheVariants.{BadScript, Done}
 use Rattle.pf_fault.specs.Answers.{IsQuiet}
 use Rattle.pf_rows.specs.Rows.{Row, Table, rows}
+use Rattle.pf_plan.specs.declared.fault.BadRecord.{BadRecord}
 use Rattle.pf_plan.specs.declared.fault.RecordFault.{RecordFault}
 use Rattle.pf_plan.specs.declared.said.Said.{Said}
 use Rattle.pf_plan.specs.declared.state.Progress.{Progress}
-use Rattle.pf_plan.specs.Heading.{is_plan_heading}
+use Rattle.pf_plan.specs.Heading.{heading_fault, is_plan_heading}
 use Rattle.pf_plan.specs.Parsing.{end_fault, said_at}
 use Rattle.pf_plan.specs.Progress.{at_heading, progress_after}
 use Rattle.pf_plan_check.specs.Reports.{FaultShown, shown, plan_report_text}
@@ -34,10 +35,21 @@ abbrev pub faults_from : Progress → ℕ → ℕ → List Row → List FaultSho
 faults_from p number end [] = faults_at_end number end (end_fault p)
 faults_from p number end (row ∷ rows) = faults_next (λ q. faults_from q (number + 1) end rows) p number row (said_at p row.fields)
 
--- after the heading, which is the first row
+-- a bad record of this number and line, where there is a fault
+abbrev pub bad_if : ℕ → ℕ → Option RecordFault → Option BadRecord
+bad_if number line None = None
+bad_if number line (Some fault) = Some (record { number = number; line = line; fault = fault })
+
+-- a fault of a record with these fields, where there is one, and others
+abbrev pub with_fault : Option BadRecord → List (List ℕ) → List FaultShown → List FaultShown
+with_fault None fields faults = faults
+with_fault (Some bad) fields faults = shown bad fields ∷ faults
+
+-- the heading, which is the first row, and then the others
 abbrev pub faults_of : ℕ → List Row → List FaultShown
 faults_of end [] = []
-faults_of end (heading ∷ rows) = faults_from at_heading 2 end rows
+faults_of end (heading ∷ rows) =
+    with_fault (bad_if 1 heading.line (heading_fault heading.fields)) heading.fields (faults_from at_heading 2 end rows)
 
 abbrev pub faults : Table → List FaultShown
 faults t = faults_of t.end t.rows
@@ -46,6 +58,10 @@ faults t = faults_of t.end t.rows
 abbrev pub first_fields : List Row → List (List ℕ)
 first_fields [] = []
 first_fields (row ∷ rows) = row.fields
+
+-- those of a script
+abbrev pub heading_of : List ℕ → List (List ℕ)
+heading_of script = first_fields (rows script).rows
 
 -- whether these are the rows of a plan
 abbrev pub is_plan : Table → Bool

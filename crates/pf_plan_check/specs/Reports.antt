@@ -5,7 +5,7 @@ use Rattle.pf_check.specs.Fields.{field}
 use Rattle.pf_check.specs.Reports.{field_text, quoted}
 use Rattle.pf_plan.specs.declared.fault.BadRecord.{BadRecord}
 use Rattle.pf_plan.specs.declared.fault.Reason.{Reason}
-use Rattle.pf_plan.specs.declared.fault.Reason.TheVariants.{NoRecord, NoChange, NoEvent, NoSettings, LateSettings, LateSlot, NoNumber, NoCap, Outside, Fields, JoinFields, StepFields, SettingsFields, NoUnit, HasName, NoName, NameOf, NoTask, NoLabel, LabelTaken, LabelUnknown}
+use Rattle.pf_plan.specs.declared.fault.Reason.TheVariants.{NoRecord, NoVersion, NoChange, NoEvent, NoSettings, LateSettings, LateSlot, NoNumber, NoCap, Outside, Fields, JoinFields, StepFields, SettingsFields, NoUnit, HasName, NoName, NameOf, NoTask, NoLabel, LabelTaken, LabelUnknown}
 
 -- how many fields a join has whose fewest are these: EARLY may be left out
 abbrev pub join_fields : ℕ → List ℕ
@@ -16,6 +16,7 @@ join_fields least =
 unfoldable pub plan_reason_text : List ℕ → Reason → List ℕ
 plan_reason_text at NoRecord =
     quoted at ++ codes " is no record: settings, slot, name, join, leave, delay, limit, label, alter, strike, strict, step"
+plan_reason_text at NoVersion = quoted at ++ codes " is no version: 1"
 plan_reason_text at NoChange = quoted at ++ codes " is no change: join, leave, delay, limit, label, alter, strike"
 plan_reason_text at NoEvent = quoted at ++ codes " is no event: join, leave, delay, limit"
 plan_reason_text at NoSettings = codes "settings are expected"

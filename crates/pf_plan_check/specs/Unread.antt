@@ -3,7 +3,7 @@ use Rattle.std.specs.Prelude.{ℕ, ◌≡◌, ◌+◌, nat_le, Bool, true, false
 use Rattle.pf_rows.specs.Rows.{Table}
 use Rattle.pf_plan.specs.declared.fault.BadRecord.{BadRecord}
 use Rattle.pf_plan.specs.declared.state.Progress.{Progress}
-use Rattle.pf_plan_check.specs.Checked.{faults_from}
+use Rattle.pf_plan_check.specs.Checked.{faults_from, with_fault}
 use Rattle.pf_plan_check.specs.Reports.{FaultShown, shown}
 
 -- the faults that are left; how many records were read, and how many there are, each with the heading
@@ -12,15 +12,14 @@ pub record Unread : Type 0 where
   pub read : ℕ
   pub records : ℕ
 
--- what is left where so many records were read and these rows were not; nothing, at the end
+-- what is left behind the heading, where so many records were read and these rows were not; nothing, at the end
 abbrev pub unread : Bool → Progress → ℕ → Table → Unread
 unread true p number t = record { faults = []; read = number; records = number }
 unread false p number t = record { faults = faults_from p (number + 1) t.end t.rows; read = number; records = number + length t.rows }
 
--- a fault of a record with these fields, where there is one, and others
-abbrev pub with_fault : Option BadRecord → List (List ℕ) → List FaultShown → List FaultShown
-with_fault None fields faults = faults
-with_fault (Some bad) fields faults = shown bad fields ∷ faults
+-- the fault of a heading with these fields is left too, where there is one
+abbrev pub unread_under : Option BadRecord → List (List ℕ) → Unread → Unread
+unread_under bad fields u = record u { faults = with_fault bad fields u.faults }
 
 -- the next of the faults that were left, of a record with these fields. One after the last record is after those that were read
 pub record IsNext (bad : BadRecord) (fields : List (List ℕ)) (old new : Unread) : Type 0 where

@@ -1,11 +1,13 @@
-ghost use Rattle.std.specs.Prelude.{◌≡◌, [], IfSome};
+ghost use Rattle.std.specs.Prelude.{◌≡◌, [], IfSome, OnOk};
+ghost use Rattle.csv.specs.Records.{fields_of};
+ghost use Rattle.pf_plan.specs.Heading.{heading_fault};
 ghost use Rattle.pf_plan.specs.Parsing.{end_fault};
-ghost use Rattle.pf_plan_check.specs.Checked.{faults_at_end};
-ghost use Rattle.pf_plan_check.specs.Unread.{with_fault};
+ghost use Rattle.pf_plan_check.specs.Checked.{bad_if, faults_at_end, heading_of, with_fault};
 
 use csv::ByteRecord;
 use pf_check::fields::Fields;
 use pf_plan::fault::BadRecord;
+use pf_plan::heading::heading_fault;
 use pf_plan::state::Progress;
 use pf_rows::rows::{NextRow, Rows};
 use std::alloc::{AllocError, Global};
@@ -16,6 +18,10 @@ use std::marker::Model;
 /// faults; and how many records were read, and how many there are.
 #[derive(Drop)]
 pub struct PlanFaults<'a> {
+    alloc: Global,
+    script: &'a [u8],
+    // The heading, where it has a fault that was not told yet.
+    heading: Option<BadRecord>,
     rows: Rows<'a>,
     // What came before the next record.
     progress: Progress,
@@ -25,52 +31,68 @@ pub struct PlanFaults<'a> {
 }
 
 impl<'a> Model for PlanFaults<'a> {
-    ghost use Rattle.std.specs.Prelude.{◌≡◌, ◌<◌, ◌+◌, ◌-◌, ◌^◌, false, length};
-    ghost use Rattle.pf_plan_check.specs.Unread.{Unread, unread};
+    ghost use Rattle.std.specs.Prelude.{◌≡◌, ◌≤◌, ◌<◌, ◌+◌, ◌-◌, ◌^◌, false, length, IfSome};
+    ghost use Rattle.pf_plan_check.specs.Checked.{heading_of};
+    ghost use Rattle.pf_plan_check.specs.Unread.{Unread, unread, unread_under};
 
     ghost Value = { Unread };
 
-    ghost view = { λ f. unread f.ended f.progress f.number f.rows };
+    ghost view = { λ f. unread_under f.heading (heading_of f.script.now) (unread f.ended f.progress f.number f.rows) };
 
-    ghost invariant = { λ f. f.ended ≡ false → f.number + length f.rows.rows < 2 ^ 64 - 2 };
+    ghost invariant = { λ f.
+        (f.ended ≡ false → f.number + length f.rows.rows < 2 ^ 64 - 2) × IfSome f.heading (λ bad. bad.number ≤ f.number) };
 }
 
 impl<'a> PlanFaults<'a> {
-    ghost use Rattle.std.specs.Prelude.{◌≡◌, ◌≤◌, ◌<◌, ◌+◌, ◌-◌, ◌^◌, Bool, false, length, IfOk, OnOk};
+    ghost use Rattle.std.specs.Prelude.{◌≡◌, ◌≤◌, ◌<◌, ◌+◌, ◌-◌, ◌^◌, Bool, false, length, IfOk, IfSome, OnOk};
     ghost use Rattle.csv.specs.Records.{fields_of};
     ghost use Rattle.pf_rows.specs.Rows.{rows};
     ghost use Rattle.pf_plan.specs.Progress.{at_heading};
-    ghost use Rattle.pf_plan_check.specs.Checked.{faults, first_fields};
-    ghost use Rattle.pf_plan_check.specs.Unread.{ReadsFault, unread};
+    ghost use Rattle.pf_plan_check.specs.Checked.{faults, first_fields, heading_of};
+    ghost use Rattle.pf_plan_check.specs.Unread.{ReadsFault, unread, unread_under};
 
     /// All faults of a script, whose first record is its heading: that is read into `row`, which is empty where there is none.
     ///
     /// # Errors
     ///
     /// Where memory is refused.
-    #[tactic(auto, using(crate::proofs::Told::few_from))]
+    #[tactic(auto, using(crate::proofs::Told::few_under))]
     pub fn new(alloc: Global, script: &'a [u8], row: &mut ByteRecord) -> Result<Self, AllocError>
         ensures faults { IfOk result (λ f. f.faults ≡ faults (rows script.now)) }
         ensures records { IfOk result (λ f. f.records ≡ length (rows script.now).rows) }
-        ensures few { IfOk result (λ f. (length f.faults ≤ f.records) × (f.records ≤ length script.now + 1)) }
+        ensures few { IfOk result (λ f. (length f.faults ≤ f.records + 1) × (f.records ≤ length script.now + 1)) }
         ensures heading { OnOk result (fields_of row.new ≡ first_fields (rows script.now).rows) }
     {
         let mut rows = Rows::new(alloc, script);
         match rows.next(row)? {
-            NextRow::Found(_) => Ok(PlanFaults::at(alloc, rows, 1, false)),
+            NextRow::Found(line) => {
+                let heading = bad_heading(&Fields::new(row), line);
+                Ok(PlanFaults::at(alloc, script, heading, rows, 1, false))
+            }
             NextRow::End(_) => {
                 row.clear();
-                Ok(PlanFaults::at(alloc, rows, 0, true))
+                Ok(PlanFaults::at(alloc, script, None, rows, 0, true))
             }
         }
     }
 
-    /// Those after the heading, where so many records were read.
-    fn at(alloc: Global, rows: Rows<'a>, number: u64, ended: bool) -> Self
-        requires { ended ≡ false → number + length rows.rows < 2 ^ 64 - 2 }
-        ensures { result ≡ unread ended at_heading number rows.entry }
+    /// That of the heading, where it has one, and those after it, where so many records were read.
+    fn at(
+        alloc: Global,
+        script: &'a [u8],
+        heading: Option<BadRecord>,
+        rows: Rows<'a>,
+        number: u64,
+        ended: bool,
+    ) -> Self
+        requires few { ended ≡ false → number + length rows.rows < 2 ^ 64 - 2 }
+        requires first { IfSome heading (λ bad. bad.number ≤ number) }
+        ensures { result ≡ unread_under heading (heading_of script.now) (unread ended at_heading number rows.entry) }
     {
         PlanFaults {
+            alloc,
+            script,
+            heading,
             rows,
             progress: Progress::new(alloc),
             number,
@@ -87,6 +109,11 @@ impl<'a> PlanFaults<'a> {
     pub fn next(&mut self, row: &mut ByteRecord) -> Result<Option<BadRecord>, AllocError>
         ensures { IfOk result (λ found. ReadsFault found (fields_of row.new) self.old self.new) }
     {
+        if let Some(bad) = self.heading {
+            self.heading = None;
+            read_heading(self.alloc, self.script, row)?;
+            return Ok(Some(bad));
+        }
         if self.ended {
             return Ok(None);
         }
@@ -125,6 +152,30 @@ impl<'a> PlanFaults<'a> {
     {
         self.number
     }
+}
+
+/// A heading that has a fault and stands on this line.
+fn bad_heading(heading: &Fields, line: u64) -> Option<BadRecord>
+    ensures bad { result ≡ bad_if 1 line (heading_fault heading.now) }
+    ensures first { IfSome result (λ bad. bad.number ≡ 1) }
+{
+    let fault = heading_fault(heading)?;
+    Some(BadRecord {
+        number: 1,
+        line,
+        fault,
+    })
+}
+
+/// Reads the first record of a script again, which is empty where there is none.
+fn read_heading(alloc: Global, script: &[u8], row: &mut ByteRecord) -> Result<(), AllocError>
+    ensures { OnOk result (fields_of row.new ≡ heading_of script.now) }
+{
+    let mut rows = Rows::new(alloc, script);
+    if let NextRow::End(_) = rows.next(row)? {
+        row.clear();
+    }
+    Ok(())
 }
 
 /// What a script lacks that ends on this line, where its next record would have this number.

@@ -41,6 +41,7 @@ pub fn push_reason(text: &mut String, at: &[u8], reason: Reason) -> Result<(), A
 {
     match reason {
         Reason::NoRecord => push_shown(text, at, NO_RECORD),
+        Reason::NoVersion => push_shown(text, at, " is no version: 1"),
         Reason::NoChange => push_shown(text, at, NO_CHANGE),
         Reason::NoEvent => push_shown(text, at, " is no event: join, leave, delay, limit"),
         Reason::NoSettings => text.push_str("settings are expected"),

@@ -10,9 +10,9 @@ use Rattle.pf_rows.specs.Rows.{Row, rows}
 use Rattle.pf_script.specs.Fields.{is_word}
 use Rattle.pf_script.specs.Told.{told}
 use Rattle.pf_journaled.specs.Manner.{Manner}
-use Rattle.pf_journaled.specs.Opening.{behind_rows, opened, opened_plain, opened_rows}
+use Rattle.pf_journaled.specs.Opening.{behind_rows, opened, opened_plain, opened_plan, opened_rows}
 use Rattle.pf_session.specs.Session.{SessionState, at_start, behind_record}
-use Rattle.pf_plan.specs.Heading.{is_plan_heading}
+use Rattle.pf_plan.specs.Heading.{heading_fault, is_plan_heading}
 use Rattle.pf_plan.specs.Parsing.{said_at}
 use Rattle.pf_resumed.specs.Resumed.{IsAgain, ScriptsBeginAgain}
 use Rattle.pf_resumed.proofs.Reading.{IsPlain, IsRead, lines_text, rows_again}
@@ -64,7 +64,7 @@ heading_read = (refl, (refl, refl), All-cons IsPlain (codes "1") [] (refl, refl)
 plan_opened : (manner : Manner) (bytes : List ℕ) (found : List Row) (rs : List (List (List ℕ))) (d : Course) → map (λ row. row.fields) found ≡ heading_fields ∷ rs
     → Runs start rs d → d.progress.opened ≡ true
     → (v : SessionState) × (opened_rows (at_start manner) bytes found ≡ Ok v) × Follows (record (at_start manner) { is_first = false }) rs d v
-unfolding is_plan_heading is_word
+unfolding is_plan_heading heading_fault is_word
 plan_opened manner bytes [] rs d is runs came = cc
 plan_opened manner bytes (row ∷ found) rs d is runs came =
     let same : row.fields ≡ heading_fields = cc in
@@ -72,7 +72,7 @@ plan_opened manner bytes (row ∷ found) rs d is runs came =
     let more = runs_on found rs (record (at_start manner) { is_first = false }) 2 d rest runs came in (
       more.0,
       subst
-          (λ (f : List (List ℕ)). (if is_plan_heading f then behind_rows (record (at_start manner) { is_first = false }) 2 found
+          (λ (f : List (List ℕ)). (if is_plan_heading f then opened_plan (at_start manner) (heading_fault f) found
           else opened_plain (at_start manner) (row ∷ found) (told bytes).rest.fault) ≡ Ok more.0)
           (sym same) more.1,
       more.2,

@@ -5,7 +5,7 @@ use Rattle.std.specs.Str.Lines.{strip_carriage_return}
 use Rattle.pf_desk.specs.Machine.{State}
 use Rattle.pf_heard.specs.Asked.{asked_at}
 use Rattle.pf_heard.specs.Faults.{too_long_text}
-use Rattle.pf_heard.specs.Heard.{heard, heard_fields, heard_if, heard_record, heard_word}
+use Rattle.pf_heard.specs.Heard.{heard, heard_fields, heard_heading, heard_if, heard_record, heard_word}
 use Rattle.pf_heard.specs.Lines.{fields_in, line_of}
 use Rattle.pf_heard.specs.Words.{word_at}
 use Rattle.pf_journaled.specs.Showing.{Showing}
@@ -27,14 +27,14 @@ use Rattle.pf_script.specs.declared.line.Line.TheVariants.{Edit}
 use Rattle.pf_session.specs.Made.{taking_back}
 use Rattle.pf_session.specs.declared.made.Made.{Made}
 use Rattle.pf_journaled.specs.Manner.{Manner}
-use Rattle.pf_journaled.specs.Opening.{behind_heading, behind_rows, ended, next, opened, opened_plain, opened_rows}
+use Rattle.pf_journaled.specs.Opening.{behind_heading, behind_rows, ended, next, opened, opened_plain, opened_plan, opened_rows}
 use Rattle.pf_journaled.specs.Sitters.{answers}
 use Rattle.pf_sitting.specs.Answered.{AnswersAll}
 use Rattle.pf_sitting.specs.declared.answers.Going.{Going}
 use Rattle.pf_sitting.specs.declared.answers.Going.TheVariants.{On}
 use Rattle.pf_journaled.specs.Turns.{GoesOn, Saves, behind_showing, heard_of}
 use Rattle.pf_session.specs.Session.{SessionState, at_start, behind_bad, behind_record, behind_undo_of, newest_of}
-use Rattle.pf_plan.specs.Heading.{is_plan_heading}
+use Rattle.pf_plan.specs.Heading.{heading_fault, is_plan_heading}
 use Rattle.pf_plan.specs.Parsing.{end_fault, said_at}
 use Rattle.pf_plan.specs.declared.fault.RecordFault.{RecordFault}
 use Rattle.pf_plan.specs.declared.said.Said.{Said}
@@ -207,10 +207,14 @@ if_said : (p : Progress) (fields : List (List ℕ)) (word : Option Word) → IsS
 if_said p fields None = record_said p fields (said_at p fields) refl
 if_said p fields (Some word) = word_said p fields (asked_at p word fields)
 
+heading_said : (p : Progress) (fields : List (List ℕ)) (fault : Option RecordFault) → IsSaid p (heard_heading fields fault)
+heading_said p fields None = tt
+heading_said p fields (Some fault) = tt
+
 fields_said : (is_first : Bool) (p : Progress) (fields : Option (List (List ℕ))) → IsSaid p (heard_fields is_first p fields)
 fields_said is_first p None = tt
 fields_said is_first p (Some fields) =
-    either_said p (is_first && is_plan_heading fields) Heading _ tt (if_said p fields (word_at fields))
+    either_said p (is_first && is_plan_heading fields) _ _ (heading_said p fields (heading_fault fields)) (if_said p fields (word_at fields))
 
 heard_said : (is_first : Bool) (p : Progress) (line : List ℕ) → IsSaid p (heard is_first p line)
 heard_said is_first p line =
@@ -286,12 +290,16 @@ plain_scripted : (s : SessionState) (found : List Row) (fault : Option FaultTold
 plain_scripted s found None t is e = rows_scripted (behind_heading found) s 1 t is e
 plain_scripted s found (Some fault) t is e = let bad : Err fault.bad.number ≡ Ok t = e in cc
 
+under_scripted : (s : SessionState) (fault : Option RecordFault) (found : List Row) (t : SessionState) → IsScripted s → opened_plan s fault found ≡ Ok t → IsScripted t
+under_scripted s None found t is e = rows_scripted found (record s { is_first = false }) 2 t (heading_next s is).0 e
+under_scripted s (Some fault) found t is e = let bad : Err 1 ≡ Ok t = e in cc
+
 plan_scripted : (s : SessionState) (bytes : List ℕ) (found : List Row) (t : SessionState) → IsScripted s → opened_rows s bytes found ≡ Ok t → IsScripted t
 plan_scripted s bytes [] t is e = plain_scripted s [] (told bytes).rest.fault t is e
 plan_scripted s bytes (row ∷ found) t is e = by (is_plan_heading row.fields) e
   where
-    by : (b : Bool) → (if b then behind_rows (record s { is_first = false }) 2 found else opened_plain s (row ∷ found) (told bytes).rest.fault) ≡ Ok t → IsScripted t
-    by true e = rows_scripted found (record s { is_first = false }) 2 t (heading_next s is).0 e
+    by : (b : Bool) → (if b then opened_plan s (heading_fault row.fields) found else opened_plain s (row ∷ found) (told bytes).rest.fault) ≡ Ok t → IsScripted t
+    by true e = under_scripted s (heading_fault row.fields) found t is e
     by false e = plain_scripted s (row ∷ found) (told bytes).rest.fault t is e
 
 opened_scripted : (manner : Manner) (bytes : List ℕ) (t : SessionState) → opened manner bytes ≡ Ok t → IsScripted t

@@ -14,7 +14,7 @@ use Rattle.pf_plan.specs.declared.fault.RecordFault.{RecordFault}
 use Rattle.pf_plan.specs.declared.said.Said.{Said}
 use Rattle.pf_plan.specs.declared.said.Said.TheVariants.{Settings, Slot, Name, Asks}
 use Rattle.pf_plain.specs.declared.origin.Origin.{Origin}
-use Rattle.pf_plain.specs.Plain.{Course, Plain, course_behind, ended, plain_from, plain_next, with_said}
+use Rattle.pf_plain.specs.Plain.{Course, Plain, course_behind, ended, plain_behind, plain_from, plain_next, start, with_said}
 use Rattle.pf_plain.specs.Written.{heading_fields, line_fields, settings_fields}
 use Rattle.pf_plan.specs.declared.state.Progress.{Progress}
 use Rattle.pf_retold.proofs.Writing.{line_kept}
@@ -58,16 +58,21 @@ records_kept (row ∷ rows) c n end = by (said_at c.progress row.fields) (λ nex
     by (Ok said) more = said_kept (record { number = n; line = row.line }) said (plain_from (course_behind c said) (n + 1) end rows) (more (course_behind c said))
     by (Err fault) more = ended_kept c.progress (record { number = n; line = row.line }) (Some fault)
 
+records_behind : (fault : Option RecordFault) (line end : ℕ) (rows : List Row)
+    → map read_back (plain_behind fault line end rows).records ≡ (plain_behind fault line end rows).records
+records_behind None line end rows = records_kept rows start 2 end
+records_behind (Some fault) line end rows = ended_kept start.progress (record { number = 1; line = line }) (Some fault)
+
 -- no such text begins with a byte order mark
 unmarked : (rows : List (List (List ℕ))) → strip_bom (table_text (heading_fields ∷ rows)) ≡ table_text (heading_fields ∷ rows)
 unfolding strip_bom escaped fields_text is_blank
 unmarked rows = refl
 
 -- Use: after the heading.
-pub read_again : (rows : List Row) (c : Course) (n end : ℕ)
-    → script_records (table_text (heading_fields ∷ (plain_from c n end rows).records)) ≡ heading_fields ∷ (plain_from c n end rows).records
-read_again rows c n end =
-    let all = heading_fields ∷ (plain_from c n end rows).records in
-    ap (records default_config) (unmarked (plain_from c n end rows).records)
+pub read_again : (fault : Option RecordFault) (line end : ℕ) (rows : List Row)
+    → script_records (table_text (heading_fields ∷ (plain_behind fault line end rows).records)) ≡ heading_fields ∷ (plain_behind fault line end rows).records
+read_again fault line end rows =
+    let all = heading_fields ∷ (plain_behind fault line end rows).records in
+    ap (records default_config) (unmarked (plain_behind fault line end rows).records)
     ∙ table_again (length (table_text all) + 1) all (omega arith)
-    ∙ ap (λ (t : List (List (List ℕ))). heading_fields ∷ t) (records_kept rows c n end)
+    ∙ ap (λ (t : List (List (List ℕ))). heading_fields ∷ t) (records_behind fault line end rows)

@@ -8,14 +8,14 @@ use Rattle.std.proofs.lemmas.List.Elements.{All-cons, All-head, All-nil, All-tai
 use Rattle.pf_names.specs.Names.{name_of, task_of, with_name}
 use Rattle.pf_names.specs.declared.named.Named.{Named}
 use Rattle.pf_rows.specs.Rows.{Row, rows}
-use Rattle.pf_plan.specs.Heading.{is_plan_heading}
+use Rattle.pf_plan.specs.Heading.{heading_fault, is_plan_heading}
 use Rattle.pf_plan.specs.Parsing.{end_fault, said_at}
 use Rattle.pf_plan.specs.declared.fault.RecordFault.{RecordFault}
 use Rattle.pf_plan.specs.declared.said.Said.{Said}
 use Rattle.pf_plan.specs.declared.said.Said.TheVariants.{Settings, Slot, Name, Asks}
 use Rattle.pf_plan.specs.declared.state.Progress.{Progress}
 use Rattle.pf_plain.specs.declared.origin.Origin.{Origin}
-use Rattle.pf_plain.specs.Plain.{Course, Plain, course_behind, ended, plain_from, plain_next, plain_of, start, with_heading}
+use Rattle.pf_plain.specs.Plain.{Course, Plain, course_behind, ended, plain_behind, plain_from, plain_next, plain_of, start, with_heading}
 use Rattle.pf_retold.specs.Titles.{AreGivable, AreTold, IsGivable, IsLength, TitlesAreTold}
 use Rattle.pf_retold.proofs.Saying.{CanBeWritten, said_written}
 use Rattle.pf_retold.proofs.Whole.{IsGood, good_behind, good_start}
@@ -110,15 +110,21 @@ untold : IsTitled start.progress
 unfolding AreGivable
 untold = record { names = tt; slot = tt }
 
+told_behind : (fault : Option RecordFault) (line end : ℕ) (rows : List Row) → AreTold (plain_behind fault line end rows).titles
+told_behind None line end rows = told_from rows start 2 end good_start untold
+told_behind (Some fault) line end rows = ended_told start.progress (record { number = 1; line = line }) (Some fault) untold
+
 of_rows : (rs : List Row) (end : ℕ) (p : Plain) → plain_of end rs ≡ Some p → AreTold p.titles
 of_rows [] end p e = let bad : None ≡ Some p = e in cc
-of_rows (row ∷ rows) end p e = by (is_plan_heading row.fields) e
+of_rows (row ∷ rows) end p e =
+    let fault = heading_fault row.fields in
+    by (is_plan_heading row.fields) (plain_behind fault row.line end rows) (told_behind fault row.line end rows) e
   where
-    by : (b : Bool) → (if b then Some (with_heading row.line (plain_from start 2 end rows)) else None) ≡ Some p → AreTold p.titles
-    by true e =
-        let same : with_heading row.line (plain_from start 2 end rows) ≡ p = cc in
-        subst (λ (q : Plain). AreTold q.titles) same (told_from rows start 2 end good_start untold)
-    by false e = let bad : None ≡ Some p = e in cc
+    by : (b : Bool) (made : Plain) → AreTold made.titles → (if b then Some (with_heading row.line made) else None) ≡ Some p → AreTold p.titles
+    by true made are e =
+        let same : with_heading row.line made ≡ p = cc in
+        subst (λ (q : Plain). AreTold q.titles) same are
+    by false made are e = let bad : None ≡ Some p = e in cc
 
 pub titles_are_told : TitlesAreTold
 titles_are_told bytes p e = of_rows (rows bytes).rows (rows bytes).end p e

@@ -19,7 +19,7 @@ use Rattle.pf_script.specs.declared.stage.Stage.{Stage}
 use Rattle.pf_script.specs.declared.stage.Stage.TheVariants.{Beginning, Headed, Opened}
 use Rattle.pf_script.specs.declared.version.Version.TheVariants.{Second}
 use Rattle.pf_text.specs.Page.{table_text}
-use Rattle.pf_plan.specs.Heading.{is_plan_heading}
+use Rattle.pf_plan.specs.Heading.{heading_fault, is_plan_heading}
 use Rattle.pf_plan.specs.declared.labels.Labelled.{Labelled}
 use Rattle.pf_plan.specs.Parsing.{fault_at, said_at}
 use Rattle.pf_plan.specs.Progress.{with_label}
@@ -30,9 +30,9 @@ use Rattle.pf_plan.specs.declared.said.Said.{Said}
 use Rattle.pf_plan.specs.declared.said.Said.TheVariants.{Settings, Slot, Name, Asks}
 use Rattle.pf_plan.specs.declared.state.Progress.{Progress}
 use Rattle.pf_plain.specs.declared.origin.Origin.{Origin}
-use Rattle.pf_plain.specs.Plain.{Course, Plain, course_behind, desk_behind, ended, given, plain_from, plain_next, plain_of, start, with_heading, with_said}
+use Rattle.pf_plain.specs.Plain.{Course, Plain, course_behind, desk_behind, ended, given, plain_behind, plain_from, plain_next, plain_of, start, with_heading, with_said}
 use Rattle.pf_plain.specs.Written.{heading_fields}
-use Rattle.pf_retold.specs.Retold.{IsRetold, IsSameFault, ScriptsAreRetold, lines_said, saids_from, saids_next, saids_of, settings_said}
+use Rattle.pf_retold.specs.Retold.{IsRetold, IsSameFault, ScriptsAreRetold, lines_said, saids_behind, saids_from, saids_next, saids_of, settings_said}
 use Rattle.pf_retold.proofs.Numbering.{GivesShort, IsNumbering, given_short, line_kept}
 use Rattle.pf_retold.proofs.Saying.{CanBeWritten, IsShortLine, IsShortProgress, said_written}
 use Rattle.pf_retold.proofs.Reading.{read_again}
@@ -188,38 +188,48 @@ good_start = record {
   desk = tt;
 }
 
--- after the heading
-told_again : (line end : ℕ) (rows : List Row) (places : List ℕ)
-    → IsRetold (saids_from start rows) (with_heading line (plain_from start 2 end rows))
-    (told_in (readings_from Beginning 1 places (heading_fields ∷ (plain_from start 2 end rows).records)))
+-- after the heading, which may be the bad one
+behind_alike : (fault : Option RecordFault) (line end : ℕ) (rows : List Row) (places : List ℕ)
+    → Alike 2 (saids_behind fault rows) (plain_behind fault line end rows) (readings_from Headed 2 places (plain_behind fault line end rows).records)
+behind_alike None line end rows places = alike_from rows start 2 2 end places good_start
+behind_alike (Some fault) line end rows places = bad_alike false 2 places start.progress (record { number = 1; line = line }) fault
+
+told_again : (fault : Option RecordFault) (line end : ℕ) (rows : List Row) (places : List ℕ)
+    → IsRetold (saids_behind fault rows) (with_heading line (plain_behind fault line end rows))
+    (told_in (readings_from Beginning 1 places (heading_fields ∷ (plain_behind fault line end rows).records)))
 unfolding readings_from
-told_again line end rows places =
-    let m = alike_from rows start 2 2 end (lines_behind places) good_start in
+told_again fault line end rows places =
+    let p = plain_behind fault line end rows in
+    let m = behind_alike fault line end rows (lines_behind places) in
     rw heading_read
     (record {
       opening = m.opening;
       lines = m.lines;
-      fault = one_more 1 (record { number = 1; line = line }) (plain_from start 2 end rows).origins (plain_from start 2 end rows).bad _ m.fault;
+      fault = one_more 1 (record { number = 1; line = line }) p.origins p.bad _ m.fault;
     })
 
-retold : (line end : ℕ) (rows : List Row)
-    → IsRetold (saids_from start rows) (with_heading line (plain_from start 2 end rows)) (told (table_text (with_heading line (plain_from start 2 end rows)).records))
-retold line end rows =
-    let text = table_text (heading_fields ∷ (plain_from start 2 end rows).records) in
+retold : (fault : Option RecordFault) (line end : ℕ) (rows : List Row)
+    → IsRetold (saids_behind fault rows) (with_heading line (plain_behind fault line end rows)) (told (table_text (with_heading line (plain_behind fault line end rows)).records))
+retold fault line end rows =
+    let p = plain_behind fault line end rows in
+    let text = table_text (heading_fields ∷ p.records) in
     subst
-    (λ (records : List (List (List ℕ))). IsRetold (saids_from start rows) (with_heading line (plain_from start 2 end rows)) (told_in (readings_from Beginning 1 (record_lines text) records)))
-    (sym (read_again rows start 2 end)) (told_again line end rows (record_lines text))
+    (λ (records : List (List (List ℕ))). IsRetold (saids_behind fault rows) (with_heading line p) (told_in (readings_from Beginning 1 (record_lines text) records)))
+    (sym (read_again fault line end rows)) (told_again fault line end rows (record_lines text))
 
 of_rows : (rs : List Row) (end : ℕ) (p : Plain) → plain_of end rs ≡ Some p → IsRetold (saids_of rs) p (told (table_text p.records))
 of_rows [] end p e = let bad : None ≡ Some p = e in cc
-of_rows (row ∷ rows) end p e = by (is_plan_heading row.fields) e
+of_rows (row ∷ rows) end p e =
+    let fault = heading_fault row.fields in
+    by (is_plan_heading row.fields) (plain_behind fault row.line end rows) (retold fault row.line end rows) e
   where
-    by : (b : Bool) → (if b then Some (with_heading row.line (plain_from start 2 end rows)) else None) ≡ Some p
-        → IsRetold (saids_from start rows) p (told (table_text p.records))
-    by true e =
-        let same : with_heading row.line (plain_from start 2 end rows) ≡ p = cc in
-        subst (λ (q : Plain). IsRetold (saids_from start rows) q (told (table_text q.records))) same (retold row.line end rows)
-    by false e = let bad : None ≡ Some p = e in cc
+    by : (b : Bool) (made : Plain)
+        → IsRetold (saids_of (row ∷ rows)) (with_heading row.line made) (told (table_text (with_heading row.line made).records))
+        → (if b then Some (with_heading row.line made) else None) ≡ Some p → IsRetold (saids_of (row ∷ rows)) p (told (table_text p.records))
+    by true made is e =
+        let same : with_heading row.line made ≡ p = cc in
+        subst (λ (q : Plain). IsRetold (saids_of (row ∷ rows)) q (told (table_text q.records))) same is
+    by false made is e = let bad : None ≡ Some p = e in cc
 
 pub scripts_are_retold : ScriptsAreRetold
 scripts_are_retold bytes p e = of_rows (rows bytes).rows (rows bytes).end p e

@@ -9,6 +9,7 @@ use Rattle.pf_plan.specs.declared.fault.BadRecord.{BadRecord}
 use Rattle.pf_plan.specs.declared.fault.RecordFault.{RecordFault}
 use Rattle.pf_plan.specs.declared.said.Said.{Said}
 use Rattle.pf_plan.specs.declared.said.Said.TheVariants.{Settings, Slot, Name, Asks}
+use Rattle.pf_plan.specs.Heading.{heading_fault}
 use Rattle.pf_plan.specs.Parsing.{said_at}
 use Rattle.pf_plain.specs.declared.origin.Origin.{Origin}
 use Rattle.pf_plain.specs.Plain.{Course, Plain, course_behind, plain, start}
@@ -22,10 +23,15 @@ abbrev pub saids_from : Course → List Row → List Said
 saids_from c [] = []
 saids_from c (row ∷ rows) = saids_next (λ next. saids_from next rows) c (said_at c.progress row.fields)
 
--- after the heading, which is the first row
+-- after a heading, which may be the first bad one
+abbrev pub saids_behind : Option RecordFault → List Row → List Said
+saids_behind None rows = saids_from start rows
+saids_behind (Some fault) rows = []
+
+-- the heading is the first row
 abbrev pub saids_of : List Row → List Said
 saids_of [] = []
-saids_of (heading ∷ rows) = saids_from start rows
+saids_of (heading ∷ rows) = saids_behind (heading_fault heading.fields) rows
 
 -- the settings among them
 abbrev pub settings_said : List Said → Option ScriptSettings

@@ -7,8 +7,8 @@ use Rattle.pf_fault.specs.declared.fault.Fault.TheVariants as why
 use Rattle.pf_rows.specs.Rows.{Row}
 use Rattle.pf_script.specs.Told.{FaultTold, told}
 use Rattle.pf_session.specs.Session.{SessionState}
-use Rattle.pf_plan.specs.Heading.{is_plan_heading}
-use Rattle.pf_sitter.specs.Opening.{IsOpened, behind_rows, opened_plain, opened_rows}
+use Rattle.pf_plan.specs.Heading.{heading_fault, is_plan_heading}
+use Rattle.pf_sitter.specs.Opening.{IsOpened, opened_plain, opened_plan, opened_rows}
 
 -- Use: it is not opened.
 pub stopped_plain : (s : SessionState) (found : List Row) (told : Option FaultTold) (fault : Fault) → Stops told fault
@@ -29,5 +29,5 @@ pub stopped_rows : (s : SessionState) (bytes : List ℕ) (row : Row) (rest : Lis
     → Stops (told bytes).rest.fault fault → IsOpened (opened_rows s bytes (row ∷ rest)) (Err fault)
 stopped_rows s bytes row rest fault is_plan stops =
     subst
-    (λ (b : Bool). IsOpened (if b then behind_rows (record s { is_first = false }) 2 rest else opened_plain s (row ∷ rest) (told bytes).rest.fault) (Err fault))
+    (λ (b : Bool). IsOpened (if b then opened_plan s (heading_fault row.fields) rest else opened_plain s (row ∷ rest) (told bytes).rest.fault) (Err fault))
     (sym is_plan) (stopped_plain s (row ∷ rest) (told bytes).rest.fault fault stops)

@@ -7,7 +7,7 @@ use Rattle.std.proofs.Common.{inl, inr, sym, ◌∙◌, ap, append_assoc}
 use Rattle.std.proofs.lemmas.List.{append-nil}
 use Rattle.pf_heard.specs.Asked.{asked_at}
 use Rattle.pf_heard.specs.Faults.{too_long_text}
-use Rattle.pf_heard.specs.Heard.{heard, heard_fields, heard_if, heard_record, heard_word}
+use Rattle.pf_heard.specs.Heard.{heard, heard_fields, heard_heading, heard_if, heard_record, heard_word}
 use Rattle.pf_heard.specs.Lines.{fields_in, line_of}
 use Rattle.pf_heard.specs.Words.{word_at}
 use Rattle.pf_shown.specs.declared.showing.Showing.{Showing}
@@ -27,7 +27,7 @@ use Rattle.pf_sitting.specs.Scripts.{GrowsTo}
 use Rattle.pf_sitting.specs.declared.answers.Going.{Going}
 use Rattle.pf_sitter.specs.Turns.{GoesOn, Saves, behind_showing, heard_of}
 use Rattle.pf_session.specs.Session.{SessionState, behind_undo_of, newest_of}
-use Rattle.pf_plan.specs.Heading.{is_plan_heading}
+use Rattle.pf_plan.specs.Heading.{heading_fault, is_plan_heading}
 use Rattle.pf_plan.specs.Parsing.{said_at}
 use Rattle.pf_plan.specs.declared.fault.RecordFault.{RecordFault}
 use Rattle.pf_plan.specs.declared.said.Said.{Said}
@@ -81,10 +81,14 @@ if_lined : (p : Progress) (fields : List (List ℕ)) (word : Option Word) → Is
 if_lined p fields None = record_lined fields (said_at p fields)
 if_lined p fields (Some word) = word_lined fields (asked_at p word fields)
 
+heading_lined : (fields : List (List ℕ)) (fault : Option RecordFault) → IsLined (heard_heading fields fault)
+heading_lined fields None = tt
+heading_lined fields (Some fault) = tt
+
 fields_lined : (is_first : Bool) (p : Progress) (fields : Option (List (List ℕ))) → IsLined (heard_fields is_first p fields)
 fields_lined is_first p None = tt
 fields_lined is_first p (Some fields) =
-    either_lined (is_first && is_plan_heading fields) Heading _ tt (if_lined p fields (word_at fields))
+    either_lined (is_first && is_plan_heading fields) _ _ (heading_lined fields (heading_fault fields)) (if_lined p fields (word_at fields))
 
 heard_lined : (is_first : Bool) (p : Progress) (line : List ℕ) → IsLined (heard is_first p line)
 heard_lined is_first p line =

@@ -8,7 +8,7 @@ use Rattle.pf_rows.specs.Rows.{Row, rows}
 use Rattle.pf_script.specs.Fields.{is_word}
 use Rattle.pf_script.specs.Told.{FaultTold, told}
 use Rattle.pf_session.specs.Session.{SessionState, at_start, behind_record}
-use Rattle.pf_plan.specs.Heading.{is_plan_heading}
+use Rattle.pf_plan.specs.Heading.{heading_fault, is_plan_heading}
 use Rattle.pf_plan.specs.Parsing.{end_fault, said_at}
 use Rattle.pf_plan.specs.declared.fault.RecordFault.{RecordFault}
 use Rattle.pf_plan.specs.declared.said.Said.{Said}
@@ -38,10 +38,15 @@ abbrev pub opened_plain : SessionState → List Row → Option FaultTold → Res
 opened_plain s found None = behind_rows s 1 (behind_heading found)
 opened_plain s found (Some fault) = Err fault.bad.number
 
+-- the rows of a plan behind its heading, which may have a fault
+abbrev pub opened_plan : SessionState → Option RecordFault → List Row → Result SessionState ℕ
+opened_plan s None rest = behind_rows (record s { is_first = false }) 2 rest
+opened_plan s (Some fault) rest = Err 1
+
 abbrev pub opened_rows : SessionState → List ℕ → List Row → Result SessionState ℕ
 opened_rows s bytes [] = opened_plain s [] (told bytes).rest.fault
 opened_rows s bytes (row ∷ rest) =
-    if is_plan_heading row.fields then behind_rows (record s { is_first = false }) 2 rest
+    if is_plan_heading row.fields then opened_plan s (heading_fault row.fields) rest
     else opened_plain s (row ∷ rest) (told bytes).rest.fault
 
 -- a session of this manner after a script of any version, or the number of its first bad record

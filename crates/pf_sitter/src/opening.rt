@@ -2,13 +2,14 @@ ghost use Rattle.std.specs.Prelude.{◌≡◌, ◌+◌, ◌<◌, ◌-◌, ◌^�
 ghost use Rattle.csv.specs.Records.{fields_of};
 ghost use Rattle.pf_carry.specs.Carried.{Stops};
 ghost use Rattle.pf_script.specs.Told.{LinesTold, told};
-ghost use Rattle.pf_sitter.specs.Opening.{IsOpened, IsTaken, behind_rows, opened, opened_plain, opened_rows};
+ghost use Rattle.pf_plan.specs.Heading.{heading_fault};
+ghost use Rattle.pf_sitter.specs.Opening.{IsOpened, IsTaken, behind_rows, opened, opened_plain, opened_plan, opened_rows};
 
 use crate::in_rows::{take_from, take_rows};
 use csv::ByteRecord;
 use pf_answers::manner::Manner;
 use pf_fault::fault::Fault;
-use pf_plan::heading::is_plan_heading;
+use pf_plan::heading::{heading_fault, is_plan_heading};
 use pf_rows::rows::{NextRow, Rows};
 use pf_script::fields::Fields;
 use pf_script::line_reader::LineReader;
@@ -58,12 +59,28 @@ fn open_rows(
     ensures { IsOpened (opened_rows session script.now (record { line = 0; fields = fields_of row } ∷ rows.entry.rows)) result }
 {
     if is_plan_heading(&Fields::new(&row)) {
-        return open_plan(alloc, session, rows, row);
+        return open_under(alloc, session, rows, row);
     }
     match check_plain(alloc, script) {
         Ok(()) => open_plain(alloc, session, rows, row),
         Err(fault) => Err(fault),
     }
+}
+
+/// The session after a plan, whose heading was read.
+fn open_under(
+    alloc: Global,
+    session: Session,
+    rows: Rows<'_>,
+    row: ByteRecord,
+) -> Result<Session, Fault>
+    requires { length rows.rows < 2 ^ 64 - 9 }
+    ensures { IsOpened (opened_plan session (heading_fault (fields_of row)) rows.entry.rows) result }
+{
+    if heading_fault(&Fields::new(&row)).is_some() {
+        return Err(Fault::BadRecord(1));
+    }
+    open_plan(alloc, session, rows, row)
 }
 
 /// The session after the rows that a plan has after its heading.

@@ -18,7 +18,7 @@ use Rattle.pf_scenario.specs.declared.event.Numbered.{Numbered}
 use Rattle.pf_script.specs.Fields.{is_word}
 use Rattle.pf_script.specs.declared.line.Line.TheVariants.{Steps}
 use Rattle.pf_text.specs.Page.{table_text}
-use Rattle.pf_plan.specs.Heading.{is_plan_heading}
+use Rattle.pf_plan.specs.Heading.{heading_fault, is_plan_heading}
 use Rattle.pf_plan.specs.Progress.{at_heading}
 use Rattle.pf_plan.specs.declared.said.Said.{Said}
 use Rattle.pf_plan.specs.declared.said.Said.TheVariants.{Settings, Slot, Asks}
@@ -155,7 +155,7 @@ module _ (every : ℕ) (seen : Seen) (titles : Titles) (can : CanBeTitled every 
 
   of_rows : (rs : List Row) (end : ℕ) → map (λ row. row.fields) rs ≡ heading ∷ records
       → (p : Plain) × (plain_of end rs ≡ Some p) × TellsTitled every seen titles p
-  unfolding is_plan_heading is_word script_text_of
+  unfolding is_plan_heading heading_fault is_word script_text_of
   of_rows [] end is = cc
   of_rows (row ∷ rs) end is =
       let first : row.fields ≡ codes "plan" ∷ codes "1" ∷ [] = cc in

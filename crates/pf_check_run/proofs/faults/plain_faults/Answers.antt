@@ -50,5 +50,5 @@ returns-in-Ok-None c =
     let split = split_readings file script in
     let count : c.records.found.records ≡ length (script_records script) = omega (arith, ap records_in none, inv.count) in
     found_all file (length (script_records script)) (map (shown file) (faults script)) c.records.found split.are
-    (sym (ap (lines_with file c.records.found.lines) none) ∙ inv.lines ∙ split.lines no_lines) count inv.others
+    (sym (ap (lines_with file c.records.found.lines) none) ∙ inv.lines ∙ split.lines no_lines) count (omega (arith, inv.others))
     (omega (arith, count, few_records script, c.requires))

@@ -11,8 +11,8 @@ invariant-faults l = record {
   lines : fold (behind_fault l.file l.faults.records) l.lines (map (plan_shown l.file) l.faults.faults)
       ≡ fold (behind_fault l.file l.faults.records) no_lines (map (plan_shown l.file) (faults (rows l.fn.script)));
   records : l.faults.records ≡ length (rows l.fn.script).rows;
-  lacking : l.lines.lacking + length l.faults.faults ≤ l.faults.records;
-  others : l.lines.others + length l.faults.faults ≤ l.faults.records;
+  lacking : l.lines.lacking + length l.faults.faults ≤ l.faults.records + 1;
+  others : l.lines.others + length l.faults.faults ≤ l.faults.records + 1;
 }
 
 abbrev pub decreases-faults : goal.decreases-faults
