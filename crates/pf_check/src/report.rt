@@ -76,7 +76,7 @@ fn push_reason(text: &mut String, at: &[u8], reason: Reason) -> Result<(), Alloc
         Reason::LateSettings => text.push_str("settings come once, before all changes and steps"),
         Reason::NoVersion => {
             push_quoted(text, at)?;
-            text.push_str(" is no version: 2, 3")
+            text.push_str(" is no version: 2")
         }
         Reason::NoNumber => {
             push_quoted(text, at)?;
