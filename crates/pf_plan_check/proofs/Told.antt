@@ -1,9 +1,8 @@
 -- What a check tells, and how many faults a script has.
-use Rattle.std.proofs.Common.{◌≡◌, ◌≤◌, ◌+◌, ℕ, List, [], ◌∷◌, ◌++◌, length, Bool, true, false, Option, None, Some, Result, Ok, Err, refl, sym, subst, ap, ◌∙◌, append-nil, suc, arith}
-use Rattle.std.specs.Prelude.{OnOk, ◌==◌, nat_le, if◌then◌else◌}
+use Rattle.std.proofs.Common.{◌≡◌, ◌≤◌, ◌+◌, ℕ, List, [], ◌∷◌, ◌++◌, length, Option, None, Some, Result, Ok, Err, refl, sym, subst, ap, ◌∙◌, append-nil, suc, arith}
+use Rattle.std.specs.Prelude.{OnOk, ◌==◌, if◌then◌else◌}
 use Rattle.std.specs.List.{flat_map}
 use Rattle.std.proofs.lemmas.Bool.{ne_eqb}
-use Rattle.std.proofs.lemmas.Bool.Decides.{nat_tests}
 use Rattle.std.proofs.lemmas.List.{append_assoc}
 use Rattle.pf_check.specs.Reports.{totals_text}
 use Rattle.pf_fault.specs.Answers.{IsQuiet}
@@ -19,7 +18,6 @@ use Rattle.pf_plan.specs.Parsing.{end_fault, said_at}
 use Rattle.pf_plan.specs.Progress.{progress_after}
 use Rattle.pf_plan_check.specs.Checked.{faults, faults_at_end, faults_from, faults_next, status_of_faults, text_of, with_fault}
 use Rattle.pf_plan_check.specs.Reports.{FaultShown, plan_report_text}
-use Rattle.pf_plan_check.specs.Unread.{unread}
 
 -- Use: a text was added to a text that had been added to.
 pub added_to : {A E : Type 0} (r : Result A E) (new mid old x y : List ℕ) → mid ≡ old ++ x → OnOk r (new ≡ mid ++ y) → OnOk r (new ≡ old ++ (x ++ y))
@@ -52,12 +50,6 @@ pub few_under : (bad : Option BadRecord) (fields : List (List ℕ)) (p : Progres
     → length (with_fault bad fields (faults_from p number end rows)) ≤ length rows + 2
 few_under None fields p number end rows = let h = few_from p number end rows in omega (arith, h)
 few_under (Some bad) fields p number end rows = let h = few_from p number end rows in omega (arith, h)
-
--- Use: the heading is among the records that were read.
-pub within_read : (ended : Bool) (p : Progress) (first number : ℕ) (t : Table) → first ≤ number
-    → nat_le first (unread ended p number t).read ≡ nat_le first (unread ended p number t).records
-within_read true p first number t low = refl
-within_read false p first number t low = grind (arith, nat_tests, low)
 
 -- Use: all faults were told.
 pub told_all : (t : Table) (left : List FaultShown) (old text : List ℕ) (count records : ℕ) → left ≡ []
