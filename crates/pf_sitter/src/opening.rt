@@ -77,10 +77,10 @@ fn open_under(
     requires { length rows.rows < 2 ^ 64 - 9 }
     ensures { IsOpened (opened_plan session (heading_fault (fields_of row)) rows.entry.rows) result }
 {
-    if heading_fault(&Fields::new(&row)).is_some() {
-        return Err(Fault::BadRecord(1));
+    match heading_fault(&Fields::new(&row)) {
+        Some(_) => Err(Fault::BadRecord(1)),
+        None => open_plan(alloc, session, rows, row),
     }
-    open_plan(alloc, session, rows, row)
 }
 
 /// The session after the rows that a plan has after its heading.
