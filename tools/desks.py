@@ -167,12 +167,12 @@ def shown(rng, plan):
 
 def begin(rng, plan, first):
     """The lines of a script that comes first, of any version."""
-    version = rng.choice("123")
-    lines = [f"pfair,{version}"] * (version > "1") + [",".join(first)]
+    heading = rng.choice(["", "pfair,2", "plan,1"])
+    lines = [heading] * bool(heading) + [",".join(first)]
     plan.take(first)
     for _ in range(rng.randrange(9)):
         fields = ["step"] if rng.random() < 0.3 else change(rng, plan)
-        if version > "1" or "limit" not in fields:
+        if heading or "limit" not in fields:
             lines.append(",".join(fields))
             plan.take(fields) if fields == ["step"] else plan.change(fields)
     return lines
