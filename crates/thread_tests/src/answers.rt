@@ -1,8 +1,12 @@
 //! Answers in short.
+ghost use Rattle.std.specs.Prelude.{◌≡◌};
 
 use pf_board::quantum::Quantum;
 use pf_board::take::Take;
+use pf_desk::history::History;
 use pf_desk::reply::Reply;
+use pf_desk::reply_view::ReplyView;
+use pf_desk::snapshot::Snapshot;
 use pf_order::pick::Pick;
 use pf_place::row_view::RowView;
 use pf_scenario::change::Change;
@@ -12,8 +16,11 @@ use pf_share::step_refusal::StepRefusal;
 use std::alloc::AllocError;
 use std::process::Abort;
 
+/// Who runs on the first two processors: the task and the subtask, or (0, 0) where it is idle.
+pub(crate) type Pair = [(u32, u32); 2];
+
 /// The slot that was taken, who runs in it, and the number of entries.
-pub(crate) type Taken = (u64, [(u32, u32); 2], u64);
+pub(crate) type Taken = (u64, Pair, u64);
 
 /// The number of an event, and the number of entries.
 pub(crate) type Edited = (u64, u64);
@@ -37,8 +44,8 @@ pub(crate) fn edited(done: &Done) -> Option<Edited> {
     }
 }
 
-/// Who runs on the first two processors: the task and the subtask, or (0, 0) where it is idle.
-pub(crate) fn pair(row: RowView<'_>) -> [(u32, u32); 2] {
+/// Who runs in a row on the first two processors.
+fn pair(row: RowView<'_>) -> Pair {
     [named(row.get(0)), named(row.get(1))]
 }
 
@@ -50,13 +57,39 @@ pub(crate) fn stepped(done: &Done) -> Option<Taken> {
     }
 }
 
-/// A quantum of slot 0, of a task's first subtask.
-pub(crate) fn first_quantum(processor: u32, task: u32) -> Quantum {
+/// Who runs on the first two processors in a slot of the snapshot. None where the slot is not taken.
+pub(crate) fn pair_in(snapshot: &Snapshot, slot: u64) -> Option<Pair> {
+    let row = snapshot.row(slot)?;
+    Some(pair(row))
+}
+
+/// The event of this number that the snapshot holds.
+pub(crate) fn event_in(snapshot: &Snapshot, id: u64) -> Option<Event> {
+    for numbered in snapshot.events() {
+        if numbered.id == id {
+            return Some(numbered.event);
+        }
+    }
+    None
+}
+
+/// The slot that an entry of the history took, and who runs in it. The entries are numbered from 0.
+pub(crate) fn pair_of_entry(history: &History, entry: usize) -> Option<(u64, Pair)> {
+    match history.entry(entry)?.reply {
+        ReplyView::Stepped { slot, row } => Some((slot, pair(row))),
+        _ => None,
+    }
+}
+
+/// The quantum of a slot and a processor that a task's subtask gets.
+pub(crate) fn quantum(slot: u64, processor: u32, task: u32, sub: u32) -> Quantum
+    ensures { result ≡ record { slot = slot; processor = processor; task = task; sub = sub } }
+{
     Quantum {
-        slot: 0,
+        slot,
         processor,
         task,
-        sub: 1,
+        sub,
     }
 }
 
@@ -81,6 +114,15 @@ pub(crate) fn expect_step(
 /// Fails the test where something else was got of a processor.
 pub(crate) fn expect_take(rt: &impl Abort, take: Take, wanted: Take) {
     assert_eq!(rt; take, wanted);
+}
+
+/// Fails the test where these are not the subtasks from 1 to `count`, each once.
+pub(crate) fn expect_each_once(rt: &impl Abort, mut subs: Vec<u32>, count: u32) {
+    subs.sort().expect(rt, "memory is ample");
+    assert_eq!(rt; subs.len(), count as usize);
+    for at in 0..subs.len() {
+        assert_eq!(rt; subs[at] as usize, at + 1);
+    }
 }
 
 /// The numbers of a pick.

@@ -3,8 +3,11 @@ ghost use Rattle.std.specs.Prelude.{◌≡◌, All, IfOk};
 ghost use Rattle.pf_board.specs.Passes.{AreOf};
 ghost use Rattle.pf_share.specs.Locked.{origin_of};
 
+use crate::answers::pair_of_entry;
 use crate::passes::{close, let_go, put_two};
 use crate::refused::say;
+use pf_board::quantum::Quantum;
+use pf_desk::history::History;
 use pf_scenario::settings::Settings;
 use pf_share::blank::Blank;
 use pf_share::calls::DeskPass;
@@ -80,4 +83,29 @@ pub(crate) fn end<N: Naming, H: Wait + Drop>(
         let_go(opened);
         None
     }
+}
+
+/// Whether the desk was closed. Fails the test where other quanta are left of it than these, or its history has not so many
+/// entries, or the fourth of them is not the step of slot 0 as it was answered.
+pub(crate) fn is_closed(
+    rt: &impl Abort,
+    closed: Option<Closed>,
+    left: &[Quantum],
+    entries: usize,
+) -> bool {
+    match closed {
+        Some(closed) => {
+            assert_eq!(rt; closed.left.as_slice(), left);
+            expect_history(rt, closed.desk.history(), entries);
+            drop(closed);
+            true
+        }
+        None => false,
+    }
+}
+
+/// Fails the test where the history has not so many entries, or the fourth of them is another one.
+fn expect_history(rt: &impl Abort, history: &History, entries: usize) {
+    assert_eq!(rt; history.len(), entries);
+    assert_eq!(rt; pair_of_entry(history, 3), Some((0, [(1, 1), (2, 1)])));
 }

@@ -61,6 +61,21 @@ pub(crate) fn pop_viewer<N: Naming>(viewers: &mut Vec<Viewer>) -> Option<Viewer>
     viewers.pop()
 }
 
+/// The last two passes of a desk, and its last viewer.
+pub(crate) fn pop_seats<N: Naming, H: Wait + Drop>(
+    opened: &mut Opened<N, H>,
+) -> Option<((DeskPass, DeskPass), Viewer)>
+    requires passes { AreOf N.board.id opened.old.passes.items }
+    requires viewers { All (λ v. v.origin ≡ origin_of N.board N.book) opened.old.viewers.items }
+    ensures rest { AreOf N.board.id opened.new.passes.items }
+    ensures board { IfSome result (λ r. (r.0.0.board ≡ N.board.id) × (r.0.1.board ≡ N.board.id)) }
+    ensures viewer { IfSome result (λ r. r.1.origin ≡ origin_of N.board N.book) }
+{
+    let viewer = pop_viewer::<N>(&mut opened.viewers)?;
+    let passes = pop_two::<N>(&mut opened.passes)?;
+    Some((passes, viewer))
+}
+
 /// Lets a desk go, with all its parts. Who may have to drop one calls this.
 pub(crate) fn let_go<N: Naming, H: Wait + Drop>(_opened: Opened<N, H>) {}
 

@@ -3,6 +3,7 @@
 ghost use Rattle.std.specs.Prelude.{◌≡◌, ◌+◌, ◌≤◌, [], true, length};
 ghost use Rattle.thread_tests.specs.Entries.{IsFreshFrom};
 
+use crate::answers::expect_each_once;
 use crate::steps::{StepBoard, StepKeeper, StepPass, enter};
 use pf_board::board::Board;
 use pf_board::quantum::Quantum;
@@ -172,11 +173,7 @@ fn each_quantum_is_got_once(rt: HostRuntime) -> Result<(), Fail> {
     for sub in &others {
         subs.push(*sub)?;
     }
-    subs.sort()?;
-    assert_eq!(&rt; subs.len(), QUANTA as usize);
-    for at in 0..subs.len() {
-        assert_eq!(&rt; subs[at] as usize, at + 1);
-    }
+    expect_each_once(&rt, subs, QUANTA);
     passes.push(first)?;
     passes.push(second)?;
     let left = board.close(keeper, passes).map_err(|_| "closed")?;
