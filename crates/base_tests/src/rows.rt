@@ -1,6 +1,6 @@
 //! Rows, placed, copied and kept, though memory may be refused. A call that was refused is made again, and says so.
 
-ghost use Rattle.std.specs.Prelude.{◌≡◌};
+ghost use Rattle.std.specs.Prelude.{◌≡◌, ◌≤◌, ◌<◌, ◌+◌, ◌^◌};
 ghost use Rattle.pf_place.specs.Occupancy.{idle_row};
 
 use crate::refused::say;
@@ -98,4 +98,59 @@ fn copied(rt: &(impl Abort + AllocGlobal + Print)) -> ([Option<Pick>; 2], usize)
 #[test]
 fn rows_are_placed_pushed_and_copied_again(rt: HostRuntime) {
     assert_eq!(rt; copied(&rt), ([Some(FIVE), None], 512));
+}
+
+/// The subtask that runs in slot t of the rows.
+fn nth(t: u32) -> Pick
+    requires { t + 1 < 2 ^ 32 }
+    ensures { 1 ≤ result.task }
+{
+    Pick {
+        task: 5,
+        sub: t + 1,
+    }
+}
+
+/// The row of one processor on which the pick runs.
+fn row_of(rt: &impl Abort, alloc: Global, pick: Pick) -> Row
+    requires { 1 ≤ pick.task }
+{
+    let before = idle(alloc, 1).expect(rt, "memory is ample");
+    place(alloc, 1, 1, &before, &[pick]).expect(rt, "memory is ample")
+}
+
+/// Rows of so many slots, of one processor on which another subtask runs in each.
+fn rows_of(rt: &impl Abort, alloc: Global, count: u32) -> Rows {
+    let mut rows = Rows::new(alloc);
+    for t in 0..count {
+        let row = row_of(rt, alloc, nth(t));
+        rows.push(&row).expect(rt, "memory is ample");
+    }
+    rows
+}
+
+/// Who runs in slot t, where it has a row.
+fn who(rows: &Rows, t: u32) -> Option<Option<Pick>> {
+    let row = rows.get(u64::from(t))?;
+    Some(row.get(0))
+}
+
+/// Fails where these are not the rows of so many slots.
+fn are_rows(rt: &impl Abort, rows: &Rows, count: u32) {
+    assert_eq!(rt; rows.len(), count as usize);
+    for t in 0..count {
+        assert_eq!(rt; who(rows, t), Some(Some(nth(t))));
+    }
+    assert_eq!(rt; who(rows, count), None);
+}
+
+/// Each slot of the rows and of their copy has its row, the first and the last ones too, and the slot behind them has none.
+#[test]
+fn rows_of_many_lengths(rt: HostRuntime) {
+    for count in [255, 256, 257, 513] {
+        let rows = rows_of(&rt, rt.alloc(), count);
+        let copy = rows.copy().expect(&rt, "memory is ample");
+        are_rows(&rt, &rows, count);
+        are_rows(&rt, &copy, count);
+    }
 }

@@ -15,7 +15,7 @@ use std::alloc::AllocError;
 use std::process::Abort;
 
 /// Makes a step ready.
-fn prepare(desk: &mut Desk) -> Result<Prepared, AllocError>
+pub(crate) fn prepare(desk: &mut Desk) -> Result<Prepared, AllocError>
     ensures ready { IfOk result (λ p. IsReadyFor desk.new p) }
     ensures room { OnOk result (1 ≤ desk.new.spare) }
 {
@@ -54,7 +54,7 @@ pub(crate) fn snapshot_again(rt: &(impl Abort + Print), desk: &Desk) -> Snapshot
 }
 
 /// The desk's lags, again where memory is refused.
-fn lags_again(rt: &(impl Abort + Print), desk: &Desk) -> Vec<Lag> {
+pub(crate) fn lags_again(rt: &(impl Abort + Print), desk: &Desk) -> Vec<Lag> {
     match desk.lags() {
         Ok(made) => made,
         Err(AllocError) => {
@@ -65,7 +65,7 @@ fn lags_again(rt: &(impl Abort + Print), desk: &Desk) -> Vec<Lag> {
 }
 
 /// The desk's missed windows, again where memory is refused.
-fn misses_again(rt: &(impl Abort + Print), desk: &Desk) -> Vec<Miss> {
+pub(crate) fn misses_again(rt: &(impl Abort + Print), desk: &Desk) -> Vec<Miss> {
     match desk.misses() {
         Ok(made) => made,
         Err(AllocError) => {

@@ -13,7 +13,7 @@ use std::alloc::Global;
 use std::process::Abort;
 
 /// A change that is not strict.
-fn plain(change: Change) -> Command {
+pub(crate) fn plain(change: Change) -> Command {
     Command::Edit {
         change,
         strict: false,
@@ -21,7 +21,7 @@ fn plain(change: Change) -> Command {
 }
 
 /// A task of weight 1/1 joins.
-fn join(slot: u64, task: u64) -> Command {
+pub(crate) fn join(slot: u64, task: u64) -> Command {
     plain(Change::Insert(Event::Join {
         slot,
         task,
@@ -32,12 +32,12 @@ fn join(slot: u64, task: u64) -> Command {
 }
 
 /// A desk with a checkpoint each two slots. A caller that needs no clause of `Desk::open` calls this.
-fn open(alloc: Global, settings: Settings) -> Result<Desk, OpenFault> {
+pub(crate) fn open(alloc: Global, settings: Settings) -> Result<Desk, OpenFault> {
     Desk::open(alloc, settings, 2)
 }
 
 /// The same, again where memory is refused.
-fn open_again(rt: &(impl Abort + Print), alloc: Global, settings: Settings) -> Desk {
+pub(crate) fn open_again(rt: &(impl Abort + Print), alloc: Global, settings: Settings) -> Desk {
     match open(alloc, settings) {
         Ok(desk) => desk,
         Err(_) => {
@@ -48,7 +48,7 @@ fn open_again(rt: &(impl Abort + Print), alloc: Global, settings: Settings) -> D
 }
 
 /// Whether a command was answered. A caller that needs no clause of `Desk::apply` calls this.
-fn is_applied(desk: &mut Desk, command: Command) -> bool {
+pub(crate) fn is_applied(desk: &mut Desk, command: Command) -> bool {
     desk.apply(&mut Meter::new(), 0, command).is_ok()
 }
 
@@ -61,14 +61,14 @@ pub(crate) fn apply_again(rt: &(impl Abort + Print), desk: &mut Desk, command: C
 }
 
 /// Carries out the commands.
-fn apply_each(rt: &(impl Abort + Print), desk: &mut Desk, commands: &[Command]) {
+pub(crate) fn apply_each(rt: &(impl Abort + Print), desk: &mut Desk, commands: &[Command]) {
     for command in commands {
         apply_again(rt, desk, *command);
     }
 }
 
 /// Whether a step was answered. A caller that needs no clause of `Desk::step` calls this.
-fn is_stepped(desk: &mut Desk) -> bool {
+pub(crate) fn is_stepped(desk: &mut Desk) -> bool {
     desk.step(&mut Meter::new(), 0).is_ok()
 }
 
