@@ -5,7 +5,8 @@ use crate::refused::say;
 use crate::shown::{Shown, is_shown};
 use pf_desk::command::Command;
 use pf_desk::desk::Desk;
-use pf_desk::reply::{Fault, Reply};
+use pf_desk::reply::Fault;
+use pf_desk::reply_view::ReplyView;
 use pf_order::meter::Meter;
 use std::alloc::AllocError;
 use std::process::Abort;
@@ -14,18 +15,24 @@ use std::process::Abort;
 pub(crate) type Answer = Result<u64, Fault>;
 
 /// The edit's answer.
-fn answer(reply: &Reply) -> Option<Answer> {
+fn answer(reply: ReplyView<'_>) -> Option<Answer> {
     match reply {
-        Reply::Edited { id } => Some(Ok(*id)),
-        Reply::Refused(fault) => Some(Err(*fault)),
-        Reply::Stepped { .. } => None,
+        ReplyView::Edited { id } => Some(Ok(id)),
+        ReplyView::Refused(fault) => Some(Err(fault)),
+        ReplyView::Stepped { .. } => None,
     }
+}
+
+/// The answer that the desk's last entry has.
+fn entered(desk: &Desk) -> Option<Answer> {
+    let entry = desk.history().last()?;
+    answer(entry.reply)
 }
 
 /// Makes an edit. A caller that needs no clause of `Desk::apply` calls this.
 fn edit(desk: &mut Desk, command: Command) -> Result<Option<Answer>, AllocError> {
     match desk.apply(&mut Meter::new(), 0, command) {
-        Ok(reply) => Ok(answer(&reply)),
+        Ok(reply) => Ok(answer(reply.view())),
         Err(error) => Err(error),
     }
 }
@@ -67,5 +74,6 @@ pub(crate) fn is_edited(rt: &(impl Abort + Print), desk: &mut Desk, case: Case<'
     is_shown(rt, desk, case.before);
     let answer = edit_again(rt, desk, (case.name, case.command), case.before);
     assert_eq!(rt; answer, Some(case.answer));
+    assert_eq!(rt; entered(desk), Some(case.answer));
     is_shown(rt, desk, case.after);
 }

@@ -53,13 +53,18 @@ fn held(t: u32) -> Option<Pick> {
     }
 }
 
+/// Who runs in slot t, where it has a row.
+fn who(rows: &Rows, t: u32) -> Option<Option<Pick>> {
+    let row = rows.get(u64::from(t))?;
+    Some(row.get(0))
+}
+
 /// Fails where others run than the first plan has it, or the plan in which the task is held back.
 fn has_rows(rt: &impl Abort, rows: &Rows, is_held: bool) {
     assert_eq!(rt; rows.len(), SLOTS as usize);
     for t in 0..SLOTS {
         let wanted = if is_held { held(t) } else { unheld(t) };
-        let row = rows.get(u64::from(t));
-        assert_eq!(rt; row.map(|row| row.get(0)), Some(wanted), "in slot {t}");
+        assert_eq!(rt; who(rows, t), Some(wanted), "in slot {t}");
     }
 }
 
