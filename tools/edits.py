@@ -179,5 +179,8 @@ def read_edits(folder):
             bad.append(f"{folder.name}/{file.stem}: an old text does not stand in its file exactly once")
             continue
         touched, is_of_bodies = touched_by(folder.name, texts, after)
-        edits.append(Edit(file.stem, changes, touched, is_of_bodies, file.parent.name == "more", read_clause(file), file))
+        clause = read_clause(file)
+        # A constant is judged by the law that its edit names.
+        law = {f"{folder.name}::laws"} if clause and clause[0].startswith("laws::") else set()
+        edits.append(Edit(file.stem, changes, touched | law, is_of_bodies, file.parent.name == "more", clause, file))
     return texts, edits, bad

@@ -11,10 +11,13 @@ pub use Rattle.pf_commands.specs.Meaning
 pub use Rattle.pf_change.specs.Change
 pub mod Compared
 pub mod Desks
+pub mod Drills
 pub mod Ends
 pub mod FaultLines
 pub mod Journals
 pub mod Noted
+pub mod RunFaults
+pub mod Runs
 pub mod Source
 pub mod Status
 pub mod Tasks

@@ -5,6 +5,7 @@
 
 mod answering;
 mod desk;
+pub mod drill;
 mod ending;
 mod fault_line;
 mod gone;
@@ -16,6 +17,8 @@ mod noting;
 mod open_gate;
 mod pair_notes;
 pub mod program;
+pub mod run;
+pub mod run_fault;
 mod sat;
 mod script_source;
 mod task_end;
@@ -23,6 +26,8 @@ mod tasks;
 mod two_scripts;
 mod versions;
 
+pub use pf_drill::gate;
 pub use pf_journaled::host_journals;
 pub use pf_kept::{kept_writer, pipe};
+pub use pf_options::format;
 pub use pf_stream::{sink, source};
