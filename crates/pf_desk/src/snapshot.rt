@@ -7,7 +7,7 @@ ghost use Rattle.pf_tally.specs.Lags.{lags_of};
 ghost use Rattle.pf_tally.specs.Misses.{misses_of};
 ghost use Rattle.pf_tally.specs.Figures.{figures_of};
 ghost use Rattle.pf_fit.specs.Load.{overload_of};
-ghost use Rattle.pf_fit.specs.Fit.{IsFirstAbove};
+ghost use Rattle.pf_fit.specs.Fit.{IsFirstAbove, NoneIsLater};
 ghost use Rattle.pf_desk.specs.Fitting.{LagsAreWithinQuantum};
 
 use pf_fit::fit::Fit;
@@ -228,6 +228,7 @@ impl Snapshot {
         ensures lags { IfOk result (λ fit. fit.first ≡ None → LagsAreWithinQuantum self.now.state.plan (run_of self.now.state.plan self.now.state.now)) }
         ensures late { IfOk result (λ fit. All (λ f. self.now.state.plan.settings.base * f.tardiness ≤ fit.overload)
             (figures_of self.now.state.plan (run_of self.now.state.plan self.now.state.now) self.now.rows)) }
+        ensures overdue { IfOk result (λ fit. NoneIsLater self.now.state.plan (run_of self.now.state.plan self.now.state.now) self.now.state.now fit.overload) }
     {
         fits::fits(
             self.alloc,

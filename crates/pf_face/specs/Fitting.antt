@@ -4,7 +4,7 @@ use Rattle.pf_run.specs.Computed.{run_of}
 use Rattle.pf_tally.specs.Misses.{misses_of}
 use Rattle.pf_tally.specs.Figures.{figures_of}
 use Rattle.pf_promise.specs.Load.{overload_of}
-use Rattle.pf_fit.specs.Fit.{IsFirstAbove}
+use Rattle.pf_fit.specs.Fit.{IsFirstAbove, NoneIsLater}
 use Rattle.pf_desk.specs.Machine.{State}
 use Rattle.pf_desk.specs.Room.{NeverMisses, MissesNone, MissesNoneAfter}
 use Rattle.pf_desk.specs.Desk.{Shown}
@@ -21,13 +21,14 @@ abbrev pub overload_told : RawFit → ℕ
 overload_told fit = fit.overload_high * 2 ^ 64 + fit.overload_low
 
 -- the fit of the run so far: the first slot above its room and the overload; without such a slot nothing was missed, and
--- base times no tardiness is above the overload
+-- base times no tardiness is above the overload, nor that of a window that was not served
 pub record IsFitOf (d : Shown) (fit : RawFit) : Type 0 where
   pub first : IsFirstAbove d.state.plan (run_of d.state.plan d.state.now) d.state.now (first_told fit)
   pub overload : overload_told fit ≡ overload_of d.state.plan (run_of d.state.plan d.state.now) d.state.now
   pub none : fit.first ≡ NEVER → misses_of d.state.plan (run_of d.state.plan d.state.now) ≡ []
   pub late : All (λ f. d.state.plan.settings.base * f.tardiness ≤ overload_told fit)
       (figures_of d.state.plan (run_of d.state.plan d.state.now) d.rows)
+  pub overdue : NoneIsLater d.state.plan (run_of d.state.plan d.state.now) d.state.now (overload_told fit)
 
 -- C has the fit of the run so far; or memory was refused
 abbrev pub TellsFit : Shown → ℕ → RawFit → Type 0

@@ -3,7 +3,7 @@ ghost use Rattle.pf_run.specs.Computed.{run_of};
 ghost use Rattle.pf_tally.specs.Figures.{figures_of};
 ghost use Rattle.pf_tally.specs.Misses.{misses_of};
 ghost use Rattle.pf_promise.specs.Load.{overload_of};
-ghost use Rattle.pf_fit.specs.Fit.{IsFirstAbove};
+ghost use Rattle.pf_fit.specs.Fit.{IsFirstAbove, NoneIsLater};
 ghost use Rattle.pf_face.specs.declared.status.TheConstants.{OK};
 ghost use Rattle.pf_face.specs.Fitting.{TellsFit, TellsRoom};
 ghost use Rattle.pf_face.specs.Told.{Tells};
@@ -84,6 +84,7 @@ fn fits(desk: &Desk) -> Result<Fit, AllocError>
     ensures none { IfOk result (λ fit. fit.first ≡ None → misses_of desk.now.state.plan (run_of desk.now.state.plan desk.now.state.now) ≡ []) }
     ensures late { IfOk result (λ fit. All (λ f. desk.now.state.plan.settings.base * f.tardiness ≤ fit.overload)
         (figures_of desk.now.state.plan (run_of desk.now.state.plan desk.now.state.now) desk.now.rows)) }
+    ensures overdue { IfOk result (λ fit. NoneIsLater desk.now.state.plan (run_of desk.now.state.plan desk.now.state.now) desk.now.state.now fit.overload) }
 {
     let snapshot = desk.snapshot()?;
     snapshot.fits()

@@ -1,6 +1,7 @@
 -- The walk over a ledger's events gives the fit of the run.
-use Rattle.std.proofs.Common.{◌≡◌, ℕ, zero, suc, ◌+◌, ◌*◌, ◌<◌, ◌≤◌, ◌^◌, Option, None, List, [], ◌∷◌, length, take, get_or, All, arith, sym, ap, ◌∙◌, subst}
+use Rattle.std.proofs.Common.{◌≡◌, ℕ, ◌&&◌, nat_le, nat_lt, zero, suc, ◌+◌, ◌*◌, ◌<◌, ◌≤◌, ◌^◌, Option, None, List, [], ◌∷◌, length, take, get_or, All, arith, sym, ap, ◌∙◌, subst}
 use Rattle.std.proofs.Math.Nat.{mul-le-mul_left}
+use Rattle.std.proofs.lemmas.Bool.{and_parts, leb-true}
 use Rattle.std.proofs.lemmas.List.{get_or_default}
 use Rattle.std.proofs.lemmas.List.Elements.{All-take}
 use Rattle.pf_promise.specs.Pick.{Pick}
@@ -10,7 +11,7 @@ use Rattle.pf_scenario.specs.Scenario.{Plan}
 use Rattle.pf_scenario.specs.Edit.{IsEvent}
 use Rattle.pf_scenario.specs.declared.event.Numbered.{Numbered}
 use Rattle.pf_scenario.specs.declared.settings.TheConstants.{LARGEST_CAP, WIDE_HORIZON}
-use Rattle.pf_run.specs.Record.{Slot}
+use Rattle.pf_run.specs.Record.{Slot, done}
 use Rattle.pf_run.specs.Inside.{count_after}
 use Rattle.pf_run.specs.Run.{events_in_force, IsRun}
 use Rattle.pf_run.specs.Computed.{run_of}
@@ -20,14 +21,15 @@ use Rattle.pf_tally.specs.declared.ledger.Ledger.{Ledger}
 use Rattle.pf_tally.specs.Figures.{figures_of}
 use Rattle.pf_tally.specs.Ledger.{IsLedger}
 use Rattle.pf_tally.specs.Log.{RiseFrom}
-use Rattle.pf_tally.specs.Misses.{misses_of}
+use Rattle.pf_tally.specs.Misses.{due_of, leaves_after, misses_of}
 use Rattle.pf_promise.specs.Load.{load_in, room_in, overload_of}
-use Rattle.pf_promise.proofs.Promises.{no_window_is_missed}
+use Rattle.pf_promise.proofs.Waiting.{lateness_costs_quanta}
+use Rattle.pf_promise.proofs.Promises.{no_window_is_missed, overload-rises}
 use Rattle.pf_promise.proofs.Tardiness.{tardiness_is_bounded}
 use Rattle.pf_fit.specs.declared.asking.Asking.{Asking}
 use Rattle.pf_fit.specs.declared.fit.Fit.{Fit}
 use Rattle.pf_fit.specs.Asking.{asking_after}
-use Rattle.pf_fit.specs.Fit.{IsFirstAbove, fit_with}
+use Rattle.pf_fit.specs.Fit.{IsFirstAbove, NoneIsLater, fit_with}
 use Rattle.pf_fit.proofs.Walked.{IsAt, units_of, at_start, units_few, overload_few, level_is, at_slot, at_event}
 
 rise_from : (u : ℕ) (xs : List Numbered) → RiseFrom u xs → (i : ℕ) (d : Numbered) → i < length xs →
@@ -235,3 +237,16 @@ module _ (s : Plan) (n : ℕ) (ledger : Ledger) (known : IsLedger s n ledger) wh
       subst (λ x. All (λ f. s.settings.base * f.tardiness ≤ x) (figures_of s r rows))
       (ap (λ t. overload_of s r t) known.slots ∙ sym is)
       (tardiness_is_bounded s (length r) r rows known.scenario run)
+
+  pub none_later : (overload : ℕ) → overload ≡ overload_of s r n → NoneIsLater s r n overload
+  none_later overload is t j i upto inside overdue =
+      let xs = events_in_force s r n in
+      let due = due_of r xs j i in
+      let parts = and_parts (nat_le due t && leaves_after xs j t) (nat_lt (done r j.task t) i) overdue in
+      let over : due ≤ t = leb-true due t (and_parts (nat_le due t) (leaves_after xs j t) parts.0).0 in
+      omega (
+        arith,
+        is,
+        lateness_costs_quanta s n r t j i known.scenario (run_is_computed s n known.scenario) upto inside overdue,
+        overload-rises s r due n (omega (arith, over, upto)),
+      )

@@ -6,7 +6,7 @@ ghost use Rattle.pf_run.specs.RunRows.{AreOfRun};
 ghost use Rattle.pf_tally.specs.Figures.{figures_of};
 ghost use Rattle.pf_tally.specs.Misses.{misses_of};
 ghost use Rattle.pf_promise.specs.Load.{overload_of, IsWithinRoom};
-ghost use Rattle.pf_fit.specs.Fit.{IsFirstAbove, fit_with};
+ghost use Rattle.pf_fit.specs.Fit.{IsFirstAbove, NoneIsLater, fit_with};
 
 use crate::asking::{Asking, load_of, take_event};
 use crate::fit::Fit;
@@ -67,6 +67,7 @@ pub fn fits(
     ensures none { IfOk result (λ fit. fit.first ≡ None → misses_of scenario.now (run_of scenario.now (length rows.now)) ≡ []) }
     ensures late { IfOk result (λ fit. All (λ f. scenario.now.settings.base * f.tardiness ≤ fit.overload)
         (figures_of scenario.now (run_of scenario.now (length rows.now)) rows.now)) }
+    ensures overdue { IfOk result (λ fit. NoneIsLater scenario.now (run_of scenario.now (length rows.now)) (length rows.now) fit.overload) }
 {
     let ledger = make_ledger(alloc, scenario, rows, denials)?;
     let settings = ledger.settings;

@@ -1,4 +1,4 @@
--- A task that missed no window is behind its fair share by less than a quantum.
+-- A task is behind its fair share by less than a quantum as long as it missed no window.
 use Rattle.std.proofs.Common.{◌≡◌, ℕ, suc, ◌+◌, ◌-◌, ◌*◌, ◌<◌, ◌≤◌, true, not, nat_le, Option, None, Some, List, [], length, filter, find, count_by, Contains, arith, refl, ap, sym, subst, ⊎_elim, pos, ◌<ℤ◌}
 use Rattle.std.specs.List.{range_with_len}
 use Rattle.std.specs.Option.{option_map_or}
@@ -19,6 +19,7 @@ use Rattle.pf_run.specs.Run.{events_in_force, IsRun}
 use Rattle.pf_run.proofs.Containing.{contains_none, in_filter}
 use Rattle.pf_tally.specs.Clock.{stops_behind, is_stopped, clock_of}
 use Rattle.pf_tally.specs.Misses.{due_of, leaves_after, is_missed, miss_of, misses_of_task}
+use Rattle.pf_tally.specs.declared.miss.Miss.{Miss}
 use Rattle.pf_tally.proofs.Windows.{deadline_late}
 use Rattle.pf_promise.proofs.Shifts.{done-rises}
 use Rattle.pf_promise.proofs.Joining.{all_joined}
@@ -65,14 +66,21 @@ module _ (s : Plan) (scenario : IsScenario s) (r : List Slot) (run : IsRun s (le
         in_map (miss_of r end_now j) (filter (is_missed r end_now j) (range_with_len 1 (length r))) (suc i)
         (in_filter (is_missed r end_now j) (range_with_len 1 (length r)) (suc i) (in_range (length r) i lt) (is_miss s scenario r run j i miss))
 
+    -- up to a slot t no window was missed
+    abbrev NoneUpTo : ℕ → Type 0
+    NoneUpTo t = (i : ℕ) → IsMiss s scenario r run j i → due_of r end_now j (suc i) ≤ t → ⊥
+
     pub none_missed : misses_of_task r end_now j ≡ [] → (i : ℕ) → IsMiss s scenario r run j i → ⊥
     none_missed none i miss =
         contains_none (miss_of r end_now j (suc i)) (subst (λ ms. Contains ms (miss_of r end_now j (suc i))) none (miss_listed i miss))
 
-    -- before a slot t by which no window was missed the clock is worth no quantum more than there were
-    below : ((i : ℕ) → IsMiss s scenario r run j i → ⊥) → (t : ℕ) → j.slot ≤ t → t ≤ length r → leaves_after end_now j t ≡ true →
+    none_upto : (t : ℕ) → ((m : Miss) → Contains (misses_of_task r end_now j) m → t < m.deadline) → NoneUpTo t
+    none_upto t later i miss due = omega (arith, due, later (miss_of r end_now j (suc i)) (miss_listed i miss))
+
+    -- then the clock is worth no quantum more than there were before it
+    below : (t : ℕ) → NoneUpTo t → j.slot ≤ t → t ≤ length r → leaves_after end_now j t ≡ true →
         j.weight.cost * clock_of r end_now j t < j.weight.period * done r j.task t + j.weight.period
-    below none t from within stays = ⊎_elim (λ less. less) late
+    below t none from within stays = ⊎_elim (λ less. less) late
         (cases_lt (j.weight.cost * clock_of r end_now j t) (j.weight.period * done r j.task t + j.weight.period)) where
           i : ℕ
           i = done r j.task t
@@ -92,17 +100,17 @@ module _ (s : Plan) (scenario : IsScenario s) (r : List Slot) (run : IsRun s (le
                 within = omega (arith, over, within);
                 after = leaves_sooner end_now j due t over stays;
                 late = done-rises r j.task due t over;
-              })))
+              }) over))
               (cases_lt t due)
 
     -- so its lag is below a quantum
-    pub lag_below : ((i : ℕ) → IsMiss s scenario r run j i → ⊥) → (t : ℕ) → IsStay s r j t → lag_after s r j t <ℤ pos j.weight.period
-    lag_below none t stay = ⊎_elim later
+    pub lag_below : (t : ℕ) → NoneUpTo t → IsStay s r j t → lag_after s r j t <ℤ pos j.weight.period
+    lag_below t none stay = ⊎_elim later
         (λ (soon : t ≤ j.slot). omega (arith, ints, of_join (omega (arith, soon, stay.from)))) (cases_lt j.slot t) where
           later : j.slot < t → lag_after s r j t <ℤ pos j.weight.period
           later from =
               let point : IsInside end_now j (length r) t = inside_is end_now j (length r) t from stay.upto in
-              omega (arith, ints, below none t stay.from point.within point.after)
+              omega (arith, ints, below t none stay.from point.within point.after)
 
           of_join : t ≡ j.slot → j.weight.cost * clock_of r end_now j t < j.weight.period
           of_join is =
@@ -112,4 +120,4 @@ module _ (s : Plan) (scenario : IsScenario s) (r : List Slot) (run : IsRun s (le
 pub lags_are_below : LagsAreBelow
 lags_are_below s n r j t scenario run at stay none =
     let run' : IsRun s (length r) r = subst (λ m. IsRun s m r) (sym run.slots) run in
-    lag_below s scenario r run' j at (none_missed s scenario r run' j at none) t stay
+    lag_below s scenario r run' j at t (none_upto s scenario r run' j at t none) stay

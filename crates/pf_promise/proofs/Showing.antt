@@ -108,7 +108,8 @@ module _ (s : Plan) (scenario : IsScenario s) (r : List Slot) (run : IsRun s (le
     shows = (
       λ none.
           greatest_below (lag_after s r j) j.slot (last_slot end_now j (length r) - j.slot) (pos j.weight.period)
-          (λ i le. lag_below s scenario r run j at (none_missed s scenario r run j at (empty (misses_of_task r end_now j) none)) (j.slot + i)
+          (λ i le. lag_below s scenario r run j at (j.slot + i)
+          (λ k miss due. none_missed s scenario r run j at (empty (misses_of_task r end_now j) none) k miss)
           (record { from = omega arith; upto = omega (arith, le) })),
       λ low.
           ap (λ subs. length (map (miss_of r end_now j) subs))

@@ -1,5 +1,5 @@
 -- Tardiness costs quanta: where a missed subtask runs at last, its window is still overdue.
-use Rattle.std.proofs.Common.{◌≡◌, ℕ, zero, suc, ◌+◌, ◌-◌, ◌*◌, ◌<◌, ◌≤◌, ◌==◌, ◌⊎◌, ◌&&◌, Bool, true, false, max, cond, Option, None, Some, List, [], ◌∷◌, length, map, filter, fold, All, Contains, arith, refl, ap, sym, subst, ⊎_elim}
+use Rattle.std.proofs.Common.{◌≡◌, ℕ, zero, suc, ◌+◌, ◌-◌, ◌*◌, ◌<◌, ◌≤◌, ◌==◌, ◌&&◌, Bool, true, false, max, cond, Option, None, Some, List, [], ◌∷◌, length, map, filter, fold, All, Contains, arith, refl, ap, sym, subst, ⊎_elim}
 use Rattle.std.specs.List.{list_any, flat_map, range_with_len}
 use Rattle.std.proofs.Math.Nat.{mul-le-mul_left}
 use Rattle.std.proofs.lemmas.Bool.{cases_lt}

@@ -37,5 +37,5 @@ lags_are_within s n r j t scenario run room at none_early stay =
     let high = lags_are_above s n r j t scenario run at stay in
     let early : j.weight.cost * j.early ≡ j.weight.cost * 0 = ap (λ k. j.weight.cost * k) none_early in (
       omega (arith, ints, high, early),
-      lag_below s scenario r run' j at (none_of s scenario r run' (no_window_is_missed s n r scenario run room) j at) t stay,
+      lag_below s scenario r run' j at t (λ i miss due. none_of s scenario r run' (no_window_is_missed s n r scenario run room) j at i miss) stay,
     )

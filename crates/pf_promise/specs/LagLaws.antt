@@ -1,5 +1,6 @@
 -- The laws of lags, each the contract of a public function.
-use Rattle.std.specs.Prelude.{◌≡◌, ℕ, ◌+◌, ◌*◌, ◌<◌, pos, neg_ℤ, ◌<ℤ◌, ◌↔◌, Option, List, [], length, All}
+use Rattle.std.specs.Prelude.{◌≡◌, ℕ, ◌+◌, ◌*◌, ◌<◌, pos, neg_ℤ, ◌<ℤ◌, ◌↔◌, Option, List, length, All}
+use Rattle.std.specs.List.{Contains}
 use Rattle.pf_order.specs.declared.pick.Pick.{Pick}
 use Rattle.pf_scenario.specs.Scenario.{Plan}
 use Rattle.pf_scenario.specs.Edit.{IsScenario}
@@ -8,6 +9,7 @@ use Rattle.pf_run.specs.Inside.{Joined}
 use Rattle.pf_run.specs.Run.{events_in_force, IsRun}
 use Rattle.pf_tally.specs.Clock.{clock_of}
 use Rattle.pf_tally.specs.Misses.{misses_of_task}
+use Rattle.pf_tally.specs.declared.miss.Miss.{Miss}
 use Rattle.pf_tally.specs.Figures.{figures_of}
 use Rattle.pf_promise.specs.Load.{overload_of, IsWithinRoom}
 use Rattle.pf_promise.specs.Stay.{IsAdmitted, IsStay, lag_after}
@@ -17,10 +19,11 @@ abbrev pub LagsAreAbove : Type 0
 LagsAreAbove = (s : Plan) (n : ℕ) (r : List Slot) (j : Joined) (t : ℕ) → IsScenario s → IsRun s n r → IsAdmitted s r j →
     IsStay s r j t → neg_ℤ (pos (j.weight.period + j.weight.cost * j.early)) <ℤ lag_after s r j t
 
--- Lags are below: a task that missed no window is never behind its fair share by a quantum.
+-- Lags are below: before a slot t up to which a task missed no window it is behind its fair share by less than a quantum.
 abbrev pub LagsAreBelow : Type 0
 LagsAreBelow = (s : Plan) (n : ℕ) (r : List Slot) (j : Joined) (t : ℕ) → IsScenario s → IsRun s n r → IsAdmitted s r j →
-    IsStay s r j t → misses_of_task r (events_in_force s r (length r)) j ≡ [] → lag_after s r j t <ℤ pos j.weight.period
+    IsStay s r j t → ((m : Miss) → Contains (misses_of_task r (events_in_force s r (length r)) j) m → t < m.deadline) →
+    lag_after s r j t <ℤ pos j.weight.period
 
 -- Lags cost quanta: a task is behind its fair share by less than a quantum and what the overload so far has, whatever was
 -- missed: base * lag is below period * (base + overload).

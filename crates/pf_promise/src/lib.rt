@@ -69,7 +69,8 @@ pub fn lags_are_above()
     ensures { LagsAreAbove }
 {}
 
-/// As long as a task missed no window, its scaled lag is below its period: it is behind by less than a quantum.
+/// As long as a task missed no window, its scaled lag is below its period: it is behind by less than a quantum, whatever it
+/// misses later.
 pub fn lags_are_below()
     ensures { LagsAreBelow }
 {}

@@ -2,7 +2,7 @@ use Rattle.std.proofs.Common.{◌∙◌, arith, ap, sym, subst, List, [], length
 use Rattle.pf_run.specs.Computed.{run_of}
 use Rattle.pf_fit.specs.declared.asking.Asking.{Asking}
 use Rattle.pf_fit.proofs.Walked.{IsAt}
-use Rattle.pf_fit.proofs.Fitting.{fit_start, few_overload, lent_few, room_few, next_order, next_short, next_limits, kept, ended, end_order, end_short, none_missed, late_within}
+use Rattle.pf_fit.proofs.Fitting.{fit_start, few_overload, lent_few, room_few, next_order, next_short, next_limits, kept, ended, end_order, end_short, none_missed, late_within, none_later}
 use Rattle.pf_fit.proofs.fits.fits.Goals as goal
 
 pub loop-numbered-init : goal.loop-numbered-init
@@ -92,3 +92,7 @@ returns-clause-none c =
 pub returns-clause-late : goal.returns-clause-late
 returns-clause-late c =
     late_within _ _ c.in_ok-ledger.ledger c.in_ok-ledger.ensures c.args.rows.now c.passed.result.overload (returns-clause-overload c)
+
+pub returns-clause-overdue : goal.returns-clause-overdue
+returns-clause-overdue c =
+    none_later _ _ c.in_ok-ledger.ledger c.in_ok-ledger.ensures c.passed.result.overload (returns-clause-overload c)
