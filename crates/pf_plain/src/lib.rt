@@ -5,6 +5,5 @@
 mod carried;
 pub mod origin;
 pub mod plain;
-mod script_text;
 mod writer;
 mod writing;

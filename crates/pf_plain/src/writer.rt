@@ -4,13 +4,13 @@ ghost use Rattle.pf_plain.specs.Plain.{desk_behind, given};
 use crate::carried::Carried;
 use crate::origin::Origin;
 use crate::plain::PlainScript;
-use crate::script_text::ScriptText;
 use crate::writing::{push_line, push_settings};
 use pf_names::titles::Titles;
 use pf_plan::fault::BadRecord;
 use pf_plan::line::Line;
 use pf_plan::said::Said;
 use pf_plan::state::Progress;
+use pf_text::table::Table;
 use std::alloc::{AllocError, Global};
 
 /// A script of version 2 on its way.
@@ -21,7 +21,7 @@ pub(crate) struct PlainWriter {
     pub(crate) progress: Progress,
     // The desk, after the settings.
     desk: Option<Carried>,
-    table: ScriptText,
+    table: Table,
     origins: Vec<Origin>,
 }
 
@@ -35,7 +35,7 @@ impl PlainWriter {
     pub(crate) fn new(alloc: Global, line: u64) -> Result<Self, AllocError>
         ensures { IfOk result (IsFresh line) }
     {
-        let mut table = ScriptText::new(alloc);
+        let mut table = Table::new(alloc);
         table.show("pfair")?;
         table.show("2")?;
         table.end_record()?;

@@ -3,18 +3,15 @@ ghost use Rattle.std.specs.Fmt.{decimal};
 ghost use Rattle.pf_text.specs.Page.{Page, with_record};
 ghost use Rattle.pf_plain.specs.Written.{change_fields, event_fields, line_fields, settings_fields, strict_fields};
 
-use crate::script_text::ScriptText;
 use pf_plan::line::Line;
 use pf_plan::record::ScriptSettings;
 use pf_scenario::change::Change;
 use pf_scenario::event::Event;
+use pf_text::table::Table;
 use std::alloc::AllocError;
 
 /// Adds the record of settings, in full.
-pub(crate) fn push_settings(
-    table: &mut ScriptText,
-    opening: &ScriptSettings,
-) -> Result<(), AllocError>
+pub(crate) fn push_settings(table: &mut Table, opening: &ScriptSettings) -> Result<(), AllocError>
     requires { table.old.fields ≡ [] }
     ensures { OnOk result (table.new ≡ with_record table.old (settings_fields opening.now)) }
 {
@@ -27,7 +24,7 @@ pub(crate) fn push_settings(
 }
 
 /// Adds the record of a line.
-pub(crate) fn push_line(table: &mut ScriptText, line: Line) -> Result<(), AllocError>
+pub(crate) fn push_line(table: &mut Table, line: Line) -> Result<(), AllocError>
     requires { table.old.fields ≡ [] }
     ensures { OnOk result (table.new ≡ with_record table.old (line_fields line)) }
 {
@@ -47,7 +44,7 @@ pub(crate) fn push_line(table: &mut ScriptText, line: Line) -> Result<(), AllocE
 }
 
 /// Adds the fields of a change.
-fn push_change(table: &mut ScriptText, change: Change) -> Result<(), AllocError>
+fn push_change(table: &mut Table, change: Change) -> Result<(), AllocError>
     ensures { OnOk result (table.new ≡ record table.old { fields = table.old.fields ++ change_fields change }) }
 {
     match change {
@@ -65,7 +62,7 @@ fn push_change(table: &mut ScriptText, change: Change) -> Result<(), AllocError>
 }
 
 /// Adds the fields of an event.
-fn push_event(table: &mut ScriptText, event: Event) -> Result<(), AllocError>
+fn push_event(table: &mut Table, event: Event) -> Result<(), AllocError>
     ensures { OnOk result (table.new ≡ record table.old { fields = table.old.fields ++ event_fields event }) }
 {
     match event {
@@ -95,7 +92,7 @@ fn push_event(table: &mut ScriptText, event: Event) -> Result<(), AllocError>
 }
 
 /// Adds fields of numbers.
-fn push_numbers(table: &mut ScriptText, numbers: &[u64]) -> Result<(), AllocError>
+fn push_numbers(table: &mut Table, numbers: &[u64]) -> Result<(), AllocError>
     ensures { OnOk result (table.new ≡ record table.old { fields = table.old.fields ++ map decimal numbers.now }) }
 {
     for number in numbers {

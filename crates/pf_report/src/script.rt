@@ -1,4 +1,4 @@
-ghost use Rattle.std.specs.Prelude.{◌≡◌, ◌≤◌, ◌∷◌, ◌++◌, [], length, map, IfOk, OnOk};
+ghost use Rattle.std.specs.Prelude.{◌≡◌, ◌∷◌, ◌++◌, [], map, IfOk, OnOk};
 ghost use Rattle.std.specs.Fmt.{decimal};
 ghost use Rattle.pf_text.specs.Page.{with_record};
 ghost use Rattle.pf_report.specs.Script.{heading_records, settings_record, insert_record, name_record, slot_records, step_records, script_text_of, title_records};
@@ -11,7 +11,7 @@ use pf_names::titles::Titles;
 use pf_scenario::event::Event;
 use pf_scenario::events::Events;
 use pf_scenario::settings::{NEAR_HORIZON, Settings};
-use pf_text::pieces::{Chain, LONG_PIECE, Pieces, Whole, gathered};
+use pf_text::pieces::{Chain, Pieces, Whole, gathered};
 use pf_text::table::Table;
 use std::alloc::{AllocError, Global};
 use std::marker::Model;
@@ -28,21 +28,19 @@ fn push_words(table: &mut Table, word: &str, numbers: &[u64]) -> Result<(), Allo
     table.end_record()
 }
 
-/// The record of a word and these numbers. Records of a script have different lengths, which those of a table have not:
-/// each is a table by itself.
+/// The record of a word and these numbers.
 fn record_text(alloc: Global, word: &str, numbers: &[u64]) -> Result<Vec<u8>, AllocError>
-    ensures text { IfOk result (λ text. text.items ≡ table_text ((word.now ∷ map decimal numbers.now) ∷ [])) }
-    ensures some { IfOk result (λ text. 1 ≤ length text.items) }
+    ensures { IfOk result (λ text. text.items ≡ table_text ((word.now ∷ map decimal numbers.now) ∷ [])) }
 {
     let mut table = Table::new(alloc);
     push_words(&mut table, word, numbers)?;
     table.finish()
 }
 
-/// The record that inserts an event.
-fn insert_text(alloc: Global, event: Event) -> Result<Vec<u8>, AllocError>
-    ensures text { IfOk result (λ text. text.items ≡ table_text (insert_record event ∷ [])) }
-    ensures some { IfOk result (λ text. 1 ≤ length text.items) }
+/// Adds the record that inserts an event.
+fn push_insert(table: &mut Table, event: Event) -> Result<(), AllocError>
+    requires { table.old.fields ≡ [] }
+    ensures { OnOk result (table.new ≡ with_record table.old (insert_record event)) }
 {
     match event {
         Event::Join {
@@ -51,10 +49,10 @@ fn insert_text(alloc: Global, event: Event) -> Result<Vec<u8>, AllocError>
             cost,
             period,
             early,
-        } => record_text(alloc, "join", &[slot, task, cost, period, early]),
-        Event::Leave { slot, task } => record_text(alloc, "leave", &[slot, task]),
-        Event::Delay { slot, task, by } => record_text(alloc, "delay", &[slot, task, by]),
-        Event::Limit { slot, count } => record_text(alloc, "limit", &[slot, count]),
+        } => push_words(table, "join", &[slot, task, cost, period, early]),
+        Event::Leave { slot, task } => push_words(table, "leave", &[slot, task]),
+        Event::Delay { slot, task, by } => push_words(table, "delay", &[slot, task, by]),
+        Event::Limit { slot, count } => push_words(table, "limit", &[slot, count]),
     }
 }
 
@@ -83,14 +81,15 @@ impl Pieces for InsertPieces<'_> {
         let Some(first) = self.events.next() else {
             return Ok(None);
         };
-        let mut piece = insert_text(alloc, first.event)?;
-        'events: while piece.len() < LONG_PIECE {
+        let mut table = Table::new(alloc);
+        push_insert(&mut table, first.event)?;
+        'events: while !table.is_long() {
             let Some(next) = self.events.next() else {
                 break;
             };
-            piece.extend_from_slice(&insert_text(alloc, next.event)?)?;
+            push_insert(&mut table, next.event)?;
         }
-        Ok(Some(piece))
+        Ok(Some(table.finish()?))
     }
 }
 

@@ -1,12 +1,12 @@
 ghost use Rattle.std.specs.Prelude.{◌≡◌, ◌++◌, ◌∷◌, [], true, OnOk};
 ghost use Rattle.csv.specs.Records.{fields_of, partial_of};
-ghost use Rattle.csv.specs.Writing.{default_writer, row_text};
-ghost use Rattle.pf_text.specs.Page.{IsBetweenRecords, text_given};
+ghost use Rattle.csv.specs.Writing.{row_text};
+ghost use Rattle.pf_text.specs.Page.{IsBetweenRecords, table_writer, text_given};
 
 use crate::fields::Fields;
 use crate::pair_text::PairText;
 use crate::pieces::LONG_PIECE;
-use csv::{ByteRecord, Writer};
+use csv::{ByteRecord, Writer, WriterBuilder};
 use itoa::Buffer;
 use std::alloc::{AllocError, Global};
 use std::fmt::Display;
@@ -52,12 +52,14 @@ impl Table {
     ghost use Rattle.std.specs.Fmt.{decimal};
     ghost use Rattle.pf_text.specs.Page.{empty_page, with_field, with_record};
 
-    /// A table of no records.
+    /// A table of no records. They may have different numbers of fields.
     pub fn new(alloc: Global) -> Self
         ensures { result ≡ empty_page }
     {
         Table {
-            writer: Writer::from_writer(Vec::new(alloc)),
+            writer: WriterBuilder::new()
+                .flexible(true)
+                .from_writer(Vec::new(alloc)),
             broken: false,
             fields: ByteRecord::new(alloc),
             shown: String::new(alloc),
@@ -98,6 +100,7 @@ impl Table {
     }
 
     /// Ends the record.
+    #[tactic(auto, using(crate::proofs::Flexible::row_same))]
     pub fn end_record(&mut self) -> Result<(), AllocError>
         ensures { OnOk result (self.new ≡ with_record self.old self.old.fields) }
     {
@@ -116,6 +119,7 @@ impl Table {
     }
 
     /// Adds a record of these fields: the text of `show` for each and `end_record`, but no field is kept on the way.
+    #[tactic(auto, using(crate::proofs::Flexible::row_same))]
     pub fn push_fields<F: Fields>(&mut self, fields: &F) -> Result<(), AllocError>
         requires { self.old.fields ≡ [] }
         ensures { OnOk result (self.new ≡ with_record self.old (F.texts fields.now)) }
@@ -168,7 +172,7 @@ impl Table {
 /// Writes a record of these fields, and says whether no write failed.
 fn write_fields<F: Fields>(writer: &mut Writer<Vec<u8>>, fields: &F) -> bool
     requires { IsBetweenRecords writer.old }
-    ensures text { result ≡ true → text_given writer.new ≡ text_given writer.old ++ row_text default_writer (F.texts fields.now) }
+    ensures text { result ≡ true → text_given writer.new ≡ text_given writer.old ++ row_text table_writer (F.texts fields.now) }
     ensures between { result ≡ true → IsBetweenRecords writer.new }
 {
     let mut text = PairText::empty();
