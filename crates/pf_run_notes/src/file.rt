@@ -1,8 +1,8 @@
 ghost use Rattle.std.specs.Prelude.{◌≡◌, ◌<◌, ◌++◌, true, OnOk};
-ghost use Rattle.std.specs.List.{flat_map};
 ghost use Rattle.std.specs.Fmt.{digit_glyph};
-ghost use Rattle.pf_run_notes.specs.File.{file_text, place_text, shown_byte};
+ghost use Rattle.pf_run_notes.specs.File.{file_text, place_text, shown_behind, shown_byte};
 
+use crate::character::plain_len;
 use crate::place::Place;
 use pf_text::numbers::push_number;
 use std::alloc::AllocError;
@@ -19,31 +19,38 @@ fn digit(number: u8) -> u8
     }
 }
 
-/// Appends a byte of a name.
+/// Appends a byte by its two digits of base 16.
 fn push_byte(text: &mut Vec<u8>, byte: u8) -> Result<(), AllocError>
     ensures { OnOk result (text.new.items ≡ text.old.items ++ shown_byte byte) }
 {
-    if byte < 32 || byte == 127 {
-        text.extend_from_slice(b"\\x")?;
-        text.push(digit(byte / 16))?;
-        text.push(digit(byte % 16))?;
-    } else {
-        text.push(byte)?;
-    }
+    text.extend_from_slice(b"\\x")?;
+    text.push(digit(byte / 16))?;
+    text.push(digit(byte % 16))?;
     Ok(())
 }
 
 /// Appends bytes of a name.
 fn push_bytes(text: &mut Vec<u8>, bytes: &[u8]) -> Result<(), AllocError>
-    ensures { OnOk result (text.new.items ≡ text.old.items ++ flat_map shown_byte bytes.now) }
+    ensures { OnOk result (text.new.items ≡ text.old.items ++ shown_behind 0 bytes.now) }
 {
-    for byte in bytes {
-        push_byte(text, *byte)?;
+    let mut left = 0;
+    for (index, byte) in bytes.iter().enumerate() {
+        if left == 0 {
+            left = plain_len(&bytes[index..]);
+        }
+        if left == 0 {
+            push_byte(text, *byte)?;
+        } else {
+            text.push(*byte)?;
+            left -= 1;
+        }
     }
     Ok(())
 }
 
-/// Appends a file's name: the bytes below 32 and 127 by their digits of base 16, and `""` for a name without a byte.
+/// Appends a file's name: its characters as they are, but for Unicode's controls and marks of direction. The bytes of these, and
+/// those that are no part of a well-formed UTF-8 character, are each shown as `\xHH`, two digits of base 16. A name without a byte
+/// is `""`.
 ///
 /// # Errors
 ///

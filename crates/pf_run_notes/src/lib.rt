@@ -3,6 +3,7 @@
 #![tactic(auto)]
 
 pub mod behind_run;
+pub mod character;
 pub mod file;
 pub mod late;
 pub mod lines;

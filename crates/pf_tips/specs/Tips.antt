@@ -3,7 +3,7 @@ use Rattle.std.specs.Prelude.{ℕ, Bool, ◌||◌, ◌&&◌, ◌==◌, nat_eq, n
 use Rattle.std.specs.List.{ends_with, flat_map, list_all, list_any, starts_with}
 use Rattle.std.specs.Str.{bytes_eq}
 use Rattle.pf_options.specs.Formats.{format_named}
-use Rattle.pf_run_notes.specs.File.{shown_byte}
+use Rattle.pf_run_notes.specs.File.{is_plain}
 
 -- a byte that needs no quotes
 abbrev pub is_safe_byte : ℕ → Bool
@@ -14,9 +14,13 @@ is_safe_byte byte =
 abbrev pub is_safe : List ℕ → Bool
 is_safe word = not (length word == 0) && list_all is_safe_byte word
 
--- a word as it is shown: in quotes where it has other bytes, or none
+-- a byte within single quotes: a quote ends them, stands by itself, and begins others
+abbrev pub quoted_byte : ℕ → List ℕ
+quoted_byte byte = if byte == 39 then codes "'\\''" else byte ∷ []
+
+-- a word as a shell reads it: in quotes where it has other bytes, or none
 abbrev pub shown_word : List ℕ → List ℕ
-shown_word word = if is_safe word then word else codes "'" ++ flat_map shown_byte word ++ codes "'"
+shown_word word = if is_safe word then word else codes "'" ++ flat_map quoted_byte word ++ codes "'"
 
 -- words after another, each after a space
 abbrev pub spaced_word : List ℕ → List ℕ
@@ -62,6 +66,6 @@ abbrev pub tip_behind : List (List ℕ) → List ℕ
 tip_behind [] = []
 tip_behind (first ∷ words) = tip_by first words
 
--- where one of the words names a script
+-- where one of the words names a script, and none has what is not shown as it is
 abbrev pub tip_of : List (List ℕ) → List ℕ
-tip_of words = if list_any is_script words then tip_behind words else []
+tip_of words = if list_any is_script words && list_all is_plain words then tip_behind words else []

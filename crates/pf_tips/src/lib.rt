@@ -1,5 +1,5 @@
 //! Tips for words that the program does not take. The one contract of this crate: a tip is the words as they may have been
-//! meant, where they name a script.
+//! meant, quoted for a shell, where they name a script.
 #![tactic(auto)]
 
 pub mod tip;

@@ -1,22 +1,22 @@
 ghost use Rattle.std.specs.Prelude.{◌≡◌, IfOk, map};
 ghost use Rattle.pf_tips.specs.Tips.{drill_tip, tip_behind, tip_by, tip_line, tip_of};
 
-use crate::words::{has_script, is_of_run, is_script, push_word, push_words};
+use crate::words::{are_plain, has_script, is_of_run, is_script, push_word, push_words};
 use pf_options::format::Format;
 use std::alloc::{AllocError, Global};
 use std::convert::AsStr;
 
-/// The tip for words that the program does not take: what they may have been meant as, where one of them names a script; else
-/// nothing.
+/// The tip for words that the program does not take: what they may have been meant as, quoted for a POSIX shell, where one of them
+/// names a script; else nothing. Words with a character that is not shown as it is have none, as their tip could not be pasted.
 ///
 /// # Errors
 ///
 /// Where memory is refused.
-#[tactic(auto, using(crate::proofs::Mapped::script_among))]
+#[tactic(auto, using(crate::proofs::Mapped::script_among, crate::proofs::Mapped::plain_among))]
 pub fn tip<S: AsStr>(alloc: Global, words: &[S]) -> Result<Vec<u8>, AllocError>
     ensures { IfOk result (λ text. text.items ≡ tip_of (map S.text words.now)) }
 {
-    if !has_script(words) {
+    if !has_script(words) || !are_plain(words) {
         return Ok(Vec::new(alloc));
     }
     tip_behind(alloc, words)

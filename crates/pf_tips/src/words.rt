@@ -1,9 +1,10 @@
 ghost use Rattle.std.specs.Prelude.{◌≡◌, ◌++◌, OnOk};
 ghost use Rattle.std.specs.List.{flat_map, list_all, list_any};
 ghost use Rattle.std.specs.Str.{bytes_eq};
-ghost use Rattle.pf_tips.specs.Tips.{before_equals, is_of_run, is_safe, is_safe_byte, is_script, run_words, shown_word, spaced_word};
+ghost use Rattle.pf_run_notes.specs.File.{is_plain};
+ghost use Rattle.pf_tips.specs.Tips.{before_equals, is_of_run, is_safe, is_safe_byte, is_script, quoted_byte, run_words, shown_word, spaced_word};
 
-use pf_run_notes::file::push_file;
+use pf_run_notes::character::is_plain;
 use std::alloc::AllocError;
 use std::convert::AsStr;
 
@@ -37,7 +38,21 @@ fn is_safe(word: &[u8]) -> bool
     !word.is_empty() && are_safe(word)
 }
 
-/// Appends a word as it is shown.
+/// Appends bytes as they stand within single quotes: for each quote these end, it stands by itself, and others begin.
+fn push_quoted(text: &mut Vec<u8>, bytes: &[u8]) -> Result<(), AllocError>
+    ensures { OnOk result (text.new.items ≡ text.old.items ++ flat_map quoted_byte bytes.now) }
+{
+    for byte in bytes {
+        if *byte == b'\'' {
+            text.extend_from_slice(b"'\\''")?;
+        } else {
+            text.push(*byte)?;
+        }
+    }
+    Ok(())
+}
+
+/// Appends a word as a shell reads it.
 pub(crate) fn push_word(text: &mut Vec<u8>, word: &[u8]) -> Result<(), AllocError>
     ensures { OnOk result (text.new.items ≡ text.old.items ++ shown_word word.now) }
 {
@@ -45,14 +60,12 @@ pub(crate) fn push_word(text: &mut Vec<u8>, word: &[u8]) -> Result<(), AllocErro
         return text.extend_from_slice(word);
     }
     text.push(b'\'')?;
-    if !word.is_empty() {
-        push_file(text, word)?;
-    }
+    push_quoted(text, word)?;
     text.push(b'\'')?;
     Ok(())
 }
 
-/// Appends a word as it is shown, after a space.
+/// Appends a word as a shell reads it, after a space.
 fn push_spaced(text: &mut Vec<u8>, word: &[u8]) -> Result<(), AllocError>
     ensures { OnOk result (text.new.items ≡ text.old.items ++ spaced_word word.now) }
 {
@@ -60,7 +73,7 @@ fn push_spaced(text: &mut Vec<u8>, word: &[u8]) -> Result<(), AllocError>
     push_word(text, word)
 }
 
-/// Appends words as they are shown, each after a space.
+/// Appends words as a shell reads them, each after a space.
 pub(crate) fn push_words<S: AsStr>(text: &mut Vec<u8>, words: &[S]) -> Result<(), AllocError>
     ensures { OnOk result (text.new.items ≡ text.old.items ++ flat_map (λ w. spaced_word (S.text w)) words.now) }
 {
@@ -87,6 +100,18 @@ pub(crate) fn has_script<S: AsStr>(words: &[S]) -> bool
         }
     }
     false
+}
+
+/// Whether each of the words is shown as it is.
+pub(crate) fn are_plain<S: AsStr>(words: &[S]) -> bool
+    ensures { result ≡ list_all (λ w. is_plain (S.text w)) words.now }
+{
+    for word in words {
+        if !is_plain(word.as_str().as_bytes()) {
+            return false;
+        }
+    }
+    true
 }
 
 /// A word up to its first `=`.

@@ -1,7 +1,7 @@
-use Rattle.std.proofs.Common.{◌≡◌, ◌++◌, take}
-use Rattle.std.specs.List.{flat_map}
-use Rattle.pf_run_notes.specs.File.{shown_byte}
+use Rattle.std.proofs.Common.{◌≡◌, ◌++◌, drop}
+use Rattle.pf_run_notes.specs.File.{shown_behind}
 use Rattle.pf_run_notes.proofs.file.push_bytes.Given as goal
 
-abbrev pub invariant-loop-byte : goal.invariant-loop-byte
-invariant-loop-byte l = l.text.items ≡ l.fn.text.items ++ flat_map shown_byte (take l.byte-index l.bytes)
+-- what is shown so far, and what the bytes left are shown as, are all
+abbrev pub invariant-loop-index : goal.invariant-loop-index
+invariant-loop-index l = l.text.items ++ shown_behind l.left (drop l.index l.bytes) ≡ l.fn.text.items ++ shown_behind 0 l.bytes
