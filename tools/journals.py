@@ -1,7 +1,9 @@
-"""Trials of `pfair desk --journal`: sessions that are killed and opened again, files whose writes and syncs fail, long sessions.
+"""Trials of `pfair desk --journal`: sessions that are killed and opened again, files whose writes and syncs fail, files that are removed,
+renamed, replaced or cut meanwhile, long sessions.
 
 What is answered has to be in the file: as the file reads up to its first shut gate, `#`, behind which a crash may leave anything.
 """
+import contextlib
 import os
 import shutil
 import subprocess
@@ -11,7 +13,7 @@ import time
 from pathlib import Path
 
 from desks import LONGEST_ANSWER, Plan, Session, begin, change, differs, spelled, turn
-from programs import run_to_end
+from programs import run_to_end, skip
 from refuser import PRELUDE, compile_refuser, refused
 
 # Writes and syncs of a file, one of which fails; a write that fails has written half of its bytes.
@@ -33,8 +35,17 @@ FAILS(fdatasync, (int file), (file))
 FAILS(ftruncate, (int file, off_t size), (file, size))
 FAILS(ftruncate64, (int file, off64_t size), (file, size))
 """
+# A sync of a file, after one of which the file is removed.
+LOST_CALLS = PRELUDE + r"""
+int fdatasync(int file) {
+    int (*call)(int) = real("fdatasync");
+    int given = call(file);
+    if (is_refused(errno)) unlink(getenv("LOST"));
+    return given;
+}
+"""
 LONG_STEPS = 1_000_000
-MOST_TIMES = 2.5
+MOST_TIMES = 3
 LONG_FRONT = "settings,2,6\njoin,0,1,1,2\njoin,0,2,1,3\njoin,0,3,2,3\n"
 
 
@@ -126,7 +137,7 @@ def live(rng, told, program, path, plan, begun):
     torn(rng, path)
     note = opening_note(path, plan, journal_in(path)[1])
     session = Session(program, ["-q"] * plan.quiet + ["--journal", str(path)], begun)
-    if not plan.quiet and (given := session.run.stderr.readline().decode()) != note:
+    if (not plan.quiet or "; cut " in note) and (given := session.run.stderr.readline().decode()) != note:
         session.run.kill()
         session.end()
         return plan, f"told {given!r}, not {note!r}"
@@ -178,6 +189,69 @@ def in_use(program):
 TYPED = ("settings 1 2", "join 0 1 1 2", "step", "join 1 2 1 2", "stepp", "limit 1 0", "undo", "step")
 
 
+def replace(path):
+    other = path.with_suffix(".other")
+    other.write_bytes(path.read_bytes())
+    other.rename(path)
+
+
+def lead_elsewhere(path):
+    other = path.with_suffix(".other")
+    other.symlink_to("none")
+    other.rename(path)
+
+
+# What another process may do to a journal that is open.
+LOSSES = {
+    "removed": Path.unlink,
+    "renamed": lambda path: path.rename(path.with_suffix(".other")),
+    "replaced by a copy": replace,
+    "replaced by a link": lead_elsewhere,
+    "cut by a byte": lambda path: os.truncate(path, path.stat().st_size - 1),
+    "cut to half": lambda path: os.truncate(path, path.stat().st_size // 2),
+    "emptied": lambda path: os.truncate(path, 0),
+}
+
+
+def files_in(room):
+    """The files of a folder, and what they have."""
+    return {it.name: it.read_bytes() for it in room.iterdir() if it.is_file() and not it.is_symlink()}
+
+
+def lost_file(program, what, lose):
+    """What is wrong where this becomes of a journal between two records: the second is not answered, and nothing is written any more."""
+    with tempfile.TemporaryDirectory() as name:
+        path = Path(name) / "kept"
+        session = Session(program, ["-q", "--journal", str(path)], [])
+        answers = []
+        for line in TYPED[:3]:
+            session.write(f"{line}\n".encode())
+            answers.append(session.line())
+        lose(path)
+        left = files_in(path.parent)
+        session.write(b"step\n")
+        given = (answers, session.line(), session.end(), files_in(path.parent) == left)
+    wanted = (["ready", "event 1", "slot 0: 1/1"], "", (b"", f"cannot write {path}\n".encode(), 3), True)
+    return None if given == wanted else f"a journal that is {what}: {given}"
+
+
+def lost_at_sync(program, library, nth):
+    """What is wrong where a journal is removed as this sync ends: there is one as it is read, two for its heading, and two for each record."""
+    with tempfile.TemporaryDirectory() as name:
+        path = Path(name) / "kept"
+        with refused(library, nth) as (env, _):
+            session = Session(program, ["-q", "--journal", str(path)], [], {**env, "LOST": str(path)})
+            answers = []
+            for line in TYPED[:3]:
+                with contextlib.suppress(BrokenPipeError):
+                    session.write(f"{line}\n".encode())
+                answers.append(session.line())
+            given = (sum(map(bool, answers)), session.end()[1:], files_in(path.parent).keys() & {"kept"})
+    fault = "cannot read the journal\n" if nth == 1 else f"cannot write {path}\n"
+    wanted = (max(0, (nth - 4) // 2), (fault.encode(), 3), set())
+    return None if given == wanted else f"a journal that is removed as sync {nth} ends: {given}"
+
+
 def failing_file(program, library, nth):
     """One session of a journal one of whose writes or syncs fails: whether one did, and what is wrong."""
     with tempfile.TemporaryDirectory() as room:
@@ -198,19 +272,24 @@ def failing_file(program, library, nth):
         if not failed:
             return False, None if (faults, status, answers) == (b"", 1, 7) else f"no call fails: {faults!r}, {status}, {answers} answers"
         read, written = b"cannot read the journal\n", f"cannot write {path}\n".encode()
-        found = journal_in(path)[0]
+        found, rest = journal_in(path)
+        cut = f"; cut {len(rest) - 1} bytes\n" if len(rest) > 1 and path.stat().st_size > 10 else ""
         again = run_to_end([program, "desk", "-q", "--journal", str(path)], "desk: opened again", input=b"")
         is_front = answers <= len(found) <= answers + 1 and found == journal_in(path)[0]
-        if status != 3 or faults not in (read, written) or not is_front or (again.returncode, again.stderr) != (0, b""):
+        is_open = again.returncode == 0 and (again.stderr.decode().endswith(cut) if cut else not again.stderr)
+        if status != 3 or faults not in (read, written) or not is_front or not is_open:
             return True, f"call {nth} of the file fails: {faults!r}, {status}, {answers} answers, {found}, opened again {again}"
         return True, None
 
 
 def failing_files(program):
-    """What is wrong where each write and each sync of the file fails in turn."""
+    """What is wrong where each write and each sync of the file fails in turn, and where the file is removed meanwhile."""
     if not shutil.which("cc"):
-        print("journals: no cc, so no call of the file fails")
-        return
+        return skip("journals: the calls of a file that fail", "C compiler")
+    with tempfile.TemporaryDirectory() as room:
+        library = compile_refuser(Path(room), LOST_CALLS)
+        for nth in range(1, 9):
+            yield lost_at_sync(program, library, nth)
     with tempfile.TemporaryDirectory() as room:
         library, nth, failed = compile_refuser(Path(room), FILE_CALLS), 0, True
         while failed:
@@ -247,7 +326,9 @@ def long_session(program):
 
 
 def journal_failures(program):
-    """What is wrong with journals that are in use, that fail, and that get long."""
+    """What is wrong with journals that are in use, that are lost, that fail, and that get long."""
     yield in_use(program)
+    for what, lose in LOSSES.items():
+        yield lost_file(program, what, lose)
     yield from failing_files(program)
     yield long_session(program)

@@ -116,9 +116,9 @@ class Settings:
     horizon: int
 
 
-@dataclass(frozen=True)
+@dataclass(frozen=True, eq=False)
 class Scenario:
-    """Settings, the events held, by number, and the next number."""
+    """Settings, the events held, by number, and the next number. Nothing changes it."""
     settings: Settings
     events: dict = field(default_factory=dict)
     next_number: int = 1
@@ -308,16 +308,17 @@ class Subtask:
         return self.task < other.task
 
 
-@dataclass
+@dataclass(eq=False)
 class Placed:
-    """A run, and what follows from it: rows of processors, and the stops of clocks as (task, from, up to)."""
+    """A run, and what follows from it: rows of processors, and the stops of clocks as (task, from, up to, the delay's number)."""
     run: Run
     rows: list
     stops: list
 
 
+@lru_cache(maxsize=8)
 def run_of(scenario, slots):
-    """The run from slot zero over so many slots."""
+    """The run from slot zero over so many slots. Each view asks for the same few."""
     run, rows, stops = Run(scenario), [], []
     for t in range(slots):
         for event in scenario.of_slot(t):
@@ -327,7 +328,7 @@ def run_of(scenario, slots):
                 continue
             if event.kind == "delay":
                 stop = run.release(event.task, run.done(event.task, t) + 1)
-                stops.append((event.task, stop, stop + event.by))
+                stops.append((event.task, stop, stop + event.by, event.number))
             run.in_force.append(event)
         run.picks.append(run.choice(t))
         rows.append(row_of(scenario.settings.processors, run.count(), rows[-1] if rows else [], run.picks[-1]))
@@ -353,7 +354,7 @@ def lags(placed):
     for task in run.inside():
         join, received = run.join_of(task), run.done(task, now)
         clock = sum(1 for t in range(join.slot, now)
-                    if not any(stopped == task and first <= t < end for stopped, first, end in placed.stops))
+                    if not any(stopped == task and first <= t < end for stopped, first, end, _ in placed.stops))
         yield task, join.cost, join.period, received, join.cost * clock - join.period * received
 
 
@@ -380,11 +381,20 @@ class BadRecord(Exception):
     """A record that is none of the script's."""
 
 
-def records(script):
-    """The records of a script, as lists of fields. A character of a field stands for a byte."""
+def lined_records(script):
+    """The records of a script, each with the line on which it begins, as lists of fields. A character stands for a byte."""
     csv.field_size_limit(LONGEST_SCRIPT)
     text = script.removeprefix(b"\xef\xbb\xbf").decode("latin-1")
-    return [record for record in csv.reader(io.StringIO(text, newline=""), strict=False) if record]
+    reader, line = csv.reader(io.StringIO(text, newline=""), strict=False), 1
+    for record in reader:
+        if record:
+            yield line, record
+        line = reader.line_num + 1
+
+
+def records(script):
+    """The records alone."""
+    return [record for _, record in lined_records(script)]
 
 
 def number(text):
@@ -439,18 +449,28 @@ def settings_of(fields, version):
 
 # The desk
 
+@dataclass(frozen=True)
+class Answered:
+    """A command that was answered: the number of its record, the scenario before it, and its replies."""
+    record: int
+    command: Change | int
+    before: Scenario
+    replies: list
+
+
 class Desk:
     """A scenario, the slots stepped, the commands answered, and the quanta of each slot as its step told them."""
 
     def __init__(self, settings):
-        self.scenario, self.now, self.entries, self.taken = Scenario(settings), 0, 0, []
+        self.scenario, self.now, self.entries, self.taken, self.history = Scenario(settings), 0, 0, [], []
 
-    def replies(self, command):
-        if isinstance(command, Change):
-            self.entries += 1
-            return [self.edit(command)]
-        self.entries += command
-        return self.step(command)
+    def replies(self, command, record):
+        """The replies to the command that this record gives."""
+        before = self.scenario
+        self.entries += 1 if isinstance(command, Change) else command
+        replies = [self.edit(command)] if isinstance(command, Change) else self.step(command)
+        self.history.append(Answered(record, command, before, replies))
+        return replies
 
     def edit(self, change):
         fault = edit_fault(self.scenario, change)
@@ -564,8 +584,13 @@ def quanta_table(placed, first, end):
                  ((t, p, *place) for t in range(first, end) for p, place in enumerate(placed.rows[t]) if place))
 
 
+@lru_cache(maxsize=4)
+def listed(placed):
+    return listed_tasks(placed, NAMES)
+
+
 def admitted_tasks(placed):
-    return (task for task in listed_tasks(placed, NAMES) if task.was_admitted)
+    return (task for task in listed(placed) if task.was_admitted)
 
 
 def windows_table(placed, first, end):
@@ -691,7 +716,7 @@ def diff(before, after):
 def sums(placed):
     """What a run comes to, by the figures of the table of sums."""
     settings = placed.run.scenario.settings
-    told = [(task.number, task.join.period, figures(task)) for task in listed_tasks(placed, NAMES) if task.was_admitted]
+    told = [(task.number, task.join.period, figures(task)) for task in listed(placed) if task.was_admitted]
     missed = misses(placed)
     task, sub, deadline = missed[0][:3] if missed else (None, None, None)
     number, period, worst = max(told, key=lambda one: Fraction(one[2][-1], one[1]), default=(None, None, [None]))
@@ -736,7 +761,7 @@ def stats_table(placed):
     return table(("task", "cost", "period", "quanta", "migrations", "preemptions", "jobs", "response_min", "response_max",
                   "missed", "tardiness_max", "lag_min", "lag_max"),
                  ((task.number, task.join.cost, task.join.period, *figures(task))
-                  for task in listed_tasks(placed, NAMES) if task.was_admitted))
+                  for task in listed(placed) if task.was_admitted))
 
 
 def processors_table(placed):
@@ -814,5 +839,5 @@ def replies(records, lines):
             command = command_of(fields, version)
         except BadRecord:
             return nth
-        lines += desk.replies(command)
+        lines += desk.replies(command, nth)
     return desk

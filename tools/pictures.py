@@ -48,7 +48,7 @@ class Task:
         if self.was_admitted:
             self.joined, leave = admitted.slot, run.leave_of(number)
             self.has_left, self.end = leave is not None, leave.slot if leave else self.n
-            self.stops = [(first, end) for task, first, end in placed.stops if task == number]
+            self.stops = [(first, end) for task, first, end, _ in placed.stops if task == number]
             self.windows = list(self.drawn(placed))
             self.lags = {t: self.lag(run, t) for t in range(self.joined, self.end + 1)}
 

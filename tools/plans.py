@@ -2,6 +2,7 @@
 import json
 import re
 from dataclasses import dataclass, field, replace
+from functools import lru_cache
 
 import model
 import pictures
@@ -12,9 +13,9 @@ TEXT = re.compile("[A-Za-z][A-Za-z0-9_.+ -]{0,23}")
 UNITS, LONGEST_SLOT = ("ns", "us", "ms", "s"), 10**9
 
 
-def rows(script):
-    """The records of a plan, as lists of fields. A character of a field stands for a byte."""
-    text, found, place = script.removeprefix(b"\xef\xbb\xbf").decode("latin-1"), [], 0
+def lined_rows(script):
+    """The records of a plan, each with the line on which it begins, as lists of fields. A character stands for a byte."""
+    text, place = script.removeprefix(b"\xef\xbb\xbf").decode("latin-1"), 0
     while place < len(text):
         if text[place] in "\r\n":
             place += 1
@@ -22,9 +23,16 @@ def rows(script):
             end = text.find("\n", place)
             place = len(text) if end < 0 else end + 1
         else:
+            line = len(re.findall("\r\n|\r|\n", text[:place])) + 1
             fields, place = row_at(text, place)
-            found.append([each.strip(BLANKS) for each in fields])
-    return [fields for fields in found if fields != [""]]
+            fields = [each.strip(BLANKS) for each in fields]
+            if fields != [""]:
+                yield line, fields
+
+
+def rows(script):
+    """The records alone."""
+    return [fields for _, fields in lined_rows(script)]
 
 
 def row_at(text, place):
@@ -60,6 +68,7 @@ def plain_field(text, place):
     return text[place:end], end
 
 
+@lru_cache(maxsize=1)
 def is_plan(script):
     """Whether the first record begins a plan; its heading may have a fault."""
     return any(fields[0] == "plan" for fields in rows(script)[:1])
@@ -181,7 +190,7 @@ def replies(read, lines):
                 told.names[task] = text
             else:
                 command, label = command_of(fields, told)
-                answered = desk.replies(command)
+                answered = desk.replies(command, nth)
                 told.has_begun = True
                 lines += answered
                 if label:
@@ -189,6 +198,13 @@ def replies(read, lines):
         except BadRecord:
             return nth
     return desk, told
+
+
+@lru_cache(maxsize=1)
+def answers(script):
+    """The desk at the script's end and what it was told, or the number of the bad record, and the reply lines."""
+    lines = []
+    return replies(rows(script), lines), lines
 
 
 # Reports
@@ -264,7 +280,7 @@ def words(script, view):
         return ["drill"]
     if view.form == "diff":
         return ["diff", "--since", str(since_in(view, read))] if view.is_part else ["diff"]
-    outcome = replies(read, [])
+    outcome, _ = answers(script)
     first, end = view.range(outcome[0].now if isinstance(outcome, tuple) else 0)
     part = ["--from", str(first), "--to", str(end)] if view.is_part else []
     return ["run", "--format", view.form, *part, *(view.look() if view.is_part and view.form == "svg" else [])]
@@ -272,8 +288,7 @@ def words(script, view):
 
 def meaning(script, view):
     """What `pfair` with the view's words writes for the script, what it tells of a fault, and its status."""
-    read, lines = rows(script), []
-    outcome = replies(read, lines)
+    read, (outcome, lines) = rows(script), answers(script)
     text = "".join(line + "\n" for line in lines) if view.has_replies() else ""
     if not isinstance(outcome, tuple):
         return text.encode(), f"bad record {outcome}\n".encode(), 1

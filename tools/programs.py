@@ -58,6 +58,16 @@ def built_pfair(words):
     return built(words[0] if words else TOP / "crates" / "pfair" / "out" / "pfair", "rt run in crates/pfair")
 
 
+def skip(what, needs):
+    """Says that something was not tried, as a program that it needs is not on the machine. A gate repeats it in its last lines, from
+    the file that GATE_SKIPPED names."""
+    line = f"{what} skipped: no {needs}"
+    print(line, flush=True)
+    if path := os.environ.get("GATE_SKIPPED"):
+        with open(path, "a") as file:
+            file.write(line + "\n")
+
+
 def case_bytes(name):
     """What a file of the cases holds. Where there is none, the tool ends and says so."""
     path = CASES / name

@@ -38,6 +38,7 @@ LIMITS = Profile({"join": 2, "leave": 2, "delay": 2, "limit": 4, "alter": 2, "st
                  0.01, version=2)
 PLANS = Profile({"join": 2, "leave": 2, "delay": 3, "limit": 1, "alter": 4, "strike": 2, "strict": 3, "name": 2, "step": 5}, 24,
                  0.01, version=3)
+CROWD = Profile({"leave": 5, "delay": 4, "limit": 1, "strict": 1, "alter": 1, "step": 3}, 24, version=2)
 EDGES_OF_LIMITS = Profile({"join": 4, "leave": 2, "delay": 2, "limit": 2, "alter": 2, "strict": 2, "step": 3}, 12, 0.1,
                           version=2)
 
@@ -124,6 +125,17 @@ class Drawing:
         return "".join(record + "\n" for record in self.records()).encode()
 
 
+class CrowdDrawing(Drawing):
+    """Many tasks on few processors, with a cap above what these have, and many events: lists of what went wrong are long."""
+
+    def __init__(self, draw, profile):
+        super().__init__(draw, profile)
+        self.processors, self.tasks = draw.choice((1, 2)), draw.randint(8, 26)
+
+    def settings(self):
+        return f"settings,{self.processors},{self.base},{min(self.tasks * self.base, 2**44)},{self.draw.randint(1, 9)}"
+
+
 class PlanDrawing(Drawing):
     """The script of a profile of a plan, while it is drawn: with names, labels, comments and blanks."""
 
@@ -200,6 +212,44 @@ class PlanDrawing(Drawing):
         yield f"step,{max(1, min(9, MOST_SLOTS - self.slots))}"
 
 
+class FitDrawing(PlanDrawing):
+    """A plan whose joins have room together, and mostly nothing else: one that fits, or that a few events keep from it."""
+
+    def joins(self):
+        """The joins in the room that there is, one after another."""
+        free = self.processors * self.base
+        for task in range(1, self.tasks + 1):
+            periods = [period for period in self.periods if self.base // period <= free]
+            if periods:
+                period = self.draw.choice(periods)
+                unit = self.base // period
+                cost = min(self.draw.choice((1, (period + 1) // 2, self.draw.randint(1, period), period)), free // unit)
+                free -= cost * unit
+                yield f"join,{self.draw.choice((0, 0, 0, self.draw.randint(0, 5)))},{self.called(task)},{cost},{period},{self.draw.choice((0, 0, 0, 3, 9))}"
+
+    def delay(self):
+        """In a slot in which it may still be told: at the start, or later by chance."""
+        return f"delay,{self.draw.choice((0, 0, self.draw.randint(0, 20)))},{self.called(self.task())},{self.draw.randint(1, 6)}"
+
+    def leave(self):
+        return f"leave,{self.draw.randint(0, MOST_SLOTS + 9)},{self.called(self.task())}"
+
+    def limit(self):
+        return f"limit,{self.draw.randint(0, 20)},{self.draw.choice((self.processors, self.draw.randint(1, self.processors)))}"
+
+    def records(self):
+        yield "plan,1"
+        yield self.settings()
+        if self.draw.random() < 0.3:
+            yield f"slot,{self.draw.randint(1, 900)},{self.draw.choice(plans.UNITS)}"
+        for _ in range(self.draw.choice((0, 0, self.tasks))):
+            yield self.name()
+        yield from self.joins()
+        for _ in range(self.draw.choice((0, 0, 1, 2, 4))):
+            yield self.draw.choice((self.delay, self.delay, self.leave, self.limit))()
+        yield f"step,{self.draw.randint(1, MOST_SLOTS)}"
+
+
 def one_of_all(draw, known):
     return draw.choice((draw.choice(known), *(Drawing(draw, each).script() for each in (SMALL, EDITS, LIMITS))))
 
@@ -228,8 +278,8 @@ def in_other_words(draw, known):
     return script.rstrip(b"\r\n") if draw.random() < 0.2 else script
 
 
-def of_profile(profile):
-    return lambda draw, known: Drawing(draw, profile).script()
+def of_profile(profile, drawing=Drawing):
+    return lambda draw, known: drawing(draw, profile).script()
 
 
 def of_a_plan(draw, known):
@@ -241,7 +291,8 @@ def of_a_plan(draw, known):
     return script[:place] + draw.choice(HOSTILE) + script[place + draw.choice((0, 0, 1, 2)):]
 
 
-TURNS = (*map(of_profile, (SMALL, EDITS, LIMITS, EDGES_OF_LIMITS)), of_a_plan, with_hostile_bytes, in_other_words)
+TURNS = (*map(of_profile, (SMALL, EDITS, LIMITS, EDGES_OF_LIMITS)), of_profile(CROWD, CrowdDrawing), of_profile(PLANS, FitDrawing), of_a_plan,
+         with_hostile_bytes, in_other_words)
 
 
 def drawn(seed, nth, known):

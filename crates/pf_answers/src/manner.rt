@@ -5,4 +5,6 @@ pub struct Manner {
     pub json: bool,
     /// Lines that are indented are left out.
     pub quiet: bool,
+    /// A last line without its line end is bad, and not answered as if it had it.
+    pub whole: bool,
 }

@@ -16,7 +16,6 @@ use Rattle.pf_journaled.specs.Kept.{IsFound, found_bytes, found_disk}
 use Rattle.pf_journaled.specs.Manner.{Manner}
 use Rattle.pf_journaled.specs.Recording.{Recording}
 use Rattle.pf_journaled.specs.Session.{SessionState}
-use Rattle.pf_journaled.specs.Sizes.{sizes_line}
 use Rattle.pf_sitting.specs.Sits.{HasSat}
 use Rattle.pf_sitting.specs.declared.answers.Going.{Going}
 use Rattle.pf_sitting.specs.declared.fault.SitFault.{SitFault}
@@ -26,7 +25,7 @@ use Rattle.pf_stream.specs.declared.reading.ReadingFault.TheVariants as reading
 use Rattle.pf_words.specs.Asked.{name_of}
 use Rattle.pf_words.specs.Desks.{DeskNames}
 use Rattle.pf_cli.specs.Desks.{manner_of}
-use Rattle.pf_cli.specs.Journals.{BeginsOn, CameToKept, DoesNotBeginOn, HasSatOn, HoldsKept, HoldsWith, talk_kept}
+use Rattle.pf_cli.specs.Journals.{BeginsOn, CameToKept, DoesNotBeginOn, HasSatOn, HoldsKept, HoldsWith, talk_kept, told_sizes}
 use Rattle.pf_cli.specs.Noted.{IsTold, IsUnreadNote, notes_in, status_ended}
 use Rattle.pf_cli.specs.Source.{IsHad, told_name}
 use Rattle.pf_cli.specs.Status.{Tells}
@@ -60,7 +59,7 @@ pub begins_noted : {A E D S T : Type 0} (seen : D → List ℕ) (may_leave : D �
     (sizes : _) (recorder : A → Recording SessionState D) (note : A → List ℕ) (made : Result A E) → IsFound seen may_leave is_usable is_clean found
     → is_some given ≡ is_some named
     → Begins seen may_leave is_clean manner (option_map lines given) (found_disk found) (found_bytes found) opened sizes
-    → IfOk made (λ m. (recorder m ≡ opened) × (note m ≡ (if manner.quiet then [] else sizes_line path sizes)))
+    → IfOk made (λ m. (recorder m ≡ opened) × (note m ≡ told_sizes manner.quiet path sizes))
     → IfOk made (λ m. BeginsOn seen may_leave is_usable is_clean manner (option_map text named) path (recorder m) (note m))
 begins_noted seen may_leave is_usable is_clean manner named text given lines path found opened sizes recorder note (Err e) is both begins noted = tt
 begins_noted seen may_leave is_usable is_clean manner named text given lines path found opened sizes recorder note (Ok m) is both begins noted =
@@ -78,18 +77,18 @@ pub still_prompts : (prompts prompted : Bool) (failed counted now : ℕ) → pro
 still_prompts prompts prompted failed counted now asked is same none = grind (arith, nat_tests)
 
 -- Use: it was told, and then lines were answered.
-pub has_sat_on : {D : Type 0} (seen : D → List ℕ) (may_leave : D → List ℕ → Type 0) (is_clean : D → Bool) (path bytes : List ℕ) (notes : Bool)
+pub has_sat_on : {D : Type 0} (seen : D → List ℕ) (may_leave : D → List ℕ → Type 0) (is_clean is_mixing : D → Bool) (path bytes : List ℕ) (notes : Bool)
     (begun behind : Recording SessionState D) (note text : List ℕ) (prompts prompted more closed ended has_bad : Bool)
     (lost : Option JournalError) (failed status : ℕ) (going : Result Going SitFault) (outcome : Result Ending Fault) (input rest : Option (List ℕ))
     (reads deaf : ℕ) (output written : Option (List ℕ)) (writes mute : ℕ) (first second third last : Option (List ℕ))
     (a b c d : ℕ) → failed ≡ a → text ≡ note → Tells first second a b text → (b ≡ failed → prompted ≡ prompts)
-    → HasSat (talk_kept seen may_leave is_clean) begun (streams_of input reads output writes second b prompted) going behind
+    → HasSat (talk_kept seen may_leave is_clean is_mixing) begun (streams_of input reads output writes second b prompted) going behind
     (streams_of rest deaf written mute third c more)
     → has_bad ≡ behind.machine.has_bad → lost ≡ behind.lost → bytes ≡ path → CameToKept bytes notes lost going has_bad outcome → ended ≡ closed
     → status ≡ status_ended ended StreamFailed outcome → (c ≡ failed → IsTold ended outcome [] (Tells third last c d))
-    → HasSatOn seen may_leave is_clean path notes begun note prompts closed status (streams_of input reads output writes first a false)
+    → HasSatOn seen may_leave is_clean is_mixing path notes begun note prompts closed status (streams_of input reads output writes first a false)
     (streams_of rest deaf written mute last d false)
-has_sat_on seen may_leave is_clean path bytes notes begun behind note text prompts prompted more closed ended has_bad lost failed status going outcome input
+has_sat_on seen may_leave is_clean is_mixing path bytes notes begun behind note text prompts prompted more closed ended has_bad lost failed status going outcome input
     rest reads deaf output written writes mute first second third last a b c d counted noted told are sat bad why named came same is tells = record {
       behind_note = streams_of input reads output writes second b false;
       note_told = subst (λ (t : List ℕ). Tells first second a b t) noted told;
@@ -125,23 +124,23 @@ unasked_elsewhere true wanted prompts is same = cc
 unasked_elsewhere false wanted prompts is same = same
 
 -- Use: the words name a journal.
-pub holds_with : {D : Type 0} (seen : D → List ℕ) (may_leave : D → List ℕ → Type 0) (is_usable is_clean : D → Bool) (named : Option (String Global))
+pub holds_with : {D : Type 0} (seen : D → List ℕ) (may_leave : D → List ℕ → Type 0) (is_usable is_clean is_mixing : D → Bool) (named : Option (String Global))
     (file : String Global) (path : List ℕ) (desk : DeskNames) (prompts asked closed : Bool) (status : ℕ) (old new : Streams) → named ≡ Some file
-    → path ≡ string_bytes file → prompts ≡ asked → HoldsKept seen may_leave is_usable is_clean desk path prompts closed status old new
-    → HoldsWith seen may_leave is_usable is_clean (name_of named) desk asked closed status old new
-holds_with seen may_leave is_usable is_clean named file path desk prompts asked closed status old new is same prompted holds =
-    subst (λ (o : Option (String Global)). HoldsWith seen may_leave is_usable is_clean (name_of o) desk asked closed status old new) (sym is)
-    (subst (λ (b : Bool). HoldsKept seen may_leave is_usable is_clean desk (string_bytes file) b closed status old new) prompted
-    (subst (λ (t : List ℕ). HoldsKept seen may_leave is_usable is_clean desk t prompts closed status old new) same holds))
+    → path ≡ string_bytes file → prompts ≡ asked → HoldsKept seen may_leave is_usable is_clean is_mixing desk path prompts closed status old new
+    → HoldsWith seen may_leave is_usable is_clean is_mixing (name_of named) desk asked closed status old new
+holds_with seen may_leave is_usable is_clean is_mixing named file path desk prompts asked closed status old new is same prompted holds =
+    subst (λ (o : Option (String Global)). HoldsWith seen may_leave is_usable is_clean is_mixing (name_of o) desk asked closed status old new) (sym is)
+    (subst (λ (b : Bool). HoldsKept seen may_leave is_usable is_clean is_mixing desk (string_bytes file) b closed status old new) prompted
+    (subst (λ (t : List ℕ). HoldsKept seen may_leave is_usable is_clean is_mixing desk t prompts closed status old new) same holds))
 
 -- Use: none began, where it is known who reads the output.
-pub kept_not_held : {D : Type 0} (seen : D → List ℕ) (may_leave : D → List ℕ → Type 0) (is_usable is_clean : D → Bool) (desk : DeskNames) (path : List ℕ)
+pub kept_not_held : {D : Type 0} (seen : D → List ℕ) (may_leave : D → List ℕ → Type 0) (is_usable is_clean is_mixing : D → Bool) (desk : DeskNames) (path : List ℕ)
     (prompts closed ended : Bool) (status : ℕ) (old new : Streams) (noted : Noted) → DoesNotBeginOn (manner_of desk) desk.script path noted → ended ≡ closed
     → status ≡ status_ended ended StreamFailed noted.outcome
     → IsTold ended noted.outcome (notes_in noted.notes) (Tells old.prompted new.prompted old.failed_prompts new.failed_prompts)
     → new.input ≡ old.input → new.failed_reads ≡ old.failed_reads → new.output ≡ old.output → new.failed_writes ≡ old.failed_writes
-    → HoldsKept seen may_leave is_usable is_clean desk path prompts closed status old new
-kept_not_held seen may_leave is_usable is_clean desk path prompts closed ended status old new noted why_not same is told input reads output writes = inr (record {
+    → HoldsKept seen may_leave is_usable is_clean is_mixing desk path prompts closed status old new
+kept_not_held seen may_leave is_usable is_clean is_mixing desk path prompts closed ended status old new noted why_not same is told input reads output writes = inr (record {
   noted = noted;
   why_not = why_not;
   status_is = subst (λ (b : Bool). status ≡ status_ended b StreamFailed noted.outcome) same is;

@@ -151,13 +151,13 @@ no_memory_at_desk manner file closed status old new is told input reads output w
 }
 
 -- with a journal too
-pub no_memory_at_any_desk : {D : Type 0} (seen : D → List ℕ) (may_leave : D → List ℕ → Type 0) (is_usable is_clean : D → Bool) (path : Option (List ℕ))
+pub no_memory_at_any_desk : {D : Type 0} (seen : D → List ℕ) (may_leave : D → List ℕ → Type 0) (is_usable is_clean is_mixing : D → Bool) (path : Option (List ℕ))
     (desk : DeskNames) (prompts closed : Bool) (status : ℕ) (old new : Held.Streams) → status ≡ 4
     → Tells old.prompted new.prompted old.failed_prompts new.failed_prompts (fault_line stop.NoMemory) → new.input ≡ old.input → new.failed_reads ≡ old.failed_reads
-    → new.output ≡ old.output → new.failed_writes ≡ old.failed_writes → HoldsWith seen may_leave is_usable is_clean path desk prompts closed status old new
-no_memory_at_any_desk seen may_leave is_usable is_clean None desk prompts closed status old new is told input reads output writes =
+    → new.output ≡ old.output → new.failed_writes ≡ old.failed_writes → HoldsWith seen may_leave is_usable is_clean is_mixing path desk prompts closed status old new
+no_memory_at_any_desk seen may_leave is_usable is_clean is_mixing None desk prompts closed status old new is told input reads output writes =
     inr (no_memory_at_desk (manner_of desk) desk.script closed status old new is told input reads output writes)
-no_memory_at_any_desk seen may_leave is_usable is_clean (Some path) desk prompts closed status old new is told input reads output writes = inr (record {
+no_memory_at_any_desk seen may_leave is_usable is_clean is_mixing (Some path) desk prompts closed status old new is told input reads output writes = inr (record {
   noted = no_memory_noted;
   why_not = inr (stop.NoMemory, refl, inl (no_memory_to_begin (manner_of desk) desk.script));
   status_is = is ∙ status_of_memory closed StreamFailed;

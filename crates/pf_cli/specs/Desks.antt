@@ -1,5 +1,5 @@
 -- What the program does where words ask for a session at a desk.
-use Rattle.std.specs.Prelude.{ℕ, ◌≡◌, ◌⊎◌, not, Bool, if◌then◌else◌, List, [], IfOk, Option, None, Some, Result, Ok, Err, Vec}
+use Rattle.std.specs.Prelude.{ℕ, ◌≡◌, ◌⊎◌, ◌||◌, not, is_some, Bool, if◌then◌else◌, List, [], IfOk, Option, None, Some, Result, Ok, Err, Vec}
 use Rattle.std.specs.declared.alloc.Global.{Global}
 use Rattle.pf_journaled.specs.Manner.{Manner}
 use Rattle.pf_fault.specs.Answers.{IsQuiet}
@@ -21,8 +21,9 @@ use Rattle.pf_cli.specs.Noted.{IsTold, IsUnreadNote, OneOf, notes_in, status_end
 use Rattle.pf_cli.specs.Source.{IsHad}
 use Rattle.pf_cli.specs.Status.{Tells as IsToldSo}
 
+-- a program reads JSON, and a journal keeps what is answered: a line that was cut off is not to be answered there
 abbrev pub manner_of : DeskNames → Manner
-manner_of desk = record { json = desk.json; quiet = desk.quiet }
+manner_of desk = record { json = desk.json; quiet = desk.quiet; whole = desk.json || is_some desk.journal }
 
 -- a session begins after the records of a script, of which no contract says more where it lies in a file; or after none
 abbrev pub Begins : Manner → Option (List ℕ) → SessionState → Type 0

@@ -1,5 +1,5 @@
 -- What the program does where words ask for a session with a journal.
-use Rattle.std.specs.Prelude.{ℕ, ◌≡◌, ◌⊎◌, not, Bool, if◌then◌else◌, List, [], IfOk, IfSome, Option, None, Some, is_some, Result, Err, Vec}
+use Rattle.std.specs.Prelude.{ℕ, ◌≡◌, ◌⊎◌, ◌==◌, ◌&&◌, not, Bool, if◌then◌else◌, List, [], IfOk, IfSome, Option, None, Some, is_some, Result, Err, Vec}
 use Rattle.std.specs.declared.alloc.Global.{Global}
 use Rattle.pf_journaled.specs.Manner.{Manner}
 use Rattle.pf_fault.specs.declared.ending.Ending.{Ending}
@@ -12,6 +12,7 @@ use Rattle.pf_journaled.specs.Found.{Found}
 use Rattle.pf_journaled.specs.JournalError.{JournalError}
 use Rattle.pf_journaled.specs.Faults.{IsOutcome, IsUnhad, fault_of_adding}
 use Rattle.pf_journaled.specs.Sizes.{sizes_line}
+use Rattle.pf_journal_file.specs.declared.sizes.Sizes.{Sizes}
 use Rattle.pf_journaled.specs.JournalFault.{JournalFault}
 use Rattle.pf_journaled.specs.Journaled.{Begins, DoesNotBegin as IsNotBegun, session_on}
 use Rattle.pf_journaled.specs.declared.unopened.Unopened.TheVariants.{Journal}
@@ -31,10 +32,10 @@ use Rattle.pf_cli.specs.Status.{Tells as IsToldSo}
 use Rattle.pf_cli.specs.declared.noted.Noted.{Noted}
 
 -- lines are answered as without a journal; what their script gets is in the file before the answers are written
-abbrev pub talk_kept : {D : Type 0} → (D → List ℕ) → (D → List ℕ → Type 0) → (D → Bool) → Talk (Recording SessionState D) Streams
-talk_kept seen may_leave is_clean =
+abbrev pub talk_kept : {D : Type 0} → (D → List ℕ) → (D → List ℕ → Type 0) → (D → Bool) → (D → Bool) → Talk (Recording SessionState D) Streams
+talk_kept seen may_leave is_clean is_mixing =
     talk_of (λ r line text going t. Records answers (λ s. s.script) r line text going t) (λ r t. Stops r t) (λ r t. Keeps seen may_leave is_clean r t)
-    (λ r t. Loses seen may_leave is_clean r t) Hears IsDeaf Tells IsMute
+    (λ r t. Loses seen may_leave is_clean is_mixing r t) Hears IsDeaf Tells IsMute
 
 -- what a sitting came to: where what was answered could not be kept, the sentence and the status of why
 abbrev pub CameToKept : List ℕ → Bool → Option JournalError → Result Going SitFault → Bool → Result Ending Fault → Type 0
@@ -44,8 +45,12 @@ CameToKept path notes lost going has_bad outcome = CameTo going has_bad outcome
 abbrev pub CameToOn : {D : Type 0} → List ℕ → Bool → Result Going SitFault → Recording SessionState D → Result Ending Fault → Type 0
 CameToOn path notes going r outcome = CameToKept path notes r.lost going r.machine.has_bad outcome
 
+-- what is told of how much a journal has; to who asks for quiet only that bytes were cut
+abbrev pub told_sizes : Bool → List ℕ → Sizes → List ℕ
+told_sizes quiet path sizes = if quiet && sizes.cut == 0 then [] else sizes_line path sizes
+
 -- a session begins on a file as it was found, after its records, or after those of a script where one is named; of what lies in that
--- file no contract says more; and how much the journal then has is told, unless the words ask for quiet
+-- file no contract says more; and how much the journal then has is told, where the words ask for quiet only if bytes were cut
 pub record BeginsOn {D : Type 0} (seen : D → List ℕ) (may_leave : D → List ℕ → Type 0) (is_usable is_clean : D → Bool) (manner : Manner)
     (script : Option (List ℕ)) (path : List ℕ) (begun : Recording SessionState D) (note : List ℕ) : Type 0 where
   pub found : Found D
@@ -53,7 +58,7 @@ pub record BeginsOn {D : Type 0} (seen : D → List ℕ) (may_leave : D → List
   pub lines : Option (List ℕ)
   pub named : is_some lines ≡ is_some script
   pub begins : (sizes : _) × Begins seen may_leave is_clean manner lines (found_disk found) (found_bytes found) begun sizes
-      × (note ≡ (if manner.quiet then [] else sizes_line path sizes))
+      × (note ≡ told_sizes manner.quiet path sizes)
 
 -- the file could not be had, or keeps no such session
 abbrev pub IsRefused : Manner → Option (List ℕ) → JournalFault → Type 0
@@ -81,7 +86,7 @@ pub record HasNotBegunOn (manner : Manner) (script : Option (List ℕ)) (path : 
   pub output : (new.output ≡ old.output) × (new.failed_writes ≡ old.failed_writes)
 
 -- how much the journal has was told, and then lines were answered, with prompts where that was told whole
-pub record HasSatOn {D : Type 0} (seen : D → List ℕ) (may_leave : D → List ℕ → Type 0) (is_clean : D → Bool) (path : List ℕ) (notes : Bool)
+pub record HasSatOn {D : Type 0} (seen : D → List ℕ) (may_leave : D → List ℕ → Type 0) (is_clean is_mixing : D → Bool) (path : List ℕ) (notes : Bool)
     (begun : Recording SessionState D) (note : List ℕ) (prompts closed : Bool) (status : ℕ) (old new : Streams) : Type 0 where
   pub behind_note : Streams
   pub note_told : IsToldSo old.prompted behind_note.prompted old.failed_prompts behind_note.failed_prompts note
@@ -89,19 +94,19 @@ pub record HasSatOn {D : Type 0} (seen : D → List ℕ) (may_leave : D → List
   pub output : (behind_note.output ≡ old.output) × (behind_note.failed_writes ≡ old.failed_writes)
   pub prompted : Bool
   pub prompts_are : behind_note.failed_prompts ≡ old.failed_prompts → prompted ≡ prompts
-  pub sat : HasSatDown (talk_kept seen may_leave is_clean) (CameToOn path notes) begun prompted closed old.failed_prompts status behind_note new
+  pub sat : HasSatDown (talk_kept seen may_leave is_clean is_mixing) (CameToOn path notes) begun prompted closed old.failed_prompts status behind_note new
 
 -- the session on this file that the words ask for was held, or did not begin
-abbrev pub HoldsKept : {D : Type 0} → (D → List ℕ) → (D → List ℕ → Type 0) → (D → Bool) → (D → Bool) → DeskNames → List ℕ → Bool → Bool → ℕ → Streams → Streams
+abbrev pub HoldsKept : {D : Type 0} → (D → List ℕ) → (D → List ℕ → Type 0) → (D → Bool) → (D → Bool) → (D → Bool) → DeskNames → List ℕ → Bool → Bool → ℕ → Streams → Streams
     → Type 0
-HoldsKept seen may_leave is_usable is_clean desk path prompts closed status old new =
+HoldsKept seen may_leave is_usable is_clean is_mixing desk path prompts closed status old new =
     ((begun : Recording SessionState _) × (note : List ℕ) × BeginsOn seen may_leave is_usable is_clean (manner_of desk) desk.script path begun note
-    × HasSatOn seen may_leave is_clean path (not desk.quiet) begun note prompts closed status old new)
+    × HasSatOn seen may_leave is_clean is_mixing path (not desk.quiet) begun note prompts closed status old new)
     ⊎ HasNotBegunOn (manner_of desk) desk.script path closed status old new
 
 -- with the journal of this file, where one is named
-abbrev pub HoldsWith : {D : Type 0} → (D → List ℕ) → (D → List ℕ → Type 0) → (D → Bool) → (D → Bool) → Option (List ℕ) → DeskNames → Bool → Bool → ℕ → Streams
+abbrev pub HoldsWith : {D : Type 0} → (D → List ℕ) → (D → List ℕ → Type 0) → (D → Bool) → (D → Bool) → (D → Bool) → Option (List ℕ) → DeskNames → Bool → Bool → ℕ → Streams
     → Streams → Type 0
-HoldsWith seen may_leave is_usable is_clean None desk prompts closed status old new = HoldsDesk desk prompts closed status old new
-HoldsWith seen may_leave is_usable is_clean (Some path) desk prompts closed status old new =
-    HoldsKept seen may_leave is_usable is_clean desk path prompts closed status old new
+HoldsWith seen may_leave is_usable is_clean is_mixing None desk prompts closed status old new = HoldsDesk desk prompts closed status old new
+HoldsWith seen may_leave is_usable is_clean is_mixing (Some path) desk prompts closed status old new =
+    HoldsKept seen may_leave is_usable is_clean is_mixing desk path prompts closed status old new

@@ -10,6 +10,7 @@ ghost use Rattle.pf_cli.specs.Source.{told_name};
 
 use crate::ending::end;
 use crate::kept_desk::hold_kept;
+use crate::manner::manner_of;
 use crate::noted::Noted;
 use crate::notes::unread_note;
 use crate::sat::{end_sat, outcome_of};
@@ -17,7 +18,7 @@ use crate::script_source::{read_file, told_name};
 use pf_fault::fault::Fault;
 use pf_fault::status::Status;
 use pf_held::hold::hold;
-use pf_journaled::files::FileSaver;
+use pf_journaled::files::{FileSaver, Locks};
 use pf_journaled::journals::Journals;
 use pf_journaled::manner::Manner;
 use pf_journaled::opening::open_script;
@@ -42,7 +43,7 @@ struct Unbegun {
 /// Holds the session that words ask for, with a journal where they name one, and answers the status. At a terminal prompts are told,
 /// unless the words ask for quiet; where one could not be told, nothing more is told there.
 pub(crate) fn hold_desk<
-    H: AllocGlobal + Files + Wait,
+    H: AllocGlobal + Locks + Wait,
     R: Source,
     W: Pipe,
     F: Sink,
@@ -59,7 +60,7 @@ pub(crate) fn hold_desk<
     requires reads { R.failed reader.old < 2 ^ 64 - 1 }
     requires writes { W.failed writer.old < 2 ^ 64 - 1 }
     requires tells { F.failed faults.old < 2 ^ 64 - 1 }
-    ensures { HoldsWith J.File.seen J.File.may_leave J.File.is_usable J.File.is_clean (name_of words.now.journal) (desk_named words.now) (is_terminal && not words.now.quiet)
+    ensures { HoldsWith J.File.seen J.File.may_leave J.File.is_usable J.File.is_clean J.File.is_mixing (name_of words.now.journal) (desk_named words.now) (is_terminal && not words.now.quiet)
         (W.closed writer.new) result
         (streams_of (R.remaining reader.old) (R.failed reader.old) (W.contents writer.old) (W.failed writer.old) (F.contents faults.old) (F.failed faults.old) false)
         (streams_of (R.remaining reader.new) (R.failed reader.new) (W.contents writer.new) (W.failed writer.new) (F.contents faults.new) (F.failed faults.new) false) }
@@ -81,7 +82,7 @@ pub(crate) fn hold_desk<
 }
 
 /// Holds a session without a journal.
-fn hold_alone<H: AllocGlobal + Files + Wait, R: Source, W: Pipe, F: Sink>(
+fn hold_alone<H: AllocGlobal + Locks + Wait, R: Source, W: Pipe, F: Sink>(
     rt: &H,
     words: &DeskWords,
     prompts: bool,
@@ -115,7 +116,7 @@ fn hold_alone<H: AllocGlobal + Files + Wait, R: Source, W: Pipe, F: Sink>(
 }
 
 /// Answers the lines that come in, and then tells what that came to.
-fn sit_down<H: AllocGlobal + Files + Wait, R: Source, W: Pipe, F: Sink>(
+fn sit_down<H: AllocGlobal + Locks + Wait, R: Source, W: Pipe, F: Sink>(
     rt: &H,
     sitter: &mut Sitter<FileSaver<'_, H>>,
     prompts: bool,
@@ -146,10 +147,7 @@ fn begin<H: AllocGlobal + Files>(rt: &H, words: &DeskWords) -> Result<Session, U
     ensures unbegun { IfErr result (λ u. DoesNotBegin (manner_of (desk_named words.now)) (desk_named words.now).script u.fault u.notes) }
 {
     let alloc = rt.alloc();
-    let manner = Manner {
-        json: words.json,
-        quiet: words.quiet,
-    };
+    let manner = manner_of(words);
     let Some(path) = &words.script else {
         return match Session::new(alloc, manner) {
             Ok(session) => Ok(session),

@@ -13,6 +13,7 @@ use pf_fault::fault::Fault;
 use pf_fault::status::Status;
 use pf_held::hold::hold;
 use pf_journaled::Disk;
+use pf_journaled::files::Locks;
 use pf_journaled::journal_error::JournalError;
 use pf_journaled::journal_fault::JournalFault;
 use pf_journaled::journals::Journals;
@@ -23,11 +24,10 @@ use pf_stream::sink::Sink;
 use pf_stream::source::Source;
 use pf_words::desk_words::DeskWords;
 use std::alloc::Global;
-use std::rt::Files;
 use std::sync::Wait;
 
 /// Holds the session that words ask for on the file of this path, and answers the status.
-pub(crate) fn hold_kept<H: AllocGlobal + Files + Wait, R: Source, W: Pipe, F: Sink, J: Journals>(
+pub(crate) fn hold_kept<H: AllocGlobal + Locks + Wait, R: Source, W: Pipe, F: Sink, J: Journals>(
     rt: &H,
     words: &DeskWords,
     path: &str,
@@ -40,7 +40,7 @@ pub(crate) fn hold_kept<H: AllocGlobal + Files + Wait, R: Source, W: Pipe, F: Si
     requires reads { R.failed reader.old < 2 ^ 64 - 1 }
     requires writes { W.failed writer.old < 2 ^ 64 - 1 }
     requires tells { F.failed faults.old < 2 ^ 64 - 1 }
-    ensures { HoldsKept J.File.seen J.File.may_leave J.File.is_usable J.File.is_clean (desk_named words.now) path.now prompts (W.closed writer.new) result
+    ensures { HoldsKept J.File.seen J.File.may_leave J.File.is_usable J.File.is_clean J.File.is_mixing (desk_named words.now) path.now prompts (W.closed writer.new) result
         (streams_of (R.remaining reader.old) (R.failed reader.old) (W.contents writer.old) (W.failed writer.old) (F.contents faults.old) (F.failed faults.old) false)
         (streams_of (R.remaining reader.new) (R.failed reader.new) (W.contents writer.new) (W.failed writer.new) (F.contents faults.new) (F.failed faults.new) false) }
 {
@@ -59,7 +59,7 @@ pub(crate) fn hold_kept<H: AllocGlobal + Files + Wait, R: Source, W: Pipe, F: Si
 }
 
 /// Tells how much the journal has, answers the lines that come in, and then tells what that came to.
-fn sit_noted<H: AllocGlobal + Files + Wait, R: Source, W: Pipe, F: Sink, D: Disk>(
+fn sit_noted<H: AllocGlobal + Locks + Wait, R: Source, W: Pipe, F: Sink, D: Disk>(
     rt: &H,
     made: &mut Made<'_, H, D>,
     path: &str,
@@ -72,7 +72,7 @@ fn sit_noted<H: AllocGlobal + Files + Wait, R: Source, W: Pipe, F: Sink, D: Disk
     requires reads { R.failed reader.old < 2 ^ 64 - 1 }
     requires writes { W.failed writer.old < 2 ^ 64 - 1 }
     requires tells { F.failed faults.old < 2 ^ 64 - 1 }
-    ensures { HasSatOn D.seen D.may_leave D.is_clean path.now notes made.old.recorder made.old.note.items prompts (W.closed writer.new) result
+    ensures { HasSatOn D.seen D.may_leave D.is_clean D.is_mixing path.now notes made.old.recorder made.old.note.items prompts (W.closed writer.new) result
         (streams_of (R.remaining reader.old) (R.failed reader.old) (W.contents writer.old) (W.failed writer.old) (F.contents faults.old) (F.failed faults.old) false)
         (streams_of (R.remaining reader.new) (R.failed reader.new) (W.contents writer.new) (W.failed writer.new) (F.contents faults.new) (F.failed faults.new) false) }
 {

@@ -1,26 +1,25 @@
 //! A session with a journal, as it begins.
-ghost use Rattle.std.specs.Prelude.{◌≡◌, ℕ, List, [], not, if◌then◌else◌, is_some, IfErr, IfOk, option_map, None};
+ghost use Rattle.std.specs.Prelude.{◌≡◌, ℕ, List, [], not, is_some, IfErr, IfOk, option_map, None};
 ghost use Rattle.pf_journaled.specs.Faults.{IsOutcome};
 ghost use Rattle.pf_journaled.specs.Journaled.{DoesNotBegin as IsNotBegun};
 ghost use Rattle.pf_journaled.specs.Kept.{IsFound};
-ghost use Rattle.pf_journaled.specs.Sizes.{sizes_line};
 ghost use Rattle.pf_script_notes.specs.Faults.{IsFaultNote};
 ghost use Rattle.pf_words.specs.Asked.{desk_named};
 ghost use Rattle.pf_cli.specs.Desks.{manner_of};
-ghost use Rattle.pf_cli.specs.Journals.{BeginsOn, DoesNotBeginOn};
+ghost use Rattle.pf_cli.specs.Journals.{BeginsOn, DoesNotBeginOn, told_sizes};
 ghost use Rattle.pf_cli.specs.Noted.{OneOf, notes_in};
 
+use crate::manner::manner_of;
 use crate::noted::Noted;
 use crate::notes::unread_note;
 use crate::script_source::{read_file, told_name};
 use pf_fault::fault::Fault;
 use pf_journaled::Disk;
 use pf_journaled::begun::{Opened, open_journal};
-use pf_journaled::files::FileSaver;
+use pf_journaled::files::{FileSaver, Locks};
 use pf_journaled::found::Found;
 use pf_journaled::journal_fault::JournalFault;
 use pf_journaled::journals::{Journals, find_journal};
-use pf_journaled::manner::Manner;
 use pf_journaled::recorder::Recorder;
 use pf_journaled::sitter::Sitter;
 use pf_journaled::sizes::Sizes;
@@ -28,11 +27,10 @@ use pf_journaled::unopened::Unopened;
 use pf_script_notes::behind_fault::fault_note;
 use pf_words::desk_words::DeskWords;
 use std::alloc::{AllocError, Global};
-use std::rt::Files;
 
 /// A session with a journal, as it begins.
 #[derive(Drop)]
-pub(crate) struct Made<'a, H: AllocGlobal + Files, D: Disk> {
+pub(crate) struct Made<'a, H: AllocGlobal + Locks, D: Disk> {
     /// Who answers, and keeps what was answered.
     pub(crate) recorder: Recorder<Sitter<FileSaver<'a, H>>, D>,
     /// What is told of the journal.
@@ -45,10 +43,10 @@ pub(crate) struct Made<'a, H: AllocGlobal + Files, D: Disk> {
 ///
 /// Where the file can't be had or keeps no such session, where the script can't be read, where a record of either is bad, and where
 /// memory is refused: what is told of that.
-pub(crate) fn make_of<'a, H: AllocGlobal + Files, J: Journals>(
+pub(crate) fn make_of<'a, H: AllocGlobal + Locks, J: Journals>(
     rt: &'a H,
     words: &DeskWords,
-    path: &'a str,
+    path: &str,
     journals: J,
 ) -> Result<Made<'a, H, J::File>, Noted>
     ensures made { IfOk result (λ m. BeginsOn J.File.seen J.File.may_leave J.File.is_usable J.File.is_clean (manner_of (desk_named words.now)) (desk_named words.now).script path.now m.recorder m.note.items) }
@@ -61,10 +59,10 @@ pub(crate) fn make_of<'a, H: AllocGlobal + Files, J: Journals>(
 }
 
 /// The session that begins on a file as it was found.
-fn make_on<'a, H: AllocGlobal + Files, D: Disk + Drop>(
+fn make_on<'a, H: AllocGlobal + Locks, D: Disk + Drop>(
     rt: &'a H,
     words: &DeskWords,
-    path: &'a str,
+    path: &str,
     found: Found<D>,
 ) -> Result<Made<'a, H, D>, Noted>
     requires { IsFound D.Disk.seen D.Disk.may_leave D.Disk.is_usable D.Disk.is_clean found }
@@ -89,10 +87,10 @@ fn make_on<'a, H: AllocGlobal + Files, D: Disk + Drop>(
 }
 
 /// The session that begins on a file as it was found, after these bytes of a script where one is named.
-fn make_with<'a, H: AllocGlobal + Files, D: Disk + Drop>(
+fn make_with<'a, H: AllocGlobal + Locks, D: Disk + Drop>(
     rt: &'a H,
     words: &DeskWords,
-    path: &'a str,
+    path: &str,
     found: Found<D>,
     script: Option<&[u8]>,
 ) -> Result<Made<'a, H, D>, Noted>
@@ -101,17 +99,8 @@ fn make_with<'a, H: AllocGlobal + Files, D: Disk + Drop>(
     ensures made { IfOk result (λ m. BeginsOn D.Disk.seen D.Disk.may_leave D.Disk.is_usable D.Disk.is_clean (manner_of (desk_named words.now)) (desk_named words.now).script path.now m.recorder m.note.items) }
     ensures unmade { IfErr result (λ n. DoesNotBeginOn (manner_of (desk_named words.now)) (desk_named words.now).script path.now n) }
 {
-    let manner = Manner {
-        json: words.json,
-        quiet: words.quiet,
-    };
-    match open_journal(
-        rt.alloc(),
-        found,
-        manner,
-        script,
-        FileSaver::beside(rt, path),
-    ) {
+    let manner = manner_of(words);
+    match open_journal(rt.alloc(), found, manner, script, FileSaver::new(rt)) {
         Ok(opened) => with_note(rt.alloc(), words, path, opened),
         Err(unopened) => Err(noted_of(rt.alloc(), words, path, script, unopened)),
     }
@@ -122,13 +111,13 @@ fn make_with<'a, H: AllocGlobal + Files, D: Disk + Drop>(
 /// # Errors
 ///
 /// Where memory is refused for that.
-fn with_note<'a, H: AllocGlobal + Files, D: Disk + Drop>(
+fn with_note<'a, H: AllocGlobal + Locks, D: Disk + Drop>(
     alloc: Global,
     words: &DeskWords,
     path: &str,
     opened: Opened<FileSaver<'a, H>, D>,
 ) -> Result<Made<'a, H, D>, Noted>
-    ensures made { IfOk result (λ m. (m.recorder ≡ opened.entry.recorder) × (m.note.items ≡ (if words.now.quiet then [] else sizes_line path.now opened.entry.sizes))) }
+    ensures made { IfOk result (λ m. (m.recorder ≡ opened.entry.recorder) × (m.note.items ≡ told_sizes words.now.quiet path.now opened.entry.sizes)) }
     ensures unmade { IfErr result (λ n. DoesNotBeginOn (manner_of (desk_named words.now)) (desk_named words.now).script path.now n) }
 {
     match opening_note(alloc, words.quiet, path.as_bytes(), opened.sizes) {
@@ -143,16 +132,16 @@ fn with_note<'a, H: AllocGlobal + Files, D: Disk + Drop>(
     }
 }
 
-/// How much a journal has, as it is told, unless the words ask for quiet.
+/// How much a journal has, as it is told; where the words ask for quiet, only of one of which bytes were cut.
 fn opening_note(
     alloc: Global,
     quiet: bool,
     path: &[u8],
     sizes: Sizes,
 ) -> Result<Vec<u8>, AllocError>
-    ensures { IfOk result (λ note. note.items ≡ (if quiet then [] else sizes_line path.now sizes)) }
+    ensures { IfOk result (λ note. note.items ≡ told_sizes quiet path.now sizes) }
 {
-    if quiet {
+    if quiet && sizes.cut == 0 {
         return Ok(Vec::new(alloc));
     }
     sizes.line(alloc, path)

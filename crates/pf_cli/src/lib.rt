@@ -11,6 +11,7 @@ mod fault_line;
 mod gone;
 mod kept_desk;
 mod kept_made;
+mod manner;
 mod noted;
 mod notes;
 mod noting;
@@ -27,7 +28,7 @@ mod two_scripts;
 mod versions;
 
 pub use pf_drill::gate;
-pub use pf_journaled::host_journals;
+pub use pf_journaled::{files, host_journals};
 pub use pf_kept::{kept_writer, pipe};
 pub use pf_options::format;
 pub use pf_stream::{sink, source};

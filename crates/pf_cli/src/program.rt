@@ -18,6 +18,7 @@ use crate::two_scripts::compare_scripts;
 use crate::versions::do_script;
 use pf_fault::fault::Fault;
 use pf_fault::status::Status;
+use pf_journaled::files::Locks;
 use pf_journaled::journals::Journals;
 use pf_kept::pipe::Pipe;
 use pf_stream::sink::Sink;
@@ -58,7 +59,7 @@ const NO_TEXT: &str = "error: invalid UTF-8 was detected in one or more argument
 /// the words ask for a drill, and only there, threads are started, and the call waits for them. The counts of failures of all
 /// three streams must be below `u64::MAX` before the call.
 pub fn main_words<
-    H: AllocGlobal + Files + Threads + Wait + Sync,
+    H: AllocGlobal + Locks + Threads + Wait + Sync,
     S: AsStr,
     R: Source,
     W: Pipe,
@@ -80,7 +81,7 @@ pub fn main_words<
         (seen_streams (R.remaining reader.old) (R.failed reader.old) (W.contents writer.old) (W.failed writer.old))
         (seen_streams (R.remaining reader.new) (R.failed reader.new) (W.contents writer.new) (W.failed writer.new))
         (Tells (F.contents faults.old) (F.contents faults.new) (F.failed faults.old) (F.failed faults.new))
-        (λ desk. HoldsWith J.File.seen J.File.may_leave J.File.is_usable J.File.is_clean desk.journal desk (is_terminal && not desk.quiet) (W.closed writer.new) result
+        (λ desk. HoldsWith J.File.seen J.File.may_leave J.File.is_usable J.File.is_clean J.File.is_mixing desk.journal desk (is_terminal && not desk.quiet) (W.closed writer.new) result
         (streams_of (R.remaining reader.old) (R.failed reader.old) (W.contents writer.old) (W.failed writer.old) (F.contents faults.old) (F.failed faults.old) false)
         (streams_of (R.remaining reader.new) (R.failed reader.new) (W.contents writer.new) (W.failed writer.new) (F.contents faults.new) (F.failed faults.new) false)) }
     ensures unread { reads_input (map S.text words.now) ≡ false → reader.new ≡ reader.old }

@@ -13,7 +13,8 @@ use pf_stream::source::Source;
 use std::sync::Wait;
 
 /// Answers the lines that a reader gives, until they end (`Going::On`) or one of them is the last (`Going::Ends`): each answer is
-/// written before more is read than was read already, and what was answered is kept before it is written. Where prompts are asked for, one is told before each read, until that fails once.
+/// written before more is read than was read already, and what was answered is kept before it is written. Answers are held back for
+/// those behind them up to 65,536 bytes. Where prompts are asked for, one is told before each read, until that fails once.
 /// The counts of failures must be below `u64::MAX` before the call, that of the prompts where they are asked for.
 ///
 /// # Errors

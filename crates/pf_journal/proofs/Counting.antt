@@ -1,9 +1,9 @@
 -- How many lines stand in a file.
-use Rattle.std.proofs.Common.{◌≡◌, inl, inr, ℕ, ◌+◌, ◌-◌, Bool, true, false, List, [], ◌∷◌, ◌++◌, length, refl, sym, ◌∙◌, ap, arith, append_assoc, drop, if◌then◌else◌, length-drop, ◌≢◌, ◌==◌}
+use Rattle.std.proofs.Common.{◌≡◌, ℕ, ◌+◌, ◌-◌, Bool, true, false, List, [], ◌∷◌, ◌++◌, length, refl, sym, ◌∙◌, ap, arith, append_assoc, drop, if◌then◌else◌, length-drop, ◌≢◌}
 use Rattle.std.proofs.lemmas.Bool.Decides.{nat_tests}
 use Rattle.std.specs.List.{list_all}
 use Rattle.std.proofs.lemmas.Bool.{and_parts}
-use Rattle.pf_journal.specs.Lines.{ends_in, is_new, is_text, line_of, lines_of, records_of, script_of, texts_of}
+use Rattle.pf_journal.specs.Lines.{ends_in, is_new, is_text, lines_of, records_of, script_of, texts_of}
 use Rattle.pf_journal.proofs.Reading.{text_parts, texts_of-all}
 
 ended_not : (byte : ℕ) (rest : List ℕ) → byte ≢ 10 → ends_in (byte ∷ rest) ≡ ends_in rest
@@ -15,7 +15,7 @@ text_ends (byte ∷ text) rest is =
     let parts = text_parts byte text is in
     ended_not byte (text ++ rest) parts.0 ∙ text_ends text rest parts.1
 
-lines_end : (texts : List (List ℕ)) → list_all is_text texts ≡ true → ends_in (lines_of texts) ≡ length texts
+pub lines_end : (texts : List (List ℕ)) → list_all is_text texts ≡ true → ends_in (lines_of texts) ≡ length texts
 lines_end [] all = refl
 lines_end (text ∷ texts) all =
     let parts = and_parts (is_text text) (list_all is_text texts) all in

@@ -1,5 +1,7 @@
 mod Reading
 mod Sizes
+mod States
+pub mod Resting
 mod Shapes
 mod Opening
 mod Putting

@@ -1,16 +1,17 @@
 -- What a crash leaves while lines are added after a shut gate.
-use Rattle.std.proofs.Common.{◌≡◌, ◌≢◌, inl, inr, ℕ, ◌+◌, true, List, [], ◌∷◌, ◌++◌, length, take, drop, refl, sym, ◌∙◌, ap, subst, arith, append_assoc, length-append}
+use Rattle.std.proofs.Common.{◌≡◌, ◌≢◌, ◌⊎◌, inl, inr, ℕ, ◌+◌, ◌≤◌, true, List, [], ◌∷◌, ◌++◌, length, take, drop, refl, sym, ◌∙◌, ap, subst, arith, append_assoc, length-append}
 use Rattle.std.proofs.lemmas.List.{length-take, take_at}
 use Rattle.std.proofs.lemmas.Grind.{flat_map-append}
 use Rattle.std.proofs.lemmas.Bool.{cases_eq, and_parts}
 use Rattle.std.specs.List.{list_all}
 use Rattle.std.specs.Cmp.Derive.{both_true}
-use Rattle.sqlite_disk.specs.Disk.{Torn, Holds}
+use Rattle.sqlite_disk.specs.Disk.{Torn, Holds, Mixed}
 use Rattle.pf_journal.specs.Lines.{is_text, line_of, lines_of, journal_of, texts_of, heading, records_of}
-use Rattle.pf_journal.specs.Crash.{IsShutAt, IsAdding, IsAtRest, IsBeforeOrAfter}
+use Rattle.pf_journal.specs.Crash.{IsShutAt, IsAdding, IsAddingMixed, IsAtRest, IsBeforeOrAfter, IsOpenable}
 use Rattle.pf_journal.proofs.Reading.{shuts, lines_then, journal_texts}
-use Rattle.pf_journal.proofs.Shapes.{torn_end, written_end, torn_byte, written_byte}
+use Rattle.pf_journal.proofs.Shapes.{torn_end, written_end, torn_byte, mixed_byte, written_byte}
 use Rattle.pf_journal.proofs.Opening.{records_are}
+use Rattle.pf_journal.proofs.States.{opens, shut_end}
 
 -- the two writes
 module _ (file : List ℕ) (gate : ℕ) (added : List ℕ) (shut : IsShutAt gate file) where
@@ -34,6 +35,17 @@ module _ (file : List ℕ) (gate : ℕ) (added : List ℕ) (shut : IsShutAt gate
 
   pub gate_crash : (c : List ℕ) → Torn gate 1 (front ++ 35 ∷ added) c → IsAdding front added c
   gate_crash c torn = let byte = torn_byte front 35 added gate size c torn in inr (byte.0, byte.1)
+
+  pub behind_mixed : (c : List ℕ) → Torn (gate + 1) (length added) file c → IsAddingMixed front added c
+  behind_mixed c torn =
+      let more = torn_end (gate + 1) (length added) file c end torn in
+      inl (more.0, more.1, more.2 ∙ ap (λ (l : List ℕ). l ++ more.0) shut ∙ append_assoc front (35 ∷ []) more.0)
+
+  pub gate_mixed : (c : List ℕ) → Mixed gate (32 ∷ []) (front ++ 35 ∷ added) c → IsAddingMixed front added c
+  gate_mixed c mixed = elim (mixed_byte front 35 added gate size 32 c mixed) [
+    | inl same ↦ inl (added, omega arith, same)
+    | inr done ↦ inr done
+  ]
 
   pub gate_done : (new : List ℕ) → Torn gate 1 (front ++ 35 ∷ added) new → Holds new gate (32 ∷ []) → new ≡ front ++ 32 ∷ added
   gate_done new torn holds = written_byte front 35 added gate size 32 new torn holds
@@ -130,3 +142,20 @@ module _ (file : List ℕ) (gate : ℕ) (rest : IsAtRest file gate) (added : Lis
       (put_crash rest.records first others rest.texts texts c
       (subst (λ (l : List ℕ). IsAdding (lines_of (heading ∷ rest.records)) l c) is
       (subst (λ (l : List ℕ). IsAdding l added c) (rest_lines file gate rest) adding)))
+
+  bare : (more : List ℕ) → length more ≤ length added → (records_of file ≡ []) ⊎ (length added ≤ 65538)
+      → (length (heading ∷ rest.records) ≤ 1) ⊎ (length more ≤ 65538)
+  bare more within (inl none) = inl (omega (arith, ap length (sym (rest_records file gate rest) ∙ none)))
+  bare more within (inr few) = inr (omega (arith, within, few))
+
+  pub put_opens : (batch : List (List ℕ)) → list_all is_text batch ≡ true → batch ≢ [] → added ≡ drop 1 (journal_of batch)
+      → (records_of file ≡ []) ⊎ (length added ≤ 65538) → (c : List ℕ) → IsAddingMixed (take gate file) added c → IsOpenable c
+  put_opens [] texts some is few c adding = absurd (some refl)
+  put_opens (first ∷ others) texts some is few c (inl shut) =
+      opens rest.records (35 ∷ shut.0) c (both_true refl rest.texts) (shuts 35 shut.0 (omega arith))
+      (shut_end (heading ∷ rest.records) shut.0 (bare shut.0 shut.1 few))
+      (shut.2 ∙ ap (λ (l : List ℕ). l ++ 35 ∷ shut.0) (rest_lines file gate rest))
+  put_opens (first ∷ others) texts some is few c (inr open_is) =
+      opens (rest.records ++ first ∷ others) (35 ∷ []) c (both_true refl (both_texts rest.records first others rest.texts texts)) refl refl
+      (open_is ∙ ap (λ (l : List ℕ). l ++ 32 ∷ added) (rest_lines file gate rest)
+      ∙ ap (λ (l : List ℕ). lines_of (heading ∷ rest.records) ++ 32 ∷ l) is ∙ added_is rest.records first others rest.texts texts)

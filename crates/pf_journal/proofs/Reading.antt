@@ -17,7 +17,7 @@ text_parts byte rest is = elim (cases_eq byte 10) [
   | inr other ↦ (other, (and_parts (not (byte == 10)) (is_text rest) is).1)
 ]
 
-text_more : (line : List ℕ) (byte : ℕ) → is_text line ≡ true → byte ≢ 10 → is_text (line ++ byte ∷ []) ≡ true
+pub text_more : (line : List ℕ) (byte : ℕ) → is_text line ≡ true → byte ≢ 10 → is_text (line ++ byte ∷ []) ≡ true
 text_more [] byte is other = both_true (not_ten byte other) refl
 text_more (first ∷ line) byte is other =
     let parts = and_parts (not (first == 10)) (is_text line) is in

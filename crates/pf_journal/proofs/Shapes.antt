@@ -1,8 +1,9 @@
 -- What a disk says of a file byte by byte, as fronts and rests.
-use Rattle.std.proofs.Common.{◌≡◌, ℕ, ◌+◌, ◌≤◌, ◌<◌, List, [], ◌∷◌, ◌++◌, length, get_or, take, drop, sym, ◌∙◌, ap, arith, append_assoc, length-append, length-drop, take-append-drop}
+use Rattle.std.proofs.Common.{◌≡◌, ◌⊎◌, inl, inr, ℕ, ◌+◌, ◌≤◌, ◌<◌, List, [], ◌∷◌, ◌++◌, length, get_or, take, drop, sym, ◌∙◌, ap, arith, append_assoc, length-append, length-drop, take-append-drop}
 use Rattle.std.proofs.lemmas.List.{get_or-take, get_or-drop, length-take, drop_more, drop-drop, drop_at, drop_all, take_at, take_all, append-nil, nil_from_length}
 use Rattle.std.proofs.lemmas.Grind.{same_number_lists}
-use Rattle.sqlite_disk.specs.Disk.{Torn, Holds, Cut}
+use Rattle.std.proofs.Math.Seq.{get_or-append_seam}
+use Rattle.sqlite_disk.specs.Disk.{Torn, Holds, Mixed, Cut}
 
 -- before a place that a write or a cut begins at, a file stays
 front : (at : ℕ) (old new : List ℕ) → at ≤ length old → at ≤ length new → ((i : ℕ) → i < length old → i < at → get_or new i 0 ≡ get_or old i 0) → take at new ≡ take at old
@@ -92,6 +93,21 @@ module _ (front_bytes : List ℕ) (byte : ℕ) (rest : List ℕ) (at : ℕ) (is 
             ∙ ap (λ (l : List ℕ). front_bytes ++ l)
             (drop_more new at 0 long ∙ ap (λ (l : List ℕ). get_or new at 0 ∷ l) (torn_back at 1 file new inside t ∙ behind)),
       )
+
+  -- .. or, where each byte is as it was or as it was written, one of both
+  pub mixed_byte : (value : ℕ) (new : List ℕ) → Mixed at (value ∷ []) file new
+      → (new ≡ front_bytes ++ byte ∷ rest) ⊎ (new ≡ front_bytes ++ value ∷ rest)
+  unfolding torn_byte
+  mixed_byte value new m =
+      let torn = torn_byte new m.torn in
+      let here : at + 0 ≡ at = omega arith in
+      let old_is : get_or file (at + 0) 0 ≡ byte =
+      ap (λ (n : ℕ). get_or file n 0) (here ∙ is) ∙ get_or-append_seam front_bytes byte rest 0 in
+      let new_is : get_or new at 0 ≡ get_or new (at + 0) 0 = ap (λ (n : ℕ). get_or new n 0) (sym here) in
+      elim (m.each 0 (omega arith) (omega (arith, length-file))) [
+        | inl same ↦ inl (torn.1 ∙ ap (λ (b : ℕ). front_bytes ++ b ∷ rest) (new_is ∙ same ∙ old_is))
+        | inr done ↦ inr (torn.1 ∙ ap (λ (b : ℕ). front_bytes ++ b ∷ rest) (new_is ∙ done))
+      ]
 
   pub written_byte : (value : ℕ) (new : List ℕ) → Torn at 1 file new → Holds new at (value ∷ []) → new ≡ front_bytes ++ value ∷ rest
   written_byte value new t h =

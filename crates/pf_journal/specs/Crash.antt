@@ -1,7 +1,16 @@
 -- A journal at rest, and what a crash may leave of it.
-use Rattle.std.specs.Prelude.{◌≡◌, ◌⊎◌, ℕ, ◌≤◌, true, List, [], ◌∷◌, ◌++◌, length, take}
+use Rattle.std.specs.Prelude.{◌≡◌, ◌⊎◌, ℕ, ◌≤◌, Bool, true, IsTrue, List, [], ◌∷◌, ◌++◌, length, take}
 use Rattle.std.specs.List.{list_all}
-use Rattle.pf_journal.specs.Lines.{is_text, lines_of, journal_of, heading, records_of}
+use Rattle.pf_journal.specs.Lines.{is_text, lines_of, journal_of, heading, records_of, state_of}
+use Rattle.pf_journal.specs.declared.state.State.TheVariants.{New, Journal}
+
+-- on disks of this kind a crash leaves each byte of a torn write as it was or as it was written
+abbrev pub IsMixing : {D : Type 0} → (D → Bool) → Type 0
+IsMixing {D} is_mixing = (disk : D) → IsTrue (is_mixing disk)
+
+-- a file that opens: it is new, or a journal
+abbrev pub IsOpenable : List ℕ → Type 0
+IsOpenable file = (state_of file ≡ New) ⊎ (state_of file ≡ Journal)
 
 -- the file ends at this offset with a shut gate
 abbrev pub IsShutAt : ℕ → List ℕ → Type 0
@@ -13,9 +22,19 @@ IsAdding lines added file =
     ((rest : List ℕ) × (file ≡ lines ++ 35 ∷ rest))
     ⊎ ((gate : ℕ) × (file ≡ lines ++ gate ∷ added))
 
+-- so it is where the write of the gate leaves it as it was or as it was written: it is shut, with no more after it, or it is open
+abbrev pub IsAddingMixed : List ℕ → List ℕ → List ℕ → Type 0
+IsAddingMixed lines added file =
+    ((rest : List ℕ) × (length rest ≤ length added) × (file ≡ lines ++ 35 ∷ rest))
+    ⊎ (file ≡ lines ++ 32 ∷ added)
+
 -- of a heading its gate was written, and of the rest a part, or any bytes within it
 abbrev pub IsBegun : List ℕ → Type 0
 IsBegun file = (rest : List ℕ) × (length rest ≤ 8) × (file ≡ 32 ∷ rest)
+
+-- the file stands for the same records as this one, and opens
+abbrev pub IsMended : List ℕ → List ℕ → Type 0
+IsMended bytes file = (records_of file ≡ records_of bytes) × IsOpenable file
 
 -- the file stands for these records, with all of the new ones or with none of them
 abbrev pub IsBeforeOrAfter : List (List ℕ) → List (List ℕ) → List ℕ → Type 0

@@ -1,11 +1,13 @@
 -- A journal that lines may be added to, and a file as it was found.
-use Rattle.std.specs.Prelude.{◌≡◌, ◌⊎◌, ◌≤◌, ◌^◌, ℕ, Bool, true, not, IsTrue, List, [], length}
+use Rattle.std.specs.Prelude.{◌≡◌, ◌⊎◌, ◌≤◌, ◌^◌, ℕ, Bool, true, not, IsTrue, List, [], length, Option, None, Some}
 use Rattle.std.specs.List.{list_any}
 use Rattle.sqlite_disk.specs.Disk.{MoreFaults, Only}
 use Rattle.pf_journal.specs.Batches.{has_room}
 use Rattle.pf_journal.specs.declared.journal_error.JournalError.{JournalError}
-use Rattle.pf_journal.specs.declared.journal_error.JournalError.TheVariants.{LongLine, OutOfMemory, TooLong}
-use Rattle.pf_journal.specs.Lines.{lines_of, texts_of}
+use Rattle.pf_journal.specs.declared.journal_error.JournalError.TheVariants.{Damaged as DamagedAt, LongLine, NoHeading, OutOfMemory, TooLong}
+use Rattle.pf_journal.specs.declared.state.State.{State}
+use Rattle.pf_journal.specs.declared.state.State.TheVariants as file
+use Rattle.pf_journal.specs.Lines.{damaged_record, state_of}
 use Rattle.pf_journal.specs.Crash.{IsAtRest}
 use Rattle.pf_journal.specs.declared.journal.Journal.{Journal}
 use Rattle.pf_journal.specs.declared.found.Found.{Found}
@@ -40,10 +42,23 @@ abbrev pub found_disk : {D : Type 0} → Found D → D
 found_disk found = found.disk
 
 abbrev pub found_bytes : {D : Type 0} → Found D → List ℕ
-found_bytes found = found.bytes.items
+found_bytes found = found.contents.bytes.items
 
 -- what was found is what the file has
 pub record IsFound {D : Type 0} (seen : D → List ℕ) (may_leave : D → List ℕ → Type 0) (is_usable is_clean : D → Bool) (found : Found D) : Type 0 where
   pub settled : IsSettled seen may_leave is_usable is_clean found.disk
-  pub bytes : IsTrue (is_clean found.disk) → found.bytes.items ≡ seen found.disk
-  pub size : found.size ≡ length (lines_of (texts_of found.bytes.items))
+  pub bytes : IsTrue (is_clean found.disk) → found.contents.bytes.items ≡ seen found.disk
+
+-- why a file of this state, at whose line it would be damaged, is not opened, where it is not
+abbrev pub refusal_at : State → ℕ → Option JournalError
+refusal_at file.New line = None
+refusal_at file.Journal line = None
+refusal_at file.Damaged line = Some (DamagedAt line)
+refusal_at file.Other line = Some NoHeading
+
+-- why a file was not opened: it is no journal, it is damaged, or a call of it failed
+abbrev pub IsUnopened : {D : Type 0} → (D → ℕ) → List ℕ → D → JournalError → D → Type 0
+IsUnopened faults bytes old error new =
+    ((state_of bytes ≡ file.Other) × (error ≡ NoHeading))
+    ⊎ ((state_of bytes ≡ file.Damaged) × (error ≡ DamagedAt (damaged_record bytes)))
+    ⊎ MoreFaults (faults old) (faults new)

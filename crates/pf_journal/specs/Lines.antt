@@ -1,9 +1,9 @@
 -- What the bytes of a journal stand for. Each line is a gate, a text without LF, and LF. The gate of a line that stands is a blank;
 -- after the last one is a shut gate, `#`.
-use Rattle.std.specs.Prelude.{ℕ, ◌+◌, ◌-◌, Bool, not, ◌&&◌, ◌||◌, Option, None, Some, List, [], ◌∷◌, ◌++◌, length, codes, flat_map, nat_eq, nat_le, slice_index, drop, if◌then◌else◌, ◌==◌}
+use Rattle.std.specs.Prelude.{ℕ, ◌+◌, ◌-◌, Bool, true, false, not, ◌&&◌, ◌||◌, Option, None, Some, List, [], ◌∷◌, ◌++◌, length, codes, flat_map, nat_eq, nat_le, slice_index, drop, if◌then◌else◌, ◌==◌}
 use Rattle.std.specs.List.{list_all, starts_with}
 use Rattle.pf_journal.specs.declared.state.State.{State}
-use Rattle.pf_journal.specs.declared.state.State.TheVariants.{New, Journal, Other}
+use Rattle.pf_journal.specs.declared.state.State.TheVariants.{New, Journal, Damaged, Other}
 
 -- a text that a line can have
 abbrev pub is_text : List ℕ → Bool
@@ -39,8 +39,28 @@ heading = codes "plan,1"
 abbrev pub is_new : List ℕ → Bool
 is_new file = nat_le (length file) 1 || (nat_le (length file) 9 && slice_index file 0 == 32)
 
+-- the bytes after the lines that stand
+abbrev pub end_of : List ℕ → List ℕ
+end_of file = drop (length (lines_of (texts_of file))) file
+
+-- what a crash may leave after these lines: a byte at most; or bytes after a shut gate, no more than those of a batch, or, where no
+-- record stands yet, any number of them
+abbrev pub is_end : List (List ℕ) → List ℕ → Bool
+is_end texts [] = true
+is_end texts (gate ∷ []) = true
+is_end texts (gate ∷ rest) = gate == 35 && (nat_le (length texts) 1 || nat_le (length rest) 65538)
+
+-- by its heading, where it is not new
+abbrev pub state_from : Bool → List ℕ → State
+state_from true file = if is_end (texts_of file) (end_of file) then Journal else Damaged
+state_from false file = Other
+
 abbrev pub state_of : List ℕ → State
-state_of file = if is_new file then New else (if starts_with nat_eq file (line_of heading) then Journal else Other)
+state_of file = if is_new file then New else state_from (starts_with nat_eq file (line_of heading)) file
+
+-- the line at which a file is damaged: the one after those that stand
+abbrev pub damaged_record : List ℕ → ℕ
+damaged_record file = length (texts_of file) + 1
 
 -- the records that a file stands for: the texts after its heading
 abbrev pub records_of : List ℕ → List (List ℕ)

@@ -4,8 +4,11 @@ use std::marker::Model;
 /// The lines that a batch has at most.
 const MOST_LINES: usize = 1024;
 
+/// The bytes that the text of a line has at most.
+pub(crate) const MOST_TEXT: usize = 65_536;
+
 /// The bytes that its lines have at most: 64 KiB, and the gate and the end of one line.
-const MOST_BYTES: usize = 65_538;
+pub(crate) const MOST_BYTES: usize = 65_538;
 
 /// Lines that are put into a journal together. Contracts see them as their texts.
 #[derive(Drop)]
@@ -16,20 +19,19 @@ pub struct Batch {
 }
 
 impl Model for Batch {
-    ghost use Rattle.std.specs.Prelude.{◌≡◌, ℕ, List, length};
+    ghost use Rattle.std.specs.Prelude.{◌≡◌, ◌≤◌, ℕ, List, length};
     ghost use Rattle.pf_journal.specs.Lines.{journal_of, texts_of};
 
     ghost Value = { List (List ℕ) };
 
     ghost view = { λ b. texts_of b.bytes.items };
 
-    ghost invariant = { λ b. (b.bytes.items ≡ journal_of (texts_of b.bytes.items)) × (b.lines ≡ length (texts_of b.bytes.items)) };
+    ghost invariant = { λ b. (b.bytes.items ≡ journal_of (texts_of b.bytes.items)) × (b.lines ≡ length (texts_of b.bytes.items)) × (length b.bytes.items ≤ 65539) };
 }
 
 impl Batch {
-    ghost use Rattle.std.specs.Prelude.{◌≡◌, ◌++◌, ◌∷◌, [], ◌==◌, true, length, IfOk, OnOk, OnErr};
-    ghost use Rattle.std.specs.List.{list_all};
-    ghost use Rattle.pf_journal.specs.Lines.{is_text, journal_of};
+    ghost use Rattle.std.specs.Prelude.{◌≡◌, ◌≤◌, ◌++◌, ◌∷◌, [], true, length, IfOk, OnOk, OnErr};
+    ghost use Rattle.pf_journal.specs.Lines.{is_text, journal_of, texts_of};
     ghost use Rattle.pf_journal.specs.Batches.{has_room};
 
     /// A batch without lines.
@@ -40,13 +42,6 @@ impl Batch {
             bytes: b"#".to_vec(alloc)?,
             lines: 0,
         })
-    }
-
-    /// Whether it has no line.
-    pub fn is_empty(&self) -> bool
-        ensures { result ≡ (length self.now == 0) }
-    {
-        self.lines == 0
     }
 
     /// Whether a line fits: a batch has at most 1,024 lines, and 64 KiB beside the gate and the end of one. So each text of at
@@ -76,7 +71,8 @@ impl Batch {
     /// Its lines with open gates, and a shut gate after them.
     pub(crate) fn bytes(&self) -> &[u8]
         ensures bytes { result.now ≡ journal_of self.now }
-        ensures texts { list_all is_text self.now ≡ true }
+        ensures read { texts_of result.now ≡ self.now }
+        ensures few { length result.now ≤ 65539 }
     {
         &self.bytes
     }

@@ -1,12 +1,15 @@
-ghost use Rattle.std.specs.Prelude.{◌≡◌, ◌⊎◌, ◌++◌, ◌∷◌, [], ◌^◌, ◌≤◌, ℕ, List, true, length, IsTrue, OnOk, IfErr, OnErr};
+ghost use Rattle.std.specs.Prelude.{◌≡◌, ◌⊎◌, ◌++◌, ◌∷◌, [], ◌^◌, ◌≤◌, ℕ, List, true, false, not, length, IsTrue, OnOk, IfErr};
+ghost use Rattle.std.specs.List.{list_any};
 ghost use Rattle.sqlite_disk.specs.Disk.{MoreFaults};
-ghost use Rattle.pf_journal.specs.Lines.{is_text, records_of};
+ghost use Rattle.pf_journal.specs.Batches.{has_room};
+ghost use Rattle.pf_journal.specs.Lines.{is_text, journal_of, records_of, texts_of};
 ghost use Rattle.pf_journal.specs.Texts.{whole_lines};
-ghost use Rattle.pf_journal.specs.Crash.{IsAdded, IsBeforeOrAfter, IsWithFront};
+ghost use Rattle.pf_journal.specs.Crash.{IsAdded, IsBeforeOrAfter, IsMixing, IsOpenable, IsWithFront};
 ghost use Rattle.pf_journal.specs.Kept.{HasCause, IsKept, IsTooLong, disk_of};
 
 use crate::batch::Batch;
 use crate::journal_error::JournalError;
+use crate::lines::{first_line, gated_lines};
 use crate::steps::add;
 use sqlite_disk::Disk;
 use std::alloc::Global;
@@ -34,6 +37,9 @@ impl<D: Disk> Journal<D> {
         // What a crash may leave has all of the batch or none of it. A crash within the call is read as calls that fail from there on.
         ensures crash { IsTrue (D.is_clean (disk_of self.old)) → (c : List ℕ) → D.may_leave (disk_of self.new) c
             → IsBeforeOrAfter (records_of (D.seen (disk_of self.old))) batch.now c }
+
+        // It opens again, where each byte of a torn write is as it was or as it was written.
+        ensures opens { IsMixing D.is_mixing → IsTrue (D.is_clean (disk_of self.old)) → (c : List ℕ) → D.may_leave (disk_of self.new) c → IsOpenable c }
         ensures calm { D.is_clean (disk_of self.new) ≡ D.is_clean (disk_of self.old) }
 
         // It doesn't give up by itself.
@@ -41,16 +47,7 @@ impl<D: Disk> Journal<D> {
             ⊎ MoreFaults (D.faults (disk_of self.old)) (D.faults (disk_of self.new))) }
         ensures faults { OnOk result (D.faults (disk_of self.new) ≡ D.faults (disk_of self.old)) }
     {
-        if self.size >= MOST_BYTES {
-            return Err(JournalError::TooLong);
-        }
-        if batch.is_empty() {
-            return Ok(());
-        }
-        let added = &batch.bytes()[1..];
-        add(&mut self.disk, self.size, added)?;
-        self.size += added.len();
-        Ok(())
+        self.put_gated(batch.bytes())
     }
 
     /// Adds the lines of a text, each of which ends with an LF, in batches as large as they may be; what stands after the last of
@@ -67,24 +64,70 @@ impl<D: Disk> Journal<D> {
             → records_of (D.seen (disk_of self.new)) ≡ records_of (D.seen (disk_of self.old)) ++ whole_lines text.now) }
         ensures crash { IsTrue (D.is_clean (disk_of self.old)) → (c : List ℕ) → D.may_leave (disk_of self.new) c
             → IsWithFront (records_of (D.seen (disk_of self.old))) (whole_lines text.now) c }
+        ensures opens { IsMixing D.is_mixing → IsTrue (D.is_clean (disk_of self.old)) → (c : List ℕ) → D.may_leave (disk_of self.new) c → IsOpenable c }
         ensures calm { D.is_clean (disk_of self.new) ≡ D.is_clean (disk_of self.old) }
         ensures failed { IfErr result (λ error. HasCause D.seen D.faults D.is_clean (whole_lines text.now) error (disk_of self.old) (disk_of self.new)) }
     {
         let mut batch = Batch::new(alloc)?;
-        let mut line = Vec::new(alloc);
         let mut rest = text;
-        while let [byte, after @ ..] = rest {
-            if *byte == b'\n' {
-                match self.add_line(alloc, &mut batch, &line) {
-                    Ok(()) => line.clear(),
-                    Err(error) => return Err(error),
-                }
-            } else if line.push(*byte).is_err() {
-                return Err(JournalError::OutOfMemory);
+        while let Some((line, after)) = first_line(rest) {
+            match self.add_line(alloc, &mut batch, line) {
+                Ok(()) => rest = after,
+                Err(error) => return Err(error),
             }
-            rest = after;
         }
         self.put(&batch)
+    }
+
+    /// Adds the lines of a text to a journal without records, as `put_lines` does, but as one batch of any size: what a crash may
+    /// leave has all of them or none.
+    ///
+    /// # Errors
+    ///
+    /// Those of `put_lines`.
+    pub fn put_whole(&mut self, alloc: Global, text: &[u8]) -> Result<(), JournalError>
+        requires kept { IsKept D.seen D.may_leave D.is_usable D.is_clean self.old }
+        requires none { IsTrue (D.is_clean (disk_of self.old)) → records_of (D.seen (disk_of self.old)) ≡ [] }
+        ensures kept { OnOk result (IsKept D.seen D.may_leave D.is_usable D.is_clean self.new) }
+        ensures acknowledged { OnOk result (IsTrue (D.is_clean (disk_of self.old)) → records_of (D.seen (disk_of self.new)) ≡ whole_lines text.now) }
+        ensures short { OnOk result (list_any (λ line. not (has_room [] line)) (whole_lines text.now) ≡ false) }
+        ensures crash { IsTrue (D.is_clean (disk_of self.old)) → (c : List ℕ) → D.may_leave (disk_of self.new) c → IsBeforeOrAfter [] (whole_lines text.now) c }
+        ensures opens { IsMixing D.is_mixing → IsTrue (D.is_clean (disk_of self.old)) → (c : List ℕ) → D.may_leave (disk_of self.new) c → IsOpenable c }
+        ensures calm { D.is_clean (disk_of self.new) ≡ D.is_clean (disk_of self.old) }
+        ensures failed { IfErr result (λ error. HasCause D.seen D.faults D.is_clean (whole_lines text.now) error (disk_of self.old) (disk_of self.new)) }
+        ensures faults { OnOk result (D.faults (disk_of self.new) ≡ D.faults (disk_of self.old)) }
+    {
+        let bytes = gated_lines(alloc, text)?;
+        self.put_gated(&bytes)
+    }
+
+    /// Adds lines with open gates, after which a shut gate stands.
+    fn put_gated(&mut self, bytes: &[u8]) -> Result<(), JournalError>
+        requires kept { IsKept D.seen D.may_leave D.is_usable D.is_clean self.old }
+        requires gated { bytes.now ≡ journal_of (texts_of bytes.now) }
+        ensures kept { OnOk result (IsKept D.seen D.may_leave D.is_usable D.is_clean self.new) }
+        ensures acknowledged { OnOk result (IsTrue (D.is_clean (disk_of self.old))
+            → records_of (D.seen (disk_of self.new)) ≡ records_of (D.seen (disk_of self.old)) ++ texts_of bytes.now) }
+        ensures crash { IsTrue (D.is_clean (disk_of self.old)) → (c : List ℕ) → D.may_leave (disk_of self.new) c
+            → IsBeforeOrAfter (records_of (D.seen (disk_of self.old))) (texts_of bytes.now) c }
+        ensures opens { IsMixing D.is_mixing → IsTrue (D.is_clean (disk_of self.old))
+            → (records_of (D.seen (disk_of self.old)) ≡ []) ⊎ (length bytes.now ≤ 65539)
+            → (c : List ℕ) → D.may_leave (disk_of self.new) c → IsOpenable c }
+        ensures calm { D.is_clean (disk_of self.new) ≡ D.is_clean (disk_of self.old) }
+        ensures failed { IfErr result (λ error. IsTooLong D.seen D.is_clean error (disk_of self.new)
+            ⊎ MoreFaults (D.faults (disk_of self.old)) (D.faults (disk_of self.new))) }
+        ensures faults { OnOk result (D.faults (disk_of self.new) ≡ D.faults (disk_of self.old)) }
+    {
+        if self.size >= MOST_BYTES {
+            return Err(JournalError::TooLong);
+        }
+        if bytes.len() <= 1 {
+            return Ok(());
+        }
+        let added = &bytes[1..];
+        add(&mut self.disk, self.size, added)?;
+        self.size += added.len();
+        Ok(())
     }
 
     /// Adds a line to a batch, which is put first, and then emptied, where it has no room.
@@ -101,6 +144,7 @@ impl<D: Disk> Journal<D> {
             (records_of (D.seen (disk_of self.new))) batch.new) }
         ensures crash { IsTrue (D.is_clean (disk_of self.old)) → (c : List ℕ) → D.may_leave (disk_of self.new) c
             → IsBeforeOrAfter (records_of (D.seen (disk_of self.old))) batch.old c }
+        ensures opens { IsMixing D.is_mixing → IsTrue (D.is_clean (disk_of self.old)) → (c : List ℕ) → D.may_leave (disk_of self.new) c → IsOpenable c }
         ensures calm { D.is_clean (disk_of self.new) ≡ D.is_clean (disk_of self.old) }
         ensures failed { IfErr result (λ error. HasCause D.seen D.faults D.is_clean (line.now ∷ []) error (disk_of self.old) (disk_of self.new)) }
         ensures faults { OnOk result (D.faults (disk_of self.new) ≡ D.faults (disk_of self.old)) }

@@ -11,6 +11,9 @@ pub enum JournalError {
     /// The first line is no heading of a journal of this version.
     #[error("the file is no journal of a plan")]
     NoHeading,
+    /// The line of this number is damaged, the heading's being the first: no crash leaves such a file.
+    #[error("line {0} is damaged")]
+    Damaged(usize),
     /// The journal has 2^60 bytes or more.
     #[error("the journal is too long")]
     TooLong,

@@ -4,9 +4,12 @@
 #![tactic(auto)]
 
 pub mod batch;
+mod contents;
 pub mod failed;
 pub mod found;
 pub mod journal;
 pub mod journal_error;
+mod lines;
+mod shape;
 pub mod state;
 mod steps;

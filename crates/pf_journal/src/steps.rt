@@ -1,17 +1,15 @@
 //! The steps in which a journal's file is written. Each is on the disk before the next one begins.
 
 ghost use Rattle.std.specs.Prelude.{◌≡◌, ◌≢◌, ◌+◌, ◌^◌, ◌<◌, ◌≤◌, ◌++◌, ◌∷◌, [], ℕ, List, length, take, slice_index, true, IsTrue, OnOk, IfOk};
-ghost use Rattle.sqlite_disk.specs.Disk.{Holds, Torn, Cut, Only, CountsFault};
+ghost use Rattle.sqlite_disk.specs.Disk.{Holds, Torn, Mixed, Cut, Only, CountsFault};
 ghost use Rattle.pf_journal.specs.Lines.{heading, is_new, lines_of, journal_of, texts_of, records_of, state_of};
-ghost use Rattle.pf_journal.specs.Crash.{IsShutAt, IsAdding, IsBegun, IsAtRest};
+ghost use Rattle.pf_journal.specs.Crash.{IsShutAt, IsAdding, IsAddingMixed, IsBegun, IsAtRest, IsMended, IsMixing, IsOpenable};
 ghost use Rattle.pf_journal.specs.Kept.{IsSettled};
-ghost use Rattle.pf_journal.specs.declared.state.State.TheVariants.{Journal, Other};
+ghost use Rattle.pf_journal.specs.declared.state.State.TheVariants.{Journal};
 
+use crate::shape::HEADING_SIZE;
 use sqlite_disk::Disk;
 use std::io;
-
-/// The bytes of the heading's line.
-const HEADING_SIZE: usize = 8;
 
 /// Writes bytes at an offset, and syncs them.
 fn write<D: Disk>(disk: &mut D, at: usize, bytes: &[u8]) -> io::Result<()>
@@ -23,6 +21,8 @@ fn write<D: Disk>(disk: &mut D, at: usize, bytes: &[u8]) -> io::Result<()>
     ensures calm { D.is_clean disk.new ≡ D.is_clean disk.old }
     ensures faults { CountsFault result (D.faults disk.old) (D.faults disk.new) }
     ensures crash { IsTrue (D.is_clean disk.old) → (c : List ℕ) → D.may_leave disk.new c → Torn at (length bytes.now) (D.seen disk.old) c }
+    ensures mixed { IsMixing D.is_mixing → at + length bytes.now < 2 ^ 64 → IsTrue (D.is_clean disk.old) → (c : List ℕ) → D.may_leave disk.new c
+        → Mixed at bytes.now (D.seen disk.old) c }
 {
     disk.write_at(at, bytes)?;
     disk.sync()
@@ -53,6 +53,8 @@ pub(crate) fn add<D: Disk>(disk: &mut D, gate: usize, added: &[u8]) -> io::Resul
     ensures calm { D.is_clean disk.new ≡ D.is_clean disk.old }
     ensures faults { CountsFault result (D.faults disk.old) (D.faults disk.new) }
     ensures crash { IsTrue (D.is_clean disk.old) → (c : List ℕ) → D.may_leave disk.new c → IsAdding (take gate (D.seen disk.old)) added.now c }
+    ensures mixed { IsMixing D.is_mixing → IsTrue (D.is_clean disk.old) → (c : List ℕ) → D.may_leave disk.new c
+        → IsAddingMixed (take gate (D.seen disk.old)) added.now c }
 {
     write(disk, gate + 1, added)?;
     write(disk, gate, b" ")
@@ -67,7 +69,7 @@ fn begin_heading<D: Disk>(disk: &mut D, bytes: &[u8]) -> io::Result<()>
     ensures begun { OnOk result (IsTrue (D.is_clean disk.old) → IsBegun (D.seen disk.new)) }
     ensures calm { D.is_clean disk.new ≡ D.is_clean disk.old }
     ensures faults { CountsFault result (D.faults disk.old) (D.faults disk.new) }
-    ensures crash { IsTrue (D.is_clean disk.old) → (c : List ℕ) → D.may_leave disk.new c → records_of c ≡ [] }
+    ensures crash { IsTrue (D.is_clean disk.old) → (c : List ℕ) → D.may_leave disk.new c → is_new c ≡ true }
 {
     write(disk, 0, b" ")
 }
@@ -80,7 +82,7 @@ fn end_heading<D: Disk>(disk: &mut D) -> io::Result<()>
     ensures ended { OnOk result (IsTrue (D.is_clean disk.old) → D.seen disk.new ≡ journal_of (heading ∷ [])) }
     ensures calm { D.is_clean disk.new ≡ D.is_clean disk.old }
     ensures faults { CountsFault result (D.faults disk.old) (D.faults disk.new) }
-    ensures crash { IsTrue (D.is_clean disk.old) → (c : List ℕ) → D.may_leave disk.new c → records_of c ≡ [] }
+    ensures crash { IsTrue (D.is_clean disk.old) → (c : List ℕ) → D.may_leave disk.new c → is_new c ≡ true }
 {
     write(disk, 1, b"plan,1\n#")
 }
@@ -94,50 +96,13 @@ fn begin<D: Disk>(disk: &mut D, bytes: &[u8]) -> io::Result<()>
     ensures begun { OnOk result (IsTrue (D.is_clean disk.old) → D.seen disk.new ≡ journal_of (heading ∷ [])) }
     ensures calm { D.is_clean disk.new ≡ D.is_clean disk.old }
     ensures faults { CountsFault result (D.faults disk.old) (D.faults disk.new) }
-    ensures crash { IsTrue (D.is_clean disk.old) → (c : List ℕ) → D.may_leave disk.new c → records_of c ≡ [] }
+    ensures crash { IsTrue (D.is_clean disk.old) → (c : List ℕ) → D.may_leave disk.new c → is_new c ≡ true }
 {
     if bytes.len() > 1 {
         return end_heading(disk);
     }
     begin_heading(disk, bytes)?;
     end_heading(disk)
-}
-
-/// Mends a journal whose lines end with a shut gate: what lies after it is cut, and then it is written anew, as a crash may have left
-/// any byte there.
-fn cut_behind_gate<D: Disk>(disk: &mut D, bytes: &[u8], size: usize) -> io::Result<()>
-    requires settled { IsSettled D.seen D.may_leave D.is_usable D.is_clean disk.old }
-    requires bytes { IsTrue (D.is_clean disk.old) → bytes.now ≡ D.seen disk.old }
-    requires size { size ≡ length (lines_of (texts_of bytes.now)) }
-    requires journal { state_of bytes.now ≡ Journal }
-    requires shut { (size < length bytes.now) × (slice_index bytes.now size ≢ 32) }
-    ensures settled { OnOk result (IsSettled D.seen D.may_leave D.is_usable D.is_clean disk.new) }
-    ensures mended { OnOk result (IsTrue (D.is_clean disk.old) → D.seen disk.new ≡ journal_of (texts_of bytes.now)) }
-    ensures calm { D.is_clean disk.new ≡ D.is_clean disk.old }
-    ensures faults { CountsFault result (D.faults disk.old) (D.faults disk.new) }
-    ensures crash { IsTrue (D.is_clean disk.old) → (c : List ℕ) → D.may_leave disk.new c → records_of c ≡ records_of bytes.now }
-{
-    cut(disk, size + 1)?;
-    write(disk, size, b"#")
-}
-
-/// Mends a journal whose lines end with no shut gate: one is put there before what lies after is cut, of which a crash might
-/// make a line.
-#[tactic(auto, using(crate::proofs::Sizes::size_within))]
-fn shut_gate<D: Disk>(disk: &mut D, bytes: &[u8], size: usize) -> io::Result<()>
-    requires settled { IsSettled D.seen D.may_leave D.is_usable D.is_clean disk.old }
-    requires bytes { IsTrue (D.is_clean disk.old) → bytes.now ≡ D.seen disk.old }
-    requires size { size ≡ length (lines_of (texts_of bytes.now)) }
-    requires journal { state_of bytes.now ≡ Journal }
-    requires unshut { size < length bytes.now → slice_index bytes.now size ≡ 32 }
-    ensures settled { OnOk result (IsSettled D.seen D.may_leave D.is_usable D.is_clean disk.new) }
-    ensures mended { OnOk result (IsTrue (D.is_clean disk.old) → D.seen disk.new ≡ journal_of (texts_of bytes.now)) }
-    ensures calm { D.is_clean disk.new ≡ D.is_clean disk.old }
-    ensures faults { CountsFault result (D.faults disk.old) (D.faults disk.new) }
-    ensures crash { IsTrue (D.is_clean disk.old) → (c : List ℕ) → D.may_leave disk.new c → records_of c ≡ records_of bytes.now }
-{
-    write(disk, size, b"#")?;
-    cut(disk, size + 1)
 }
 
 /// Mends the end of a journal that a crash may have left. One that is at rest is not written to.
@@ -151,16 +116,15 @@ fn mend<D: Disk>(disk: &mut D, bytes: &[u8], size: usize) -> io::Result<()>
     ensures mended { OnOk result (IsTrue (D.is_clean disk.old) → D.seen disk.new ≡ journal_of (texts_of bytes.now)) }
     ensures calm { D.is_clean disk.new ≡ D.is_clean disk.old }
     ensures faults { CountsFault result (D.faults disk.old) (D.faults disk.new) }
-    ensures crash { IsTrue (D.is_clean disk.old) → (c : List ℕ) → D.may_leave disk.new c → records_of c ≡ records_of bytes.now }
+    ensures crash { IsTrue (D.is_clean disk.old) → (c : List ℕ) → D.may_leave disk.new c → IsMended bytes.now c }
 {
-    if bytes.len() == size + 1 && bytes[size] == b'#' {
+    if bytes.len() > size + 1 {
+        return cut(disk, size + 1);
+    }
+    if size < bytes.len() && bytes[size] == b'#' {
         return Ok(());
     }
-    if size < bytes.len() && bytes[size] != b' ' {
-        cut_behind_gate(disk, bytes, size)
-    } else {
-        shut_gate(disk, bytes, size)
-    }
+    write(disk, size, b"#")
 }
 
 /// Makes a journal at rest of a file, and says where its shut gate is.
@@ -174,13 +138,13 @@ pub(crate) fn settle<D: Disk>(
     requires bytes { IsTrue (D.is_clean disk.old) → bytes.now ≡ D.seen disk.old }
     requires size { size ≡ length (lines_of (texts_of bytes.now)) }
     requires new { begins ≡ is_new bytes.now }
-    requires known { state_of bytes.now ≢ Other }
+    requires known { IsOpenable bytes.now }
     ensures settled { OnOk result (IsSettled D.seen D.may_leave D.is_usable D.is_clean disk.new) }
     ensures at_rest { IfOk result (λ gate. IsTrue (D.is_clean disk.old) → IsAtRest (D.seen disk.new) gate) }
     ensures same { OnOk result (IsTrue (D.is_clean disk.old) → records_of (D.seen disk.new) ≡ records_of bytes.now) }
     ensures calm { D.is_clean disk.new ≡ D.is_clean disk.old }
     ensures faults { CountsFault result (D.faults disk.old) (D.faults disk.new) }
-    ensures crash { IsTrue (D.is_clean disk.old) → (c : List ℕ) → D.may_leave disk.new c → records_of c ≡ records_of bytes.now }
+    ensures crash { IsTrue (D.is_clean disk.old) → (c : List ℕ) → D.may_leave disk.new c → IsMended bytes.now c }
 {
     if begins {
         begin(disk, bytes)?;

@@ -1,5 +1,6 @@
 -- What is told where a file keeps no session's records.
 use Rattle.std.specs.Prelude.{⊤, ℕ, ◌≡◌, Bool, true, List, [], ◌++◌, Result, Ok, Err, codes}
+use Rattle.std.specs.Fmt.{decimal}
 use Rattle.std.specs.declared.io.ErrorKind.{ErrorKind}
 use Rattle.std.specs.declared.io.ErrorKind.TheVariants as kind
 use Rattle.pf_fault.specs.declared.ending.Ending.{Ending}
@@ -11,7 +12,7 @@ use Rattle.pf_fault_notes.specs.FileFaults.{file_fault_line, file_fault_of}
 use Rattle.pf_journal.specs.declared.journal_error.JournalError.{JournalError}
 use Rattle.pf_journal.specs.declared.journal_error.JournalError.TheVariants as error
 use Rattle.pf_journal_file.specs.declared.journal_fault.JournalFault.{JournalFault}
-use Rattle.pf_journal_file.specs.declared.journal_fault.JournalFault.TheVariants.{InUse, Unread, NoHeading, HasRecords, LongRecord, Unwritten, NoMemory}
+use Rattle.pf_journal_file.specs.declared.journal_fault.JournalFault.TheVariants.{InUse, Unread, NoHeading, Damaged, HasRecords, LongRecord, Unwritten, NoMemory}
 use Rattle.pf_journal_file.specs.declared.journals.OpenFault.{OpenFault}
 use Rattle.pf_journal_file.specs.declared.journals.OpenFault.TheVariants as opening
 use Rattle.pf_run_notes.specs.File.{file_text}
@@ -31,6 +32,7 @@ abbrev pub fault_of_adding : JournalError → JournalFault
 fault_of_adding (error.File why) = Unwritten
 fault_of_adding error.TooLong = Unwritten
 fault_of_adding error.NoHeading = NoHeading
+fault_of_adding (error.Damaged line) = Damaged line
 fault_of_adding error.LongLine = LongRecord
 fault_of_adding error.OutOfMemory = NoMemory
 
@@ -45,6 +47,7 @@ abbrev pub status_of : JournalFault → Status
 status_of InUse = status.StreamFailed
 status_of (Unread kind) = status.StreamFailed
 status_of NoHeading = status.BadScript
+status_of (Damaged line) = status.BadScript
 status_of HasRecords = status.BadWords
 status_of LongRecord = status.BadScript
 status_of Unwritten = status.StreamFailed
@@ -54,10 +57,15 @@ status_of NoMemory = status.NoMemory
 abbrev pub named_line : List ℕ → List ℕ → List ℕ → List ℕ
 named_line before file behind = before ++ (file_text file ++ behind)
 
+-- a number between two texts
+abbrev pub numbered_text : List ℕ → ℕ → List ℕ → List ℕ
+numbered_text before number behind = before ++ (decimal number ++ behind)
+
 abbrev pub fault_text : List ℕ → JournalFault → List ℕ
 fault_text file InUse = named_line [] file (codes " is in use\n")
 fault_text file (Unread kind) = codes "cannot read the journal\n"
 fault_text file NoHeading = codes "bad record 1\n"
+fault_text file (Damaged line) = numbered_text (codes "bad record ") line (codes "\n")
 fault_text file HasRecords = codes "the journal has records already\n"
 fault_text file LongRecord = codes "a record has more than 65536 bytes\n"
 fault_text file Unwritten = named_line (codes "cannot write ") file (codes "\n")
@@ -66,10 +74,16 @@ fault_text file NoMemory = codes "out of memory\n"
 abbrev pub no_heading_line : List ℕ → List ℕ
 no_heading_line file = named_line [] file (codes ":1: record 1: a journal begins with \" plan,1\"\n")
 
--- after it, where notes are told: why the file can't be read, or what a journal begins with
+abbrev pub damaged_line : List ℕ → ℕ → List ℕ
+damaged_line file line =
+    file_text file ++ (numbered_text (codes ":") line []
+    ++ numbered_text (codes ": record ") line (codes ": its line is damaged: a blank begins it, and a line end ends it\n"))
+
+-- after it, where notes are told: why the file can't be read, what a journal begins with, or what a line of one has
 abbrev pub note_behind : List ℕ → Bool → JournalFault → List ℕ
 note_behind file true (Unread kind) = file_fault_line file (file_fault_of kind)
 note_behind file true NoHeading = no_heading_line file
+note_behind file true (Damaged line) = damaged_line file line
 note_behind file notes fault = []
 
 -- a session ends so, with its status and its text; memory may be refused for the text, too

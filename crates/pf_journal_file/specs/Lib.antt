@@ -1,3 +1,4 @@
 pub mod Faults
 pub mod Hosts
 pub mod Sizes
+pub mod Watches

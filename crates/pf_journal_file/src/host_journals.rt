@@ -1,12 +1,14 @@
-ghost use Rattle.std.specs.Prelude.{◌≡◌};
+ghost use Rattle.std.specs.Prelude.{◌≡◌, IfOk};
 ghost use Rattle.pf_journal_file.specs.Hosts.{fault_of_host};
+ghost use Rattle.pf_journal_file.specs.Watches.{IsFresh, inner_of};
 
 use crate::journals::{Journals, OpenFault};
-use sqlite_std_file::{FileFrom, OpenError, Wary, open};
+use crate::watch::Watch;
+use sqlite_std_file::{FileFrom, OpenError, Unknown, open};
 use std::io::ErrorKind;
 
-/// The files of the operating system. One is locked while it is open. An empty file is made beside it, whose name has `-wal` after,
-/// since the ported opening is one of databases with their logs.
+/// The files of the operating system. One is locked while it is open, and its path is watched. An empty file is made beside it, whose
+/// name has `-wal` after, since the ported opening is one of databases with their logs.
 #[derive(Drop)]
 pub struct HostJournals<'r> {
     rt: &'r HostRuntime,
@@ -19,15 +21,31 @@ impl<'r> HostJournals<'r> {
     }
 }
 
-impl Journals for HostJournals<'_> {
-    // Nothing is supposed of a write that a crash tears.
-    type File = FileFrom<Wary>;
+impl<'r> Journals for HostJournals<'r> {
+    // Of a write that a crash tears it is supposed that each byte is as it was or as it was written: then the file opens again. What
+    // it has of records needs no such thing.
+    type File = Watch<'r, FileFrom<Unknown>>;
 
-    fn open(self, path: &str) -> Result<FileFrom<Wary>, OpenFault> {
-        match open(self.rt, path, Wary) {
-            Ok(files) => Ok(files.db),
+    fn open(self, path: &str) -> Result<Watch<'r, FileFrom<Unknown>>, OpenFault> {
+        match open(self.rt, path, Unknown) {
+            Ok(files) => watch_of(self.rt, files.db, path),
             Err(fault) => Err(fault_of(fault)),
         }
+    }
+}
+
+/// A file that was just opened at this path, which is watched from now on.
+fn watch_of<'r>(
+    rt: &'r HostRuntime,
+    file: FileFrom<Unknown>,
+    path: &str,
+) -> Result<Watch<'r, FileFrom<Unknown>>, OpenFault>
+    ensures { IfOk result (λ w. (inner_of w ≡ file) × IsFresh w) }
+{
+    match Watch::new(rt, file, path) {
+        Ok(watch) => Ok(watch),
+        Err(fault) if fault.kind() == ErrorKind::WouldBlock => Err(OpenFault::Busy),
+        Err(fault) => Err(OpenFault::Failed(fault.kind())),
     }
 }
 

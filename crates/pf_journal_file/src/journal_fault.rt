@@ -1,5 +1,5 @@
 ghost use Rattle.std.specs.Prelude.{◌≡◌, ◌++◌, IfOk, OnOk};
-ghost use Rattle.pf_journal_file.specs.Faults.{IsOutcome, IsUnhad, fault_of_adding, fault_of_kind, fault_of_opening, fault_text, named_line, no_heading_line, note_behind, status_of};
+ghost use Rattle.pf_journal_file.specs.Faults.{IsOutcome, IsUnhad, damaged_line, fault_of_adding, fault_of_kind, fault_of_opening, fault_text, named_line, no_heading_line, note_behind, numbered_text, status_of};
 
 use crate::journals::OpenFault;
 use pf_fault::ending::Ending;
@@ -8,6 +8,7 @@ use pf_fault::status::Status;
 use pf_fault_notes::file_fault::{FileFault, file_fault_line};
 use pf_journal::journal_error::JournalError;
 use pf_run_notes::file::push_file;
+use pf_text::numbers::push_number;
 use std::alloc::{AllocError, Global};
 use std::io::ErrorKind;
 
@@ -20,6 +21,8 @@ pub enum JournalFault {
     Unread(ErrorKind),
     /// Its first record is no heading of a journal.
     NoHeading,
+    /// The line of the record of this number is damaged, the heading's being the first.
+    Damaged(usize),
     /// A script is named too, and it has records already.
     HasRecords,
     /// A record of the script has more bytes than one of a journal may have.
@@ -72,6 +75,7 @@ impl JournalFault {
         match error {
             JournalError::File(_) | JournalError::TooLong => JournalFault::Unwritten,
             JournalError::NoHeading => JournalFault::NoHeading,
+            JournalError::Damaged(record) => JournalFault::Damaged(record),
             JournalError::LongLine => JournalFault::LongRecord,
             JournalError::OutOfMemory => JournalFault::NoMemory,
         }
@@ -86,13 +90,15 @@ impl JournalFault {
                 Status::StreamFailed
             }
             JournalFault::HasRecords => Status::BadWords,
-            JournalFault::NoHeading | JournalFault::LongRecord => Status::BadScript,
+            JournalFault::NoHeading | JournalFault::Damaged(_) | JournalFault::LongRecord => {
+                Status::BadScript
+            }
             JournalFault::NoMemory => Status::NoMemory,
         }
     }
 
     /// What a session with a journal of this name ends with for it, and what is told of that; with `notes` also why a file can't be
-    /// read, or what a journal begins with.
+    /// read, what a journal begins with, or what a line of one has.
     ///
     /// # Errors
     ///
@@ -127,6 +133,7 @@ impl JournalFault {
             JournalFault::InUse => push_named(text, b"", file, b" is in use\n"),
             JournalFault::Unread(_) => text.extend_from_slice(b"cannot read the journal\n"),
             JournalFault::NoHeading => text.extend_from_slice(b"bad record 1\n"),
+            JournalFault::Damaged(record) => push_numbered(text, b"bad record ", record, b"\n"),
             JournalFault::HasRecords => {
                 text.extend_from_slice(b"the journal has records already\n")
             }
@@ -138,7 +145,7 @@ impl JournalFault {
         }
     }
 
-    /// Why the file can't be read, or what a journal begins with, where that is asked for.
+    /// Why the file can't be read, what a journal begins with, or what a line of one has, where that is asked for.
     fn note(self, alloc: Global, file: &[u8], notes: bool) -> Result<Vec<u8>, AllocError>
         ensures { IfOk result (λ note. note.items ≡ note_behind file.now notes self) }
     {
@@ -149,6 +156,7 @@ impl JournalFault {
                 FileFault::of(kind),
             ),
             JournalFault::NoHeading if notes => no_heading_note(alloc, file),
+            JournalFault::Damaged(record) if notes => damaged_note(alloc, file, record),
             _ => Ok(Vec::new(alloc)),
         }
     }
@@ -166,6 +174,36 @@ fn no_heading_note(alloc: Global, file: &[u8]) -> Result<Vec<u8>, AllocError>
         b":1: record 1: a journal begins with \" plan,1\"\n",
     )?;
     Ok(text)
+}
+
+/// What the line of a record has, which the one of this number doesn't.
+fn damaged_note(alloc: Global, file: &[u8], line: usize) -> Result<Vec<u8>, AllocError>
+    ensures { IfOk result (λ note. note.items ≡ damaged_line file.now line) }
+{
+    let mut text = Vec::new(alloc);
+    push_file(&mut text, file)?;
+    push_numbered(&mut text, b":", line, b"")?;
+    push_numbered(
+        &mut text,
+        b": record ",
+        line,
+        b": its line is damaged: a blank begins it, and a line end ends it\n",
+    )?;
+    Ok(text)
+}
+
+/// Appends a number between two texts.
+fn push_numbered(
+    text: &mut Vec<u8>,
+    before: &[u8],
+    number: usize,
+    behind: &[u8],
+) -> Result<(), AllocError>
+    ensures { OnOk result (text.new.items ≡ text.old.items ++ numbered_text before.now number behind.now) }
+{
+    text.extend_from_slice(before)?;
+    push_number(text, number as u64)?;
+    text.extend_from_slice(behind)
 }
 
 /// Appends the name of a file between two texts.

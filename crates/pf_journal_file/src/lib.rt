@@ -6,3 +6,4 @@ pub mod host_journals;
 pub mod journal_fault;
 pub mod journals;
 pub mod sizes;
+pub mod watch;

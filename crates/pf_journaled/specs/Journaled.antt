@@ -2,12 +2,12 @@
 use Rattle.std.specs.Prelude.{ℕ, ◌≡◌, ◌⊎◌, Bool, true, false, Option, None, Some, is_some, Result, Ok, Err, List, [], ◌∷◌}
 use Rattle.pf_sitter.specs.Manner.{Manner}
 use Rattle.pf_fault.specs.declared.fault.Fault.{Fault}
-use Rattle.pf_journal.specs.Lines.{records_of, script_of, state_of, torn_size}
+use Rattle.pf_journal.specs.Lines.{damaged_record, records_of, script_of, state_of, torn_size}
 use Rattle.pf_journal.specs.declared.journal_error.JournalError.{JournalError}
 use Rattle.pf_journal.specs.declared.state.State.{State}
 use Rattle.pf_journal.specs.declared.state.State.TheVariants as file
 use Rattle.pf_journal_file.specs.declared.journal_fault.JournalFault.{JournalFault}
-use Rattle.pf_journal_file.specs.declared.journal_fault.JournalFault.TheVariants.{HasRecords, NoHeading, NoMemory}
+use Rattle.pf_journal_file.specs.declared.journal_fault.JournalFault.TheVariants.{Damaged, HasRecords, NoHeading, NoMemory}
 use Rattle.pf_journal_file.specs.Faults.{fault_of_adding}
 use Rattle.pf_journal_file.specs.Sizes.{sizes_of}
 use Rattle.pf_journal_file.specs.declared.sizes.Sizes.{Sizes}
@@ -17,19 +17,21 @@ use Rattle.pf_recorder.specs.Recording.{BeginsWith, Recording}
 use Rattle.pf_sitter.specs.Opening.{IsOpened, opened}
 use Rattle.pf_sitter.specs.Session.{SessionState, at_start}
 
--- a script goes with a file that has no record alone; and no other file is taken for a journal
+-- a script goes with a file that has no record alone; and neither another file is taken for a journal, nor one that is damaged at this
+-- line
 abbrev pub refused_with : Bool → List (List ℕ) → Option JournalFault
 refused_with false records = None
 refused_with true [] = None
 refused_with true (first ∷ rest) = Some HasRecords
 
-abbrev pub refused_at : State → Bool → List (List ℕ) → Option JournalFault
-refused_at file.New has_script records = refused_with has_script records
-refused_at file.Journal has_script records = refused_with has_script records
-refused_at file.Other has_script records = Some NoHeading
+abbrev pub refused_at : State → ℕ → Bool → List (List ℕ) → Option JournalFault
+refused_at file.New line has_script records = refused_with has_script records
+refused_at file.Journal line has_script records = refused_with has_script records
+refused_at file.Damaged line has_script records = Some (Damaged line)
+refused_at file.Other line has_script records = Some NoHeading
 
 abbrev pub refused_file : Bool → List ℕ → Option JournalFault
-refused_file has_script bytes = refused_at (state_of bytes) has_script (records_of bytes)
+refused_file has_script bytes = refused_at (state_of bytes) (damaged_record bytes) has_script (records_of bytes)
 
 -- a session without a line, or after these lines of a file
 abbrev pub behind_file : Manner → List (List ℕ) → List ℕ → Result SessionState ℕ

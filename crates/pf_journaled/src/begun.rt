@@ -34,7 +34,7 @@ pub struct Opened<S: Saver, D: Disk> {
 ///
 /// # Errors
 ///
-/// `Journal` with `NoHeading` where the file is no journal, with `HasRecords` where a script is given and it has records, else where it
+/// `Journal` with `NoHeading` where the file is no journal, with `Damaged` where it is damaged, with `HasRecords` where a script is given and it has records, else where it
 /// can't be opened or written; `Record` where a record of the file is bad, and `Script` where one of the script is, or where memory is
 /// refused meanwhile. Nothing was written to the file, but where it could not be written.
 pub fn open_journal<S: Saver + Drop, D: Disk + Drop>(
@@ -83,13 +83,16 @@ fn refusal<D: Disk + Drop>(found: &Found<D>, has_script: bool) -> Option<Journal
     requires { IsFound D.Disk.seen D.Disk.may_leave D.Disk.is_usable D.Disk.is_clean found.now }
     ensures { result ≡ refused_file has_script (found_bytes found.now) }
 {
-    if found.state() == State::Other {
-        return Some(JournalFault::NoHeading);
+    match found.state() {
+        State::Other => Some(JournalFault::NoHeading),
+        State::Damaged => Some(JournalFault::Damaged(found.damaged_record())),
+        State::New | State::Journal => {
+            if has_script && found.records() != 0 {
+                return Some(JournalFault::HasRecords);
+            }
+            None
+        }
     }
-    if has_script && found.records() != 0 {
-        return Some(JournalFault::HasRecords);
-    }
-    None
 }
 
 /// The session that begins on a file, after a script where one is given.

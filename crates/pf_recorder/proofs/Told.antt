@@ -5,7 +5,7 @@ use Rattle.pf_journal.specs.Lines.{records_of}
 use Rattle.pf_journal.specs.Texts.{whole_behind, whole_lines}
 use Rattle.pf_recorder.specs.Recording.{Answers, Keeps, Recording}
 use Rattle.pf_recorder.specs.Told.{FilesHaveAll, FilesHaveTold, HasLines, IsSettled}
-use Rattle.pf_sitting.specs.Answered.{AnswersAll, AnswersLines}
+use Rattle.pf_sitting.specs.Answered.{AnswersAhead, AnswersAll, AnswersLines, AnswersTo}
 use Rattle.pf_sitting.specs.Scripts.{IsOfLines}
 use Rattle.pf_sitting.specs.declared.answers.Going.{Going}
 use Rattle.pf_sitting.specs.declared.answers.Going.TheVariants.{On, Ends}
@@ -74,13 +74,24 @@ answered_all answers script [] r text t h = answered_none script r t h.1
 answered_all answers script (line ∷ lines) r text t h =
     answered_both script r h.2 t (answered_one answers script r line h.0 On h.2 h.3) (answered_all answers script lines h.2 h.1 t h.4)
 
+answered_to : {S D : Type 0} (answers : S → List ℕ → List ℕ → Going → S → Type 0) (script : S → List ℕ) (lines : List (List ℕ)) (r : Recording S D)
+    (text : List ℕ) (going : Going) (t : Recording S D)
+    → AnswersTo (λ r line text going t. Answers answers script r line text going t) r lines text going t → IsLonger script r t
+answered_to answers script lines r text going t h =
+    answered_both script r h.mid t (answered_all answers script h.done r h.front h.mid h.answered)
+    (answered_one answers script h.mid h.last h.answer going t h.ended)
+
+answered_ahead : {S D : Type 0} (answers : S → List ℕ → List ℕ → Going → S → Type 0) (script : S → List ℕ) (ahead : List ℕ) (r : Recording S D)
+    (text : List ℕ) (t : Recording S D) (left : List ℕ)
+    → AnswersAhead (λ r line text going t. Answers answers script r line text going t) r ahead text On t left → IsLonger script r t
+answered_ahead answers script ahead r text t left (inl h) = answered_all answers script _ r text t h.answered
+answered_ahead answers script ahead r text t left (inr h) = answered_to answers script _ r text On t h.to
+
 answered_lines : {S D : Type 0} (answers : S → List ℕ → List ℕ → Going → S → Type 0) (script : S → List ℕ) (lines : List (List ℕ)) (r : Recording S D)
     (text : List ℕ) (going : Going) (t : Recording S D)
     → AnswersLines (λ r line text going t. Answers answers script r line text going t) r lines text going t → IsLonger script r t
 answered_lines answers script lines r text On t h = answered_all answers script lines r text t h
-answered_lines answers script lines r text Ends t h =
-    answered_both script r h.mid t (answered_all answers script h.done r h.front h.mid h.answered)
-    (answered_one answers script h.mid h.last h.answer Ends t h.ended)
+answered_lines answers script lines r text Ends t h = answered_to answers script lines r text Ends t h
 
 -- what waited after some answers was put
 kept_behind : {S D : Type 0} (script : S → List ℕ) (seen : D → List ℕ) (may_leave : D → List ℕ → Type 0) (is_clean : D → Bool)
@@ -99,6 +110,7 @@ kept_behind script seen may_leave is_clean r m t at h k =
         waiting_is = k.waiting_is;
         clean = k.calm ∙ clean;
         durable = k.durable (k.calm ∙ clean);
+        opens = k.opens (k.calm ∙ clean);
       };
     }
 
@@ -127,21 +139,21 @@ has_both script seen may_leave is_clean r m t f g = record {
 
 -- Use: rounds of a sitting.
 pub told : {S D T : Type 0} (answers : S → List ℕ → List ℕ → Going → S → Type 0) (script : S → List ℕ) (seen : D → List ℕ)
-    (may_leave : D → List ℕ → Type 0) (is_clean : D → Bool) (hears : T → List ℕ → T → Type 0) (is_deaf : T → T → Type 0)
-    (tells is_mute : T → List ℕ → T → Type 0) → FilesHaveTold answers script seen may_leave is_clean hears is_deaf tells is_mute
-told answers script seen may_leave is_clean hears is_deaf tells is_mute [] r d line t e rest h at =
+    (may_leave : D → List ℕ → Type 0) (is_clean is_mixing : D → Bool) (hears : T → List ℕ → T → Type 0) (is_deaf : T → T → Type 0)
+    (tells is_mute : T → List ℕ → T → Type 0) → FilesHaveTold answers script seen may_leave is_clean is_mixing hears is_deaf tells is_mute
+told answers script seen may_leave is_clean is_mixing hears is_deaf tells is_mute [] r d line t e rest h at =
     has_none script seen may_leave is_clean r t at h.0
-told answers script seen may_leave is_clean hears is_deaf tells is_mute (round ∷ rounds) r d line t e rest h at =
-    let first = kept_behind script seen may_leave is_clean r h.2.answered h.0 at (answered_lines answers script _ r round.text On h.2.answered h.2.answers) h.2.keeps in
+told answers script seen may_leave is_clean is_mixing hears is_deaf tells is_mute (round ∷ rounds) r d line t e rest h at =
+    let first = kept_behind script seen may_leave is_clean r h.2.answered h.0 at (answered_ahead answers script _ r round.text h.2.answered round.left h.2.answers) h.2.keeps in
     has_both script seen may_leave is_clean r h.0 t first
-    (told answers script seen may_leave is_clean hears is_deaf tells is_mute rounds h.0 h.1 _ t e rest h.3 first.settled)
+    (told answers script seen may_leave is_clean is_mixing hears is_deaf tells is_mute rounds h.0 h.1 _ t e rest h.3 first.settled)
 
 -- Use: a whole sitting.
 pub told_all : {S D T : Type 0} (answers : S → List ℕ → List ℕ → Going → S → Type 0) (script : S → List ℕ) (seen : D → List ℕ)
-    (may_leave : D → List ℕ → Type 0) (is_clean : D → Bool) (hears : T → List ℕ → T → Type 0) (is_deaf : T → T → Type 0)
-    (tells is_mute : T → List ℕ → T → Type 0) → FilesHaveAll answers script seen may_leave is_clean hears is_deaf tells is_mute
-told_all answers script seen may_leave is_clean hears is_deaf tells is_mute r d going t e h at =
-    let first = told answers script seen may_leave is_clean hears is_deaf tells is_mute h.rounds r d [] h.behind h.told h.rest h.sits at in
+    (may_leave : D → List ℕ → Type 0) (is_clean is_mixing : D → Bool) (hears : T → List ℕ → T → Type 0) (is_deaf : T → T → Type 0)
+    (tells is_mute : T → List ℕ → T → Type 0) → FilesHaveAll answers script seen may_leave is_clean is_mixing hears is_deaf tells is_mute
+told_all answers script seen may_leave is_clean is_mixing hears is_deaf tells is_mute r d going t e h at =
+    let first = told answers script seen may_leave is_clean is_mixing hears is_deaf tells is_mute h.rounds r d [] h.behind h.told h.rest h.sits at in
     has_both script seen may_leave is_clean r h.behind t first
     (kept_behind script seen may_leave is_clean h.behind h.last.answered t first.settled
-    (answered_lines answers script _ h.behind h.last.round.text going h.last.answered h.last.answers) h.last.keeps)
+    (answered_lines answers script _ h.behind h.last.text going h.last.answered h.last.answers) h.last.keeps)

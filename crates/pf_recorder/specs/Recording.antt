@@ -1,7 +1,7 @@
 -- What answers lines, beside the file that has what was answered.
 use Rattle.std.specs.Prelude.{ℕ, ◌≡◌, Bool, true, IsTrue, List, [], ◌∷◌, ◌++◌, drop, Option, None, is_some}
 use Rattle.sqlite_disk.specs.Disk.{Only}
-use Rattle.pf_journal.specs.Crash.{IsWithFront}
+use Rattle.pf_journal.specs.Crash.{IsMixing, IsOpenable, IsWithFront}
 use Rattle.pf_journal.specs.Lines.{records_of}
 use Rattle.pf_journal.specs.Texts.{whole_lines}
 use Rattle.pf_journal.specs.declared.journal_error.JournalError.{JournalError}
@@ -42,13 +42,16 @@ pub record Keeps {S D : Type 0} (seen : D → List ℕ) (may_leave : D → List 
   pub calm : is_clean t.file ≡ is_clean r.file
   pub records_are : IsTrue (is_clean r.file) → records_of (seen t.file) ≡ records_of (seen r.file) ++ whole_lines r.waiting
   pub durable : IsTrue (is_clean t.file) → Only (seen t.file) (may_leave t.file)
+  pub opens : IsTrue (is_clean t.file) → IsOpenable (seen t.file)
 
--- it is not all there: a crash leaves a front of its lines; and nothing more is put there, for the reason that came first
-pub record Loses {S D : Type 0} (seen : D → List ℕ) (may_leave : D → List ℕ → Type 0) (is_clean : D → Bool) (r t : Recording S D) : Type 0 where
+-- it is not all there: a crash leaves a front of its lines, in a file that opens where the disks are mixing; and nothing more is put there,
+-- for the reason that came first
+pub record Loses {S D : Type 0} (seen : D → List ℕ) (may_leave : D → List ℕ → Type 0) (is_clean is_mixing : D → Bool) (r t : Recording S D) : Type 0 where
   pub machine_is : t.machine ≡ r.machine
   pub lost_is : is_some t.lost ≡ true
   pub front : r.lost ≡ None → IsTrue (is_clean r.file) → (c : List ℕ) → may_leave t.file c
       → IsWithFront (records_of (seen r.file)) (whole_lines r.waiting) c
+  pub opens : r.lost ≡ None → IsTrue (is_clean r.file) → IsMixing is_mixing → (c : List ℕ) → may_leave t.file c → IsOpenable c
   pub same : is_some r.lost ≡ true → (t.file ≡ r.file) × (t.lost ≡ r.lost)
 
 -- the records of a script: its lines after the heading
@@ -69,3 +72,4 @@ pub record BeginsWith {S D : Type 0} (seen : D → List ℕ) (may_leave : D → 
   pub calm : is_clean r.file ≡ is_clean file
   pub records_are : IsTrue (is_clean file) → records_of (seen r.file) ≡ records_of bytes ++ added_to (records_of bytes) (script machine)
   pub durable : IsTrue (is_clean r.file) → Only (seen r.file) (may_leave r.file)
+  pub opens : IsTrue (is_clean r.file) → IsOpenable (seen r.file)

@@ -1,9 +1,8 @@
-ghost use Rattle.std.specs.Prelude.{◌≡◌, ◌≢◌, ◌++◌, ℕ, List, IsTrue, IfErr, IfOk};
-ghost use Rattle.pf_journal.specs.Crash.{IsWithFront};
+ghost use Rattle.std.specs.Prelude.{◌≡◌, ◌++◌, [], ℕ, List, IsTrue, IfErr, IfOk};
+ghost use Rattle.pf_journal.specs.Crash.{IsBeforeOrAfter, IsMixing, IsOpenable};
 ghost use Rattle.pf_journal.specs.Kept.{IsFound, IsKept, disk_of, found_bytes, found_disk};
-ghost use Rattle.pf_journal.specs.Lines.{records_of, state_of};
+ghost use Rattle.pf_journal.specs.Lines.{records_of};
 ghost use Rattle.pf_journal.specs.Texts.{whole_lines};
-ghost use Rattle.pf_journal.specs.declared.state.State.TheVariants.{Other};
 ghost use Rattle.pf_recorder.specs.Recording.{BeginsWith, added_to, records_in};
 
 use crate::recorder::Recorder;
@@ -20,14 +19,16 @@ impl<S: Scripted + Drop, D: Disk + Drop> Recorder<S, D> {
     ///
     /// # Errors
     ///
-    /// Those of `Found::open` and `Journal::put_lines`, with the file. A crash leaves the records that it had, and after them none, or
-    /// where it had none a front of those of the script.
+    /// Those of `Found::open` and `Journal::put_whole`, with the file. A crash leaves the records that it had, or where it had none all of
+    /// those of the script or none.
     pub fn open(alloc: Global, found: Found<D>, machine: S) -> Result<Self, Failed<D>>
         requires { IsFound D.Disk.seen D.Disk.may_leave D.Disk.is_usable D.Disk.is_clean found }
         ensures begins { IfOk result (λ r. BeginsWith D.Disk.seen D.Disk.may_leave D.Disk.is_clean S.script machine (found_disk found) (found_bytes found) r) }
-        ensures known { IfOk result (λ r. state_of (found_bytes found) ≢ Other) }
+        ensures openable { IfOk result (λ r. IsOpenable (found_bytes found)) }
         ensures crash { IfErr result (λ failed. IsTrue (D.Disk.is_clean (found_disk found)) → (c : List ℕ) → D.Disk.may_leave failed.disk c
-            → IsWithFront (records_of (found_bytes found)) (added_to (records_of (found_bytes found)) (S.script machine)) c) }
+            → IsBeforeOrAfter (records_of (found_bytes found)) (added_to (records_of (found_bytes found)) (S.script machine)) c) }
+        ensures opens { IfErr result (λ failed. IsMixing D.Disk.is_mixing → IsOpenable (found_bytes found) → IsTrue (D.Disk.is_clean (found_disk found))
+            → (c : List ℕ) → D.Disk.may_leave failed.disk c → IsOpenable c) }
     {
         match open_with(alloc, found, machine.script()) {
             Ok(journal) => Ok(Recorder::over(alloc, machine, journal)),
@@ -47,9 +48,11 @@ fn open_with<D: Disk + Drop>(
     ensures calm { IfOk result (λ j. D.Disk.is_clean (disk_of j) ≡ D.Disk.is_clean (found_disk found)) }
     ensures put { IfOk result (λ j. IsTrue (D.Disk.is_clean (found_disk found))
         → records_of (D.Disk.seen (disk_of j)) ≡ records_of (found_bytes found) ++ added_to (records_of (found_bytes found)) script.now) }
-    ensures known { IfOk result (λ j. state_of (found_bytes found) ≢ Other) }
+    ensures openable { IfOk result (λ j. IsOpenable (found_bytes found)) }
     ensures crash { IfErr result (λ failed. IsTrue (D.Disk.is_clean (found_disk found)) → (c : List ℕ) → D.Disk.may_leave failed.disk c
-        → IsWithFront (records_of (found_bytes found)) (added_to (records_of (found_bytes found)) script.now) c) }
+        → IsBeforeOrAfter (records_of (found_bytes found)) (added_to (records_of (found_bytes found)) script.now) c) }
+    ensures opens { IfErr result (λ failed. IsMixing D.Disk.is_mixing → IsOpenable (found_bytes found) → IsTrue (D.Disk.is_clean (found_disk found))
+        → (c : List ℕ) → D.Disk.may_leave failed.disk c → IsOpenable c) }
 {
     let begins = found.records() == 0;
     let journal = match found.open() {
@@ -62,25 +65,27 @@ fn open_with<D: Disk + Drop>(
     Ok(journal)
 }
 
-/// Adds the lines of a text to a journal.
+/// Adds the lines of a text to a journal without records, all of them or none.
 ///
 /// # Errors
 ///
-/// Those of `Journal::put_lines`, with the file.
+/// Those of `Journal::put_whole`, with the file.
 fn put_all<D: Disk + Drop>(
     alloc: Global,
     mut journal: Journal<D>,
     text: &[u8],
 ) -> Result<Journal<D>, Failed<D>>
-    requires { IsKept D.Disk.seen D.Disk.may_leave D.Disk.is_usable D.Disk.is_clean journal }
+    requires kept { IsKept D.Disk.seen D.Disk.may_leave D.Disk.is_usable D.Disk.is_clean journal }
+    requires none { IsTrue (D.Disk.is_clean (disk_of journal)) → records_of (D.Disk.seen (disk_of journal)) ≡ [] }
     ensures kept { IfOk result (λ j. IsKept D.Disk.seen D.Disk.may_leave D.Disk.is_usable D.Disk.is_clean j) }
     ensures calm { IfOk result (λ j. D.Disk.is_clean (disk_of j) ≡ D.Disk.is_clean (disk_of journal)) }
-    ensures put { IfOk result (λ j. IsTrue (D.Disk.is_clean (disk_of journal))
-        → records_of (D.Disk.seen (disk_of j)) ≡ records_of (D.Disk.seen (disk_of journal)) ++ whole_lines text.now) }
+    ensures put { IfOk result (λ j. IsTrue (D.Disk.is_clean (disk_of journal)) → records_of (D.Disk.seen (disk_of j)) ≡ whole_lines text.now) }
     ensures crash { IfErr result (λ failed. IsTrue (D.Disk.is_clean (disk_of journal)) → (c : List ℕ) → D.Disk.may_leave failed.disk c
-        → IsWithFront (records_of (D.Disk.seen (disk_of journal))) (whole_lines text.now) c) }
+        → IsBeforeOrAfter [] (whole_lines text.now) c) }
+    ensures opens { IfErr result (λ failed. IsMixing D.Disk.is_mixing → IsTrue (D.Disk.is_clean (disk_of journal))
+        → (c : List ℕ) → D.Disk.may_leave failed.disk c → IsOpenable c) }
 {
-    match journal.put_lines(alloc, text) {
+    match journal.put_whole(alloc, text) {
         Ok(()) => Ok(journal),
         Err(error) => {
             let disk = journal.into_disk();

@@ -73,7 +73,7 @@ impl<S: Scripted, D: Disk> Answers for Recorder<S, D> {
 
     ghost keeps = { λ r t. Keeps D.seen D.may_leave D.is_clean r t };
 
-    ghost loses = { λ r t. Loses D.seen D.may_leave D.is_clean r t };
+    ghost loses = { λ r t. Loses D.seen D.may_leave D.is_clean D.is_mixing r t };
 
     fn take(&mut self, line: &[u8], text: &mut Vec<u8>) -> Result<Going, Stopped> {
         let was = self.machine.script().len();

@@ -9,9 +9,9 @@ use Rattle.std.proofs.lemmas.List.Folds.{list_any-append}
 use Rattle.std.proofs.lemmas.Slice.Eq.{starts_is}
 use Rattle.csv.specs.Writing.{default_writer, needs_byte}
 use Rattle.pf_heard.specs.Lines.{line_of}
-use Rattle.pf_journal.specs.Lines.{heading, is_new, line_of as gated_line, lines_of, records_of, script_of, state_of, texts_from, texts_of}
+use Rattle.pf_journal.specs.Lines.{heading, is_new, line_of as gated_line, lines_of, records_of, script_of, state_from, state_of, texts_from, texts_of}
 use Rattle.pf_journal.specs.Texts.{whole_behind, whole_lines}
-use Rattle.pf_journal.specs.declared.state.State.TheVariants.{New, Journal, Other}
+use Rattle.pf_journal.specs.declared.state.State.TheVariants.{New, Other}
 use Rattle.pf_journaled.specs.Journaled.{behind_file, session_on}
 use Rattle.pf_plain.specs.Plain.{start}
 use Rattle.pf_recorder.specs.Recording.{records_in}
@@ -103,8 +103,8 @@ headed : (file : List ℕ) → is_new file ≡ false → (state_of file ≡ Othe
 headed file old known = elim (cases_Bool (starts_with nat_eq file (gated_line heading))) [
   | inl begins ↦ begins
   | inr other ↦
-      absurd (known (ap (λ (b : Bool). if b then New else (if starts_with nat_eq file (gated_line heading) then Journal else Other)) old
-      ∙ ap (λ (b : Bool). if b then Journal else Other) other))
+      absurd (known (ap (λ (b : Bool). if b then New else state_from (starts_with nat_eq file (gated_line heading)) file) old
+      ∙ ap (λ (b : Bool). state_from b file) other))
 ]
 
 first_text : (file : List ℕ) → starts_with nat_eq file (gated_line heading) ≡ true → texts_of file ≡ heading ∷ texts_from None (drop 8 file)

@@ -1,3 +1,4 @@
+mod Lists
 mod Reading
 mod Fields
 mod Records

@@ -7,14 +7,14 @@ use Rattle.pf_journaled.specs.Showing.TheVariants as showing
 use Rattle.pf_journaled.specs.Showing.{Showing}
 use Rattle.pf_heard.specs.declared.heard.Heard.{Heard}
 use Rattle.pf_heard.specs.declared.heard.Heard.TheVariants.{Nothing, Heading, Record, Shown, Undo, Save, Help, Quit, Bad}
-use Rattle.pf_journal.specs.Crash.{IsWithFront}
+use Rattle.pf_journal.specs.Crash.{IsMixing, IsOpenable, IsWithFront}
 use Rattle.pf_journal.specs.Lines.{records_of}
 use Rattle.pf_journal.specs.Texts.{whole_lines}
 use Rattle.pf_journal.specs.declared.journal_error.JournalError.{JournalError}
 use Rattle.pf_recorder.specs.Recording.{Answers, Keeps, Loses, Recording, Stops as StopsHere}
 use Rattle.pf_recorder.specs.Told.{IsSettled, recorded_talk}
 use Rattle.pf_journaled.specs.Sitters.{answers}
-use Rattle.pf_sitting.specs.Answered.{AnswersAll, AnswersLines, SomeAnswered, Stops}
+use Rattle.pf_sitting.specs.Answered.{AnswersAhead, AnswersAll, AnswersLines, AnswersTo, SomeAnswered, Stops}
 use Rattle.pf_sitting.specs.Sits.{LastRound}
 use Rattle.pf_sitting.specs.declared.answers.Going.{Going}
 use Rattle.pf_sitting.specs.declared.answers.Going.TheVariants.{On, Ends}
@@ -25,14 +25,11 @@ use Rattle.pf_session.specs.Session.{SessionState}
 use Rattle.pf_resumed.specs.Resumed.{HasRecords, IsBehind, IsSession}
 use Rattle.pf_resumed.specs.Crashed.{CrashesLeaveTold, IsKept, IsLeft, ToldAreKept}
 use Rattle.pf_resumed.proofs.Files.{body, records_are, scripted_again, whole_all}
+use Rattle.pf_resumed.proofs.Lists.{Parts, map_both, parts}
 use Rattle.pf_resumed.proofs.Reading.{AreRead, lines_text}
 use Rattle.pf_resumed.proofs.Scripted.{IsScripted, answer_next, session_scripted}
 
--- lists
-map_both : {A B : Type 0} (f : A → B) (a b : List A) → map f (a ++ b) ≡ map f a ++ map f b
-map_both f [] b = refl
-map_both f (x ∷ a) b = ap (λ (l : List _). f x ∷ l) (map_both f a b)
-
+-- texts
 text_both : (a b : List (List (List ℕ))) → lines_text false (a ++ b) ≡ lines_text false a ++ lines_text false b
 text_both [] b = refl
 text_both (r ∷ a) b =
@@ -41,22 +38,6 @@ text_both (r ∷ a) b =
 read_right : (a b : List (List (List ℕ))) → AreRead (a ++ b) → AreRead b
 read_right [] b read = read
 read_right (r ∷ a) b read = read_right a b read.1
-
--- a front of two lists is one of the first, or the first and a front of the second
-abbrev Parts : {A : Type 0} → List A → List A → List A → List A → Type 0
-Parts {A} a b front rest = ((more : List A) × (a ≡ front ++ more)) ⊎ ((behind : List A) × (front ≡ a ++ behind) × (b ≡ behind ++ rest))
-
-parts : {A : Type 0} (a b front rest : List A) → a ++ b ≡ front ++ rest → Parts a b front rest
-parts [] b front rest is = inr (front, refl, is)
-parts (x ∷ a) b [] rest is = inl (x ∷ a, refl)
-parts (x ∷ a) b (y ∷ front) rest is =
-    let same : x ≡ y = cc in
-    let more : a ++ b ≡ front ++ rest = cc in
-    by same (parts a b front rest more)
-  where
-    by : x ≡ y → Parts a b front rest → Parts (x ∷ a) b (y ∷ front) rest
-    by same (inl p) = inl (p.0, ap₂ (λ (z : _) (l : List _). z ∷ l) same p.1)
-    by same (inr p) = inr (p.0, ap₂ (λ (z : _) (l : List _). z ∷ l) (sym same) p.1, p.2)
 
 -- lines after lines
 all_both : (lines more : List (List ℕ)) (a : SessionState) (text rest : List ℕ) (m b : SessionState) → AnswersAll answers a lines text m → AnswersAll answers m more rest b
@@ -239,12 +220,21 @@ went_all (line ∷ lines) r is text t h =
     let f = went_one r is line h.0 On h.2 h.3 in
     went_both r h.2 is f t (went_all lines h.2 f.scripted h.1 t h.4)
 
+went_to : {D : Type 0} (lines : List (List ℕ)) (r : Recording SessionState D) (is : IsScripted r.machine) (text : List ℕ) (going : Going) (t : Recording SessionState D)
+    → AnswersTo (λ r line text going t. Answers answers (λ s. s.script) r line text going t) r lines text going t → Went r is t
+went_to lines r is text going t h =
+    let f = went_all h.done r is h.front h.mid h.answered in
+    went_both r h.mid is f t (went_one h.mid f.scripted h.last h.answer going t h.ended)
+
+went_ahead : {D : Type 0} (ahead : List ℕ) (r : Recording SessionState D) (is : IsScripted r.machine) (text : List ℕ) (t : Recording SessionState D) (left : List ℕ)
+    → AnswersAhead (λ r line text going t. Answers answers (λ s. s.script) r line text going t) r ahead text On t left → Went r is t
+went_ahead ahead r is text t left (inl h) = went_all _ r is text t h.answered
+went_ahead ahead r is text t left (inr h) = went_to _ r is text On t h.to
+
 went_lines : {D : Type 0} (lines : List (List ℕ)) (r : Recording SessionState D) (is : IsScripted r.machine) (text : List ℕ) (going : Going) (t : Recording SessionState D)
     → AnswersLines (λ r line text going t. Answers answers (λ s. s.script) r line text going t) r lines text going t → Went r is t
 went_lines lines r is text On t h = went_all lines r is text t h
-went_lines lines r is text Ends t h =
-    let f = went_all h.done r is h.front h.mid h.answered in
-    went_both r h.mid is f t (went_one h.mid f.scripted h.last h.answer Ends t h.ended)
+went_lines lines r is text Ends t h = went_to lines r is text Ends t h
 
 -- lines were answered, all of them maybe; of who answers nothing more is said
 record Held {D : Type 0} (r : Recording SessionState D) (is : IsScripted r.machine) (t : Recording SessionState D) : Type 0 where
@@ -266,10 +256,10 @@ held_stopped r is m t w (inr s) = record { mid = m; went = w; waiting_is = s.wai
 held_some : {D : Type 0} (lines : List (List ℕ)) (r : Recording SessionState D) (is : IsScripted r.machine) (text : List ℕ) (t : Recording SessionState D)
     → SomeAnswered (λ r line text going t. Answers answers (λ s. s.script) r line text going t) (λ r t. StopsHere r t) r lines text t → Held r is t
 held_some lines r is text t (inl h) = held_stopped r is h.behind t (went_all h.done r is text h.behind h.answered) h.stopped
-held_some lines r is text t (inr h) = held r is t (went_lines lines r is text h.0 t h.1)
+held_some lines r is text t (inr h) = held r is t (went_to lines r is text h.0 t h.1)
 
 -- what the file has
-module _ {D : Type 0} (seen : D → List ℕ) (may_leave : D → List ℕ → Type 0) (is_clean : D → Bool) where
+module _ {D : Type 0} (seen : D → List ℕ) (may_leave : D → List ℕ → Type 0) (is_clean is_mixing : D → Bool) where
   records_new : (r : Recording SessionState D) (is : IsScripted r.machine) (t : Recording SessionState D) (h : Held r is t) → HasRecords (seen r.file) r.machine
       → IsSettled seen may_leave is_clean r → (records_of (seen t.file) ≡ map body is.rows) × (whole_lines t.waiting ≡ map body h.went.new)
   records_new r is t h has at = (
@@ -293,51 +283,59 @@ module _ {D : Type 0} (seen : D → List ℕ) (may_leave : D → List ℕ → Ty
       → IsSettled seen may_leave is_clean r → Keeps seen may_leave is_clean m t → IsSettled seen may_leave is_clean t
   kept_settled r is m t h at k =
       let clean : IsTrue (is_clean t.file) = k.calm ∙ clean_still r is m h at in
-      record { waiting_is = k.waiting_is; clean = clean; durable = k.durable clean }
+      record { waiting_is = k.waiting_is; clean = clean; durable = k.durable clean; opens = k.opens clean }
 
   -- a file that has the records of a session
-  left : (told : SessionState) (s : SessionState) (file : List ℕ) → IsSession told → IsBehind told s → HasRecords file s → IsLeft told file
-  left told s file is behind has = record {
+  left : (told : SessionState) (s : SessionState) (file : List ℕ) → IsSession told → IsBehind told s → HasRecords file s
+      → (IsMixing is_mixing → IsOpenable file) → IsLeft is_mixing told file
+  left told s file is behind has opens = record {
     session = s;
     is = session_behind told s is behind;
     behind = behind;
     records = has;
+    opens = opens;
     again = λ manner known. scripted_again manner s file (session_scripted s (session_behind told s is behind)) has known;
   }
 
   left_kept : (r m t : Recording SessionState D) (session : IsSession r.machine) → Held r (session_scripted r.machine session) m → HasRecords (seen r.file) r.machine
-      → IsSettled seen may_leave is_clean r → Keeps seen may_leave is_clean m t → (file : List ℕ) → may_leave t.file file → IsLeft r.machine file
+      → IsSettled seen may_leave is_clean r → Keeps seen may_leave is_clean m t → (file : List ℕ) → may_leave t.file file → IsLeft is_mixing r.machine file
   left_kept r m t session h has at k file leaves =
       let is = session_scripted r.machine session in
       let same : file ≡ seen t.file = (kept_settled r is m t h at k).durable file leaves in
       left r.machine h.mid.machine file session h.went.behind (ap records_of same ∙ kept_records r is m t h has at k)
+      (λ mixing. subst IsOpenable (sym same) (kept_settled r is m t h at k).opens)
 
-  left_same : (r t : Recording SessionState D) → t ≡ r → IsKept seen may_leave is_clean r → (file : List ℕ) → may_leave t.file file → IsLeft r.machine file
+  left_same : (r t : Recording SessionState D) → t ≡ r → IsKept seen may_leave is_clean r → (file : List ℕ) → may_leave t.file file → IsLeft is_mixing r.machine file
   left_same r t e kept file leaves =
       let same : file ≡ seen r.file = kept.settled.durable file (subst (λ (q : Recording SessionState D). may_leave q.file file) e leaves) in
       left r.machine r.machine file kept.session (behind_none r.machine r.machine refl) (ap records_of same ∙ kept.records)
+      (λ mixing. subst IsOpenable (sym same) kept.settled.opens)
 
   -- not all of it was put
   left_lost : (r m t : Recording SessionState D) (kept : IsKept seen may_leave is_clean r) → Held r (session_scripted r.machine kept.session) m
-      → Loses seen may_leave is_clean m t → (file : List ℕ) → may_leave t.file file → IsLeft r.machine file
+      → Loses seen may_leave is_clean is_mixing m t → (file : List ℕ) → may_leave t.file file → IsLeft is_mixing r.machine file
   left_lost r m t kept h l file leaves = by m.lost refl
     where
       is : IsScripted r.machine
       is = session_scripted r.machine kept.session
 
-      some : IsWithFront (records_of (seen m.file)) (whole_lines m.waiting) file → IsLeft r.machine file
-      some w =
+      some : IsWithFront (records_of (seen m.file)) (whole_lines m.waiting) file → (IsMixing is_mixing → IsOpenable file) → IsLeft is_mixing r.machine file
+      some w opens =
           let two = records_new r is m h kept.records kept.settled in
           let u = h.went.fronts w.0 w.1 (sym two.1 ∙ w.2) in
           left r.machine u.session file kept.session u.behind
           (w.3 ∙ ap (λ (a : List (List ℕ)). a ++ w.0) two.0 ∙ sym u.rows ∙ sym (records_are u.session u.scripted))
+          opens
 
-      by : (why : Option JournalError) → m.lost ≡ why → IsLeft r.machine file
-      by None was = some (l.front was (clean_still r is m h kept.settled) file leaves)
+      by : (why : Option JournalError) → m.lost ≡ why → IsLeft is_mixing r.machine file
+      by None was =
+          let clean = clean_still r is m h kept.settled in
+          some (l.front was clean file leaves) (λ mixing. l.opens was clean mixing file leaves)
       by (Some why) was =
           let file_is : t.file ≡ r.file = (l.same (ap (λ (o : Option JournalError). is_some o) was)).0 ∙ h.file_is ∙ h.went.file_is in
           let same : file ≡ seen r.file = kept.settled.durable file (subst (λ (f : D). may_leave f file) file_is leaves) in
           left r.machine r.machine file kept.session (behind_none r.machine r.machine refl) (ap records_of same ∙ kept.records)
+          (λ mixing. subst IsOpenable (sym same) kept.settled.opens)
 
   -- a round that was kept
   round_kept : (r m t : Recording SessionState D) (kept : IsKept seen may_leave is_clean r) → Went r (session_scripted r.machine kept.session) m
@@ -357,40 +355,40 @@ module _ {D : Type 0} (seen : D → List ℕ) (may_leave : D → List ℕ → Ty
 
   -- Use: rounds.
   pub told_kept : {T : Type 0} (hears : T → List ℕ → T → Type 0) (is_deaf : T → T → Type 0) (tells is_mute : T → List ℕ → T → Type 0)
-      → ToldAreKept seen may_leave is_clean hears is_deaf tells is_mute
+      → ToldAreKept seen may_leave is_clean is_mixing hears is_deaf tells is_mute
   told_kept hears is_deaf tells is_mute [] r d line t e rest h kept = (
     subst (λ (q : Recording SessionState D). IsKept seen may_leave is_clean q) (sym h.0) kept,
     behind_none r.machine t.machine (ap (λ q. q.machine) h.0),
   )
   told_kept hears is_deaf tells is_mute (round ∷ rounds) r d line t e rest h kept =
       let is = session_scripted r.machine kept.session in
-      let first = round_kept r h.2.answered h.0 kept (went_lines _ r is round.text On h.2.answered h.2.answers) h.2.keeps in
+      let first = round_kept r h.2.answered h.0 kept (went_ahead _ r is round.text h.2.answered round.left h.2.answers) h.2.keeps in
       let more = told_kept hears is_deaf tells is_mute rounds h.0 h.1 _ t e rest h.3 first.0 in
       (more.0, behind_both r.machine h.0.machine t.machine first.1 more.1)
 
   last_left : {T : Type 0} (hears : T → List ℕ → T → Type 0) (is_deaf : T → T → Type 0) (tells is_mute : T → List ℕ → T → Type 0)
       (ending : Result Going SitFault) (r : Recording SessionState D) (d : T) (line : List ℕ) (t : Recording SessionState D) (e : T)
       → IsKept seen may_leave is_clean r
-      → LastRound (recorded_talk answers (λ s. s.script) seen may_leave is_clean hears is_deaf tells is_mute) r d line ending t e
-      → (file : List ℕ) → may_leave t.file file → IsLeft r.machine file
+      → LastRound (recorded_talk answers (λ s. s.script) seen may_leave is_clean is_mixing hears is_deaf tells is_mute) r d line ending t e
+      → (file : List ℕ) → may_leave t.file file → IsLeft is_mixing r.machine file
   last_left hears is_deaf tells is_mute (Ok going) r d line t e kept h file leaves =
       let is = session_scripted r.machine kept.session in
-      left_kept r h.answered t kept.session (held r is h.answered (went_lines _ r is h.round.text going h.answered h.answers)) kept.records kept.settled h.keeps file leaves
+      left_kept r h.answered t kept.session (held r is h.answered (went_lines _ r is h.text going h.answered h.answers)) kept.records kept.settled h.keeps file leaves
   last_left hears is_deaf tells is_mute (Err Deaf) r d line t e kept h file leaves = left_same r t h.0 kept file leaves
   last_left hears is_deaf tells is_mute (Err Mute) r d line t e kept h file leaves =
       let is = session_scripted r.machine kept.session in
-      left_kept r h.answered t kept.session (held_some _ r is h.round.text h.answered h.answers) kept.records kept.settled h.went.0 file leaves
+      left_kept r h.answered t kept.session (held_some _ r is h.text h.answered h.answers) kept.records kept.settled h.went.0 file leaves
   last_left hears is_deaf tells is_mute (Err Unkept) r d line t e kept h file leaves =
       let is = session_scripted r.machine kept.session in
-      left_lost r h.answered t kept (held_some _ r is h.round.text h.answered h.answers) h.went.0 file leaves
+      left_lost r h.answered t kept (held_some _ r is h.text h.answered h.answers) h.went.0 file leaves
   last_left hears is_deaf tells is_mute (Err NoMemory) r d line t e kept (inl h) file leaves =
       let is = session_scripted r.machine kept.session in
-      left_kept r h.answered t kept.session (held_some _ r is h.round.text h.answered h.answers) kept.records kept.settled h.went.0 file leaves
+      left_kept r h.answered t kept.session (held_some _ r is h.text h.answered h.answers) kept.records kept.settled h.went.0 file leaves
   last_left hears is_deaf tells is_mute (Err NoMemory) r d line t e kept (inr h) file leaves = left_same r t h.0 kept file leaves
 
   -- Use: a whole sitting.
   pub crash_leaves : {T : Type 0} (hears : T → List ℕ → T → Type 0) (is_deaf : T → T → Type 0) (tells is_mute : T → List ℕ → T → Type 0)
-      → CrashesLeaveTold seen may_leave is_clean hears is_deaf tells is_mute
+      → CrashesLeaveTold seen may_leave is_clean is_mixing hears is_deaf tells is_mute
   crash_leaves hears is_deaf tells is_mute r d ending t e sat kept file leaves =
       let told = told_kept hears is_deaf tells is_mute sat.rounds r d [] sat.behind sat.told sat.rest sat.sits kept in
       last_left hears is_deaf tells is_mute ending sat.behind sat.told sat.rest t e told.0 sat.last file leaves

@@ -32,7 +32,7 @@ use Rattle.pf_journaled.specs.Sitters.{answers}
 use Rattle.pf_sitting.specs.Answered.{AnswersAll}
 use Rattle.pf_sitting.specs.declared.answers.Going.{Going}
 use Rattle.pf_sitting.specs.declared.answers.Going.TheVariants.{On}
-use Rattle.pf_journaled.specs.Turns.{GoesOn, Saves, behind_showing, heard_of}
+use Rattle.pf_journaled.specs.Turns.{GoesOn, Saves, behind_showing, heard_in, heard_of, line_in}
 use Rattle.pf_session.specs.Session.{SessionState, at_start, behind_bad, behind_record, behind_undo_of, newest_of}
 use Rattle.pf_plan.specs.Heading.{heading_fault, is_plan_heading}
 use Rattle.pf_plan.specs.Parsing.{end_fault, said_at}
@@ -221,6 +221,10 @@ heard_said is_first p line =
     let text = strip_carriage_return line in
     either_said p (nat_lt LONGEST_LINE (length text)) (Bad 0 too_long_text) _ tt (fields_said is_first p (fields_in text))
 
+in_said : (s : SessionState) (line : Option (List ℕ)) → IsSaid s.course.progress (heard_in s line)
+in_said s None = tt
+in_said s (Some line) = heard_said s.is_first s.course.progress line
+
 -- after what was heard
 same_next : (s : SessionState) (is : IsScripted s) (q t : SessionState) → t ≡ q → IsNext s is q → IsNext s is t
 same_next s is q t e h = subst (λ (u : SessionState). IsNext s is u) (sym e) h
@@ -250,7 +254,7 @@ goes_next saves s is v (Bad field text) g a t w said h = same_next s is (behind_
 -- Use: after one line.
 pub answer_next : (s : SessionState) (is : IsScripted s) (line text : List ℕ) (going : Going) (t : SessionState) → answers s line text going t → IsNext s is t
 answer_next s is line text going t (inl h) =
-    goes_next (λ v file bytes is_saved w. Unit {0}) s is tt (heard_of s line) going text t tt (heard_said s.is_first s.course.progress line) h
+    goes_next (λ v file bytes is_saved w. Unit {0}) s is tt (heard_of s line) going text t tt (in_said s (line_in s.manner.whole line)) h
 answer_next s is line text going t (inr h) = stays s is t h.2
 
 answers_scripted : (lines : List (List ℕ)) (s : SessionState) (text : List ℕ) (t : SessionState) → AnswersAll answers s lines text t → IsScripted s → IsScripted t

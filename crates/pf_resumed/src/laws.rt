@@ -22,11 +22,11 @@ pub fn begun_are_kept<D: Disk>()
 
 /// Whenever more is asked for in a sitting, the session that was told so far is kept.
 pub fn told_are_kept<D: Disk, T: Dialogue>()
-    ensures { ToldAreKept D.seen D.may_leave D.is_clean T.hears T.is_deaf T.tells T.is_mute }
+    ensures { ToldAreKept D.seen D.may_leave D.is_clean D.is_mixing T.hears T.is_deaf T.tells T.is_mute }
 {}
 
 /// Whatever such a sitting comes to, a crash leaves a journal that begins the session again as it was told, after some more lines maybe,
-/// each of them whole.
+/// each of them whole. On disks that leave each byte of a torn write as it was or as it was written, it opens.
 pub fn crashes_leave_told<D: Disk, T: Dialogue>()
-    ensures { CrashesLeaveTold D.seen D.may_leave D.is_clean T.hears T.is_deaf T.tells T.is_mute }
+    ensures { CrashesLeaveTold D.seen D.may_leave D.is_clean D.is_mixing T.hears T.is_deaf T.tells T.is_mute }
 {}

@@ -259,6 +259,7 @@ impl Session {
         self.manner = Manner {
             json: false,
             quiet: true,
+            whole: manner.whole,
         };
         let result = self.take_record(said, line, &mut text);
         self.manner = manner;

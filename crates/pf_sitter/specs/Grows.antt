@@ -25,7 +25,7 @@ use Rattle.pf_session.specs.Made.{change_line, taking_back}
 use Rattle.pf_sitter.specs.Sitters.{answers}
 use Rattle.pf_sitting.specs.Scripts.{GrowsTo}
 use Rattle.pf_sitting.specs.declared.answers.Going.{Going}
-use Rattle.pf_sitter.specs.Turns.{GoesOn, Saves, behind_showing, heard_of}
+use Rattle.pf_sitter.specs.Turns.{GoesOn, Saves, behind_showing, heard_in, heard_of, line_in}
 use Rattle.pf_session.specs.Session.{SessionState, behind_undo_of, newest_of}
 use Rattle.pf_plan.specs.Heading.{heading_fault, is_plan_heading}
 use Rattle.pf_plan.specs.Parsing.{said_at}
@@ -95,6 +95,10 @@ heard_lined is_first p line =
     let text = strip_carriage_return line in
     either_lined (nat_lt LONGEST_LINE (length text)) (Bad 0 too_long_text) _ tt (fields_lined is_first p (fields_in text))
 
+in_lined : (s : SessionState) (line : Option (List ℕ)) → IsLined (heard_in s line)
+in_lined s None = tt
+in_lined s (Some line) = heard_lined s.is_first s.course.progress line
+
 -- a session whose script is as it was, or longer by a line
 stays : (s t : SessionState) → t.script ≡ s.script → GrowsTo s.script t.script
 stays s t is = record { more = []; lines = inl refl; is = is ∙ sym (append-nil s.script) }
@@ -132,5 +136,5 @@ goes_grows saves s v (Bad field text) g a t w is h = stays s t (ap (λ q. q.scri
 -- Use: the law of a sitter's script.
 pub grows : (s : SessionState) (line text : List ℕ) (going : Going) (t : SessionState) → answers s line text going t → GrowsTo s.script t.script
 grows s line text going t (inl h) =
-    goes_grows (λ v file bytes is_saved w. Unit {0}) s tt (heard_of s line) going text t tt (heard_lined s.is_first s.course.progress line) h
+    goes_grows (λ v file bytes is_saved w. Unit {0}) s tt (heard_of s line) going text t tt (in_lined s (line_in s.manner.whole line)) h
 grows s line text going t (inr h) = stays s t (ap (λ q. q.script) h.2)

@@ -1,5 +1,5 @@
 -- How a session goes on with a line, and what it answers.
-use Rattle.std.specs.Prelude.{ℕ, ◌≡◌, ◌⊎◌, Bool, true, false, List, [], ◌++◌, codes}
+use Rattle.std.specs.Prelude.{ℕ, ◌≡◌, ◌⊎◌, ◌-◌, ◌==◌, Bool, true, false, if◌then◌else◌, Option, None, Some, List, [], ◌++◌, length, take, slice_index, codes}
 use Rattle.pf_answers.specs.Bad.{bad_text}
 use Rattle.pf_answers.specs.Shown.{shown_text}
 use Rattle.pf_answers.specs.Telling.{taken_text, told_text}
@@ -8,6 +8,7 @@ use Rattle.pf_heard.specs.Words.{help_text}
 use Rattle.pf_heard.specs.declared.heard.Heard.{Heard}
 use Rattle.pf_heard.specs.declared.heard.Heard.TheVariants.{Nothing, Heading, Record, Shown, Undo, Save, Help, Quit, Bad}
 use Rattle.pf_options.specs.declared.format.Format.TheVariants.{Script}
+use Rattle.pf_run_notes.specs.File.{file_text}
 use Rattle.pf_session.specs.Answers.{said_answer, undo_answer}
 use Rattle.pf_session.specs.Session.{SessionState, behind_bad, behind_record, behind_undo, newest_of}
 use Rattle.pf_heard.specs.Values.{is_value}
@@ -30,9 +31,9 @@ behind_showing s (showing.Bad words) = behind_bad s
 
 -- the answer to `save`: the file of this name was written, or was not
 abbrev pub saved_text : Bool → List ℕ → Bool → List ℕ
-saved_text false file true = codes "saved " ++ (file ++ codes "\n")
+saved_text false file true = codes "saved " ++ (file_text file ++ codes "\n")
 saved_text true file true = taken_text true
-saved_text json file false = told_text json (codes "cannot write " ++ file)
+saved_text json file false = told_text json (codes "cannot write " ++ file_text file)
 
 -- going on so, with who saves (S) as before
 abbrev pub Goes : {S : Type 0} → Going → List ℕ → SessionState → S → Going → List ℕ → SessionState → S → Type 0
@@ -59,9 +60,22 @@ GoesOn saves s v Help g a t w = Goes On (shown_text s.manner.json false help_tex
 GoesOn saves s v Quit g a t w = Goes Ends [] s v g a t w
 GoesOn saves s v (Bad field text) g a t w = Goes On (bad_text s.manner.json field text) (behind_bad s) v g a t w
 
--- what it hears of a line
+-- of a last line that lacks its line feed, where whole lines are wanted
+abbrev pub no_end_text : List ℕ
+no_end_text = codes "it has no line end"
+
+-- a line as it came, without its line feed; where it lacks that and whole lines are wanted, there is none
+abbrev pub line_in : Bool → List ℕ → Option (List ℕ)
+line_in whole line = if slice_index line (length line - 1) == 10 then Some (take (length line - 1) line) else if whole then None else Some line
+
+-- what it hears of that
+abbrev pub heard_in : SessionState → Option (List ℕ) → Heard
+heard_in s None = Bad 0 no_end_text
+heard_in s (Some line) = heard s.is_first s.course.progress line
+
+-- what it hears of a line as it came
 abbrev pub heard_of : SessionState → List ℕ → Heard
-heard_of s line = heard s.is_first s.course.progress line
+heard_of s line = heard_in s (line_in s.manner.whole line)
 
 -- a line was answered: as what it is, or memory was refused, which is told and changes nothing
 abbrev pub AnswersLine : {S : Type 0} → (S → List ℕ → List ℕ → Bool → S → Type 0) → SessionState → S → List ℕ → Going → List ℕ → SessionState → S → Type 0

@@ -9,8 +9,8 @@ use pf_session::session::Session;
 use pf_session::stop::Stop;
 use pf_sitting::answers::{Going, Stopped};
 
-/// Answers a line, which has no line feed at its end, of a session: appends the text of the answer. Where memory is refused for that
-/// the answer tells it, and nothing has changed.
+/// Answers a line of a session as it came: with its line feed, which the last one may lack. Appends the text of the answer. Where
+/// memory is refused for that the answer tells it, and nothing has changed.
 ///
 /// # Errors
 ///

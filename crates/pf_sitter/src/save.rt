@@ -10,6 +10,7 @@ use crate::saver::Saver;
 use pf_answers::telling::{push_told, taken};
 use pf_heard::wanted::Wanted;
 use pf_options::format::Format;
+use pf_run_notes::file::push_file;
 use pf_session::session::Session;
 use pf_shown::show::show;
 use pf_shown::showing::Showing;
@@ -81,7 +82,7 @@ fn saved_text(alloc: Global, json: bool, file: &[u8]) -> Result<Vec<u8>, AllocEr
         return Ok(answer);
     }
     answer.extend_from_slice(b"saved ")?;
-    answer.extend_from_slice(file)?;
+    push_file(&mut answer, file)?;
     answer.extend_from_slice(b"\n")?;
     Ok(answer)
 }
@@ -91,7 +92,7 @@ fn failed_text(alloc: Global, json: bool, file: &[u8]) -> Result<Vec<u8>, AllocE
     ensures { IfOk result (λ answer. answer.items ≡ saved_text json file.now false) }
 {
     let mut words = Vec::from_slice(alloc, b"cannot write ")?;
-    words.extend_from_slice(file)?;
+    push_file(&mut words, file)?;
     let mut answer = Vec::new(alloc);
     push_told(&mut answer, json, &words)?;
     Ok(answer)

@@ -1,8 +1,9 @@
 ghost use Rattle.std.specs.Prelude.{◌≡◌, ◌++◌, ℕ, List, false, Err, IfOk, OnErr, OnOk};
+ghost use Rattle.std.specs.Option.{option_map};
 ghost use Rattle.pf_answers.specs.Shown.{shown_text};
 ghost use Rattle.pf_heard.specs.Words.{help_text};
 ghost use Rattle.pf_session.specs.declared.stop.Stop.TheVariants as stop;
-ghost use Rattle.pf_sitter.specs.Turns.{GoesOn, heard_of};
+ghost use Rattle.pf_sitter.specs.Turns.{GoesOn, heard_of, line_in};
 
 use crate::save::save_script;
 use crate::saver::Saver;
@@ -15,7 +16,7 @@ use pf_session::stop::Stop;
 use pf_sitting::answers::Going;
 use std::alloc::AllocError;
 
-/// Answers a line as what it is.
+/// Answers a line as what it is, as it came.
 ///
 /// # Errors
 ///
@@ -32,6 +33,10 @@ pub(crate) fn turn<S: Saver>(
     ensures saver { OnErr result (saver.new ≡ saver.old) }
     ensures same { OnErr result (text.new.items ≡ text.old.items) }
 {
+    let Some(line) = without_end(session.manner().whole, line) else {
+        session.take_bad(0, b"it has no line end", text)?;
+        return Ok(Going::On);
+    };
     let heard = hear(
         session.alloc(),
         session.is_first(),
@@ -39,6 +44,17 @@ pub(crate) fn turn<S: Saver>(
         line,
     )?;
     take(session, saver, heard, text)
+}
+
+/// A line as it came, without its line feed: none where it lacks that and whole lines are wanted.
+fn without_end(whole: bool, line: &[u8]) -> Option<&[u8]>
+    ensures { option_map (λ l. l.now) result ≡ line_in whole line.now }
+{
+    match line {
+        [front @ .., b'\n'] => Some(front),
+        _ if whole => None,
+        _ => Some(line),
+    }
 }
 
 /// Goes on with what was heard.

@@ -1,2 +1,4 @@
 pub mod Answering
+pub mod Fronts
+pub mod Pieces
 pub mod Rounds

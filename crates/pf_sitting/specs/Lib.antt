@@ -1,4 +1,5 @@
 pub mod Lines
 pub mod Answered
 pub mod Sits
+pub mod Ahead
 pub mod Scripts

@@ -5,8 +5,8 @@ use Rattle.pf_sitting.specs.declared.answers.Going.TheVariants.{On}
 use Rattle.pf_sitting.specs.declared.answers.Stopped.{Stopped}
 use Rattle.pf_sitting.specs.declared.fault.SitFault.{SitFault}
 use Rattle.pf_sitting.specs.declared.fault.SitFault.TheVariants.{Deaf, Mute, NoMemory, Unkept}
-use Rattle.pf_sitting.specs.Answered.{AnswersLines, SomeAnswered}
-use Rattle.pf_sitting.specs.Lines.{lines_at, lines_in, rest_in}
+use Rattle.pf_sitting.specs.Answered.{AnswersAhead, AnswersLines, SomeAnswered}
+use Rattle.pf_sitting.specs.Lines.{ahead_with, lines_at, lines_in}
 
 -- how what answers (A) goes on and keeps what it answered, and whom it talks with (D)
 pub record Talk (A D : Type 0) : Type 1 where
@@ -32,47 +32,55 @@ talk_of answers stops keeps loses hears is_deaf tells is_mute = record {
   is_mute = is_mute;
 }
 
--- what came when more was asked for, and what was told then
+-- what came in a round, where more was asked for; what was told then; and what was left of what had come
 pub record Round : Type 0 where
-  pub bytes : List ℕ
+  pub came : Option (List ℕ)
   pub text : List ℕ
+  pub left : List ℕ
 
--- a round after the front of a line: more was asked for, the lines that this brought to their end were answered, what was answered
--- was kept, and then the answers were told
-pub record HasRound {A D : Type 0} (talk : Talk A D) (a : A) (d : D) (line : List ℕ) (round : Round) (b : A) (e : D) : Type 0 where
+-- more is asked for only where no line that is at its end is ahead; else nothing is heard
+abbrev pub HearsMore : {D : Type 0} → (D → List ℕ → D → Type 0) → D → List ℕ → Option (List ℕ) → D → Type 0
+HearsMore hears d ahead None heard = heard ≡ d
+HearsMore hears d ahead (Some bytes) heard = (lines_in [] ahead ≡ []) × hears d bytes heard
+
+-- a round, with what came and is not answered ahead of it, the front of a line at most or lines too: more was asked for where no line
+-- was ahead, lines were answered, what was answered was kept, and then the answers were told
+pub record HasRound {A D : Type 0} (talk : Talk A D) (a : A) (d : D) (ahead : List ℕ) (round : Round) (b : A) (e : D) : Type 0 where
   pub heard : D
-  pub hears : talk.hears d round.bytes heard
+  pub hears : HearsMore talk.hears d ahead round.came heard
   pub answered : A
-  pub answers : AnswersLines talk.answers a (lines_in line round.bytes) round.text On answered
+  pub answers : AnswersAhead talk.answers a (ahead_with ahead round.came) round.text On answered round.left
   pub keeps : talk.keeps answered b
   pub tells : talk.tells heard round.text e
 
 -- rounds, one after the other, and nothing else
 abbrev pub Sits : {A D : Type 0} → Talk A D → List Round → A → D → List ℕ → A → D → List ℕ → Type 0
-Sits talk [] a d line b e rest = (b ≡ a) × (e ≡ d) × (rest ≡ line)
-Sits talk (round ∷ rounds) a d line b e rest =
-    (mid : _) × (told : _) × HasRound talk a d line round mid told × Sits talk rounds mid told (rest_in line round.bytes) b e rest
+Sits talk [] a d ahead b e rest = (b ≡ a) × (e ≡ d) × (rest ≡ ahead)
+Sits talk (round ∷ rounds) a d ahead b e rest =
+    (mid : _) × (told : _) × HasRound talk a d ahead round mid told × Sits talk rounds mid told round.left b e rest
 
 -- the last round: nothing more came, and the last line was answered, or the lines up to one that ended it; what was answered was
 -- kept, and then told
-pub record EndsRound {A D : Type 0} (talk : Talk A D) (a : A) (d : D) (line : List ℕ) (going : Going) (b : A) (e : D) : Type 0 where
-  pub round : Round
+pub record EndsRound {A D : Type 0} (talk : Talk A D) (a : A) (d : D) (ahead : List ℕ) (going : Going) (b : A) (e : D) : Type 0 where
+  pub came : Option (List ℕ)
+  pub text : List ℕ
   pub heard : D
-  pub hears : talk.hears d round.bytes heard
+  pub hears : HearsMore talk.hears d ahead came heard
   pub answered : A
-  pub answers : AnswersLines talk.answers a (lines_at line round.bytes) round.text going answered
+  pub answers : AnswersLines talk.answers a (lines_at ahead came) text going answered
   pub keeps : talk.keeps answered b
-  pub tells : talk.tells heard round.text e
-  pub all : going ≡ On → round.bytes ≡ []
+  pub tells : talk.tells heard text e
+  pub all : going ≡ On → came ≡ Some []
 
 -- or a round in which some lines were answered, all of them maybe, and then what `out` says of these answers
-pub record CutsRound {A D : Type 0} (talk : Talk A D) (a : A) (d : D) (line : List ℕ) (out : A → D → List ℕ → A → D → Type 0) (b : A) (e : D) : Type 0 where
-  pub round : Round
+pub record CutsRound {A D : Type 0} (talk : Talk A D) (a : A) (d : D) (ahead : List ℕ) (out : A → D → List ℕ → A → D → Type 0) (b : A) (e : D) : Type 0 where
+  pub came : Option (List ℕ)
+  pub text : List ℕ
   pub heard : D
-  pub hears : talk.hears d round.bytes heard
+  pub hears : HearsMore talk.hears d ahead came heard
   pub answered : A
-  pub answers : SomeAnswered talk.answers talk.stops a (lines_at line round.bytes) round.text answered
-  pub went : out answered heard round.text b e
+  pub answers : SomeAnswered talk.answers talk.stops a (lines_at ahead came) text answered
+  pub went : out answered heard text b e
 
 -- they were kept and then told, ..
 abbrev pub IsOut : {A D : Type 0} → Talk A D → A → D → List ℕ → A → D → Type 0
@@ -88,11 +96,11 @@ IsLost talk a d text b e = talk.loses a b × (e ≡ d)
 
 -- how the last round went
 abbrev pub LastRound : {A D : Type 0} → Talk A D → A → D → List ℕ → Result Going SitFault → A → D → Type 0
-LastRound talk a d line (Ok going) b e = EndsRound talk a d line going b e
-LastRound talk a d line (Err Deaf) b e = (b ≡ a) × talk.is_deaf d e
-LastRound talk a d line (Err Mute) b e = CutsRound talk a d line (IsUntold talk) b e
-LastRound talk a d line (Err Unkept) b e = CutsRound talk a d line (IsLost talk) b e
-LastRound talk a d line (Err NoMemory) b e = CutsRound talk a d line (IsOut talk) b e ⊎ ((b ≡ a) × (e ≡ d))
+LastRound talk a d ahead (Ok going) b e = EndsRound talk a d ahead going b e
+LastRound talk a d ahead (Err Deaf) b e = (b ≡ a) × talk.is_deaf d e
+LastRound talk a d ahead (Err Mute) b e = CutsRound talk a d ahead (IsUntold talk) b e
+LastRound talk a d ahead (Err Unkept) b e = CutsRound talk a d ahead (IsLost talk) b e
+LastRound talk a d ahead (Err NoMemory) b e = CutsRound talk a d ahead (IsOut talk) b e ⊎ ((b ≡ a) × (e ≡ d))
 
 -- a sitting from its beginning: rounds, and the last one
 pub record HasSat {A D : Type 0} (talk : Talk A D) (a : A) (d : D) (ending : Result Going SitFault) (b : A) (e : D) : Type 0 where
@@ -113,6 +121,6 @@ IsTold talk going a d text (Err Deaf) b e = ⊥
 
 -- how one round went: more is to be asked for, or it was the last
 abbrev pub NextRound : {A D : Type 0} → Talk A D → A → D → List ℕ → Result (Option Going) SitFault → A → D → List ℕ → Type 0
-NextRound talk a d line (Ok None) b e rest = (round : Round) × HasRound talk a d line round b e × (rest ≡ rest_in line round.bytes)
-NextRound talk a d line (Ok (Some going)) b e rest = LastRound talk a d line (Ok going) b e
-NextRound talk a d line (Err fault) b e rest = LastRound talk a d line (Err fault) b e
+NextRound talk a d ahead (Ok None) b e rest = (round : Round) × HasRound talk a d ahead round b e × (rest ≡ round.left)
+NextRound talk a d ahead (Ok (Some going)) b e rest = LastRound talk a d ahead (Ok going) b e
+NextRound talk a d ahead (Err fault) b e rest = LastRound talk a d ahead (Err fault) b e

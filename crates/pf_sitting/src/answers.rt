@@ -32,7 +32,7 @@ pub trait Answers {
     // it could not all be kept
     ghost loses: { Self → Self → Type 0 };
 
-    /// Answers a line, which has no line feed at its end: appends the text of the answer.
+    /// Answers a line as it came: with the line feed at its end, which the last one may lack. Appends the text of the answer.
     ///
     /// # Errors
     ///

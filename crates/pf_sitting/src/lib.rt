@@ -2,6 +2,7 @@
 //! in whatever pieces, what was told when more is asked for is the answers to the lines that are whole so far.
 #![tactic(auto)]
 
+mod ahead;
 pub mod answers;
 pub mod dialogue;
 pub mod fault;

@@ -1,20 +1,18 @@
-ghost use Rattle.std.specs.Prelude.{◌≡◌, ◌<◌, [], length, IfOk, OnOk};
+ghost use Rattle.std.specs.Prelude.{◌≡◌, [], None, IfOk, OnOk};
+ghost use Rattle.pf_sitting.specs.Ahead.{IsAhead, ahead_of};
 ghost use Rattle.pf_sitting.specs.Sits.{HasSat, IsTold, NextRound, talk_of};
-ghost use Rattle.pf_sitting.specs.declared.fault.SitFault.TheVariants as fault;
 
+use crate::ahead::Ahead;
 use crate::answers::{Answers, Going, Stopped};
 use crate::dialogue::Dialogue;
 use crate::fault::SitFault;
-use crate::lines::{LINE_KEPT, take_bytes, take_last};
-use std::alloc::Global;
 use std::sync::Wait;
 
-// How many bytes are asked for at once.
-const PIECE: usize = 65_536;
-
 /// Answers the lines that come in, until they end (`Going::On`) or one of them is the last (`Going::Ends`). Each answer is told before
-/// more is asked for than came already, and what was answered is kept before it is told. A line ends at a line feed, which is no part of it, the last one also at the end of what comes
-/// in; of a line that has more than `LINE_KEPT` bytes, these are taken for all of it.
+/// more is asked for than came already, and what was answered is kept before it is told. Lines that came at once are answered in one
+/// round, as long as their answers have at most `TEXT_HELD` bytes; with an answer that makes them more, they are kept and told before
+/// the next line is answered. A line goes with the line feed that ends it; the last one may lack it, where it ends at the end of what
+/// comes in. Of a line that has more than `LINE_KEPT` bytes before that, these are taken for all of it.
 ///
 /// # Errors
 ///
@@ -30,14 +28,11 @@ pub fn sit<H: AllocGlobal + Wait, A: Answers, D: Dialogue>(
     ensures { HasSat (talk_of A.answers A.stops A.keeps A.loses D.hears D.is_deaf D.tells D.is_mute) answers.old dialogue.old result answers.new dialogue.new }
 {
     let alloc = rt.alloc();
-    let Ok(mut line) = Vec::with_capacity(alloc, LINE_KEPT) else {
-        return Err(SitFault::NoMemory);
-    };
-    let Ok(mut piece) = vec![in alloc; 0; PIECE] else {
+    let Ok(mut ahead) = Ahead::new(alloc) else {
         return Err(SitFault::NoMemory);
     };
     let mut text = Vec::new(alloc);
-    hold_rounds(rt, answers, dialogue, &mut line, &mut piece, &mut text)
+    hold_rounds(rt, answers, dialogue, &mut ahead, &mut text)
 }
 
 /// Holds one round after another, until one is the last.
@@ -45,17 +40,16 @@ fn hold_rounds<H: Wait, A: Answers, D: Dialogue>(
     rt: &H,
     answers: &mut A,
     dialogue: &mut D,
-    line: &mut Vec<u8>,
-    piece: &mut [u8],
+    ahead: &mut Ahead,
     text: &mut Vec<u8>,
 ) -> Result<Going, SitFault>
     requires open { D.is_open dialogue.old }
-    requires line { line.old.items ≡ [] }
-    requires room { 0 < length piece.old }
+    requires is { IsAhead ahead.old }
+    requires none { ahead_of ahead.old ≡ [] }
     ensures { HasSat (talk_of A.answers A.stops A.keeps A.loses D.hears D.is_deaf D.tells D.is_mute) answers.old dialogue.old result answers.new dialogue.new }
 {
     'rounds: for _ in rt.forever() {
-        match hold_round(answers, dialogue, line, piece, text) {
+        match hold_round(answers, dialogue, ahead, text) {
             Ok(None) => {}
             Ok(Some(going)) => return Ok(going),
             Err(fault) => return Err(fault),
@@ -64,32 +58,33 @@ fn hold_rounds<H: Wait, A: Answers, D: Dialogue>(
     unreachable!()
 }
 
-/// Asks for more once, answers the lines that this brings to their end, keeps that, and tells the answers. Gives how it ended, if it did.
+/// Asks for more where nothing is left of what came, answers the lines that are ahead as far as answers are held back, keeps that, and
+/// tells the answers. Gives how it ended, if it did.
 fn hold_round<A: Answers, D: Dialogue>(
     answers: &mut A,
     dialogue: &mut D,
-    line: &mut Vec<u8>,
-    piece: &mut [u8],
+    ahead: &mut Ahead,
     text: &mut Vec<u8>,
 ) -> Result<Option<Going>, SitFault>
     requires open { D.is_open dialogue.old }
-    requires room { 0 < length piece.old }
+    requires is { IsAhead ahead.old }
     ensures open { OnOk result (D.is_open dialogue.new) }
-    ensures round { NextRound (talk_of A.answers A.stops A.keeps A.loses D.hears D.is_deaf D.tells D.is_mute) answers.old dialogue.old line.old.items result answers.new dialogue.new line.new.items }
+    ensures is { IfOk result (λ next. next ≡ None → IsAhead ahead.new) }
+    ensures round { NextRound (talk_of A.answers A.stops A.keeps A.loses D.hears D.is_deaf D.tells D.is_mute) answers.old dialogue.old (ahead_of ahead.old) result answers.new dialogue.new (ahead_of ahead.new) }
 {
-    let came = match dialogue.hear(piece) {
-        Ok(came) => came,
+    let ends = match ahead.hear(dialogue) {
+        Ok(ends) => ends,
         Err(_) => return Err(SitFault::Deaf),
     };
     text.clear();
-    if came == 0 {
-        let going = take_last(answers, line, text);
+    if ends {
+        let going = ahead.take_last(answers, text);
         return match tell_answers(answers, dialogue, going, text) {
             Ok(going) => Ok(Some(going)),
             Err(fault) => Err(fault),
         };
     }
-    let going = take_bytes(answers, line, &piece[..came], text);
+    let going = ahead.take(answers, text);
     match tell_answers(answers, dialogue, going, text) {
         Ok(Going::On) => Ok(None),
         Ok(Going::Ends) => Ok(Some(Going::Ends)),

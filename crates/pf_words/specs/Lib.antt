@@ -4,5 +4,6 @@ pub mod CommandLine
 pub mod Desks
 pub mod Diffs
 pub mod Examples
+pub mod Lines
 pub mod Rows
 pub mod Texts

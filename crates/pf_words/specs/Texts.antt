@@ -2,6 +2,7 @@
 use Rattle.std.specs.Prelude.{ℕ, ◌≡◌, ◌≢◌, List, [], ◌++◌, codes}
 use Rattle.pf_tips.specs.Tips.{tip_of}
 use Rattle.pf_convert_words.specs.Texts.{convert_mistake_line}
+use Rattle.pf_words.specs.Lines.{shown_lines}
 use Rattle.pf_words.specs.declared.mistake.Mistake.{Mistake}
 use Rattle.pf_words.specs.declared.mistake.Mistake.TheVariants.{UnknownFormat, BadNumber, NoRange, Unranged, BadCell, NoCell, BadWrap, NoWrap, BadStyle, NoStyle, BadTasks, NoTasks, BadFailOn, BadSince, SinceOfTwo, InputTwice, Convert, Why}
 use Rattle.pf_why_words.specs.Reading.{mistake_text}
@@ -15,9 +16,9 @@ version_line = codes "pfair " ++ (VERSION.now ++ codes "\n")
 abbrev pub EndsWithLesson : List ℕ → Type 0
 EndsWithLesson text = (words : List ℕ) × (text ≡ words ++ (LESSON.now ++ codes "\n"))
 
--- why the grammar does not take the words, which is some text, and the tip for them
+-- why the grammar does not take the words, which is some text, shown as lines are, and the tip for them
 abbrev pub IsRefusal : List (List ℕ) → List ℕ → Type 0
-IsRefusal words text = (why : List ℕ) × (why ≢ []) × (text ≡ why ++ tip_of words)
+IsRefusal words text = (why : List ℕ) × (shown_lines why ≢ []) × (text ≡ shown_lines why ++ tip_of words)
 
 -- the line of a mistake that always has the same one
 abbrev pub fixed_line : Mistake → List ℕ

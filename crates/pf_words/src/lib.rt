@@ -12,6 +12,7 @@ pub mod desk_words;
 mod diff_words;
 mod form;
 pub mod laws;
+mod lines;
 pub mod mistake;
 pub mod request;
 mod run_words;

@@ -2,6 +2,7 @@
 ghost use Rattle.std.specs.Prelude.{◌≡◌, IfOk, map, string_bytes};
 ghost use Rattle.pf_words.specs.Texts.{EndsWithLesson, IsRefusal, version_line};
 
+use crate::lines::push_lines;
 use pf_tips::tip::tip;
 use std::alloc::{AllocError, Global};
 use std::convert::AsStr;
@@ -106,7 +107,7 @@ pub(crate) fn version_text(alloc: Global) -> Result<String, AllocError>
 }
 
 /// Why the grammar does not take the words, which is some text, and a tip where one of them names a script: where there is no text,
-/// memory was refused for it.
+/// memory was refused for it. The grammar's text has words as they were given, so that it is shown as lines are.
 ///
 /// # Errors
 ///
@@ -119,10 +120,11 @@ pub(crate) fn refusal_text<E: Display, S: AsStr>(
     ensures { IfOk result (λ text. IsRefusal (map S.text words.now) text.items) }
 {
     let why = format!(in alloc; "{error}")?;
-    if why.is_empty() {
+    let mut text = Vec::new(alloc);
+    push_lines(&mut text, &why)?;
+    if text.is_empty() {
         return Err(AllocError);
     }
-    let mut text = Vec::from_slice(alloc, why.as_bytes())?;
     text.extend_from_slice(&tip(alloc, words)?)?;
     Ok(text)
 }

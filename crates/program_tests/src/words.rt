@@ -1,16 +1,16 @@
 //! Words that the program answers without a script.
 
+use pf_cli::files::Locks;
 use pf_cli::host_journals::HostJournals;
 use pf_cli::kept_writer::KeptWriter;
 use pf_cli::program::main_words;
 use pf_cli::sink::CountedWriter;
 use pf_cli::source::CountedReader;
-use std::rt::Files;
 use std::sync::Wait;
 use std::thread::Threads;
 
 /// The status of the program for these words, with an input that is empty, and how many bytes it wrote and told.
-fn answer<H: AllocGlobal + Files + Threads + Wait + Sync>(
+fn answer<H: AllocGlobal + Locks + Threads + Wait + Sync>(
     rt: &H,
     journals: HostJournals<'_>,
     words: &[&str],

@@ -5,7 +5,7 @@ use Rattle.pf_cli.proofs.kept_desk.hold_kept.Goals as goal
 
 pub returns-in-Err : goal.returns-in-Err
 returns-in-Err g c =
-    kept_not_held _ _ _ _ (desk_named c.args.words.now) _ _ _ c.is_closed-closed.result c.end.result _ _ c.in-Err.noted c.in-Err.ensures.unmade
+    kept_not_held _ _ _ _ _ (desk_named c.args.words.now) _ _ _ c.is_closed-closed.result c.end.result _ _ c.in-Err.noted c.in-Err.ensures.unmade
     c.is_closed-closed.ensures c.end.ensures.status c.end.ensures.told refl refl refl refl
 
 pub returns-in-Ok : goal.returns-in-Ok

@@ -11,7 +11,7 @@ returns g c =
       | then-prompts w ↦ still_prompts _ _ _ w.failures.result _ w.if-prompts.true w.prompted-is w.failures.ensures
       | else-prompts w ↦ λ same. w.prompted-is
     ] in
-    has_sat_on _ _ _ c.args.path.now c.as_bytes.result.now c.args.notes c.args.made.now.recorder c.hold-going.new.answers c.args.made.now.note.items
+    has_sat_on _ _ _ _ c.args.path.now c.as_bytes.result.now c.args.notes c.args.made.now.recorder c.hold-going.new.answers c.args.made.now.note.items
     c.deref.result.now c.args.prompts c.if-prompts.prompted c.hold-going.ensures.0 _ c.is_closed.result c.has_bad-has_bad.result c.fault.result c.failures-failed.result
     c.end_sat.result c.hold-going.result c.outcome_kept-outcome.result _ _ _ _ _ _ _ _ _ _ _ _ _ (g.F.Sink.failed c.tell_text.new.faults) _ _
     c.failures-failed.ensures c.deref.ensures.value c.tell_text.ensures.told are c.hold-going.ensures.1

@@ -12,7 +12,7 @@ returns-in-Ok-Show-clause-streams g c =
 pub returns-in-Err-clause-streams : goal.returns-in-Err-clause-streams
 returns-in-Err-clause-streams g c =
     refusal_answers (map g.S.AsStr.text c.args.words.now) c.in-Err.fault _ c.refuse.result _ _ _ c.in-Err.ensures.asked c.refuse.ensures.status
-    c.refuse.ensures.told (λ four told desk. no_memory_at_any_desk _ _ _ _ desk.journal desk _ _ c.refuse.result _ _ four told refl refl refl refl)
+    c.refuse.ensures.told (λ four told desk. no_memory_at_any_desk _ _ _ _ _ desk.journal desk _ _ c.refuse.result _ _ four told refl refl refl refl)
 
 pub returns-in-Ok-Sit-clause-streams : goal.returns-in-Ok-Sit-clause-streams
 returns-in-Ok-Sit-clause-streams g c =

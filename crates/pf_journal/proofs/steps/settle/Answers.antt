@@ -1,5 +1,6 @@
 use Rattle.std.proofs.Common.{sym, ◌∙◌}
-use Rattle.pf_journal.proofs.Opening.{is_journal, mended_rest}
+use Rattle.pf_journal.proofs.Opening.{mended_rest}
+use Rattle.pf_journal.proofs.States.{is_journal}
 use Rattle.pf_journal.proofs.steps.settle.Goals as goal
 
 pub returns-clause-at_rest : goal.returns-clause-at_rest

@@ -6,6 +6,7 @@ rounds-preserved g c =
     let next = rw c.in-Ok-None.field-0-is at c.in-Ok-None.ensures.round in
     record {
       is_open = c.in-Ok-None.ensures.open;
+      is = c.in-Ok-None.ensures.is c.in-Ok-None.field-0-is;
       sat = sat_more _ _ _ _ _ _ next.0 _ _ _ c.rounds.invariant.sat next.1 next.2;
     }
 

@@ -1,3 +1,4 @@
+use Rattle.pf_sitting.specs.Ahead.{IsAhead, ahead_of}
 use Rattle.pf_sitting.specs.Sits.{talk_of}
 use Rattle.pf_sitting.proofs.Rounds.{SatSoFar}
 use Rattle.pf_sitting.proofs.sitting.hold_rounds.Given as goal
@@ -6,6 +7,7 @@ use Rattle.pf_sitting.proofs.sitting.hold_rounds.Given as goal
 abbrev pub invariant-rounds : goal.invariant-rounds
 invariant-rounds g l = record {
   is_open : g.D.Dialogue.is_open l.dialogue;
+  is : IsAhead l.ahead;
   sat : SatSoFar (talk_of g.A.Answers.answers g.A.Answers.stops g.A.Answers.keeps g.A.Answers.loses g.D.Dialogue.hears g.D.Dialogue.is_deaf g.D.Dialogue.tells g.D.Dialogue.is_mute)
-      l.fn.answers l.fn.dialogue l.answers l.dialogue l.line.items;
+      l.fn.answers l.fn.dialogue l.answers l.dialogue (ahead_of l.ahead);
 }

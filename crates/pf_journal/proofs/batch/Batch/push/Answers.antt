@@ -1,7 +1,8 @@
-use Rattle.std.proofs.Common.{rules, ◌≡◌, ◌-◌, ℕ, List, [], ◌∷◌, ◌++◌, length, slice_set, sym, ◌∙◌, ap, arith, length-append}
-use Rattle.pf_journal.specs.Lines.{lines_of, journal_of, texts_of}
+use Rattle.std.proofs.Common.{rules, ◌≡◌, ◌+◌, ◌≤◌, ◌-◌, ℕ, List, [], ◌∷◌, ◌++◌, length, slice_set, sym, ◌∙◌, ap, arith, length-append}
+use Rattle.pf_journal.specs.Batches.{has_room}
+use Rattle.pf_journal.specs.Lines.{line_of, lines_of, journal_of, texts_of}
 use Rattle.pf_journal.proofs.Reading.{texts_of-all}
-use Rattle.pf_journal.proofs.Pushing.{pushed, pushed_texts}
+use Rattle.pf_journal.proofs.Pushing.{pushed, pushed_lines, pushed_room, pushed_texts}
 use Rattle.pf_journal.proofs.batch.Batch.push.Goals as goal
 
 pub invariant_of-self-2 : goal.invariant_of-self-2
@@ -19,7 +20,20 @@ invariant_of-self-2 c =
     let gate_is : gate ≡ length (lines_of texts) = omega (arith, c.len-gate.ensures, ap length c.self.invariant.0, length-append (lines_of texts) (35 ∷ [])) in
     let whole : slice_set bytes gate 32 ≡ journal_of (texts ++ text ∷ []) = pushed texts text bytes gate bytes_are gate_is in
     let all : texts_of (slice_set bytes gate 32) ≡ texts ++ text ∷ [] = pushed_texts texts text (texts_of-all had) c.requires.text (slice_set bytes gate 32) whole in
-    (whole ∙ ap (λ (ts : List (List ℕ)). journal_of ts) (sym all), omega (arith, ap length all, length-append texts (text ∷ []), c.self.invariant.1))
+    let view : texts ≡ c.args.self.now = c.self.view_is in
+    let room : length (lines_of texts) + length text + 2 ≤ 65538 = pushed_room texts text (ap (λ (ts : List (List ℕ)). has_room ts text) view ∙ c.requires.room) in (
+      whole ∙ ap (λ (ts : List (List ℕ)). journal_of ts) (sym all),
+      omega (arith, ap length all, length-append texts (text ∷ []), c.self.invariant.1),
+      omega (
+        arith,
+        room,
+        ap length whole,
+        ap length (pushed_lines texts text),
+        length-append (lines_of texts) (line_of text),
+        length-append text (10 ∷ []),
+        length-append (lines_of (texts ++ text ∷ [])) (35 ∷ []),
+      ),
+    )
 
 pub returns-clause-ok : goal.returns-clause-ok
 returns-clause-ok c =
