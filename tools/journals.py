@@ -45,6 +45,7 @@ int fdatasync(int file) {
 }
 """
 LONG_STEPS = 1_000_000
+LONGEST_SCRIPT = 16_777_216
 MOST_TIMES = 3
 LONG_FRONT = "settings,2,6\njoin,0,1,1,2\njoin,0,2,1,3\njoin,0,3,2,3\n"
 
@@ -186,6 +187,17 @@ def in_use(program):
     return None if given == wanted else f"a journal in use: {given}"
 
 
+def side_file(program):
+    """What is wrong where the file beside a journal can't be made: it is the one that is named."""
+    with tempfile.TemporaryDirectory() as name:
+        path = Path(name) / "kept"
+        path.write_text(" plan,1\n settings,1,2\n#")
+        Path(f"{path}-wal").mkdir()
+        done = run_to_end([program, "desk", "--journal", str(path)], "desk: a file beside a journal", input=b"step\n")
+    given = (done.returncode, done.stdout, done.stderr.decode())
+    return None if given == (3, b"", f"cannot read the journal\n{path}-wal: cannot be read\n") else f"a file beside a journal: {given}"
+
+
 TYPED = ("settings 1 2", "join 0 1 1 2", "step", "join 1 2 1 2", "stepp", "limit 1 0", "undo", "step")
 
 
@@ -312,6 +324,19 @@ def drained(words, data, cwd):
     return used.ru_utime + used.ru_stime, written
 
 
+def long_journal(program):
+    """What is wrong where a journal is longer than a script may be: it says so before the first answer."""
+    record = f"alter,{9:015},join," + ",".join(f"{it:015}" for it in (0, 1, 1, 2, 0))
+    count = LONGEST_SCRIPT // (len(record) + 1) + 1
+    with tempfile.TemporaryDirectory() as room:
+        path = Path(room) / "kept"
+        path.write_text(" plan,1\n settings,1,2\n" + f" {record}\n" * count + "#")
+        done = run_to_end([program, "desk", "-q", "--journal", str(path)], "desk: a journal that is too long", input=b"help\n")
+    note = f"{path}: {count + 1} records, 0 events, 0 slots; the script is longer than {LONGEST_SCRIPT} bytes: what is shown or saved of it may be refused\n"
+    given = (done.returncode, done.stderr.decode(), bool(done.stdout))
+    return None if given == (0, note, True) else f"a journal that is too long: {given}"
+
+
 def long_session(program):
     """What is wrong with a session of many steps: how much longer it takes than the same script, and what it writes."""
     data = LONG_FRONT.encode() + b"step\n" * LONG_STEPS
@@ -328,6 +353,8 @@ def long_session(program):
 def journal_failures(program):
     """What is wrong with journals that are in use, that are lost, that fail, and that get long."""
     yield in_use(program)
+    yield side_file(program)
+    yield long_journal(program)
     for what, lose in LOSSES.items():
         yield lost_file(program, what, lose)
     yield from failing_files(program)

@@ -5,5 +5,3 @@
 pub mod denial;
 pub mod member;
 pub mod rules;
-
-pub use pf_window::release;

@@ -1,4 +1,4 @@
-use pf_window::weight::Weight;
+use pf_weight::weight::Weight;
 
 /// A task that is inside, as admission looks at it. Shifts are in slots.
 #[derive(Clone, Copy, Debug, PartialEq, Eq)]

@@ -6,7 +6,7 @@ use Rattle.pf_conversion.specs.Answers.{MakesScript}
 use Rattle.pf_converted.specs.Written.{AreSome, WritesNothing}
 use Rattle.pf_fault.specs.declared.answer.Answer.{Answer}
 use Rattle.pf_fit_command.specs.Fit.{FitMade}
-use Rattle.pf_fit_text.specs.declared.fit_format.FitFormat.{FitFormat}
+use Rattle.pf_options.specs.declared.fit_format.FitFormat.{FitFormat}
 use Rattle.pf_names.specs.declared.titles.Titles.{Titles}
 use Rattle.pf_names.specs.declared.unit.Unit.{Unit}
 use Rattle.pf_plain.specs.Plain.{Plain, plain}

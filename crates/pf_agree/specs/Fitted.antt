@@ -4,10 +4,10 @@ use Rattle.pf_convert.specs.declared.plan.Plan.{Plan}
 use Rattle.pf_fault.specs.declared.answer.Answer.{Answer}
 use Rattle.pf_fault.specs.declared.status.Status.TheVariants.{Done}
 use Rattle.pf_fit_command.specs.Fit.{FitMade}
-use Rattle.pf_fit_text.specs.declared.fit_format.FitFormat.{FitFormat}
+use Rattle.pf_options.specs.declared.fit_format.FitFormat.{FitFormat}
 use Rattle.pf_names.specs.declared.titles.Titles.{Titles}
 use Rattle.pf_plain.specs.declared.origin.Origin.{Origin}
-use Rattle.pf_script.specs.Asked.{commands_in}
+use Rattle.pf_carrying.specs.Asked.{commands_in}
 use Rattle.pf_script.specs.Told.{Told, told}
 use Rattle.pf_script.specs.declared.record.ScriptSettings.{ScriptSettings}
 use Rattle.pf_task_list.specs.declared.listed.Listed.{Listed}

@@ -12,7 +12,7 @@ use Rattle.pf_script.specs.declared.fault.ScriptFault.TheVariants as script
 use Rattle.pf_script.specs.declared.record.LineTold.{LineTold}
 use Rattle.pf_script.specs.declared.record.ScriptSettings.{ScriptSettings}
 use Rattle.pf_script.specs.Answers.{ReadsLine}
-use Rattle.pf_script.specs.Asked.{commands_in, commands_of}
+use Rattle.pf_carrying.specs.Asked.{commands_in, commands_of}
 use Rattle.pf_script.specs.Faults.{fault_of_script}
 use Rattle.pf_script.specs.Opened.{Opens}
 use Rattle.pf_script.specs.Told.{FaultTold, LinesTold, Told}

@@ -1,6 +1,6 @@
 ghost use Rattle.std.specs.Prelude.{◌≡◌, ◌++◌, None, IfOk, IfErr};
 ghost use Rattle.pf_desk.specs.Desk.{AnswersAll};
-ghost use Rattle.pf_script.specs.Asked.{commands_in};
+ghost use Rattle.pf_carrying.specs.Asked.{commands_in};
 ghost use Rattle.pf_script.specs.Told.{told};
 ghost use Rattle.pf_carrying.specs.Carrying.{script_caller};
 ghost use Rattle.pf_carry.specs.Carried.{IsOf, Stops};

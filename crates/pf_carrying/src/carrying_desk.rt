@@ -35,8 +35,8 @@ impl Model for CarryingDesk {
 
 impl CarryingDesk {
     ghost use Rattle.std.specs.Prelude.{◌≡◌, ◌≤◌, [], IfOk, OnOk};
-    ghost use Rattle.pf_desk.specs.Checkpoints.{largest_distance};
-    ghost use Rattle.pf_script.specs.Asked.{commands_of};
+    ghost use Rattle.pf_scenario.specs.Limits.{largest_distance};
+    ghost use Rattle.pf_carrying.specs.Asked.{commands_of};
     ghost use Rattle.pf_desk.specs.Desk.{AnswersAll};
     ghost use Rattle.pf_carrying.specs.Carrying.{HasAnswered, HasTaken, opened, script_caller};
 

@@ -5,7 +5,7 @@ use Rattle.std.proofs.lemmas.List.{at_drop_all, at_drop_more, take-append-drop}
 use Rattle.pf_desk.specs.declared.command.Command.{Command}
 use Rattle.pf_desk.specs.Desk.{Shown, AnswersAll, Seen, StandsForHistory}
 use Rattle.pf_script.specs.declared.record.LineTold.{LineTold}
-use Rattle.pf_script.specs.Asked.{commands_in, commands_of}
+use Rattle.pf_carrying.specs.Asked.{commands_in, commands_of}
 use Rattle.pf_carrying.specs.Carrying.{Carrying, HasTaken, script_caller}
 use Rattle.pf_course.specs.Course.{ScriptCourse, course_at, course_behind, seen_at}
 use Rattle.pf_course.proofs.Courses.{answered_course, course_behind-append, seen_there}

@@ -3,7 +3,7 @@ use Rattle.std.specs.Prelude.{ℕ, ◌-◌, Option, None, Some, Result, Ok, Err,
 use Rattle.pf_desk.specs.Desk.{Seen}
 use Rattle.pf_script.specs.declared.record.LineTold.{LineTold}
 use Rattle.pf_script.specs.declared.record.ScriptSettings.{ScriptSettings}
-use Rattle.pf_script.specs.Asked.{commands_in}
+use Rattle.pf_carrying.specs.Asked.{commands_in}
 use Rattle.pf_script.specs.Told.{FaultTold, Told, told}
 use Rattle.pf_carrying.specs.Carrying.{Carrying}
 use Rattle.pf_options.specs.declared.diff_options.DiffOptions.{DiffOptions}

@@ -1,6 +1,6 @@
 ghost use Rattle.std.specs.Prelude.{◌≡◌, IfOk, OnOk};
 ghost use Rattle.pf_course.specs.Course.{course_behind, seen_at};
-ghost use Rattle.pf_script.specs.Asked.{commands_in};
+ghost use Rattle.pf_carrying.specs.Asked.{commands_in};
 ghost use Rattle.pf_change.specs.Change.{course_to_be};
 
 use pf_carrying::carrying_desk::CarryingDesk;

@@ -9,7 +9,7 @@ use Rattle.std.proofs.lemmas.List.FromFn.{get_or-map-range_with_len}
 use Rattle.pf_order.specs.declared.pick.Pick.{Pick}
 use Rattle.pf_tally.proofs.Noting.{got_at}
 use Rattle.pf_desk.specs.Desk.{Seen}
-use Rattle.pf_chart.specs.Listing.{Listing, count_in, counts_of}
+use Rattle.pf_courses.specs.Listing.{Listing, count_in, counts_of}
 use Rattle.pf_chart.specs.Labels.{Labels, block_length}
 use Rattle.pf_chart.specs.Chart.{block_of, block_text, blocks_text, processor_cell}
 
@@ -72,10 +72,10 @@ pub block_some : (seen : Seen) (labels : Labels) (listed : List Listing) (a : �
 block_some seen labels listed a slots text is = omega (arith, ap length is)
 
 -- a cell of a processor, by the counts and the row of its slot
-pub cell_is : (seen : Seen) (listed : List Listing) (counts : List ℕ) (p t count cell d : ℕ) (row : List (Option Pick)) → t < length seen.rows → counts ≡ counts_of seen → count ≡ get_or counts t d →
-    Some row ≡ slice_get seen.rows t → cell ≡ processor_cell listed count row p → cell ≡ processor_cell listed (count_in seen t) (get_or seen.rows t []) p
+pub cell_is : (seen : Seen) (listed : List Listing) (counts : List ℕ) (p t count cell d : ℕ) (row : List (Option Pick)) → t < length seen.rows → counts ≡ counts_of seen.state.plan seen.state.now seen.rows → count ≡ get_or counts t d →
+    Some row ≡ slice_get seen.rows t → cell ≡ processor_cell listed count row p → cell ≡ processor_cell listed (count_in seen.state.plan seen.state.now t) (get_or seen.rows t []) p
 cell_is seen listed counts p t count cell d row within of_counts of_count of_row is =
     is
     ∙ ap₂ (λ count row. processor_cell listed count row p)
-    (of_count ∙ ap (λ cs. get_or cs t d) of_counts ∙ get_or-map-range_with_len (count_in seen) 0 (length seen.rows) t t d within (omega arith))
+    (of_count ∙ ap (λ cs. get_or cs t d) of_counts ∙ get_or-map-range_with_len (count_in seen.state.plan seen.state.now) 0 (length seen.rows) t t d within (omega arith))
     (sym (get_or_default seen.rows t [] row within ∙ got_at seen.rows t row of_row))

@@ -13,8 +13,8 @@ use Rattle.pf_run.specs.Computed.{course_of}
 use Rattle.pf_run.specs.RunRows.{rows_in, denials_in}
 use Rattle.pf_names.specs.Titled.{number_label}
 use Rattle.pf_tally.specs.Clock.{clock_of}
-use Rattle.pf_chart.specs.Course.{tracks_of}
-use Rattle.pf_chart.specs.Listing.{listings_of}
+use Rattle.pf_courses.specs.Course.{tracks_of}
+use Rattle.pf_courses.specs.Listing.{listings_of}
 use Rattle.pf_chart.specs.Chart.{chart_text_of, task_chart_text_of}
 use Rattle.pf_chart.specs.Examples.{WorkedCharts}
 

@@ -1,10 +1,4 @@
-pub mod Cuts
 pub mod Drawn
-pub mod Built
-pub mod Order
-pub mod Tracks
 pub mod Examples
 pub mod Lines
-pub mod Ranked
-pub mod InUse
 pub mod Blocks

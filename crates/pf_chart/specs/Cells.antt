@@ -1,32 +1,12 @@
 -- The cells of a task's lines: the first condition that holds.
-use Rattle.std.specs.Prelude.{ℕ, ◌+◌, ◌-◌, ◌==◌, min, pos, Bool, false, not, ◌&&◌, nat_le, nat_lt, if◌then◌else◌, Option, is_some, List, [], ◌∷◌, codes, filter, find, slice_index_or}
-use Rattle.std.specs.List.{list_any}
+use Rattle.std.specs.Prelude.{ℕ, ◌+◌, ◌-◌, ◌==◌, pos, false, ◌&&◌, if◌then◌else◌, List, [], ◌∷◌, codes, filter, slice_index_or}
 use Rattle.std.specs.Option.{option_map_or, option_and_then}
 use Rattle.pf_tally.specs.Clock.{is_stopped}
-use Rattle.pf_chart.specs.Course.{Track}
+use Rattle.pf_courses.specs.Activity.{covers, is_behind, is_inside, is_waiting, running_in}
+use Rattle.pf_courses.specs.Course.{Track}
+use Rattle.pf_courses.specs.Windows.{processor_in}
+use Rattle.pf_courses.specs.declared.window.Window.{Window}
 use Rattle.pf_chart.specs.Symbols.{blank, lag_symbol, processor_symbol}
-use Rattle.pf_chart.specs.Windows.{ran_below, processor_in, window_symbol}
-use Rattle.pf_chart.specs.declared.window.Window.{Window}
-
--- the task is inside in slot t
-abbrev pub is_inside : Track → ℕ → Bool
-is_inside track t = nat_le track.joined t && nat_lt t track.end
-
--- slot t is in the window, and the task is still inside
-abbrev pub covers : Track → ℕ → Window → Bool
-covers track t w = nat_le w.release t && nat_lt t (min w.deadline track.end)
-
--- the subtask that runs in slot t
-abbrev pub running_in : Track → ℕ → Option Window
-running_in track t = find (λ w. is_some (processor_in t w)) track.windows
-
--- a subtask did not run before slot t, in which its window is over
-abbrev pub is_behind : Track → ℕ → Bool
-is_behind track t = list_any (λ w. nat_le w.deadline t && not (ran_below t w)) track.windows
-
--- a subtask whose window slot t is in did not run yet
-abbrev pub is_waiting : Track → ℕ → Bool
-is_waiting track t = list_any (λ w. covers track t w && not (ran_below (t + 1) w)) track.windows
 
 -- its processor where it runs, `!` where it waits after a deadline, `.` where it waits
 abbrev pub task_cell : Track → ℕ → ℕ
@@ -34,6 +14,13 @@ task_cell track t =
     option_map_or processor_symbol (option_and_then (processor_in t) (running_in track t))
     (if is_inside track t && is_behind track t then slice_index_or (codes "!") 0 0
     else if is_waiting track t then slice_index_or (codes ".") 0 0 else blank)
+
+-- the slot of a window, `[` its first, `]` its last, `I` its only one
+abbrev pub window_symbol : ℕ → Window → ℕ
+window_symbol t w =
+    if w.release == t && w.deadline == t + 1 then slice_index_or (codes "I") 0 0
+    else if w.release == t then slice_index_or (codes "[") 0 0
+    else if w.deadline == t + 1 then slice_index_or (codes "]") 0 0 else slice_index_or (codes "-") 0 0
 
 -- `X` where two windows share the slot
 abbrev pub windows_symbol : ℕ → List Window → ℕ

@@ -11,9 +11,9 @@ use Rattle.pf_names.specs.declared.slot_length.SlotLength.{SlotLength}
 use Rattle.pf_names.specs.declared.titles.Titles.{Titles}
 use Rattle.pf_scenario.specs.System.{System}
 use Rattle.pf_desk.specs.Desk.{Seen}
-use Rattle.pf_chart.specs.Course.{Track}
+use Rattle.pf_courses.specs.Course.{Track}
 use Rattle.pf_chart.specs.Cells.{task_cell, window_cell, lag_cell, mark_cell}
-use Rattle.pf_chart.specs.Listing.{Listing, listings_of, count_in}
+use Rattle.pf_courses.specs.Listing.{Listing, listings_of, count_in}
 use Rattle.pf_chart.specs.declared.track_row.TrackRow.{TrackRow}
 use Rattle.pf_chart.specs.declared.track_row.TrackRow.TheVariants.{Runs, Windows, Lag, Marks}
 use Rattle.pf_chart.specs.Labels.{Labels, block_length, labels_of, task_label}
@@ -95,7 +95,7 @@ all_task_lines labels slots rank (l ∷ ls) = task_lines labels slots rank l ++ 
 -- a line for each processor: p, and its number
 abbrev pub processor_line : Seen → ℕ → List Listing → List ℕ → ℕ → List ℕ
 processor_line seen places listed slots p =
-    line_text places (codes "p" ++ decimal p) (map (λ t. processor_cell listed (count_in seen t) (slice_index_or seen.rows t []) p) slots)
+    line_text places (codes "p" ++ decimal p) (map (λ t. processor_cell listed (count_in seen.state.plan seen.state.now t) (slice_index_or seen.rows t []) p) slots)
 
 -- a block: the slots from a on
 abbrev pub block_of : Seen → Labels → List Listing → ℕ → List ℕ → List ℕ
@@ -177,8 +177,8 @@ task_text_with seen titles from to listed shown =
 
 -- the chart of the slots from `from` on and below `to`, with the names of tasks and the length of a slot
 unfoldable pub chart_text_of : Seen → Titles → ℕ → ℕ → List ℕ
-chart_text_of seen titles from to = text_with seen titles from to (listings_of seen)
+chart_text_of seen titles from to = text_with seen titles from to (listings_of seen.state.plan seen.state.now seen.rows seen.denials)
 
 -- that chart with the tasks of these ranges alone: their ranks are those among themselves
 unfoldable pub task_chart_text_of : Seen → Titles → List TaskRange → ℕ → ℕ → List ℕ
-task_chart_text_of seen titles tasks from to = task_text_with seen titles from to (listings_of seen) (shown_of tasks (listings_of seen))
+task_chart_text_of seen titles tasks from to = task_text_with seen titles from to (listings_of seen.state.plan seen.state.now seen.rows seen.denials) (shown_of tasks (listings_of seen.state.plan seen.state.now seen.rows seen.denials))

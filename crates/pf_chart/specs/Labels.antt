@@ -3,7 +3,7 @@ use Rattle.std.specs.Prelude.{ℕ, ◌+◌, max, nat_le, if◌then◌else◌, Li
 use Rattle.std.specs.List.{fold}
 use Rattle.pf_names.specs.Titled.{label_of}
 use Rattle.pf_names.specs.declared.named.Named.{Named}
-use Rattle.pf_chart.specs.Listing.{Listing}
+use Rattle.pf_courses.specs.Listing.{Listing}
 use Rattle.pf_chart.specs.Symbols.{rank_symbol}
 
 -- what tasks are called, and in how many places labels stand

@@ -1,11 +1,6 @@
 pub mod Symbols
-pub mod Windows
-pub mod Course
 pub mod Cells
-pub mod Cut
-pub mod Listing
 pub mod Shown
-pub mod Built
 pub mod Labels
 pub mod Chart
 pub mod Examples

@@ -2,7 +2,7 @@
 use Rattle.std.specs.Prelude.{List, filter}
 use Rattle.pf_tasks.specs.Listed.{is_listed}
 use Rattle.pf_tasks.specs.declared.task_range.TaskRange.{TaskRange}
-use Rattle.pf_chart.specs.Listing.{Listing}
+use Rattle.pf_courses.specs.Listing.{Listing}
 
 -- those of these ranges
 abbrev pub shown_of : List TaskRange → List Listing → List Listing

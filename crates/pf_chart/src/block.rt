@@ -1,18 +1,37 @@
-ghost use Rattle.std.specs.Prelude.{◌≡◌, ◌<◌, ◌≤◌, ◌-◌, ◌++◌, [], codes, length, map, slice_index_or, IfOk, OnOk};
+ghost use Rattle.std.specs.Prelude.{◌≡◌, ◌<◌, ◌≤◌, ◌==◌, ◌-◌, ◌++◌, [], codes, length, map, slice_index_or, IfOk, OnOk};
 ghost use Rattle.std.specs.Fmt.{decimal};
-ghost use Rattle.std.specs.List.{flat_map, range_with_len};
+ghost use Rattle.std.specs.List.{flat_map, position, range_with_len};
 ghost use Rattle.pf_place.specs.Lent.{lent_row};
-ghost use Rattle.pf_chart.specs.Chart.{all_task_lines, block_of, line_text, processor_cell, processor_line};
-ghost use Rattle.pf_chart.specs.Listing.{count_in, counts_of};
+ghost use Rattle.pf_chart.specs.Chart.{all_task_lines, block_of, line_text, processor_cell, processor_line, symbol_of};
+ghost use Rattle.pf_courses.specs.Listing.{count_in, counts_of};
 
 use crate::labels::Labels;
 use crate::line::push_line;
-use crate::listed::{Listed, symbol_of};
 use crate::ruler::push_rulers;
+use crate::symbols::{LEFT_OUT, rank_symbol};
+use crate::task_lines::push_task_lines;
+use pf_courses::listed::Listed;
 use pf_desk::rows::row_at;
 use pf_desk::snapshot::Snapshot;
 use pf_place::row_view::RowView;
 use std::alloc::{AllocError, Global};
+
+/// The place of a task among these.
+fn place_of(listed: &[Listed], task: u32) -> Option<usize>
+    ensures { result ≡ position (λ l. l.task == task) listed.now }
+{
+    listed.iter().position(|listing| listing.task() == task)
+}
+
+/// The symbol of a task among these; a dot where it is none of them.
+fn symbol_of(listed: &[Listed], task: u32) -> u8
+    ensures { result ≡ symbol_of listed.now task }
+{
+    match place_of(listed, task) {
+        Some(place) => rank_symbol(place + 1),
+        None => LEFT_OUT,
+    }
+}
 
 /// The cell of a slot with this row in the line of a processor, where so many are in use in it.
 fn processor_cell(listed: &[Listed], count: u64, row: RowView<'_>, processor: u32) -> u8
@@ -46,9 +65,9 @@ fn processor_cells(
     to: u64,
 ) -> Result<Vec<u8>, AllocError>
     requires within { to ≤ length snapshot.now.rows }
-    requires counts { counts.now ≡ counts_of snapshot.now }
+    requires counts { counts.now ≡ counts_of snapshot.now.state.plan snapshot.now.state.now snapshot.now.rows }
     ensures { IfOk result (λ v. v.items ≡
-        map (λ t. processor_cell listed.now (count_in snapshot.now t) (slice_index_or snapshot.now.rows t []) processor) (range_with_len from (to - from))) }
+        map (λ t. processor_cell listed.now (count_in snapshot.now.state.plan snapshot.now.state.now t) (slice_index_or snapshot.now.rows t []) processor) (range_with_len from (to - from))) }
 {
     let mut cells = Vec::new(alloc);
     for t in from..to {
@@ -85,7 +104,7 @@ fn push_processors(
     to: u64,
 ) -> Result<(), AllocError>
     requires within { to ≤ length snapshot.now.rows }
-    requires counts { counts.now ≡ counts_of snapshot.now }
+    requires counts { counts.now ≡ counts_of snapshot.now.state.plan snapshot.now.state.now snapshot.now.rows }
     ensures { OnOk result (text.new.items ≡ text.old.items ++
         flat_map (processor_line snapshot.now places listed.now (range_with_len from (to - from))) (range_with_len 0 snapshot.now.state.plan.settings.processors)) }
 {
@@ -110,7 +129,7 @@ fn push_tasks(
     let mut rank = 0;
     for listing in listed {
         rank += 1;
-        listing.push_lines(alloc, text, labels, rank, from, to)?;
+        push_task_lines(alloc, text, listing, labels, rank, from, to)?;
     }
     Ok(())
 }
@@ -131,7 +150,7 @@ pub(crate) fn block_text(
     to: u64,
 ) -> Result<Vec<u8>, AllocError>
     requires within { to ≤ length snapshot.now.rows }
-    requires counts { counts.now ≡ counts_of snapshot.now }
+    requires counts { counts.now ≡ counts_of snapshot.now.state.plan snapshot.now.state.now snapshot.now.rows }
     ensures { IfOk result (λ text. text.items ≡ block_of snapshot.now labels.now listed.now from (range_with_len from (to - from))) }
 {
     let mut text = Vec::from_slice(alloc, b"\n")?;

@@ -1,14 +1,14 @@
 ghost use Rattle.std.specs.Prelude.{◌≡◌, ◌≤◌, length, IfOk};
 ghost use Rattle.pf_chart.specs.Chart.{chart_text_of, task_chart_text_of, text_between};
-ghost use Rattle.pf_chart.specs.Listing.{counts_of};
+ghost use Rattle.pf_courses.specs.Listing.{counts_of, listings_of};
 ghost use Rattle.pf_chart.specs.Shown.{shown_of};
 
 use crate::block::block_text;
-use crate::counts::counts_in_use;
 use crate::frame::{head, legend, task_head, task_legend};
 use crate::labels::Labels;
-use crate::listed::Listed;
-use crate::listings::listings;
+use pf_courses::counts::counts;
+use pf_courses::listed::Listed;
+use pf_courses::listings::listings;
 use pf_desk::snapshot::Snapshot;
 use pf_names::titles::Titles;
 use pf_tasks::task_list::TaskList;
@@ -33,13 +33,13 @@ pub struct Blocks<'a> {
 impl<'a> Model for Blocks<'a> {
     ghost use Rattle.std.specs.Prelude.{ℕ, List, ◌≡◌, ◌≤◌, length};
     ghost use Rattle.pf_chart.specs.Chart.{blocks_text};
-    ghost use Rattle.pf_chart.specs.Listing.{counts_of};
+    ghost use Rattle.pf_courses.specs.Listing.{counts_of};
 
     ghost Value = { List ℕ };
 
     ghost view = { λ b. blocks_text b.snapshot.now b.labels b.listed.items b.from b.to };
 
-    ghost invariant = { λ b. (b.counts.items ≡ counts_of b.snapshot.now) × (b.to ≤ length b.snapshot.now.rows) };
+    ghost invariant = { λ b. (b.counts.items ≡ counts_of b.snapshot.now.state.plan b.snapshot.now.state.now b.snapshot.now.rows) × (b.to ≤ length b.snapshot.now.rows) };
 }
 
 impl<'a> Pieces for Blocks<'a> {
@@ -67,15 +67,32 @@ impl<'a> Pieces for Blocks<'a> {
 }
 
 /// How many processors are in use in each slot that a snapshot shows.
-///
-/// # Errors
-///
-/// Where memory is refused.
-pub fn counts(alloc: Global, snapshot: &Snapshot) -> Result<Vec<u64>, AllocError>
-    ensures { IfOk result (λ v. v.items ≡ counts_of snapshot.now) }
+fn counts_of(alloc: Global, snapshot: &Snapshot) -> Result<Vec<u64>, AllocError>
+    ensures { IfOk result (λ v. v.items ≡ counts_of snapshot.now.state.plan snapshot.now.state.now snapshot.now.rows) }
 {
-    let now = snapshot.now();
-    counts_in_use(alloc, snapshot.scenario(), now, snapshot.denials())
+    // That the rows are those of the scenario's run is known from its calls alone.
+    let _ = snapshot.now();
+    counts(
+        alloc,
+        snapshot.scenario(),
+        snapshot.rows(),
+        snapshot.denials(),
+    )
+}
+
+/// The listed tasks that a snapshot shows, by number.
+fn listings_of(alloc: Global, snapshot: &Snapshot) -> Result<Vec<Listed>, AllocError>
+    ensures { IfOk result (λ v. v.items
+        ≡ listings_of snapshot.now.state.plan snapshot.now.state.now snapshot.now.rows snapshot.now.denials) }
+{
+    // That the rows are those of the scenario's run is known from its calls alone.
+    let _ = snapshot.now();
+    listings(
+        alloc,
+        snapshot.scenario(),
+        snapshot.rows(),
+        snapshot.denials(),
+    )
 }
 
 /// A chart in pieces: its head, its blocks, and the legend.
@@ -98,7 +115,7 @@ fn pieces_between<'a>(
 {
     // That there are rows of all slots below now is known from this call alone.
     let _ = snapshot.now();
-    let counts = counts(alloc, snapshot)?;
+    let counts = counts_of(alloc, snapshot)?;
     let labels = Labels::of(alloc, &titles.names, &shown)?;
     let blocks = Blocks {
         snapshot,
@@ -130,7 +147,7 @@ pub fn chart_pieces<'a>(
     let settings = snapshot.settings();
     let head = head(alloc, settings, titles.slot, snapshot.now(), from, to)?;
     let legend = legend(alloc)?;
-    let listed = listings(alloc, snapshot)?;
+    let listed = listings_of(alloc, snapshot)?;
     pieces_between(alloc, snapshot, titles, head, legend, listed, from, to)
 }
 
@@ -162,7 +179,7 @@ pub fn task_chart_pieces<'a>(
 {
     let settings = snapshot.settings();
     let now = snapshot.now();
-    let listed = listings(alloc, snapshot)?;
+    let listed = listings_of(alloc, snapshot)?;
     let count = listed.len() as u64;
     let shown = shown_of(listed, tasks);
     let many = shown.len() as u64;

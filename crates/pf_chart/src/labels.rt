@@ -1,8 +1,8 @@
 ghost use Rattle.std.specs.Prelude.{◌≡◌, IfOk};
 ghost use Rattle.pf_chart.specs.Labels.{places_for};
 
-use crate::listed::Listed;
 use crate::symbols::rank_symbol;
+use pf_courses::listed::Listed;
 use pf_names::names::Names;
 use pf_names::titles::label_of;
 use std::alloc::{AllocError, Global};

@@ -3,22 +3,13 @@
 #![tactic(auto)]
 
 mod block;
+pub mod cells;
 pub mod chart;
-mod counts;
-pub mod course;
-pub mod courses;
-pub mod end;
 pub mod frame;
 pub mod labels;
-mod lags;
 pub mod laws;
 pub mod line;
-pub mod listed;
-pub mod listings;
-pub mod pause;
-pub mod quantum;
 pub mod ruler;
 pub mod symbols;
+pub mod task_lines;
 pub mod track_row;
-pub mod window;
-pub mod windows;

@@ -7,7 +7,7 @@ use Rattle.std.specs.Result.{is_ok, result_ok}
 use Rattle.std.proofs.lemmas.Bool.{and_right}
 use Rattle.pf_weight.specs.declared.base.TheConstants.{LARGEST_BASE}
 use Rattle.pf_scenario.specs.declared.settings.TheConstants.{MOST_PROCESSORS, LARGEST_CAP}
-use Rattle.pf_timeline.specs.declared.timeline.TheConstants.{LARGEST_DISTANCE}
+use Rattle.pf_scenario.specs.declared.limits.TheConstants.{LARGEST_DISTANCE}
 use Rattle.pf_script.specs.declared.fault.Reason.TheVariants.{Fields, NoNumber, NoRecord, NoSettings, NoVersion, Outside}
 use Rattle.pf_script.specs.declared.fault.RecordFault.{RecordFault}
 use Rattle.pf_script.specs.declared.line.Opening.{Opening}

@@ -5,7 +5,7 @@ use Rattle.std.specs.Option.{option_map_or}
 use Rattle.std.specs.Result.{is_ok}
 use Rattle.pf_weight.specs.declared.base.TheConstants.{LARGEST_BASE}
 use Rattle.pf_scenario.specs.declared.settings.TheConstants.{MOST_PROCESSORS, LARGEST_CAP}
-use Rattle.pf_timeline.specs.declared.timeline.TheConstants.{LARGEST_DISTANCE}
+use Rattle.pf_scenario.specs.declared.limits.TheConstants.{LARGEST_DISTANCE}
 use Rattle.pf_script.specs.declared.line.Opening.{Opening}
 use Rattle.pf_script.specs.declared.version.Version.{Version}
 use Rattle.pf_script.specs.declared.version.Version.TheVariants.{First, Second}

@@ -1,7 +1,8 @@
 -- The text of a check.
-use Rattle.std.specs.Prelude.{ℕ, ◌-◌, ◌/◌, ◌%◌, ◌==◌, ◌&&◌, not, Bool, true, nat_le, if◌then◌else◌, List, [], ◌∷◌, ◌++◌, length, take, codes}
+use Rattle.std.specs.Prelude.{ℕ, ◌-◌, ◌==◌, if◌then◌else◌, List, [], ◌++◌, length, codes}
 use Rattle.std.specs.List.{flat_map}
-use Rattle.std.specs.Fmt.{decimal, digit_glyph}
+use Rattle.std.specs.Fmt.{decimal}
+use Rattle.pf_text.specs.Quoted.{quoted}
 use Rattle.pf_script.specs.declared.version.Version.{Version}
 use Rattle.pf_script.specs.declared.version.Version.TheVariants.{First, Second}
 use Rattle.pf_script.specs.Fields.{field}
@@ -10,18 +11,6 @@ use Rattle.pf_script.specs.declared.fault.BadRecord.{BadRecord}
 use Rattle.pf_script.specs.declared.fault.Reason.{Reason}
 use Rattle.pf_script.specs.declared.fault.Reason.TheVariants.{NoRecord, NoChange, NoEvent, NoSettings, LateSettings, NoVersion, NoNumber, Outside, Fields, StepFields}
 use Rattle.pf_script.specs.Told.{FaultTold, faults}
-use Rattle.pf_check.specs.declared.report.TheConstants.{MOST_SHOWN}
-
--- a byte as it is shown: 32 to 126 as it is, but for `"` and `\`, any other one by two digits of base 16
-abbrev pub is_plain : ℕ → Bool
-is_plain byte = nat_le 32 byte && nat_le byte 126 && not (byte == 34) && not (byte == 92)
-
-abbrev pub shown_byte : ℕ → List ℕ
-shown_byte byte = if is_plain byte then byte ∷ [] else codes "\\x" ++ digit_glyph true (byte / 16) ∷ digit_glyph true (byte % 16) ∷ []
-
--- a field in quotes, cut
-unfoldable pub quoted : List ℕ → List ℕ
-quoted bytes = codes "\"" ++ flat_map shown_byte (take MOST_SHOWN bytes) ++ codes "\""
 
 -- the events of a version
 abbrev pub event_words : Version → List ℕ
@@ -30,6 +19,14 @@ event_words Second = codes "join, leave, delay, limit"
 
 abbrev pub change_words : Version → List ℕ
 change_words version = event_words version ++ codes ", alter, strike"
+
+-- a number that is not within its limits
+abbrev pub outside_text : ℕ → ℕ → List ℕ
+outside_text number most = decimal number ++ codes " is not within 1 to " ++ decimal most
+
+-- a record that has another number of fields than this
+abbrev pub count_text : ℕ → List ℕ
+count_text count = decimal count ++ codes " fields are expected"
 
 -- why a record is none, of its field that is at fault
 unfoldable pub reason_text : List ℕ → Reason → List ℕ
@@ -40,8 +37,8 @@ reason_text at NoSettings = codes "settings are expected"
 reason_text at LateSettings = codes "settings come once, before all changes and steps"
 reason_text at NoVersion = quoted at ++ codes " is no version: 2"
 reason_text at NoNumber = quoted at ++ codes " is no number of 1 to 15 digits"
-reason_text at (Outside number most) = decimal number ++ codes " is not within 1 to " ++ decimal most
-reason_text at (Fields count) = decimal count ++ codes " fields are expected"
+reason_text at (Outside number most) = outside_text number most
+reason_text at (Fields count) = count_text count
 reason_text at StepFields = codes "1 or 2 fields are expected"
 
 -- the first field names the record, and is not counted out
@@ -51,6 +48,10 @@ field_text number = if number == 1 then [] else codes ", field " ++ decimal numb
 -- a bad record, with what it has in the field that is at fault
 abbrev pub fault_shown : BadRecord → List (List ℕ) → FaultTold
 fault_shown bad fields = record { bad = bad; at = field fields (bad.fault.field - 1) }
+
+-- the line and the number of a record
+abbrev pub place_text : ℕ → ℕ → List ℕ
+place_text line number = codes "line " ++ decimal line ++ codes ", record " ++ decimal number
 
 -- where it is, and why
 unfoldable pub report_text : FaultTold → List ℕ

@@ -55,7 +55,7 @@ struct Checker {
     faults: u64,
     lines: TextBuffer,
     // The memory in which a line is made.
-    text: String,
+    text: Vec<u8>,
 }
 
 impl Checker {
@@ -67,7 +67,7 @@ impl Checker {
             records: 0,
             faults: 0,
             lines: TextBuffer::new(alloc)?,
-            text: String::new(alloc),
+            text: Vec::new(alloc),
         })
     }
 
@@ -142,7 +142,7 @@ impl Checker {
         self.faults += 1;
         self.text.clear();
         push_report(&mut self.text, fields, bad)?;
-        self.lines.put(writer, self.text.as_bytes())?;
+        self.lines.put(writer, &self.text)?;
         Ok(())
     }
 
@@ -156,7 +156,7 @@ impl Checker {
     {
         self.text.clear();
         push_totals(&mut self.text, self.records, self.faults)?;
-        self.lines.put(writer, self.text.as_bytes())?;
+        self.lines.put(writer, &self.text)?;
         self.lines.finish(writer)?;
         Ok(self.faults)
     }

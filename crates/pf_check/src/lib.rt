@@ -6,5 +6,3 @@
 pub mod checker;
 pub mod laws;
 pub mod report;
-
-pub use pf_script::fields;

@@ -4,7 +4,7 @@ use Rattle.std.specs.List.{flat_map}
 use Rattle.std.specs.Fmt.{decimal}
 use Rattle.pf_plan_check.specs.Reports.{FaultShown}
 use Rattle.pf_fault_notes.specs.BadRecords.{fault_line, plan_fault_line}
-use Rattle.pf_run_notes.specs.File.{place_text}
+use Rattle.pf_run_notes.specs.Places.{place_text}
 use Rattle.pf_run_notes.specs.declared.place.Place.{Place}
 use Rattle.pf_script.specs.declared.fault.Reason.{Reason}
 use Rattle.pf_script.specs.declared.fault.Reason.TheVariants.{NoSettings}

@@ -2,8 +2,7 @@ ghost use Rattle.std.specs.Prelude.{◌≡◌, ◌++◌, codes, OnOk};
 ghost use Rattle.std.specs.Fmt.{decimal};
 ghost use Rattle.pf_check_run.specs.Faults.{lacking_text, others_text};
 
-use pf_run_notes::file::push_place;
-use pf_run_notes::place::Place;
+use pf_run_notes::place::{Place, push_place};
 use pf_text::numbers::push_number;
 use std::alloc::{AllocError, Global};
 use std::marker::Model;

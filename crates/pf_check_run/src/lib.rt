@@ -9,5 +9,3 @@ pub mod check_run;
 mod fault_lines;
 mod faults;
 mod found;
-
-pub use pf_fit_command::fit;

@@ -19,7 +19,7 @@ use Rattle.pf_change.specs.Difference.{difference, told_by}
 use Rattle.pf_options.specs.Ranges.{whole}
 use Rattle.pf_words.specs.Diffs.{PairNames}
 use Rattle.pf_cli.specs.Noted.{AreNotes, OneOf, notes_in}
-use Rattle.pf_run_notes.specs.File.{file_text}
+use Rattle.pf_text.specs.FileName.{file_text}
 use Rattle.pf_cli.specs.Source.{IsHad, IsSource, told_name}
 use Rattle.pf_cli.specs.declared.noting.Noting.{Noting}
 use Rattle.pf_cli.specs.Tasks.{AnswersMade}

@@ -8,7 +8,7 @@ use Rattle.pf_fault.specs.declared.fault.Fault.{Fault}
 use Rattle.pf_fault.specs.declared.fault.Fault.TheVariants as fault
 use Rattle.pf_plain.specs.declared.origin.Origin.{Origin}
 use Rattle.pf_plain.specs.Plain.{Plain, plain}
-use Rattle.pf_script.specs.Asked.{Asked, Whole, BadRecord, script_asked}
+use Rattle.pf_carrying.specs.Asked.{Asked, Whole, BadRecord, script_asked}
 use Rattle.pf_stream.specs.Reading.{longest_script}
 use Rattle.pf_stream.specs.Written.{TookFront}
 use Rattle.pf_text.specs.Page.{table_text}

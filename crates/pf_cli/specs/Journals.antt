@@ -45,12 +45,12 @@ CameToKept path notes lost going has_bad outcome = CameTo going has_bad outcome
 abbrev pub CameToOn : {D : Type 0} → List ℕ → Bool → Result Going SitFault → Recording SessionState D → Result Ending Fault → Type 0
 CameToOn path notes going r outcome = CameToKept path notes r.lost going r.machine.has_bad outcome
 
--- what is told of how much a journal has; to who asks for quiet only that bytes were cut
+-- what is told of how much a journal has; to who asks for quiet only that bytes were cut, or that the script is longer than one may be
 abbrev pub told_sizes : Bool → List ℕ → Sizes → List ℕ
-told_sizes quiet path sizes = if quiet && sizes.cut == 0 then [] else sizes_line path sizes
+told_sizes quiet path sizes = if quiet && (sizes.cut == 0 && not sizes.is_long) then [] else sizes_line path sizes
 
 -- a session begins on a file as it was found, after its records, or after those of a script where one is named; of what lies in that
--- file no contract says more; and how much the journal then has is told, where the words ask for quiet only if bytes were cut
+-- file no contract says more; and how much the journal then has is told, where the words ask for quiet only if bytes were cut or the script is longer than one may be
 pub record BeginsOn {D : Type 0} (seen : D → List ℕ) (may_leave : D → List ℕ → Type 0) (is_usable is_clean : D → Bool) (manner : Manner)
     (script : Option (List ℕ)) (path : List ℕ) (begun : Recording SessionState D) (note : List ℕ) : Type 0 where
   pub found : Found D

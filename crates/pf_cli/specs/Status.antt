@@ -11,6 +11,7 @@ use Rattle.pf_fault.specs.Faults.{CountsWrites, number_of}
 use Rattle.pf_words.specs.declared.request.WordsFault.{WordsFault}
 use Rattle.pf_words.specs.declared.request.WordsFault.TheVariants as words
 use Rattle.pf_words.specs.declared.task.Task.{Task}
+use Rattle.pf_words.specs.declared.task.Task.TheVariants.{Convert, Fit}
 use Rattle.clap.specs.Words.{subcommand_of}
 use Rattle.pf_words.specs.Asked.{task_asked, pair_asked, desk_asked, file_asked, telling_asked, AsksHelp, AsksVersion, IsMistakeText, IsRefused, IsShownTo, AreMistaken}
 use Rattle.pf_words.specs.CommandLine.{program}
@@ -23,7 +24,7 @@ use Rattle.pf_cli.specs.Compared.{AnswersSecond, PairNotes, Shows}
 use Rattle.pf_cli.specs.FaultLines.{fault_line}
 use Rattle.pf_cli.specs.Noted.{AreNotes, IsTold, gone_diff, gone_of, notes_in, noting_behind, noting_of, status_ended}
 use Rattle.pf_cli.specs.declared.noted.Noted.{Noted}
-use Rattle.pf_cli.specs.declared.program.TheConstants.{PROMPT}
+use Rattle.pf_cli.specs.declared.program.TheConstants.{EITHER_PROMPT, LIST_PROMPT, PROMPT}
 use Rattle.pf_cli.specs.Source.{IsHad, IsSource, told_name}
 use Rattle.pf_cli.specs.Versions.{AnswersBytes}
 
@@ -154,9 +155,19 @@ AnswersWords words closed status old new told held =
     AnswersAsked words (task_asked words) (pair_asked words) (desk_asked words) (file_asked words) (telling_asked words).notes closed status old new
     told held
 
--- a terminal was told how a script ends, where it is to be told; memory may be refused for what the words ask
-pub record IsPrompted (asked : Bool) (told : List ℕ → Type 0) : Type 0 where
-  pub asked_so : asked ≡ true → told PROMPT.now ⊎ told []
+-- what a terminal is told before what this task takes is read from it
+abbrev pub prompt_text : Task → List ℕ
+prompt_text (Convert conversion) = LIST_PROMPT.now
+prompt_text (Fit form) = EITHER_PROMPT.now
+prompt_text task = PROMPT.now
+
+abbrev pub prompt_for : Option Task → List ℕ
+prompt_for (Some task) = prompt_text task
+prompt_for None = []
+
+-- a terminal was told how that ends, where it is to be told; memory may be refused for what the words ask
+pub record IsPrompted (asked : Bool) (text : List ℕ) (told : List ℕ → Type 0) : Type 0 where
+  pub asked_so : asked ≡ true → told text ⊎ told []
   pub unasked : asked ≡ false → told []
 
 -- the text that is told of words that ask for nothing

@@ -10,7 +10,7 @@ use Rattle.pf_fault.specs.Answers.{IsQuiet}
 use Rattle.pf_fault.specs.Faults.{IsOutside}
 use Rattle.pf_stream.specs.Written.{TookFront}
 use Rattle.pf_names.specs.declared.titles.Titles.{Titles}
-use Rattle.pf_script.specs.Asked.{script_asked}
+use Rattle.pf_carrying.specs.Asked.{script_asked}
 use Rattle.pf_options.specs.declared.diff_options.DiffOptions.{DiffOptions}
 use Rattle.pf_options.specs.declared.fail_on.FailOn.{FailOn}
 use Rattle.pf_options.specs.declared.format.Format.{Format}
@@ -29,7 +29,7 @@ use Rattle.pf_change.specs.Made as change
 use Rattle.pf_why_answer.specs.Answer.{WhyMade}
 use Rattle.pf_carry.specs.Carried as carried
 use Rattle.pf_check_run.specs.Fit as fit
-use Rattle.pf_fit_text.specs.declared.fit_format.FitFormat.{FitFormat}
+use Rattle.pf_options.specs.declared.fit_format.FitFormat.{FitFormat}
 use Rattle.pf_plain.specs.declared.origin.Origin.{Origin}
 use Rattle.pf_script.specs.Told.{told}
 use Rattle.pf_drill.specs.Drilled.{Drills}

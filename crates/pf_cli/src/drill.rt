@@ -28,7 +28,7 @@ use std::thread::Threads;
 ///
 /// # Errors
 ///
-/// `ReadFault` where the reader failed, an interruption too; `ScriptTooLong` where it has more than 16,777,216 bytes; `BadLine` at the
+/// `ReadFault` where the reader failed; `ScriptTooLong` where it has more than 16,777,216 bytes; `BadLine` at the
 /// first record that is none of the script's; `GateShut` where the gate was shut to a worker, once all are back; `NoViewer` and
 /// `Unread` where the readers' table gives no place or no entry; `NoMemory` where memory is refused. Nothing was written then. `WriteFault`
 /// where the writer failed or took nothing: a front of the text was written.

@@ -14,17 +14,17 @@ use crate::noted::Noted;
 use crate::notes::unread_note;
 use crate::script_source::{read_file, told_name};
 use pf_fault::fault::Fault;
+use pf_journal::found::Found;
+use pf_journal_file::journal_fault::JournalFault;
+use pf_journal_file::journals::{Journals, find_journal};
+use pf_journal_file::sizes::Sizes;
 use pf_journaled::Disk;
 use pf_journaled::begun::{Opened, open_journal};
-use pf_journaled::files::{FileSaver, Locks};
-use pf_journaled::found::Found;
-use pf_journaled::journal_fault::JournalFault;
-use pf_journaled::journals::{Journals, find_journal};
-use pf_journaled::recorder::Recorder;
-use pf_journaled::sitter::Sitter;
-use pf_journaled::sizes::Sizes;
 use pf_journaled::unopened::Unopened;
+use pf_recorder::recorder::Recorder;
 use pf_script_notes::behind_fault::fault_note;
+use pf_sitter::files::{FileSaver, Locks};
+use pf_sitter::sitter::Sitter;
 use pf_words::desk_words::DeskWords;
 use std::alloc::{AllocError, Global};
 
@@ -132,7 +132,7 @@ fn with_note<'a, H: AllocGlobal + Locks, D: Disk + Drop>(
     }
 }
 
-/// How much a journal has, as it is told; where the words ask for quiet, only of one of which bytes were cut.
+/// How much a journal has, as it is told; where the words ask for quiet, only of one of which bytes were cut, or whose script is longer than one may be.
 fn opening_note(
     alloc: Global,
     quiet: bool,
@@ -141,7 +141,7 @@ fn opening_note(
 ) -> Result<Vec<u8>, AllocError>
     ensures { IfOk result (λ note. note.items ≡ told_sizes quiet path.now sizes) }
 {
-    if quiet && sizes.cut == 0 {
+    if quiet && sizes.cut == 0 && !sizes.is_long {
         return Ok(Vec::new(alloc));
     }
     sizes.line(alloc, path)

@@ -28,7 +28,8 @@ mod two_scripts;
 mod versions;
 
 pub use pf_drill::gate;
-pub use pf_journaled::{files, host_journals};
+pub use pf_journal_file::host_journals;
 pub use pf_kept::{kept_writer, pipe};
 pub use pf_options::format;
-pub use pf_stream::{sink, source};
+pub use pf_sitter::files;
+pub use pf_stream::{patient, sink, source};

@@ -3,7 +3,7 @@ ghost use Rattle.std.specs.Prelude.{◌≡◌};
 ghost use Rattle.pf_words.specs.Asked.{desk_named};
 ghost use Rattle.pf_cli.specs.Desks.{manner_of};
 
-use pf_journaled::manner::Manner;
+use pf_answers::manner::Manner;
 use pf_words::desk_words::DeskWords;
 
 /// How the session answers that words ask for.

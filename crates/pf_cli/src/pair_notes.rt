@@ -4,7 +4,7 @@ ghost use Rattle.pf_cli.specs.Compared.{JoinsNotes, are_as_large, size_text, siz
 
 use pf_desk::snapshot::Snapshot;
 use pf_fault::fault::Fault;
-use pf_run_notes::file::push_file;
+use pf_text::file_name::push_file;
 use pf_text::numbers::push_number;
 use std::alloc::{AllocError, Global};
 

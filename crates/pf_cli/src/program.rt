@@ -6,7 +6,7 @@ ghost use Rattle.pf_cli.specs.Journals.{HoldsWith};
 ghost use Rattle.pf_words.specs.Asked.{IsSound, desk_asked, name_of, reads_input, task_asked, telling_asked};
 ghost use Rattle.pf_cli.specs.Noted.{notes_in};
 ghost use Rattle.pf_cli.specs.Tasks.{IsOfScript, IsQuietIfDone};
-ghost use Rattle.pf_cli.specs.Status.{AnswersWords, IsDone, IsPrompted, IsWritten, Tells, seen_streams, status_of_words, told_of};
+ghost use Rattle.pf_cli.specs.Status.{AnswersWords, IsDone, IsPrompted, IsWritten, Tells, prompt_for, prompt_text, seen_streams, status_of_words, told_of};
 
 use crate::desk::hold_desk;
 use crate::ending::{end, end_unwritten, tell, tell_fault, tell_text};
@@ -18,9 +18,9 @@ use crate::two_scripts::compare_scripts;
 use crate::versions::do_script;
 use pf_fault::fault::Fault;
 use pf_fault::status::Status;
-use pf_journaled::files::Locks;
-use pf_journaled::journals::Journals;
+use pf_journal_file::journals::Journals;
 use pf_kept::pipe::Pipe;
+use pf_sitter::files::Locks;
 use pf_stream::sink::Sink;
 use pf_stream::source::Source;
 use pf_stream::writing::write_out;
@@ -38,6 +38,14 @@ use std::thread::Threads;
 /// What a terminal is told before a script is read from it.
 pub const PROMPT: &str =
     "reading the script from the terminal: end it with Ctrl-D; pfair --help tells more\n";
+
+/// So it is of a list of tasks.
+pub const LIST_PROMPT: &str =
+    "reading the list from the terminal: end it with Ctrl-D; pfair --help tells more\n";
+
+/// So it is where either may come.
+pub const EITHER_PROMPT: &str =
+    "reading the script or list from the terminal: end it with Ctrl-D; pfair --help tells more\n";
 
 // What is told where a word is no text.
 const NO_TEXT: &str = "error: invalid UTF-8 was detected in one or more arguments";
@@ -135,26 +143,39 @@ fn do_asked<H: AllocGlobal + Files + Threads + Wait + Sync, R: Source, W: Sink>(
     }
 }
 
-/// Tells a terminal how a script ends that is read from it, where the words have one read and name none, and do not ask for quiet.
-/// The count of failures must be below `u64::MAX` before the call.
+/// Tells a terminal how a script or a list ends that is read from it, where the words have one read and name none, and do not ask for
+/// quiet. The count of failures must be below `u64::MAX` before the call.
 #[tactic(auto, using(crate::proofs::Telling::told_none))]
 pub fn prompt_words<H: AllocGlobal, S: AsStr, F: Sink>(rt: &H, words: &[S], faults: &mut F)
     requires { F.failed faults.old < 2 ^ 64 - 1 }
-    ensures told { IsPrompted (telling_asked (map S.text words.now)).prompt (Tells (F.contents faults.old) (F.contents faults.new) (F.failed faults.old) (F.failed faults.new)) }
+    ensures told { IsPrompted (telling_asked (map S.text words.now)).prompt (prompt_for (task_asked (map S.text words.now))) (Tells (F.contents faults.old) (F.contents faults.new) (F.failed faults.old) (F.failed faults.new)) }
     ensures few { F.failed faults.new ≤ F.failed faults.old + 1 }
 {
-    if asks_prompt(rt.alloc(), words) {
-        tell_text(PROMPT.as_bytes(), faults);
+    if let Some(text) = prompt_asked(rt.alloc(), words) {
+        tell_text(text.as_bytes(), faults);
     }
 }
 
-/// Whether words have a script read and name none, and do not ask for quiet; where memory is refused for them, they do not.
-fn asks_prompt<S: AsStr>(alloc: Global, words: &[S]) -> bool
-    ensures { result ≡ true → (telling_asked (map S.text words.now)).prompt ≡ true }
+/// What a terminal is told where words have a script or a list read and name none, and do not ask for quiet; where memory is refused
+/// for them, they do not.
+fn prompt_asked<S: AsStr>(alloc: Global, words: &[S]) -> Option<&'static str>
+    ensures asked { IfSome result (λ text. (telling_asked (map S.text words.now)).prompt ≡ true) }
+    ensures text { IfSome result (λ text. text.now ≡ prompt_for (task_asked (map S.text words.now))) }
 {
     match read_words(alloc, words) {
-        Ok(Request::Do(_, _, telling)) => telling.prompt,
-        _ => false,
+        Ok(Request::Do(task, _, telling)) if telling.prompt => Some(prompt_text(&task)),
+        _ => None,
+    }
+}
+
+/// What a terminal is told before what this task takes is read from it.
+fn prompt_text(task: &Task) -> &'static str
+    ensures { result.now ≡ prompt_text task.now }
+{
+    match task {
+        Task::Convert(_) => LIST_PROMPT,
+        Task::Fit(_) => EITHER_PROMPT,
+        _ => PROMPT,
     }
 }
 

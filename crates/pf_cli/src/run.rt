@@ -24,7 +24,7 @@ use std::alloc::Global;
 ///
 /// # Errors
 ///
-/// `ReadFault` where the reader failed, an interruption too: nothing was written. `ScriptTooLong` where it has more than
+/// `ReadFault` where the reader failed: nothing was written. `ScriptTooLong` where it has more than
 /// 16,777,216 bytes: nothing was written. `BadLine` at a record that is none of the script's, after the replies to the records before
 /// it. `BadRange` where the range of the format can't be shown of the slots stepped: nothing was written. `WriteFault` where the
 /// writer failed or took nothing, and `NoMemory` where memory is refused: a front of the text was written.

@@ -1,5 +1,6 @@
-ghost use Rattle.std.specs.Prelude.{◌≡◌, ◌-◌, ◌^◌, ◌<◌, ◌≤◌, IfOk, IsSome, vec_len};
-ghost use Rattle.pf_stream.specs.Reading.{longest_script};
+ghost use Rattle.std.specs.Prelude.{◌≡◌, ◌⊎◌, ◌-◌, ◌^◌, ◌<◌, ◌≤◌, Err, IfOk, IfSome, IsSome, vec_len};
+ghost use Rattle.pf_stream.specs.Reading.{ReadsScript, longest_script};
+ghost use Rattle.pf_stream.specs.declared.reading.ReadingFault.TheVariants.{Read};
 ghost use Rattle.pf_words.specs.Asked.{name_of};
 ghost use Rattle.pf_cli.specs.Source.{IsHad, IsSource, told_name};
 
@@ -42,9 +43,10 @@ pub(crate) fn told_name(file: &Option<String>) -> &[u8]
     }
 }
 
-/// The script that lies in a file.
+/// The script that lies in a file: all bytes that the runtime gives of the one that it opened.
 pub(crate) fn read_file<H: AllocGlobal + Files>(rt: &H, path: &str) -> Result<Vec<u8>, ReadingFault>
-    ensures { IfOk result (λ script. vec_len script ≤ longest_script) }
+    ensures short { IfOk result (λ script. vec_len script ≤ longest_script) }
+    ensures whole { (result ≡ Err Read) ⊎ ((file : H.File) × IfSome (H.File.remaining file) (λ bytes. ReadsScript bytes result)) }
 {
     match File::open(rt, path) {
         Ok(file) => read_script(rt.alloc(), &mut CountedReader::new(file)),

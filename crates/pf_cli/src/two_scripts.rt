@@ -14,7 +14,7 @@ use crate::pair_notes::{join_notes, sizes_note};
 use crate::script_source::{read_source, told_name};
 use crate::versions::numbered_fault;
 use pf_change::compare::compare;
-use pf_commands::at_end::seen_at_end;
+use pf_course::at_end::seen_at_end;
 use pf_desk::snapshot::Snapshot;
 use pf_fault::answer::Answer;
 use pf_fault::ending::Ending;

@@ -6,7 +6,7 @@ use Rattle.pf_script.specs.declared.record.Record.{Record}
 use Rattle.pf_script.specs.declared.record.Record.TheVariants.{Heading, Settings, Asks}
 use Rattle.pf_script.specs.declared.record.RecordTold.{RecordTold}
 use Rattle.pf_script.specs.declared.record.ScriptSettings.{ScriptSettings}
-use Rattle.pf_script.specs.Asked.{commands_in}
+use Rattle.pf_carrying.specs.Asked.{commands_in}
 use Rattle.pf_script.specs.Places.{record_lines}
 use Rattle.pf_script.specs.Script.{script_records}
 use Rattle.pf_script.specs.Told.{FaultTold, Reading, Good, Bad, Missing, faults, faults_in, first_of, readings, settings_in, settings_or, told}

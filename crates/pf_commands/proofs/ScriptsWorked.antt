@@ -19,7 +19,8 @@ use Rattle.pf_tally.specs.Lags.{lags_of}
 use Rattle.pf_tally.specs.Misses.{miss_cmp, misses_of}
 use Rattle.pf_report.specs.Tables.{schedule_text, lags_text, misses_text, denials_text}
 use Rattle.pf_report.specs.Part.{schedule_part_text}
-use Rattle.pf_script.specs.Fields.{number_of, is_word}
+use Rattle.pf_script.specs.Fields.{is_word}
+use Rattle.pf_text.specs.Numbers.{number_of}
 use Rattle.pf_script.specs.Parsing.{number_at, number_within, join_at, leave_at, event_at, strike_at, alter_at, change_at, edit_at, steps_at, line_at, settings_at, names_line, opening_at, heading_at, record_at}
 use Rattle.pf_script.specs.Places.{lines_from}
 use Rattle.pf_script.specs.Told.{readings_from}

@@ -10,5 +10,3 @@ pub mod ran;
 mod refusals;
 pub mod run;
 pub mod task_run;
-
-pub use pf_course::at_end;

@@ -6,10 +6,10 @@ ghost use Rattle.pf_script.specs.Told.{told};
 ghost use Rattle.pf_commands.specs.Refusals.{refusal_of, refusals_for};
 
 use pf_desk::desk::Desk;
-use pf_formats::refusal::Refusal;
+use pf_full::refusal::Refusal;
 use pf_names::names::Names;
 use pf_options::format::Format;
-use pf_recount::origin::Origin;
+use pf_plain::origin::Origin;
 use pf_recount::recount::Recount;
 use pf_recount::recounting::recount;
 use pf_recount::refused_record::RefusedRecord;

@@ -20,7 +20,8 @@ use Rattle.pf_names.specs.declared.unit.Unit.TheVariants.{Nanosecond, Microsecon
 use Rattle.pf_names.specs.Slots.{unit_named, unit_word}
 use Rattle.pf_names.specs.Text.{is_letter_first}
 use Rattle.pf_scenario.specs.declared.event.Event.TheVariants.{Join}
-use Rattle.pf_script.specs.Fields.{field, is_word, number_of}
+use Rattle.pf_script.specs.Fields.{field, is_word}
+use Rattle.pf_text.specs.Numbers.{number_of}
 use Rattle.pf_plan.specs.declared.fault.Reason.TheVariants.{NoCap, NoNumber}
 use Rattle.pf_plan.specs.declared.state.Progress.{Progress}
 use Rattle.pf_plan.specs.Parsing.{cap_at, early_at, edit_at, event_at, every_at, join_at, number_or, number_within, opening_at, record_at, said_at, settings_at, slot_at, steps_at, task_at}

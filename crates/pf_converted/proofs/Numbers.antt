@@ -6,7 +6,8 @@ use Rattle.std.proofs.lemmas.Bool.{le-leb}
 use Rattle.std.proofs.lemmas.Bool.Decides.{nat_tests}
 use Rattle.std.proofs.lemmas.Fmt.{digits_decimal, digits_value-decimal, length-decimal-le, decimal_nonempty}
 use Rattle.std.proofs.lemmas.Str.Parse.{numerals_by_value, tells_all_ascii_digits}
-use Rattle.pf_script.specs.Fields.{field, number_of}
+use Rattle.pf_script.specs.Fields.{field}
+use Rattle.pf_text.specs.Numbers.{number_of}
 use Rattle.pf_plan.specs.declared.fault.Reason.{Reason}
 use Rattle.pf_plan.specs.Parsing.{number_or, number_within}
 

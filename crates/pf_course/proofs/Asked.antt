@@ -7,7 +7,7 @@ use Rattle.pf_desk.specs.Machine.{reply_to}
 use Rattle.pf_desk.specs.declared.command.Command.{Command}
 use Rattle.pf_desk.proofs.Histories.{settings_after}
 use Rattle.pf_fault.specs.declared.fault.Fault.{Fault}
-use Rattle.pf_script.specs.Asked.{commands_in}
+use Rattle.pf_carrying.specs.Asked.{commands_in}
 use Rattle.pf_script.specs.Told.{Told}
 use Rattle.pf_script.specs.declared.record.ScriptSettings.{ScriptSettings}
 use Rattle.pf_course.specs.Carried.{EndsBy}

@@ -3,7 +3,7 @@ use Rattle.std.proofs.Common.{◌≡◌, ◌≤◌, ◌+◌, Bool, true, false, 
 use Rattle.std.specs.Prelude.{if◌then◌else◌, IfOk, OnOk}
 use Rattle.pf_desk.specs.declared.command.Command.{Command}
 use Rattle.pf_script.specs.declared.record.ScriptSettings.{ScriptSettings}
-use Rattle.pf_script.specs.Asked.{commands_in}
+use Rattle.pf_carrying.specs.Asked.{commands_in}
 use Rattle.pf_script.specs.Told.{LinesTold, Told}
 use Rattle.pf_options.specs.declared.format.Format.{Format}
 use Rattle.pf_course.specs.Batched.{Batched, HasAnswered, HasTaken, course_to_be, lines_to_be}

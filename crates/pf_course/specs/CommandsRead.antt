@@ -2,7 +2,7 @@
 use Rattle.std.specs.Prelude.{ℕ, ◌++◌, is_some, List, [], Option, None, Some, replicate}
 use Rattle.pf_desk.specs.declared.command.Command.{Command}
 use Rattle.pf_desk.specs.declared.command.Command.TheVariants.{Step}
-use Rattle.pf_script.specs.Asked.{commands_in}
+use Rattle.pf_carrying.specs.Asked.{commands_in}
 use Rattle.pf_script.specs.Told.{LinesTold}
 use Rattle.pf_course.specs.declared.commands.Commands.TheInside.{Inside}
 use Rattle.pf_course.specs.Commands.{CommandsLeft}

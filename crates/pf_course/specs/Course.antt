@@ -8,7 +8,7 @@ use Rattle.pf_desk.specs.Machine.{State, opening_state, reply_to, state_after}
 use Rattle.pf_desk.specs.Desk.{Seen, Shown}
 use Rattle.pf_recount.specs.Carried.{asked_in}
 use Rattle.pf_script.specs.declared.record.ScriptSettings.{ScriptSettings}
-use Rattle.pf_script.specs.Asked.{commands_in}
+use Rattle.pf_carrying.specs.Asked.{commands_in}
 use Rattle.pf_script.specs.Told.{FaultTold, Told}
 use Rattle.pf_options.specs.declared.format.Format.{Format}
 use Rattle.pf_options.specs.Formats.{has_replies}

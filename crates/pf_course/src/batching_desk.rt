@@ -42,7 +42,7 @@ impl BatchingDesk {
     ghost use Rattle.std.specs.Prelude.{◌≡◌, ◌≤◌, ◌++◌, [], ◌∷◌, true, false, length, IfOk, OnOk, IsTrue};
     ghost use Rattle.pf_desk.specs.Plain.{IsPlain};
     ghost use Rattle.pf_scenario.specs.Scenario.{slot_touched};
-    ghost use Rattle.pf_timeline.specs.Checkpoints.{largest_distance};
+    ghost use Rattle.pf_scenario.specs.Limits.{largest_distance};
     ghost use Rattle.pf_course.specs.Batched.{HasAnswered, HasTaken, ShowsLine, is_before};
     ghost use Rattle.pf_course.specs.Course.{course_at, opening_course};
 

@@ -29,7 +29,7 @@ impl<'a> Model for Commands<'a> {
 
 impl<'a> Commands<'a> {
     ghost use Rattle.std.specs.Prelude.{◌≡◌, true, false, IfOk};
-    ghost use Rattle.pf_script.specs.Asked.{commands_in};
+    ghost use Rattle.pf_carrying.specs.Asked.{commands_in};
     ghost use Rattle.pf_course.specs.Commands.{TakesCommand};
     ghost use Rattle.pf_course.specs.Course.{fault_number};
 

@@ -13,5 +13,4 @@ pub mod Laying
 pub mod Runs
 mod Uncounted
 pub mod Rooms
-mod Fits
 pub mod Places

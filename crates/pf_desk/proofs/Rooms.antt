@@ -17,10 +17,8 @@ use Rattle.pf_scenario.specs.declared.fault.EditFault.{EditFault}
 use Rattle.pf_scenario.proofs.Scenarios.{changes_keep_scenarios}
 use Rattle.pf_scenario.proofs.Keeping.{alter_held}
 use Rattle.pf_run.proofs.Containing.{contains_head}
-use Rattle.pf_fit.specs.Laws.{LeavesRoom}
-use Rattle.pf_fit.proofs.Sets.{list_any-contains}
-use Rattle.pf_fit.proofs.Counted.{in_map}
-use Rattle.pf_fit.proofs.Settings.{settings_suffice}
+use Rattle.pf_tally.specs.Room.{LeavesRoom, CarriesCap}
+use Rattle.pf_tally.proofs.Contents.{list_any-contains, in_map}
 use Rattle.pf_desk.specs.declared.command.Command.{Command}
 use Rattle.pf_desk.specs.declared.command.Command.TheVariants.{Edit, Step}
 use Rattle.pf_desk.specs.declared.reply.Reply.{Reply}
@@ -28,7 +26,7 @@ use Rattle.pf_desk.specs.declared.reply.Reply.TheVariants.{Edited, Stepped, Refu
 use Rattle.pf_desk.specs.declared.entry.Entry.{Entry}
 use Rattle.pf_desk.specs.Machine.{State, edit_reply, reply_to, state_after}
 use Rattle.pf_desk.specs.History.{IsLegalFrom, state_behind}
-use Rattle.pf_desk.specs.Room.{NeverMisses, KeepsRoom, AsksWithinRoom, RoomIsKept, MissesNone, MissesNoneAfter, leaves_needed}
+use Rattle.pf_desk.specs.Room.{KeepsRoom, AsksWithinRoom, RoomIsKept, HasRoom, RoomGoesOn, leaves_needed}
 use Rattle.pf_desk.proofs.Histories.{settings_changed}
 
 -- so many processors carry the cap where they are as many as it needs
@@ -79,7 +77,7 @@ module _ (s : Plan) (scenario : IsScenario s) (needed : ℕ) (is_needed : needed
 
   -- a limit that leaves too few
   pub room_ends : (xs rest : List Numbered) (x : Numbered) → xs ≡ x ∷ rest → leaves_needed needed x.event ≡ false →
-      AllLeave needed xs ↔ AllLeave needed s.events → IsTrue false ↔ NeverMisses s
+      AllLeave needed xs ↔ AllLeave needed s.events → IsTrue false ↔ CarriesCap s
   room_ends xs rest x is leaves before = (
     λ no. absurd (false≢true no),
     λ never.
@@ -89,7 +87,7 @@ module _ (s : Plan) (scenario : IsScenario s) (needed : ℕ) (is_needed : needed
 
   -- none does
   pub room_stays : (xs : List Numbered) → xs ≡ [] → needed ≤ s.settings.processors →
-      AllLeave needed xs ↔ AllLeave needed s.events → IsTrue true ↔ NeverMisses s
+      AllLeave needed xs ↔ AllLeave needed s.events → IsTrue true ↔ CarriesCap s
   room_stays xs is enough before = (
     λ yes. record {
       carries = carries_needed s.settings.cap s.settings.base s.settings.processors some (omega (arith, enough, is_needed));
@@ -143,50 +141,47 @@ room_is_kept s (Strike id) never none = (
 )
 
 -- what is known at a state of the machine
-record HasRoom (settings : System) (st : State) : Type 0 where
-  scenario : IsScenario st.plan
-  never : NeverMisses st.plan
+record IsRoomy (settings : System) (st : State) : Type 0 where
+  room : HasRoom st.plan
   same : st.plan.settings ≡ settings
 
 -- after an edit without a fault
-room_edited : (settings : System) (st : State) (change : Change) → HasRoom settings st → KeepsRoom settings change →
-    edit_fault st.plan change ≡ None → HasRoom settings (record st { plan = plan_after st.plan change })
-room_edited settings st change room keeps none = record {
-  scenario = changes_keep_scenarios st.plan change room.scenario none;
-  never = (room_is_kept st.plan change room.never none).1 (subst (λ s. KeepsRoom s change) (sym room.same) keeps);
-  same = settings_changed st.plan change ∙ room.same;
+room_edited : (settings : System) (st : State) (change : Change) → IsRoomy settings st → KeepsRoom settings change →
+    edit_fault st.plan change ≡ None → IsRoomy settings (record st { plan = plan_after st.plan change })
+room_edited settings st change roomy keeps none = record {
+  room = record {
+    scenario = changes_keep_scenarios st.plan change roomy.room.scenario none;
+    carries = (room_is_kept st.plan change roomy.room.carries none).1 (subst (λ s. KeepsRoom s change) (sym roomy.same) keeps);
+  };
+  same = settings_changed st.plan change ∙ roomy.same;
 }
 
 room_after : (settings : System) (st : State) (command : Command) (reply : Reply) → reply ≡ reply_to st command →
-    HasRoom settings st → AsksWithinRoom settings command → HasRoom settings (state_after st command reply)
-room_after settings st command (Refused fault) legal room asks = room
-room_after settings st Step (Edited id) legal room asks = record { scenario = room.scenario; never = room.never; same = room.same }
-room_after settings st Step (Stepped slot row) legal room asks = record { scenario = room.scenario; never = room.never; same = room.same }
-room_after settings st (Edit change strict) (Edited id) legal room asks = by (edit_fault st.plan change) refl legal where
+    IsRoomy settings st → AsksWithinRoom settings command → IsRoomy settings (state_after st command reply)
+room_after settings st command (Refused fault) legal roomy asks = roomy
+room_after settings st Step (Edited id) legal roomy asks = record { room = roomy.room; same = roomy.same }
+room_after settings st Step (Stepped slot row) legal roomy asks = record { room = roomy.room; same = roomy.same }
+room_after settings st (Edit change strict) (Edited id) legal roomy asks = by (edit_fault st.plan change) refl legal where
   by : (o : Option EditFault) → edit_fault st.plan change ≡ o → Edited id ≡ edit_reply st change strict o →
-      HasRoom settings (record st { plan = plan_after st.plan change })
+      IsRoomy settings (record st { plan = plan_after st.plan change })
   by (Some fault) is legal = cc
-  by None is legal = room_edited settings st change room asks is
-room_after settings st (Edit change strict) (Stepped slot row) legal room asks = by (edit_fault st.plan change) refl legal where
+  by None is legal = room_edited settings st change roomy asks is
+room_after settings st (Edit change strict) (Stepped slot row) legal roomy asks = by (edit_fault st.plan change) refl legal where
   by : (o : Option EditFault) → edit_fault st.plan change ≡ o → Stepped slot row ≡ edit_reply st change strict o →
-      HasRoom settings (record st { plan = plan_after st.plan change })
+      IsRoomy settings (record st { plan = plan_after st.plan change })
   by (Some fault) is legal = cc
-  by None is legal = room_edited settings st change room asks is
+  by None is legal = room_edited settings st change roomy asks is
 
-room_behind : (settings : System) (st : State) (entries : List Entry) → HasRoom settings st → IsLegalFrom st entries →
-    All (λ e. AsksWithinRoom settings e.command) entries → HasRoom settings (state_behind st entries)
-room_behind settings st [] room legal asks = room
-room_behind settings st (e ∷ es) room legal asks =
+room_behind : (settings : System) (st : State) (entries : List Entry) → IsRoomy settings st → IsLegalFrom st entries →
+    All (λ e. AsksWithinRoom settings e.command) entries → IsRoomy settings (state_behind st entries)
+room_behind settings st [] roomy legal asks = roomy
+room_behind settings st (e ∷ es) roomy legal asks =
     room_behind settings (state_after st e.command e.reply) es
-    (room_after settings st e.command e.reply legal.0 room (All-head (λ e. AsksWithinRoom settings e.command) e es asks)) legal.1
+    (room_after settings st e.command e.reply legal.0 roomy (All-head (λ e. AsksWithinRoom settings e.command) e es asks)) legal.1
     (All-tail (λ e. AsksWithinRoom settings e.command) e es asks)
 
--- Use: such a scenario misses no window, and none that commands within its room lead to.
-pub misses_none : (s : Plan) → IsScenario s → NeverMisses s → MissesNone s
-misses_none s scenario never n r run = settings_suffice s n r scenario run never.carries never.leaves
-
-pub misses_none_after : (st : State) → IsScenario st.plan → NeverMisses st.plan → MissesNoneAfter st
-misses_none_after st scenario never entries legal asks =
-    let room : HasRoom st.plan.settings (state_behind st entries) =
-    room_behind st.plan.settings st entries (record { scenario = scenario; never = never; same = refl }) legal asks in
-    misses_none (state_behind st entries).plan room.scenario room.never
+pub room_goes_on : RoomGoesOn
+room_goes_on st entries room within =
+    let roomy : IsRoomy st.plan.settings (state_behind st entries) =
+    room_behind st.plan.settings st entries (record { room = room; same = refl }) within.legal within.asked in
+    roomy.room

@@ -1,4 +1,3 @@
-pub use Rattle.pf_timeline.specs.declared.timeline.TheConstants
 pub use Rattle.pf_order.specs.Counts
 pub use Rattle.pf_order.specs.Counted
 pub use Rattle.pf_scenario.specs.System
@@ -31,5 +30,4 @@ pub mod Small
 pub mod Settled
 pub mod Settlements
 pub mod Room
-pub mod Fitting
 pub mod Runs

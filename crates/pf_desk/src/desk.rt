@@ -4,7 +4,7 @@ ghost use Rattle.pf_order.specs.Counted.{CountsAtMost};
 ghost use Rattle.pf_run.specs.Computed.{run_of};
 ghost use Rattle.pf_tally.specs.Lags.{lags_of};
 ghost use Rattle.pf_tally.specs.Misses.{misses_of};
-ghost use Rattle.pf_timeline.specs.Checkpoints.{largest_distance};
+ghost use Rattle.pf_scenario.specs.Limits.{largest_distance};
 ghost use Rattle.pf_timeline.specs.Comparisons.{most_comparisons_at};
 ghost use Rattle.pf_desk.specs.declared.fault.OpenFault.TheVariants.{BadSettings};
 ghost use Rattle.pf_desk.specs.declared.command.Command.TheVariants.{Step};
@@ -53,7 +53,7 @@ impl Model for Desk {
 
 impl Desk {
     /// A desk with these settings, no event, no slot stepped and no history, which keeps a checkpoint each `every` slots, 1
-    /// to `LARGEST_DISTANCE` of pf_timeline.
+    /// to `LARGEST_DISTANCE` of pf_scenario.
     ///
     /// # Errors
     ///

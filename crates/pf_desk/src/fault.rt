@@ -1,7 +1,7 @@
 ghost use Rattle.std.specs.Prelude.{◌≡◌};
 ghost use Rattle.pf_desk.specs.Refusals.{open_fault_code};
 
-use pf_timeline::timeline::LARGEST_DISTANCE;
+use pf_scenario::limits::LARGEST_DISTANCE;
 use std::error::Error;
 use std::fmt;
 

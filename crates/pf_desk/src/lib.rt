@@ -24,5 +24,3 @@ mod settled;
 mod settlements;
 mod small_edit;
 pub mod snapshot;
-
-pub use pf_timeline::timeline;

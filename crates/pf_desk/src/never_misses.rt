@@ -1,7 +1,8 @@
 ghost use Rattle.std.specs.Prelude.{◌≡◌, ◌↔◌, IsTrue};
 ghost use Rattle.pf_scenario.specs.Edit.{IsScenario};
+ghost use Rattle.pf_tally.specs.Room.{CarriesCap};
 ghost use Rattle.pf_desk.specs.Desk.{IsDesk};
-ghost use Rattle.pf_desk.specs.Room.{NeverMisses, MissesNone, MissesNoneAfter, leaves_needed};
+ghost use Rattle.pf_desk.specs.Room.{leaves_needed};
 
 use crate::desk::Desk;
 use pf_scenario::event::Event;
@@ -12,9 +13,7 @@ impl Desk {
     /// cap on the load, and with each limit that is held those that it leaves in use do. So it stays until an edit brings a
     /// limit that leaves fewer. It looks at each event once and takes no memory.
     pub fn never_misses(&self) -> bool
-        ensures value { IsTrue result ↔ NeverMisses self.now.state.plan }
-        ensures none { IsTrue result → MissesNone self.now.state.plan }
-        ensures after { IsTrue result → MissesNoneAfter self.now.state }
+        ensures value { IsTrue result ↔ CarriesCap self.now.state.plan }
         ensures desk { IsDesk self.now }
     {
         let scenario = self.scenario();
@@ -24,7 +23,7 @@ impl Desk {
 
 /// Whether the processors carry the cap, with each limit that the scenario holds.
 fn has_room(scenario: &Scenario) -> bool
-    ensures room { IsTrue result ↔ NeverMisses scenario.now }
+    ensures room { IsTrue result ↔ CarriesCap scenario.now }
     ensures scenario { IsScenario scenario.now }
 {
     let settings = scenario.settings();

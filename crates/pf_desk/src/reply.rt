@@ -2,7 +2,7 @@ ghost use Rattle.std.specs.Prelude.{◌≡◌, IfOk};
 ghost use Rattle.pf_desk.specs.Views.{lent_reply};
 
 use crate::reply_view::ReplyView;
-use pf_fit::denial::Denial;
+use pf_admit::denial::Denial;
 use pf_place::row::Row;
 use pf_scenario::fault::EditFault;
 use std::alloc::AllocError;

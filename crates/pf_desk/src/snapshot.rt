@@ -1,4 +1,4 @@
-ghost use Rattle.std.specs.Prelude.{◌≡◌, ◌≤◌, ◌*◌, None, [], length, All, IfOk};
+ghost use Rattle.std.specs.Prelude.{◌≡◌, length, IfOk};
 ghost use Rattle.std.specs.List.{slice_get};
 ghost use Rattle.pf_place.specs.Lent.{places_lent};
 ghost use Rattle.pf_run.specs.Computed.{run_of};
@@ -6,12 +6,9 @@ ghost use Rattle.pf_run.specs.RunRows.{AreOfRun};
 ghost use Rattle.pf_tally.specs.Lags.{lags_of};
 ghost use Rattle.pf_tally.specs.Misses.{misses_of};
 ghost use Rattle.pf_tally.specs.Figures.{figures_of};
-ghost use Rattle.pf_fit.specs.Load.{overload_of};
-ghost use Rattle.pf_fit.specs.Fit.{IsFirstAbove, NoneIsLater};
-ghost use Rattle.pf_desk.specs.Fitting.{LagsAreWithinQuantum};
+ghost use Rattle.pf_tally.specs.Load.{overload_of};
+ghost use Rattle.pf_tally.specs.Fit.{IsFirstAbove};
 
-use pf_fit::fit::Fit;
-use pf_fit::fits;
 use pf_list::shared_vec::SharedVec;
 use pf_place::row_view::RowView;
 use pf_place::rows::Rows;
@@ -20,10 +17,11 @@ use pf_scenario::events::Events;
 use pf_scenario::scenario::Scenario;
 use pf_scenario::settings::Settings;
 use pf_tally::figures::Figures;
+use pf_tally::fit::Fit;
 use pf_tally::lag::Lag;
 use pf_tally::miss::Miss;
 use pf_tally::tally::{Tally, make_tally};
-use pf_tally::{lags, misses, task_figures};
+use pf_tally::{fits, lags, misses, task_figures};
 use std::alloc::{AllocError, Global};
 use std::marker::Model;
 
@@ -215,20 +213,16 @@ impl Snapshot {
     }
 
     /// Whether the loads of the slots below now were within the processors in use, and if not, from which slot on and by how
-    /// much. Where they were, no window was missed, and the lag of a task that never runs early stayed within a quantum; and no
-    /// task was tardy by more slots than the overload has quanta.
+    /// much. By the laws of pf_promise no window was missed where they were, and the lag of a task that never runs early stayed
+    /// within a quantum; and no task was tardy by more slots than the overload has quanta.
     ///
     /// # Errors
     ///
     /// Where memory is refused.
     pub fn fits(&self) -> Result<Fit, AllocError>
+        ensures of_run { AreOfRun self.now.state.plan self.now.state.now self.now.rows self.now.denials }
         ensures first { IfOk result (λ fit. IsFirstAbove self.now.state.plan (run_of self.now.state.plan self.now.state.now) self.now.state.now fit.first) }
         ensures overload { IfOk result (λ fit. fit.overload ≡ overload_of self.now.state.plan (run_of self.now.state.plan self.now.state.now) self.now.state.now) }
-        ensures none { IfOk result (λ fit. fit.first ≡ None → misses_of self.now.state.plan (run_of self.now.state.plan self.now.state.now) ≡ []) }
-        ensures lags { IfOk result (λ fit. fit.first ≡ None → LagsAreWithinQuantum self.now.state.plan (run_of self.now.state.plan self.now.state.now)) }
-        ensures late { IfOk result (λ fit. All (λ f. self.now.state.plan.settings.base * f.tardiness ≤ fit.overload)
-            (figures_of self.now.state.plan (run_of self.now.state.plan self.now.state.now) self.now.rows)) }
-        ensures overdue { IfOk result (λ fit. NoneIsLater self.now.state.plan (run_of self.now.state.plan self.now.state.now) self.now.state.now fit.overload) }
     {
         fits::fits(
             self.alloc,

@@ -4,9 +4,9 @@ ghost use Rattle.pf_diff.specs.Diff.{row_changes};
 ghost use Rattle.pf_diff.specs.Summary.{cells_changed};
 
 use crate::slots::is_same_sitter;
+use pf_desk::rows::{row_at, row_count};
 use pf_desk::snapshot::Snapshot;
 use pf_place::row_view::RowView;
-use pf_report::rows::{row_at, row_count};
 
 /// On how many processors, of so many that both rows have, another sits.
 fn cells_of_slot(processors: u32, before: RowView<'_>, after: RowView<'_>) -> u32

@@ -5,10 +5,10 @@ ghost use Rattle.pf_report.specs.Tables.{sitter_field};
 ghost use Rattle.pf_diff.specs.Diff.{same_sitter, sitter_changes, row_changes};
 ghost use Rattle.pf_diff.specs.Written.{with_records, AddsSlot};
 
+use pf_desk::rows::{row_at, row_count};
 use pf_desk::snapshot::Snapshot;
 use pf_order::pick::Pick;
 use pf_place::row_view::RowView;
-use pf_report::rows::{row_at, row_count};
 use pf_text::pieces::Pieces;
 use pf_text::table::Table;
 use std::alloc::{AllocError, Global};

@@ -3,7 +3,7 @@ use Rattle.std.proofs.Common.{◌≡◌, ℕ}
 use Rattle.pf_fault.specs.declared.fault.Fault.{Fault}
 use Rattle.pf_fault.specs.declared.fault.Fault.TheVariants as why
 use Rattle.pf_fault.specs.Faults.{IsUnwritten}
-use Rattle.pf_script.specs.Asked.{Asked}
+use Rattle.pf_carrying.specs.Asked.{Asked}
 use Rattle.pf_drill.specs.Drilled.{Stops}
 
 -- Use: nothing of it was written.

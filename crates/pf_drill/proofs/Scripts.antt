@@ -9,7 +9,7 @@ use Rattle.pf_script.specs.declared.fault.ScriptFault.TheVariants as script
 use Rattle.pf_script.specs.declared.opened.OpenedScript.{OpenedScript}
 use Rattle.pf_script.specs.declared.record.LineTold.{LineTold}
 use Rattle.pf_script.specs.Answers.{ReadsLine}
-use Rattle.pf_script.specs.Asked.{Asked, BadRecord, Whole, asked_by, asked_up_to, commands_in, commands_of, lines_asked}
+use Rattle.pf_carrying.specs.Asked.{Asked, BadRecord, Whole, asked_by, asked_up_to, commands_in, commands_of, lines_asked}
 use Rattle.pf_script.specs.Opened.{Opens}
 use Rattle.pf_script.specs.Told.{FaultTold, LinesTold, Told}
 use Rattle.pf_fault.specs.declared.fault.Fault.{Fault}

@@ -12,7 +12,7 @@ use Rattle.pf_report.specs.Tables.{schedule_text}
 use Rattle.pf_board.specs.declared.quantum.Quantum.{Quantum}
 use Rattle.pf_board.specs.Quanta.{issues}
 use Rattle.pf_share.specs.Histories.{numbered, quanta_of}
-use Rattle.pf_script.specs.Asked.{Asked, Whole, BadRecord, script_asked}
+use Rattle.pf_carrying.specs.Asked.{Asked, Whole, BadRecord, script_asked}
 use Rattle.pf_stream.specs.Reading.{longest_script}
 use Rattle.pf_stream.specs.Written.{TookFront}
 use Rattle.pf_fault.specs.declared.fault.Fault.{Fault}

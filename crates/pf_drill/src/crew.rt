@@ -3,7 +3,7 @@ ghost use Rattle.std.specs.List.{list_any};
 ghost use Rattle.pf_drill.specs.Drilled.{IsHalt, Stops};
 ghost use Rattle.pf_drill.specs.Gates.{HasTaken, IsToldOf, SomeArrived};
 ghost use Rattle.pf_drill.specs.Rounds.{AreOfBoard, HasGiven, IsInStep, commands_given};
-ghost use Rattle.pf_script.specs.Asked.{lines_asked};
+ghost use Rattle.pf_carrying.specs.Asked.{lines_asked};
 
 use crate::at_gate::AtGate;
 use crate::gate::Gate;

@@ -4,7 +4,7 @@ ghost use Rattle.pf_fault.specs.Answers.{IsQuiet};
 ghost use Rattle.pf_fault.specs.Faults.{IsUnwritten};
 ghost use Rattle.pf_drill.specs.Drilled.{Drills, Stops};
 ghost use Rattle.pf_drill.specs.Gates.{SomeArrived};
-ghost use Rattle.pf_script.specs.Asked.{script_asked};
+ghost use Rattle.pf_carrying.specs.Asked.{script_asked};
 
 use crate::gate::Gate;
 use crate::lines::drill_lines;

@@ -5,7 +5,7 @@ ghost use Rattle.pf_desk.specs.declared.command.Command.TheVariants.{Step};
 ghost use Rattle.pf_drill.specs.Drilled.{Drills, IsDrill, IsHalt, Stops, seen_in};
 ghost use Rattle.pf_drill.specs.Gates.{SomeArrived};
 ghost use Rattle.pf_drill.specs.Rounds.{IsInStep, ShowsPlan, commands_given};
-ghost use Rattle.pf_script.specs.Asked.{commands_in, commands_of, lines_asked};
+ghost use Rattle.pf_carrying.specs.Asked.{commands_in, commands_of, lines_asked};
 ghost use Rattle.pf_share.specs.Locked.{origin_of};
 ghost use Rattle.pf_share.specs.Opening.{new_viewers};
 

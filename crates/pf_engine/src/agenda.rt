@@ -13,13 +13,13 @@ ghost use Rattle.pf_engine.specs.Taking.{Chooses, AreBeingRun};
 
 use crate::roster::Roster;
 use pf_admit::member::Member;
-use pf_admit::release;
 use pf_calendar::calendar::Calendar;
 use pf_order::key::Key;
 use pf_order::meter::Meter;
 use pf_order::pick::Pick;
 use pf_scenario::event::{Event, Numbered};
 use pf_weight::task::number_of;
+use pf_window::release;
 use std::alloc::AllocError;
 
 /// Makes room for the keys of the tasks that join by these events. The keys held stay as they were.

@@ -14,7 +14,7 @@ use Rattle.pf_script.specs.declared.fault.ScriptFault.{ScriptFault}
 use Rattle.pf_script.specs.declared.fault.ScriptFault.TheVariants as fault
 use Rattle.pf_script.specs.Answers.{ReadsLine}
 use Rattle.pf_script.specs.Told.{FaultTold, LinesTold}
-use Rattle.pf_script.specs.Asked.{commands_of, commands_in}
+use Rattle.pf_carrying.specs.Asked.{commands_of, commands_in}
 use Rattle.pf_face.specs.declared.raw_bad_record.RawBadRecord.{RawBadRecord}
 use Rattle.pf_face.specs.declared.status.TheConstants.{BAD_RECORD, OK}
 use Rattle.pf_face.specs.Running.{CarriesOut, TellsPlace, place_of, raw_bad}

@@ -1,7 +1,7 @@
 -- What a call does to the desk at a handle.
 use Rattle.std.specs.Prelude.{ℕ, ◌≡◌, ◌⊎◌, ◌<◌, ◌≤◌, ◌+◌, ◌==◌, if◌then◌else◌, Option, None, Some, [], replicate}
 use Rattle.pf_scenario.specs.System.{System, IsInLimits}
-use Rattle.pf_timeline.specs.Checkpoints.{largest_distance}
+use Rattle.pf_scenario.specs.Limits.{largest_distance}
 use Rattle.pf_desk.specs.declared.command.Command.{Command}
 use Rattle.pf_desk.specs.declared.command.Command.TheVariants.{Step}
 use Rattle.pf_desk.specs.declared.reply.Reply.{Reply}

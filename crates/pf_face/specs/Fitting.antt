@@ -3,10 +3,12 @@ use Rattle.std.specs.Prelude.{ℕ, ◌≡◌, ◌⊎◌, ◌↔◌, ◌≤◌, �
 use Rattle.pf_run.specs.Computed.{run_of}
 use Rattle.pf_tally.specs.Misses.{misses_of}
 use Rattle.pf_tally.specs.Figures.{figures_of}
-use Rattle.pf_promise.specs.Load.{overload_of}
-use Rattle.pf_fit.specs.Fit.{IsFirstAbove, NoneIsLater}
+use Rattle.pf_tally.specs.Load.{overload_of}
+use Rattle.pf_tally.specs.Fit.{IsFirstAbove}
+use Rattle.pf_tally.specs.Room.{CarriesCap, MissesNone}
+use Rattle.pf_promise.specs.FitLaws.{NoneIsLater}
 use Rattle.pf_desk.specs.Machine.{State}
-use Rattle.pf_desk.specs.Room.{NeverMisses, MissesNone, MissesNoneAfter}
+use Rattle.pf_desk.specs.Room.{MissesNoneAfter}
 use Rattle.pf_desk.specs.Desk.{Shown}
 use Rattle.pf_face.specs.declared.raw_fit.RawFit.{RawFit}
 use Rattle.pf_face.specs.declared.raw_miss.TheConstants.{NEVER}
@@ -37,6 +39,6 @@ TellsFit d status fit = (status ≡ NO_MEMORY) ⊎ ((status ≡ OK) × IsFitOf d
 -- it is told whether the processors carry the cap; and where they do, no window is missed, of this plan and of each that
 -- further commands within that room lead to
 pub record TellsRoom (st : State) (never : Bool) : Type 0 where
-  pub value : IsTrue never ↔ NeverMisses st.plan
+  pub value : IsTrue never ↔ CarriesCap st.plan
   pub none : IsTrue never → MissesNone st.plan
   pub after : IsTrue never → MissesNoneAfter st

@@ -10,7 +10,7 @@ use Rattle.pf_script.specs.declared.fault.ScriptFault.TheVariants as fault
 use Rattle.pf_script.specs.declared.record.LineTold.{LineTold}
 use Rattle.pf_script.specs.declared.record.ScriptSettings.{ScriptSettings}
 use Rattle.pf_script.specs.Told.{FaultTold, LinesTold, Told, told}
-use Rattle.pf_script.specs.Asked.{commands_in}
+use Rattle.pf_carrying.specs.Asked.{commands_in}
 use Rattle.pf_text.specs.Page.{table_text}
 use Rattle.pf_plan.specs.declared.fault.BadRecord.{BadRecord as BadPlan}
 use Rattle.pf_face.specs.declared.held.Held.{Held}

@@ -1,5 +1,4 @@
 ghost use Rattle.std.specs.Prelude.{◌≡◌, IfOk};
-ghost use Rattle.std.specs.String.{string_bytes};
 ghost use Rattle.pf_script.specs.declared.version.Version.TheVariants.{Second};
 ghost use Rattle.pf_script.specs.Told.{faults_in, readings_after};
 ghost use Rattle.pf_face.specs.Faults.{AddsNext, fault_lines, script_lines};
@@ -33,7 +32,7 @@ pub extern "C" fn pfair_script_faults(
     ensures rest { LeavesRest result count.old count.new room.old room.new }
 {
     match script_lines(alloc, script) {
-        Ok(text) => fill_text(text.as_bytes(), room, count),
+        Ok(text) => fill_text(&text, room, count),
         Err(_) => NO_MEMORY,
     }
 }
@@ -51,18 +50,21 @@ pub extern "C" fn pfair_record_faults(
 {
     let reader = ScriptReader::after_settings(alloc, Version::Second, records);
     match fault_lines(alloc, reader) {
-        Ok(text) => fill_text(text.as_bytes(), room, count),
+        Ok(text) => fill_text(&text, room, count),
         Err(_) => NO_MEMORY,
     }
 }
 
 /// The lines of the faults that a reader has left.
 #[tactic(auto, using(crate::proofs::FaultLines::lines_on, crate::proofs::FaultLines::lines_done, crate::proofs::FaultLines::fewer_left))]
-pub(crate) fn fault_lines(alloc: Global, mut reader: ScriptReader<'_>) -> Result<String, AllocError>
-    ensures { IfOk result (λ text. string_bytes text ≡ fault_lines (faults_in reader.entry)) }
+pub(crate) fn fault_lines(
+    alloc: Global,
+    mut reader: ScriptReader<'_>,
+) -> Result<Vec<u8>, AllocError>
+    ensures { IfOk result (λ text. text.items ≡ fault_lines (faults_in reader.entry)) }
 {
     let mut row = ByteRecord::new(alloc);
-    let mut text = String::new(alloc);
+    let mut text = Vec::new(alloc);
     'records: while push_next(&mut reader, &mut row, &mut text)? {}
     Ok(text)
 }
@@ -72,9 +74,9 @@ pub(crate) fn fault_lines(alloc: Global, mut reader: ScriptReader<'_>) -> Result
 fn push_next(
     reader: &mut ScriptReader<'_>,
     row: &mut ByteRecord,
-    text: &mut String,
+    text: &mut Vec<u8>,
 ) -> Result<bool, AllocError>
-    ensures { IfOk result (λ more. AddsNext more reader.old reader.new (string_bytes text.old) (string_bytes text.new)) }
+    ensures { IfOk result (λ more. AddsNext more reader.old reader.new (text.old.items) (text.new.items)) }
 {
     match reader.next(row) {
         Ok(None) => Ok(false),

@@ -2,8 +2,9 @@ ghost use Rattle.std.specs.Prelude.{◌≡◌, ◌≤◌, ◌*◌, None, [], All
 ghost use Rattle.pf_run.specs.Computed.{run_of};
 ghost use Rattle.pf_tally.specs.Figures.{figures_of};
 ghost use Rattle.pf_tally.specs.Misses.{misses_of};
-ghost use Rattle.pf_promise.specs.Load.{overload_of};
-ghost use Rattle.pf_fit.specs.Fit.{IsFirstAbove, NoneIsLater};
+ghost use Rattle.pf_tally.specs.Load.{overload_of};
+ghost use Rattle.pf_tally.specs.Fit.{IsFirstAbove};
+ghost use Rattle.pf_promise.specs.FitLaws.{NoneIsLater};
 ghost use Rattle.pf_face.specs.declared.status.TheConstants.{OK};
 ghost use Rattle.pf_face.specs.Fitting.{TellsFit, TellsRoom};
 ghost use Rattle.pf_face.specs.Told.{Tells};
@@ -13,7 +14,7 @@ use crate::raw_fit::{RawFit, raw_fit};
 use crate::raw_miss::NEVER;
 use crate::status::{NO_MEMORY, NOT_OPEN, OK};
 use pf_desk::desk::Desk;
-use pf_fit::fit::Fit;
+use pf_tally::fit::Fit;
 use std::alloc::{AllocError, Global};
 
 /// Tells whether no window can ever be missed, whatever is planned, until an edit brings a limit that leaves too few
@@ -31,11 +32,18 @@ pub extern "C" fn pfair_never_misses(alloc: Global, desk: &mut Handle, never: &m
     match desk.take(alloc) {
         None => NOT_OPEN,
         Some(held) => {
-            *never = held.desk.never_misses();
+            *never = never_misses(&held.desk);
             desk.put(alloc, held);
             OK
         }
     }
+}
+
+/// Whether no window of the desk can ever be missed.
+fn never_misses(desk: &Desk) -> bool
+    ensures { TellsRoom desk.now.state result }
+{
+    desk.never_misses()
 }
 
 /// Tells whether the loads of the slots stepped were within the processors in use, and if not, from which slot on and by
@@ -87,5 +95,6 @@ fn fits(desk: &Desk) -> Result<Fit, AllocError>
     ensures overdue { IfOk result (λ fit. NoneIsLater desk.now.state.plan (run_of desk.now.state.plan desk.now.state.now) desk.now.state.now fit.overload) }
 {
     let snapshot = desk.snapshot()?;
-    snapshot.fits()
+    let fit = snapshot.fits()?;
+    Ok(fit)
 }

@@ -3,7 +3,7 @@ ghost use Rattle.pf_face.specs.Fitting.{overload_told};
 ghost use Rattle.pf_face.specs.Told.{slot_or_never};
 
 use crate::raw_miss::NEVER;
-use pf_fit::fit::Fit;
+use pf_tally::fit::Fit;
 
 /// Whether the loads of a run were within the processors in use, as C gets it.
 #[repr(C)]

@@ -1,7 +1,7 @@
 ghost use Rattle.std.specs.Prelude.{ℕ, ◌≡◌, ◌≤◌, None, Some, OnOk, OnErr, length, take, replicate};
 ghost use Rattle.pf_desk.specs.declared.command.Command.TheVariants.{Step};
 ghost use Rattle.pf_desk.specs.Desk.{AnswersAll, IsDesk};
-ghost use Rattle.pf_script.specs.Asked.{commands_of};
+ghost use Rattle.pf_carrying.specs.Asked.{commands_of};
 ghost use Rattle.pf_script.specs.declared.version.Version.TheVariants.{Second};
 ghost use Rattle.pf_script.specs.Opened.{IsOpening};
 ghost use Rattle.pf_script.specs.Told.{readings_after, rest_in, told};

@@ -1,5 +1,4 @@
 ghost use Rattle.std.specs.Prelude.{◌≡◌, IfOk};
-ghost use Rattle.std.specs.String.{string_bytes};
 ghost use Rattle.pf_face.specs.Faults.{script_lines, plan_lines};
 
 use crate::faults::fault_lines;
@@ -12,8 +11,8 @@ use pf_script::reader::ScriptReader;
 use std::alloc::{AllocError, Global};
 
 /// The lines of the faults of a script.
-pub(crate) fn script_lines(alloc: Global, script: &[u8]) -> Result<String, AllocError>
-    ensures { IfOk result (λ text. string_bytes text ≡ script_lines script.now) }
+pub(crate) fn script_lines(alloc: Global, script: &[u8]) -> Result<Vec<u8>, AllocError>
+    ensures { IfOk result (λ text. text.items ≡ script_lines script.now) }
 {
     let mut row = ByteRecord::new(alloc);
     let faults = PlanFaults::new(alloc, script, &mut row)?;
@@ -29,10 +28,10 @@ fn plan_lines(
     alloc: Global,
     mut faults: PlanFaults,
     mut row: ByteRecord,
-) -> Result<String, AllocError>
-    ensures { IfOk result (λ text. string_bytes text ≡ plan_lines faults.entry.faults) }
+) -> Result<Vec<u8>, AllocError>
+    ensures { IfOk result (λ text. text.items ≡ plan_lines faults.entry.faults) }
 {
-    let mut text = String::new(alloc);
+    let mut text = Vec::new(alloc);
     'faults: while let Some(bad) = faults.next(&mut row)? {
         push_report(&mut text, &Fields::new(&row), bad)?;
     }

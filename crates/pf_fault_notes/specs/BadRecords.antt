@@ -6,7 +6,7 @@ use Rattle.pf_plan_check.specs.Checked.{faults as plan_faults, is_plan}
 use Rattle.pf_plan_check.specs.Reports.{FaultShown, plan_reason_text}
 use Rattle.pf_rows.specs.Rows.{rows}
 use Rattle.pf_script.specs.Told.{FaultTold, faults}
-use Rattle.pf_run_notes.specs.File.{file_text}
+use Rattle.pf_text.specs.FileName.{file_text}
 
 -- a report of a check tells the line and the number of a record so, and then this
 abbrev pub report_behind : ℕ → ℕ → List ℕ → List ℕ

@@ -4,7 +4,7 @@ use Rattle.std.specs.declared.io.ErrorKind.{ErrorKind}
 use Rattle.std.specs.declared.io.ErrorKind.TheVariants as kind
 use Rattle.pf_fault_notes.specs.declared.file_fault.FileFault.{FileFault}
 use Rattle.pf_fault_notes.specs.declared.file_fault.FileFault.TheVariants.{Missing, Folder, Denied, NoFolder, TooLong, Unread}
-use Rattle.pf_run_notes.specs.File.{file_text}
+use Rattle.pf_text.specs.FileName.{file_text}
 
 -- the fault that a kind of failure tells of
 abbrev pub file_fault_of : ErrorKind → FileFault

@@ -9,9 +9,9 @@ use itoa::Buffer;
 use pf_check::report::push_report;
 use pf_plan::fault::BadRecord as PlanBadRecord;
 use pf_plan_check::report::push_report as push_plan_report;
-use pf_run_notes::file::push_file;
 use pf_script::fault::BadRecord;
 use pf_script::fields::Fields;
+use pf_text::file_name::push_file;
 use pf_text::numbers::push_number;
 use std::alloc::{AllocError, Global};
 
@@ -29,10 +29,10 @@ pub fn push_fault(
 ) -> Result<(), AllocError>
     ensures { OnOk result (text.new.items ≡ text.old.items ++ fault_line file.now (fault_shown bad fields.now)) }
 {
-    let mut report = String::new(alloc);
+    let mut report = Vec::new(alloc);
     push_report(&mut report, fields, bad)?;
     push_place(text, file, bad.line, bad.number)?;
-    text.extend_from_slice(behind_place(report.as_bytes(), bad.line, bad.number))
+    text.extend_from_slice(behind_place(&report, bad.line, bad.number))
 }
 
 /// The same of a bad record of a plan.
@@ -49,10 +49,10 @@ pub fn push_plan_fault(
 ) -> Result<(), AllocError>
     ensures { OnOk result (text.new.items ≡ text.old.items ++ plan_fault_line file.now (shown bad fields.now)) }
 {
-    let mut report = String::new(alloc);
+    let mut report = Vec::new(alloc);
     push_plan_report(&mut report, fields, bad)?;
     push_place(text, file, bad.line, bad.number)?;
-    text.extend_from_slice(behind_place(report.as_bytes(), bad.line, bad.number))
+    text.extend_from_slice(behind_place(&report, bad.line, bad.number))
 }
 
 /// Appends the place of a record of the file.

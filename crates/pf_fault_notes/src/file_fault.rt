@@ -1,8 +1,8 @@
 ghost use Rattle.std.specs.Prelude.{◌≡◌, ◌++◌, codes, IfOk};
 ghost use Rattle.pf_fault_notes.specs.FileFaults.{file_fault_of, file_fault_line};
-ghost use Rattle.pf_run_notes.specs.File.{file_text};
+ghost use Rattle.pf_text.specs.FileName.{file_text};
 
-use pf_run_notes::file::push_file;
+use pf_text::file_name::push_file;
 use std::alloc::{AllocError, Global};
 use std::io::ErrorKind;
 

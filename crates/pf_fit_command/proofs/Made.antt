@@ -8,7 +8,7 @@ use Rattle.pf_fault.specs.declared.answer.Answer.{Answer}
 use Rattle.pf_fault.specs.declared.fault.Fault.{Fault}
 use Rattle.pf_fault.specs.declared.fault.Fault.TheVariants as why
 use Rattle.pf_fault.specs.declared.status.Status.{Status}
-use Rattle.pf_fit_text.specs.declared.fit_format.FitFormat.{FitFormat}
+use Rattle.pf_options.specs.declared.fit_format.FitFormat.{FitFormat}
 use Rattle.pf_names.specs.declared.titles.Titles.{Titles}
 use Rattle.pf_recount.specs.Origin.{Origin}
 use Rattle.pf_recount.specs.Recount.{Recounted, recounted}

@@ -10,14 +10,14 @@ use Rattle.pf_fault.specs.declared.status.Status.TheVariants.{Done, FailedOn}
 use Rattle.pf_fit_text.specs.Json.{Lists, fit_json}
 use Rattle.pf_fit_text.specs.Text.{fit_text}
 use Rattle.pf_fit_text.specs.declared.carried.Carried.{Carried}
-use Rattle.pf_fit_text.specs.declared.fit_format.FitFormat.{FitFormat}
-use Rattle.pf_fit_text.specs.declared.fit_format.FitFormat.TheVariants.{Text, Json}
+use Rattle.pf_options.specs.declared.fit_format.FitFormat.{FitFormat}
+use Rattle.pf_options.specs.declared.fit_format.FitFormat.TheVariants.{Text, Json}
 use Rattle.pf_names.specs.declared.titles.Titles.{Titles}
 use Rattle.pf_recount.specs.Origin.{Origin}
 use Rattle.pf_recount.specs.Recount.{Recounted, recounted}
 use Rattle.pf_run.specs.Computed.{run_of}
 use Rattle.pf_run_notes.specs.Notes.{lists_text}
-use Rattle.pf_script.specs.Asked.{commands_in}
+use Rattle.pf_carrying.specs.Asked.{commands_in}
 use Rattle.pf_script.specs.Told.{Told, told}
 use Rattle.pf_script.specs.declared.record.ScriptSettings.{ScriptSettings}
 use Rattle.pf_tally.specs.Misses.{misses_of}

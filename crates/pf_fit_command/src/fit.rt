@@ -7,15 +7,15 @@ ghost use Rattle.pf_recount.specs.Recount.{recounted};
 ghost use Rattle.pf_script.specs.Told.{told};
 
 use crate::texts::fit_of;
+use pf_carry::carry::carry;
 use pf_desk::desk::Desk;
 use pf_fault::answer::Answer;
 use pf_fault::ending::Ending;
 use pf_fault::fault::Fault;
 use pf_fault::status::Status;
-use pf_fit_text::fit_format::FitFormat;
 use pf_names::titles::Titles;
-use pf_recount::carry::carry;
-use pf_recount::origin::Origin;
+use pf_options::fit_format::FitFormat;
+use pf_plain::origin::Origin;
 use pf_recount::recount::Recount;
 use pf_recount::recounting::recount;
 use pf_verdict::findings::find;

@@ -5,6 +5,3 @@
 pub mod fit;
 mod items;
 mod texts;
-
-pub use pf_fit_text::fit_format;
-pub use pf_recount::{recount, recounting};

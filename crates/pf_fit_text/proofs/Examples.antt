@@ -14,7 +14,7 @@ use Rattle.pf_run.specs.RunRows.{rows_in, denials_in}
 use Rattle.pf_tally.specs.Clock.{clock_of}
 use Rattle.pf_tally.specs.Figures.{figures_of}
 use Rattle.pf_tally.specs.Misses.{miss_cmp}
-use Rattle.pf_promise.specs.Load.{overload_of}
+use Rattle.pf_tally.specs.Load.{overload_of}
 use Rattle.pf_names.specs.Titled.{number_label}
 use Rattle.pf_columns.specs.Columns.{width_of, padded_from, without_end_blanks, row_line}
 use Rattle.pf_columns.specs.Decimals.{last_digits, with_places}

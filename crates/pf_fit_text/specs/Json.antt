@@ -2,7 +2,7 @@
 use Rattle.std.specs.Prelude.{ℕ, ◌+◌, ◌-◌, ◌/◌, ◌==◌, ℤ, Bool, nat_lt, if◌then◌else◌, Option, None, Some, List, [], ◌∷◌, ◌++◌, codes}
 use Rattle.std.specs.Fmt.{decimal, signed_decimal}
 use Rattle.std.specs.Option.{option_map}
-use Rattle.pf_fit.specs.declared.level.Level.{Level}
+use Rattle.pf_tally.specs.declared.level.Level.{Level}
 use Rattle.pf_names.specs.Names.{name_of}
 use Rattle.pf_names.specs.Slots.{unit_word}
 use Rattle.pf_names.specs.declared.named.Named.{Named}

@@ -1,7 +1,6 @@
 pub mod Cells
 pub mod Elements
 pub mod Examples
-pub mod FitFormats
 pub mod Json
 pub mod Lines
 pub mod Rows

@@ -2,7 +2,7 @@
 use Rattle.std.specs.Prelude.{ℕ, ◌-◌, ◌/◌, ◌==◌, ◌&&◌, Bool, nat_lt, if◌then◌else◌, Option, None, Some, List, [], ◌++◌, codes}
 use Rattle.std.specs.Fmt.{decimal}
 use Rattle.pf_columns.specs.Decimals.{up}
-use Rattle.pf_fit.specs.declared.level.Level.{Level}
+use Rattle.pf_tally.specs.declared.level.Level.{Level}
 use Rattle.pf_verdict.specs.declared.strain.Strain.{Strain}
 use Rattle.pf_verdict.specs.declared.verdict.Verdict.{Verdict}
 use Rattle.pf_verdict.specs.declared.verdict.Verdict.TheVariants.{Fits, FitsSoFar, DoesNotFit}

@@ -3,13 +3,13 @@ ghost use Rattle.pf_fit_text.specs.Elements.{asked_of, denial_of_fault, denied_e
 
 use crate::element::push_element;
 use crate::keys::{push_key, push_key_or_null};
+use pf_desk::reply::Fault;
+use pf_notes::grounds::Grounds;
 use pf_run::denied::Denied;
-use pf_run_notes::grounds::Grounds;
 use pf_run_notes::place::Place;
 use pf_run_notes::refusals::{fault_code, fault_name};
 use pf_scenario::fault::EditFault;
 use pf_tally::miss::Miss;
-use pf_verdict::reply::Fault;
 use std::alloc::{AllocError, Global};
 
 /// The units that a denied join asks for.

@@ -7,7 +7,6 @@ pub mod carried;
 pub mod cells;
 pub mod element;
 pub mod elements;
-pub mod fit_format;
 pub mod json;
 pub mod keys;
 pub mod laws;

@@ -3,7 +3,7 @@ ghost use Rattle.pf_fit_text.specs.Lines.{above_line, counts_line, free_text, he
 
 use crate::element::push_element;
 use pf_columns::decimals::push_up;
-use pf_fit::level::Level;
+use pf_tally::level::Level;
 use pf_verdict::strain::Strain;
 use pf_verdict::verdict::Verdict;
 use std::alloc::{AllocError, Global};

@@ -12,7 +12,7 @@ use Rattle.pf_report.specs.Replies.{line_end}
 use Rattle.pf_tasks.specs.Listed.{all_tasks}
 use Rattle.pf_jobs.specs.Jobs.{jobs_text}
 use Rattle.pf_jobs.specs.Load.{load_text}
-use Rattle.pf_trace.specs.Windows.{windows_text}
+use Rattle.pf_windows.specs.Windows.{windows_text}
 use Rattle.pf_code.specs.Array.{c_text}
 use Rattle.pf_trace.specs.Trace.{trace_text}
 use Rattle.pf_full.specs.Full.{full_text}

@@ -13,7 +13,7 @@ use Rattle.pf_report.specs.Tables.{lags_text, misses_text}
 use Rattle.pf_stats.specs.Stats.{stats_text}
 use Rattle.pf_task_lines.specs.Lines.{listed_text}
 use Rattle.pf_tasks.specs.declared.task_range.TaskRange.{TaskRange}
-use Rattle.pf_trace.specs.Windows.{windows_text}
+use Rattle.pf_windows.specs.Windows.{windows_text}
 
 -- what is shown of the tasks of these ranges: their windows, their jobs, or their lines of a table, whose tasks stand in its first
 -- column, of the quanta in the third; a chart or a picture of them; nothing in any other format

@@ -10,5 +10,3 @@ mod table_reports;
 mod tables;
 pub mod task_pieces;
 pub mod task_report;
-
-pub use pf_full::refusal;

@@ -7,7 +7,7 @@ ghost use Rattle.pf_picture.specs.Picture.{picture_text_of};
 ghost use Rattle.pf_report.specs.Part.{schedule_part_text};
 ghost use Rattle.pf_report.specs.Quanta.{quanta_text};
 ghost use Rattle.pf_tasks.specs.Listed.{all_tasks};
-ghost use Rattle.pf_trace.specs.Windows.{windows_text};
+ghost use Rattle.pf_windows.specs.Windows.{windows_text};
 ghost use Rattle.pf_formats.specs.Left.{text_left};
 
 use crate::report_pieces::ReportPieces;
@@ -21,7 +21,7 @@ use pf_picture::picture::picture_pieces;
 use pf_report::quanta::quanta_pieces;
 use pf_report::schedule_part::schedule_part_pieces;
 use pf_tasks::task_list::TaskList;
-use pf_trace::windows::window_pieces;
+use pf_windows::windows::window_pieces;
 use std::alloc::{AllocError, Global};
 
 /// The schedule of a range of slots.

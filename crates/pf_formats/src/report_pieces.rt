@@ -15,7 +15,7 @@ use pf_report::schedule_part::PartPieces;
 use pf_report::script::ScriptPieces;
 use pf_text::pieces::{Chain, Pieces, Whole};
 use pf_trace::trace::TracePieces;
-use pf_trace::windows::WindowPieces;
+use pf_windows::windows::WindowPieces;
 use std::alloc::{AllocError, Global};
 
 /// The pieces of a report: an arm for each kind that a format has.

@@ -6,7 +6,7 @@ use pf_report::misses::MissPieces;
 use pf_report::quanta::QuantaPieces;
 use pf_task_lines::listed_lines::ListedLines;
 use pf_text::pieces::{Pieces, Whole};
-use pf_trace::windows::WindowPieces;
+use pf_windows::windows::WindowPieces;
 use std::alloc::{AllocError, Global};
 
 /// The pieces of what is shown of some tasks: an arm for each kind that a format has.

@@ -9,7 +9,7 @@ ghost use Rattle.pf_report.specs.Quanta.{quanta_text};
 ghost use Rattle.pf_report.specs.Tables.{lags_text, misses_text};
 ghost use Rattle.pf_stats.specs.Stats.{stats_text};
 ghost use Rattle.pf_task_lines.specs.Lines.{listed_text};
-ghost use Rattle.pf_trace.specs.Windows.{windows_text};
+ghost use Rattle.pf_windows.specs.Windows.{windows_text};
 ghost use Rattle.pf_formats.specs.TaskLeft.{task_text_left};
 ghost use Rattle.pf_formats.specs.TaskReport.{task_report_text};
 
@@ -29,7 +29,7 @@ use pf_stats::stats::stats_csv;
 use pf_task_lines::listed_lines::ListedLines;
 use pf_tasks::task_list::TaskList;
 use pf_text::pieces::Whole;
-use pf_trace::windows::window_pieces;
+use pf_windows::windows::window_pieces;
 use std::alloc::{AllocError, Global};
 
 /// What a format shows of the tasks of a list alone, in pieces: of `windows`, `jobs`, `quanta`, `stats`, `lags`, `misses`, `chart`

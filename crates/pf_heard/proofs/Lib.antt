@@ -1,3 +1,4 @@
+mod Added
 pub mod Named
 pub mod Parted
 mod Stepped

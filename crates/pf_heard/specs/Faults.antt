@@ -1,6 +1,6 @@
 -- What is wrong with a line, and its text.
 use Rattle.std.specs.Prelude.{⊤, ℕ, Bool, true, false, ◌+◌, nat_lt, if◌then◌else◌, List, ◌++◌, length, Result, Ok, Err, codes}
-use Rattle.pf_check.specs.Reports.{quoted}
+use Rattle.pf_text.specs.Quoted.{quoted}
 use Rattle.pf_plan_check.specs.Reports.{plan_reason_text}
 use Rattle.pf_plan.specs.declared.fault.Reason.{Reason}
 use Rattle.pf_plan.specs.declared.fault.Reason.TheVariants.{NoRecord}

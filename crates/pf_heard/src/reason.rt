@@ -1,15 +1,14 @@
 ghost use Rattle.std.specs.Prelude.{◌≡◌, ◌++◌, codes, IfOk, OnOk};
 ghost use Rattle.std.specs.List.{flat_map};
-ghost use Rattle.std.specs.String.{string_bytes};
-ghost use Rattle.pf_check.specs.Reports.{quoted};
+ghost use Rattle.pf_text.specs.Quoted.{quoted};
 ghost use Rattle.pf_heard.specs.Faults.{is_no_record, line_reason_text, record_reason_text};
 ghost use Rattle.pf_heard.specs.Words.{behind_word, help_text, words_listed};
 
 use crate::bytes::Bytes;
 use crate::fault::LineReason;
-use pf_check::report::push_quoted;
 use pf_plan::fault::Reason;
 use pf_plan_check::report::push_reason as push_record_reason;
+use pf_text::quoted::push_quoted;
 use std::alloc::{AllocError, Global};
 
 /// All words, those of records first.
@@ -24,20 +23,20 @@ const WORDS: &str =
 pub(crate) fn reason_text(alloc: Global, at: &[u8], reason: LineReason) -> Result<Bytes, AllocError>
     ensures { IfOk result (λ text. text ≡ line_reason_text at.now reason) }
 {
-    let mut text = String::new(alloc);
+    let mut text = Vec::new(alloc);
     push_reason(&mut text, at, reason)?;
-    Ok(Bytes::of(text.into_bytes()))
+    Ok(Bytes::of(text))
 }
 
 #[tactic(auto, unfolding(crate::specs::Faults::line_reason_text))]
-fn push_reason(text: &mut String, at: &[u8], reason: LineReason) -> Result<(), AllocError>
-    ensures { OnOk result (string_bytes text.new ≡ string_bytes text.old ++ line_reason_text at.now reason) }
+fn push_reason(text: &mut Vec<u8>, at: &[u8], reason: LineReason) -> Result<(), AllocError>
+    ensures { OnOk result (text.new.items ≡ text.old.items ++ line_reason_text at.now reason) }
 {
     match reason {
         LineReason::OfRecord(reason) => push_of_record(text, at, reason),
-        LineReason::OneField => text.push_str("1 field is expected"),
-        LineReason::RangeFields => text.push_str("1 to 3 fields are expected"),
-        LineReason::WhyFields => text.push_str("2 or 3 fields are expected"),
+        LineReason::OneField => text.extend_from_slice(b"1 field is expected"),
+        LineReason::RangeFields => text.extend_from_slice(b"1 to 3 fields are expected"),
+        LineReason::WhyFields => text.extend_from_slice(b"2 or 3 fields are expected"),
     }
 }
 
@@ -49,8 +48,8 @@ fn is_no_record(reason: Reason) -> bool
 }
 
 /// As a record would be bad.
-fn push_of_record(text: &mut String, at: &[u8], reason: Reason) -> Result<(), AllocError>
-    ensures { OnOk result (string_bytes text.new ≡ string_bytes text.old ++ record_reason_text at.now reason) }
+fn push_of_record(text: &mut Vec<u8>, at: &[u8], reason: Reason) -> Result<(), AllocError>
+    ensures { OnOk result (text.new.items ≡ text.old.items ++ record_reason_text at.now reason) }
 {
     if is_no_record(reason) {
         push_no_record(text, at)
@@ -60,12 +59,19 @@ fn push_of_record(text: &mut String, at: &[u8], reason: Reason) -> Result<(), Al
 }
 
 /// That a field is no word.
-fn push_no_record(text: &mut String, at: &[u8]) -> Result<(), AllocError>
-    ensures { OnOk result (string_bytes text.new ≡ string_bytes text.old ++ (quoted at.now ++ (codes " is no record: " ++ words_listed))) }
+fn push_no_record(text: &mut Vec<u8>, at: &[u8]) -> Result<(), AllocError>
+    ensures { OnOk result (text.new.items ≡ text.old.items ++ (quoted at.now ++ (codes " is no record: " ++ words_listed))) }
 {
     push_quoted(text, at)?;
-    text.push_str(" is no record: ")?;
-    text.push_str(WORDS)
+    push_listed(text)
+}
+
+/// That it is none of the words.
+fn push_listed(text: &mut Vec<u8>) -> Result<(), AllocError>
+    ensures { OnOk result (text.new.items ≡ text.old.items ++ (codes " is no record: " ++ words_listed)) }
+{
+    text.extend_from_slice(b" is no record: ")?;
+    text.extend_from_slice(WORDS.as_bytes())
 }
 
 /// The words, a line each.

@@ -1,23 +1,22 @@
 -- The jobs of the tasks: job k of a task is its subtasks (k - 1) * cost + 1 to k * cost.
-use Rattle.std.specs.Prelude.{ℕ, ◌+◌, ◌-◌, ◌*◌, ◌/◌, Bool, ◌||◌, nat_le, if◌then◌else◌, pos, ◌-ℤ◌, Option, None, Some, is_some, List, [], ◌∷◌, ◌++◌, codes, length, map, filter, filter_map}
+use Rattle.std.specs.Prelude.{ℕ, ◌+◌, ◌-◌, ◌*◌, ◌/◌, Bool, ◌||◌, nat_le, if◌then◌else◌, pos, ◌-ℤ◌, Option, None, Some, is_some, List, [], ◌∷◌, ◌++◌, codes, length}
 use Rattle.std.specs.Fmt.{decimal, signed_decimal}
 use Rattle.std.specs.List.{flat_map, range_with_len, slice_get}
 use Rattle.std.specs.Option.{option_map}
 use Rattle.pf_scenario.specs.Scenario.{Plan}
 use Rattle.pf_scenario.specs.declared.event.Numbered.{Numbered}
 use Rattle.pf_run.specs.Record.{Slot}
-use Rattle.pf_run.specs.Inside.{Joined, join_of}
+use Rattle.pf_run.specs.Inside.{Joined}
 use Rattle.pf_run.specs.Run.{events_in_force}
 use Rattle.pf_run.specs.Computed.{run_of}
 use Rattle.pf_tally.specs.Clock.{release_at}
 use Rattle.pf_tally.specs.Figures.{last_slot}
-use Rattle.pf_tally.specs.Lags.{by_task}
 use Rattle.pf_tally.specs.Late.{due_at, released_at}
 use Rattle.pf_tally.specs.Misses.{due_of, ran_in}
+use Rattle.pf_courses.specs.Admitted.{admitted_of}
 use Rattle.pf_desk.specs.Desk.{Seen}
 use Rattle.pf_names.specs.declared.titles.Titles.{Titles}
 use Rattle.pf_name_column.specs.Column.{name_heading, with_name}
-use Rattle.pf_tasks.specs.Listed.{is_listed}
 use Rattle.pf_tasks.specs.declared.task_range.TaskRange.{TaskRange}
 use Rattle.pf_tally.specs.declared.held.Held.{Held}
 use Rattle.pf_text.specs.Page.{table_text}
@@ -67,11 +66,6 @@ records_of_task r xs j =
 abbrev pub jobs_heading : List (List ℕ)
 jobs_heading =
     codes "task" ∷ codes "job" ∷ codes "release" ∷ codes "deadline" ∷ codes "finish" ∷ codes "response" ∷ codes "tardiness" ∷ []
-
--- the admitted tasks of a list, by number, after the record r of the scenario
-abbrev pub admitted_of : Plan → List Slot → List TaskRange → List Joined
-admitted_of s r tasks =
-    filter (λ j. is_listed tasks j.task) (by_task (filter_map (join_of s.settings.base) (events_in_force s r (length r))))
 
 -- those of the tasks, with their names
 abbrev pub jobs_records : Plan → List Slot → List TaskRange → Titles → List (List (List ℕ))

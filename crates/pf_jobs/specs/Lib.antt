@@ -1,4 +1,3 @@
-pub use Rattle.pf_desk.specs.Desk
 pub mod Load
 pub mod Ran
 pub mod Jobs

@@ -2,8 +2,8 @@
 use Rattle.std.specs.Prelude.{ℕ, List, [], ◌∷◌, codes, map}
 use Rattle.std.specs.Fmt.{decimal}
 use Rattle.pf_run.specs.Computed.{run_of}
-use Rattle.pf_fit.specs.declared.level.Level.{Level}
-use Rattle.pf_fit.specs.Levels.{levels_of}
+use Rattle.pf_tally.specs.declared.level.Level.{Level}
+use Rattle.pf_tally.specs.Levels.{levels_of}
 use Rattle.pf_desk.specs.Desk.{Seen}
 use Rattle.pf_text.specs.Page.{table_text}
 

@@ -7,5 +7,3 @@ pub mod jobs;
 pub mod laws;
 pub mod load;
 pub mod task_run;
-
-pub use pf_desk::snapshot;

@@ -1,12 +1,12 @@
 ghost use Rattle.std.specs.Prelude.{◌≡◌, ◌≤◌, [], length, IfOk, OnOk};
 ghost use Rattle.pf_run.specs.Computed.{run_of};
-ghost use Rattle.pf_fit.specs.Levels.{levels_of};
+ghost use Rattle.pf_tally.specs.Levels.{levels_of};
 ghost use Rattle.pf_text.specs.Page.{with_record};
 ghost use Rattle.pf_jobs.specs.Load.{level_record, load_text};
 
 use pf_desk::snapshot::Snapshot;
-use pf_fit::level::Level;
-use pf_fit::levels::levels;
+use pf_tally::level::Level;
+use pf_tally::levels::levels;
 use pf_text::pieces::{Chain, Whole};
 use pf_text::records::{RecordPieces, Records};
 use pf_text::table::Table;
@@ -32,7 +32,7 @@ pub struct LevelRows {
 
 impl Model for LevelRows {
     ghost use Rattle.std.specs.Prelude.{List};
-    ghost use Rattle.pf_fit.specs.declared.level.Level.{Level};
+    ghost use Rattle.pf_tally.specs.declared.level.Level.{Level};
 
     ghost Value = { List Level };
 

@@ -20,8 +20,8 @@ use Rattle.pf_run.specs.Computed.{after_events, course_of, denials_among, run_of
 use Rattle.pf_run.specs.RunRows.{denials_in}
 use Rattle.pf_run.proofs.Judged.{denials_of_snoc}
 use Rattle.pf_run.proofs.Runs.{run_is_computed}
-use Rattle.pf_promise.specs.Load.{load_in, room_in}
-use Rattle.pf_promise.proofs.Loads.{load_is_within_cap}
+use Rattle.pf_tally.specs.Load.{load_in, room_in}
+use Rattle.pf_tally.proofs.Loads.{load_is_within_cap}
 use Rattle.pf_joins.specs.Joins.{HasJoinsAlone, IsJoin, JoinsAreLetIn, JoinsStayWithinRoom, units_asked, units_of}
 use Rattle.pf_joins.proofs.Sums.{AreJoins, joins_of_slot, load_is_asked, past_is_all, past_within}
 

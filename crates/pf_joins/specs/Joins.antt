@@ -9,7 +9,7 @@ use Rattle.pf_scenario.specs.declared.event.Event.TheVariants.{Join, Leave, Dela
 use Rattle.pf_scenario.specs.declared.event.Numbered.{Numbered}
 use Rattle.pf_run.specs.Computed.{run_of}
 use Rattle.pf_run.specs.RunRows.{denials_in}
-use Rattle.pf_promise.specs.Load.{IsWithinRoom}
+use Rattle.pf_promise.specs.Laws.{IsWithinRoom}
 
 -- a task joins
 abbrev pub IsJoin : Event → Type 0

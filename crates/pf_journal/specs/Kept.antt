@@ -4,7 +4,7 @@ use Rattle.std.specs.List.{list_any}
 use Rattle.sqlite_disk.specs.Disk.{MoreFaults, Only}
 use Rattle.pf_journal.specs.Batches.{has_room}
 use Rattle.pf_journal.specs.declared.journal_error.JournalError.{JournalError}
-use Rattle.pf_journal.specs.declared.journal_error.JournalError.TheVariants.{Damaged as DamagedAt, LongLine, NoHeading, OutOfMemory, TooLong}
+use Rattle.pf_journal.specs.declared.journal_error.JournalError.TheVariants.{Damaged as DamagedAt, LongLine, NoHeading, TooLong}
 use Rattle.pf_journal.specs.declared.state.State.{State}
 use Rattle.pf_journal.specs.declared.state.State.TheVariants as file
 use Rattle.pf_journal.specs.Lines.{damaged_record, state_of}
@@ -26,7 +26,7 @@ pub record IsKept {D : Type 0} (seen : D → List ℕ) (may_leave : D → List �
   pub settled : IsSettled seen may_leave is_usable is_clean journal.disk
   pub at_rest : IsTrue (is_clean journal.disk) → IsAtRest (seen journal.disk) journal.size
 
--- why lines were not put: the journal is too long, one of them is, memory was refused, or a call of the file failed
+-- why lines were not put: the journal is too long, one of them is, or a call of the file failed
 pub record IsTooLong {D : Type 0} (seen : D → List ℕ) (is_clean : D → Bool) (error : JournalError) (new : D) : Type 0 where
   pub is : error ≡ TooLong
   pub length : IsTrue (is_clean new) → 2 ^ 60 ≤ length (seen new)
@@ -35,7 +35,6 @@ abbrev pub HasCause : {D : Type 0} → (D → List ℕ) → (D → ℕ) → (D �
 HasCause seen faults is_clean lines error old new =
     IsTooLong seen is_clean error new
     ⊎ ((error ≡ LongLine) × (list_any (λ line. not (has_room [] line)) lines ≡ true))
-    ⊎ (error ≡ OutOfMemory)
     ⊎ MoreFaults (faults old) (faults new)
 
 abbrev pub found_disk : {D : Type 0} → Found D → D

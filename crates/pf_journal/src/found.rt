@@ -153,6 +153,14 @@ impl<D: Disk + Drop> Found<D> {
         }
     }
 
+    /// Gives the file back.
+    pub fn into_disk(self) -> D
+        ensures { result ≡ found_disk self }
+    {
+        let Found { disk, .. } = self;
+        disk
+    }
+
     /// Why it is not opened, where it is not.
     fn refusal(&self) -> Option<JournalError>
         requires { IsFound D.Disk.seen D.Disk.may_leave D.Disk.is_usable D.Disk.is_clean self.now }

@@ -6,6 +6,7 @@ ghost use Rattle.pf_journal.specs.Lines.{is_text, journal_of, records_of, texts_
 ghost use Rattle.pf_journal.specs.Texts.{whole_lines};
 ghost use Rattle.pf_journal.specs.Crash.{IsAdded, IsBeforeOrAfter, IsMixing, IsOpenable, IsWithFront};
 ghost use Rattle.pf_journal.specs.Kept.{HasCause, IsKept, IsTooLong, disk_of};
+ghost use Rattle.pf_journal.specs.declared.journal_error.JournalError.TheVariants.{OutOfMemory};
 
 use crate::batch::Batch;
 use crate::journal_error::JournalError;
@@ -50,14 +51,14 @@ impl<D: Disk> Journal<D> {
         self.put_gated(batch.bytes())
     }
 
-    /// Adds the lines of a text, each of which ends with an LF, in batches as large as they may be; what stands after the last of
-    /// them is left out. At `Ok` all are acknowledged. At `Err` the journal has a front of them, and each crash leaves one; open
-    /// the file again.
+    /// Adds the lines of a text, each of which ends with an LF, in batches as large as they may be, for which `batch` is the room; what
+    /// stands after the last of them is left out. At `Ok` all are acknowledged. At `Err` the journal has a front of them, and each
+    /// crash leaves one; open the file again.
     ///
     /// # Errors
     ///
-    /// Those of `put`; `LongLine` where a line has more than 65,536 bytes, and `OutOfMemory` where memory is refused.
-    pub fn put_lines(&mut self, alloc: Global, text: &[u8]) -> Result<(), JournalError>
+    /// Those of `put`, and `LongLine` where a line has more than 65,536 bytes. It takes no memory.
+    pub fn put_lines(&mut self, batch: &mut Batch, text: &[u8]) -> Result<(), JournalError>
         requires { IsKept D.seen D.may_leave D.is_usable D.is_clean self.old }
         ensures kept { OnOk result (IsKept D.seen D.may_leave D.is_usable D.is_clean self.new) }
         ensures acknowledged { OnOk result (IsTrue (D.is_clean (disk_of self.old))
@@ -68,15 +69,15 @@ impl<D: Disk> Journal<D> {
         ensures calm { D.is_clean (disk_of self.new) ≡ D.is_clean (disk_of self.old) }
         ensures failed { IfErr result (λ error. HasCause D.seen D.faults D.is_clean (whole_lines text.now) error (disk_of self.old) (disk_of self.new)) }
     {
-        let mut batch = Batch::new(alloc)?;
+        batch.clear();
         let mut rest = text;
         while let Some((line, after)) = first_line(rest) {
-            match self.add_line(alloc, &mut batch, line) {
+            match self.add_line(batch, line) {
                 Ok(()) => rest = after,
                 Err(error) => return Err(error),
             }
         }
-        self.put(&batch)
+        self.put(batch)
     }
 
     /// Adds the lines of a text to a journal without records, as `put_lines` does, but as one batch of any size: what a crash may
@@ -84,7 +85,7 @@ impl<D: Disk> Journal<D> {
     ///
     /// # Errors
     ///
-    /// Those of `put_lines`.
+    /// Those of `put_lines`, and `OutOfMemory` where memory is refused.
     pub fn put_whole(&mut self, alloc: Global, text: &[u8]) -> Result<(), JournalError>
         requires kept { IsKept D.seen D.may_leave D.is_usable D.is_clean self.old }
         requires none { IsTrue (D.is_clean (disk_of self.old)) → records_of (D.seen (disk_of self.old)) ≡ [] }
@@ -94,7 +95,8 @@ impl<D: Disk> Journal<D> {
         ensures crash { IsTrue (D.is_clean (disk_of self.old)) → (c : List ℕ) → D.may_leave (disk_of self.new) c → IsBeforeOrAfter [] (whole_lines text.now) c }
         ensures opens { IsMixing D.is_mixing → IsTrue (D.is_clean (disk_of self.old)) → (c : List ℕ) → D.may_leave (disk_of self.new) c → IsOpenable c }
         ensures calm { D.is_clean (disk_of self.new) ≡ D.is_clean (disk_of self.old) }
-        ensures failed { IfErr result (λ error. HasCause D.seen D.faults D.is_clean (whole_lines text.now) error (disk_of self.old) (disk_of self.new)) }
+        ensures failed { IfErr result (λ error. (error ≡ OutOfMemory)
+            ⊎ HasCause D.seen D.faults D.is_clean (whole_lines text.now) error (disk_of self.old) (disk_of self.new)) }
         ensures faults { OnOk result (D.faults (disk_of self.new) ≡ D.faults (disk_of self.old)) }
     {
         let bytes = gated_lines(alloc, text)?;
@@ -131,12 +133,7 @@ impl<D: Disk> Journal<D> {
     }
 
     /// Adds a line to a batch, which is put first, and then emptied, where it has no room.
-    fn add_line(
-        &mut self,
-        alloc: Global,
-        batch: &mut Batch,
-        line: &[u8],
-    ) -> Result<(), JournalError>
+    fn add_line(&mut self, batch: &mut Batch, line: &[u8]) -> Result<(), JournalError>
         requires kept { IsKept D.seen D.may_leave D.is_usable D.is_clean self.old }
         requires line { is_text line.now ≡ true }
         ensures kept { OnOk result (IsKept D.seen D.may_leave D.is_usable D.is_clean self.new) }
@@ -151,12 +148,12 @@ impl<D: Disk> Journal<D> {
     {
         if !batch.has_room(line) {
             self.put(batch)?;
-            *batch = Batch::new(alloc)?;
+            batch.clear();
         }
         if !batch.has_room(line) {
             return Err(JournalError::LongLine);
         }
-        batch.push(alloc, line)?;
+        batch.push(line);
         Ok(())
     }
 

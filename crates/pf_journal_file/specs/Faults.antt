@@ -12,10 +12,10 @@ use Rattle.pf_fault_notes.specs.FileFaults.{file_fault_line, file_fault_of}
 use Rattle.pf_journal.specs.declared.journal_error.JournalError.{JournalError}
 use Rattle.pf_journal.specs.declared.journal_error.JournalError.TheVariants as error
 use Rattle.pf_journal_file.specs.declared.journal_fault.JournalFault.{JournalFault}
-use Rattle.pf_journal_file.specs.declared.journal_fault.JournalFault.TheVariants.{InUse, Unread, NoHeading, Damaged, HasRecords, LongRecord, Unwritten, NoMemory}
+use Rattle.pf_journal_file.specs.declared.journal_fault.JournalFault.TheVariants.{InUse, Unread, UnreadBeside, NoHeading, Damaged, HasRecords, LongRecord, Unwritten, NoMemory}
 use Rattle.pf_journal_file.specs.declared.journals.OpenFault.{OpenFault}
 use Rattle.pf_journal_file.specs.declared.journals.OpenFault.TheVariants as opening
-use Rattle.pf_run_notes.specs.File.{file_text}
+use Rattle.pf_text.specs.FileName.{file_text}
 
 -- by the kind of a failure to open or read it
 abbrev pub fault_of_kind : ErrorKind → JournalFault
@@ -25,6 +25,8 @@ fault_of_kind other = Unread other
 abbrev pub fault_of_opening : OpenFault → JournalFault
 fault_of_opening opening.Busy = InUse
 fault_of_opening (opening.Failed kind) = fault_of_kind kind
+fault_of_opening (opening.FailedBeside kind.OutOfMemory) = NoMemory
+fault_of_opening (opening.FailedBeside other) = UnreadBeside other
 fault_of_opening opening.NoMemory = NoMemory
 
 -- of a journal that was not opened or added to
@@ -36,16 +38,18 @@ fault_of_adding (error.Damaged line) = Damaged line
 fault_of_adding error.LongLine = LongRecord
 fault_of_adding error.OutOfMemory = NoMemory
 
--- a file could not be had: it is in use, it can't be opened or read, or memory was refused
+-- a file could not be had: it is in use, it or the file beside it can't be opened or read, or memory was refused
 abbrev pub IsUnhad : JournalFault → Type 0
 IsUnhad InUse = ⊤
 IsUnhad (Unread kind) = ⊤
+IsUnhad (UnreadBeside kind) = ⊤
 IsUnhad NoMemory = ⊤
 IsUnhad fault = ⊥
 
 abbrev pub status_of : JournalFault → Status
 status_of InUse = status.StreamFailed
 status_of (Unread kind) = status.StreamFailed
+status_of (UnreadBeside kind) = status.StreamFailed
 status_of NoHeading = status.BadScript
 status_of (Damaged line) = status.BadScript
 status_of HasRecords = status.BadWords
@@ -64,6 +68,7 @@ numbered_text before number behind = before ++ (decimal number ++ behind)
 abbrev pub fault_text : List ℕ → JournalFault → List ℕ
 fault_text file InUse = named_line [] file (codes " is in use\n")
 fault_text file (Unread kind) = codes "cannot read the journal\n"
+fault_text file (UnreadBeside kind) = codes "cannot read the journal\n"
 fault_text file NoHeading = codes "bad record 1\n"
 fault_text file (Damaged line) = numbered_text (codes "bad record ") line (codes "\n")
 fault_text file HasRecords = codes "the journal has records already\n"
@@ -79,9 +84,14 @@ damaged_line file line =
     file_text file ++ (numbered_text (codes ":") line []
     ++ numbered_text (codes ": record ") line (codes ": its line is damaged: a blank begins it, and a line end ends it\n"))
 
--- after it, where notes are told: why the file can't be read, what a journal begins with, or what a line of one has
+-- the name of the file beside a journal, which is made as it is opened
+abbrev pub beside : List ℕ → List ℕ
+beside file = file ++ codes "-wal"
+
+-- after it, where notes are told: why the file or the one beside it can't be read, what a journal begins with, or what a line of one has
 abbrev pub note_behind : List ℕ → Bool → JournalFault → List ℕ
 note_behind file true (Unread kind) = file_fault_line file (file_fault_of kind)
+note_behind file true (UnreadBeside kind) = file_fault_line (beside file) (file_fault_of kind)
 note_behind file true NoHeading = no_heading_line file
 note_behind file true (Damaged line) = damaged_line file line
 note_behind file notes fault = []

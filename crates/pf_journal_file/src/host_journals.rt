@@ -5,6 +5,8 @@ ghost use Rattle.pf_journal_file.specs.Watches.{IsFresh, inner_of};
 use crate::journals::{Journals, OpenFault};
 use crate::watch::Watch;
 use sqlite_std_file::{FileFrom, OpenError, Unknown, open};
+use std::fs;
+use std::fs::OpenOptions;
 use std::io::ErrorKind;
 
 /// The files of the operating system. One is locked while it is open, and its path is watched. An empty file is made beside it, whose
@@ -29,8 +31,24 @@ impl<'r> Journals for HostJournals<'r> {
     fn open(self, path: &str) -> Result<Watch<'r, FileFrom<Unknown>>, OpenFault> {
         match open(self.rt, path, Unknown) {
             Ok(files) => watch_of(self.rt, files.db, path),
+            Err(OpenError::Io(why)) if fails_beside(self.rt, path) => {
+                Err(OpenFault::FailedBeside(why.kind()))
+            }
             Err(fault) => Err(fault_of(fault)),
         }
+    }
+}
+
+/// Whether a file was not opened for the one beside it: it opens by itself, and its path is no link, after which the one beside it
+/// would have another name.
+fn fails_beside(rt: &HostRuntime, path: &str) -> bool {
+    match fs::symlink_metadata(rt, path) {
+        Ok(found) if found.is_file() => {
+            let mut options = OpenOptions::new();
+            options.read(true).write(true);
+            options.open(rt, path).is_ok()
+        }
+        _ => false,
     }
 }
 

@@ -1,5 +1,6 @@
 ghost use Rattle.std.specs.Prelude.{◌≡◌, ◌++◌, IfOk, OnOk};
-ghost use Rattle.pf_journal_file.specs.Faults.{IsOutcome, IsUnhad, damaged_line, fault_of_adding, fault_of_kind, fault_of_opening, fault_text, named_line, no_heading_line, note_behind, numbered_text, status_of};
+ghost use Rattle.pf_fault_notes.specs.FileFaults.{file_fault_line, file_fault_of};
+ghost use Rattle.pf_journal_file.specs.Faults.{IsOutcome, IsUnhad, beside, damaged_line, fault_of_adding, fault_of_kind, fault_of_opening, fault_text, named_line, no_heading_line, note_behind, numbered_text, status_of};
 
 use crate::journals::OpenFault;
 use pf_fault::ending::Ending;
@@ -7,7 +8,7 @@ use pf_fault::fault::Fault;
 use pf_fault::status::Status;
 use pf_fault_notes::file_fault::{FileFault, file_fault_line};
 use pf_journal::journal_error::JournalError;
-use pf_run_notes::file::push_file;
+use pf_text::file_name::push_file;
 use pf_text::numbers::push_number;
 use std::alloc::{AllocError, Global};
 use std::io::ErrorKind;
@@ -19,6 +20,8 @@ pub enum JournalFault {
     InUse,
     /// It can't be opened or read, by the kind of the failure.
     Unread(ErrorKind),
+    /// The file beside it, whose name has `-wal` after, can't be made or opened, by the kind of the failure.
+    UnreadBeside(ErrorKind),
     /// Its first record is no heading of a journal.
     NoHeading,
     /// The line of the record of this number is damaged, the heading's being the first.
@@ -42,6 +45,8 @@ impl JournalFault {
         match fault {
             OpenFault::Busy => JournalFault::InUse,
             OpenFault::Failed(kind) => JournalFault::of_kind(kind),
+            OpenFault::FailedBeside(ErrorKind::OutOfMemory) => JournalFault::NoMemory,
+            OpenFault::FailedBeside(kind) => JournalFault::UnreadBeside(kind),
             OpenFault::NoMemory => JournalFault::NoMemory,
         }
     }
@@ -86,9 +91,10 @@ impl JournalFault {
         ensures { result ≡ status_of self }
     {
         match self {
-            JournalFault::InUse | JournalFault::Unread(_) | JournalFault::Unwritten => {
-                Status::StreamFailed
-            }
+            JournalFault::InUse
+            | JournalFault::Unread(_)
+            | JournalFault::UnreadBeside(_)
+            | JournalFault::Unwritten => Status::StreamFailed,
             JournalFault::HasRecords => Status::BadWords,
             JournalFault::NoHeading | JournalFault::Damaged(_) | JournalFault::LongRecord => {
                 Status::BadScript
@@ -97,7 +103,7 @@ impl JournalFault {
         }
     }
 
-    /// What a session with a journal of this name ends with for it, and what is told of that; with `notes` also why a file can't be
+    /// What a session with a journal of this name ends with for it, and what is told of that; with `notes` also why a file, or the one beside it, can't be
     /// read, what a journal begins with, or what a line of one has.
     ///
     /// # Errors
@@ -131,7 +137,9 @@ impl JournalFault {
     {
         match self {
             JournalFault::InUse => push_named(text, b"", file, b" is in use\n"),
-            JournalFault::Unread(_) => text.extend_from_slice(b"cannot read the journal\n"),
+            JournalFault::Unread(_) | JournalFault::UnreadBeside(_) => {
+                text.extend_from_slice(b"cannot read the journal\n")
+            }
             JournalFault::NoHeading => text.extend_from_slice(b"bad record 1\n"),
             JournalFault::Damaged(record) => push_numbered(text, b"bad record ", record, b"\n"),
             JournalFault::HasRecords => {
@@ -145,7 +153,7 @@ impl JournalFault {
         }
     }
 
-    /// Why the file can't be read, what a journal begins with, or what a line of one has, where that is asked for.
+    /// Why the file or the one beside it can't be read, what a journal begins with, or what a line of one has, where that is asked for.
     fn note(self, alloc: Global, file: &[u8], notes: bool) -> Result<Vec<u8>, AllocError>
         ensures { IfOk result (λ note. note.items ≡ note_behind file.now notes self) }
     {
@@ -155,11 +163,21 @@ impl JournalFault {
                 file,
                 FileFault::of(kind),
             ),
+            JournalFault::UnreadBeside(kind) if notes => beside_note(alloc, file, kind),
             JournalFault::NoHeading if notes => no_heading_note(alloc, file),
             JournalFault::Damaged(record) if notes => damaged_note(alloc, file, record),
             _ => Ok(Vec::new(alloc)),
         }
     }
+}
+
+/// Why the file beside a journal can't be made or opened.
+fn beside_note(alloc: Global, file: &[u8], kind: ErrorKind) -> Result<Vec<u8>, AllocError>
+    ensures { IfOk result (λ note. note.items ≡ file_fault_line (beside file.now) (file_fault_of kind)) }
+{
+    let mut name = Vec::from_slice(alloc, file)?;
+    name.extend_from_slice(b"-wal")?;
+    file_fault_line(alloc, &name, FileFault::of(kind))
 }
 
 /// What a journal begins with, which this file does not.

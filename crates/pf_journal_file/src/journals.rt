@@ -16,6 +16,8 @@ pub enum OpenFault {
     Busy,
     /// A call of the system failed, with this kind.
     Failed(ErrorKind),
+    /// So it did for the file beside it, whose name has `-wal` after.
+    FailedBeside(ErrorKind),
     /// Memory was refused.
     NoMemory,
 }
@@ -29,7 +31,7 @@ pub trait Journals {
     ///
     /// # Errors
     ///
-    /// `Busy` where another process has it open, `Failed` where a call of the system fails, `NoMemory` where memory is refused.
+    /// `Busy` where another process has it open, `Failed` and `FailedBeside` where a call of the system fails, `NoMemory` where memory is refused.
     fn open(self, path: &str) -> Result<Self::File, OpenFault>
         ensures { IfOk result (λ file. IsTrue (Self.File.is_usable file)) };
 }
@@ -38,7 +40,8 @@ pub trait Journals {
 ///
 /// # Errors
 ///
-/// `InUse` where another process has it open, `Unread` where it can't be opened or read, `NoMemory` where memory is refused.
+/// `InUse` where another process has it open, `Unread` where it can't be opened or read, `UnreadBeside` where the file beside it can't,
+/// `NoMemory` where memory is refused.
 pub fn find_journal<J: Journals>(
     alloc: Global,
     journals: J,

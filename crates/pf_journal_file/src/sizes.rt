@@ -1,9 +1,10 @@
 ghost use Rattle.std.specs.Prelude.{◌≡◌, ◌≤◌, ◌++◌, length, IfOk, OnOk};
 ghost use Rattle.pf_journal.specs.Lines.{ends_in};
-ghost use Rattle.pf_journal_file.specs.Sizes.{counted_text, cut_text, sizes_line, sizes_of};
+ghost use Rattle.pf_journal_file.specs.Sizes.{counted_text, cut_text, long_text, sizes_line, sizes_of};
 
-use pf_run_notes::file::push_file;
 use pf_session::session::Session;
+use pf_stream::reading::LONGEST_SCRIPT;
+use pf_text::file_name::push_file;
 use pf_text::numbers::push_number;
 use std::alloc::{AllocError, Global};
 
@@ -18,6 +19,8 @@ pub struct Sizes {
     pub slots: u64,
     /// The bytes that were cut.
     pub cut: u64,
+    /// Its script has more bytes than one may have, so that what is shown or saved of it may be refused.
+    pub is_long: bool,
 }
 
 impl Sizes {
@@ -34,6 +37,7 @@ impl Sizes {
             events,
             slots,
             cut,
+            is_long: session.script().len() > LONGEST_SCRIPT,
         }
     }
 
@@ -52,6 +56,7 @@ impl Sizes {
         push_counted(&mut text, self.events, b" events, ")?;
         push_counted(&mut text, self.slots, b" slots")?;
         push_cut(&mut text, self.cut)?;
+        push_long(&mut text, self.is_long)?;
         Ok(text)
     }
 }
@@ -78,13 +83,25 @@ fn push_counted(text: &mut Vec<u8>, count: u64, words: &[u8]) -> Result<(), Allo
     text.extend_from_slice(words)
 }
 
-/// Appends how many bytes were cut, where some were, and the end of the line.
+/// Appends how many bytes were cut, where some were.
 fn push_cut(text: &mut Vec<u8>, cut: u64) -> Result<(), AllocError>
     ensures { OnOk result (text.new.items ≡ text.old.items ++ cut_text cut) }
 {
     if cut == 0 {
-        return text.extend_from_slice(b"\n");
+        return Ok(());
     }
     text.extend_from_slice(b"; cut ")?;
-    push_counted(text, cut, b" bytes\n")
+    push_counted(text, cut, b" bytes")
+}
+
+/// Appends that the script is longer than one may be, where it is, and the end of the line.
+fn push_long(text: &mut Vec<u8>, is_long: bool) -> Result<(), AllocError>
+    ensures { OnOk result (text.new.items ≡ text.old.items ++ long_text is_long) }
+{
+    if is_long {
+        return text.extend_from_slice(
+            b"; the script is longer than 16777216 bytes: what is shown or saved of it may be refused\n",
+        );
+    }
+    text.extend_from_slice(b"\n")
 }

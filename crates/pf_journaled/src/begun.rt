@@ -5,6 +5,7 @@ ghost use Rattle.pf_journaled.specs.Journaled.{Begins, DoesNotBegin, IsBegunOn, 
 ghost use Rattle.pf_sitter.specs.Opening.{IsOpened};
 
 use crate::unopened::Unopened;
+use pf_answers::manner::Manner;
 use pf_fault::fault::Fault;
 use pf_journal::failed::Failed;
 use pf_journal::found::Found;
@@ -12,10 +13,9 @@ use pf_journal::state::State;
 use pf_journal_file::journal_fault::JournalFault;
 use pf_journal_file::sizes::Sizes;
 use pf_recorder::recorder::Recorder;
-use pf_sitter::manner::Manner;
+use pf_session::session::Session;
 use pf_sitter::opening::open_script;
 use pf_sitter::saver::Saver;
-use pf_sitter::session::Session;
 use pf_sitter::sitter::Sitter;
 use sqlite_disk::Disk;
 use std::alloc::Global;

@@ -7,8 +7,4 @@ pub mod begun;
 pub mod unopened;
 
 // For whoever holds such a session.
-pub use pf_journal::{found, journal_error};
-pub use pf_journal_file::{host_journals, journal_fault, journals, sizes};
-pub use pf_recorder::recorder;
-pub use pf_sitter::{files, manner, opening, session, sitter};
 pub use sqlite_disk::Disk;

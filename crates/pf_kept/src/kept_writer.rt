@@ -42,9 +42,10 @@ fn is_broken_pipe<T>(outcome: &io::Result<T>) -> bool
 }
 
 impl<W: Write> Write for KeptWriter<W> {
-    ghost use Rattle.std.specs.Prelude.{◌≡◌, ◌||◌};
+    ghost use Rattle.std.specs.Prelude.{◌≡◌, ◌≢◌, ◌||◌, IfErr};
     ghost use Rattle.std.specs.Io.{WritesAtMost};
     ghost use Rattle.std.specs.Io.KnownBytes.{Keeps, WriteAppends};
+    ghost use Rattle.std.specs.IoError.{error_kind};
     ghost use Rattle.pf_stream.specs.Counted.{write_failures, writer_under};
     ghost use Rattle.pf_kept.specs.Broken.{is_broken_pipe};
     ghost use Rattle.pf_kept.specs.Kept.{counted_writer, was_closed};
@@ -55,6 +56,7 @@ impl<W: Write> Write for KeptWriter<W> {
         ensures bound { WritesAtMost result buf.now }
         ensures bytes { WriteAppends (W.contents (writer_under (counted_writer self.old))) (W.contents (writer_under (counted_writer self.new))) result buf.now }
         ensures closed { was_closed self.new ≡ (was_closed self.old || is_broken_pipe result) }
+        ensures retried { IfErr result (λ e. error_kind e ≢ ErrorKind.Interrupted) }
     {
         let outcome = self.writer.write(buf);
         self.closed = self.closed || is_broken_pipe(&outcome);
@@ -73,9 +75,10 @@ impl<W: Write> Write for KeptWriter<W> {
 }
 
 impl<W: Write> Sink for KeptWriter<W> {
-    ghost use Rattle.std.specs.Prelude.{◌≡◌, ◌||◌, ◌+◌, ◌-◌, ◌^◌, ◌<◌, if◌then◌else◌};
+    ghost use Rattle.std.specs.Prelude.{◌≡◌, ◌≢◌, ◌||◌, ◌+◌, ◌-◌, ◌^◌, ◌<◌, IfErr, if◌then◌else◌};
     ghost use Rattle.std.specs.Io.{WritesAtMost};
     ghost use Rattle.std.specs.Io.KnownBytes.{WriteAppends};
+    ghost use Rattle.std.specs.IoError.{error_kind};
     ghost use Rattle.pf_stream.specs.Counted.{write_failures, writer_under};
     ghost use Rattle.pf_stream.specs.Failing.{is_failed_write};
     ghost use Rattle.pf_kept.specs.Broken.{is_broken_pipe};
@@ -94,6 +97,7 @@ impl<W: Write> Sink for KeptWriter<W> {
         ensures count { write_failures (counted_writer self.new) ≡ write_failures (counted_writer self.old)
             + (if is_failed_write result buf.now then 1 else 0) }
         ensures closed { was_closed self.new ≡ (was_closed self.old || is_broken_pipe result) }
+        ensures retried { IfErr result (λ e. error_kind e ≢ ErrorKind.Interrupted) }
     {
         let outcome = self.writer.write_counted(buf);
         self.closed = self.closed || is_broken_pipe(&outcome);

@@ -11,9 +11,10 @@ use Rattle.pf_run.specs.Inside.{Joined, ready, member_of, shift_of, count_of, el
 use Rattle.pf_run.specs.Run.{events_in_force, pick_of_key, IsRun}
 use Rattle.pf_run.proofs.Firsts.{first_few}
 use Rattle.pf_tally.proofs.Joined.{inside_joined}
-use Rattle.pf_promise.proofs.Members.{joined_of}
-use Rattle.pf_promise.proofs.Shifts.{no_slot, shift-slots, standing_below, sub_at, shift_at, settled}
-use Rattle.pf_promise.proofs.Slots.{RunsBy, runs_by}
+use Rattle.pf_tally.proofs.Members.{joined_of}
+use Rattle.pf_tally.proofs.Fronts.{standing_below}
+use Rattle.pf_promise.proofs.Shifts.{no_slot, shift-slots, sub_at, shift_at, settled}
+use Rattle.pf_tally.proofs.Slots.{RunsBy, runs_by}
 use Rattle.pf_promise.proofs.Joining.{all_joined, task_at, task_at-joined}
 use Rattle.pf_promise.proofs.Choosing.{chosen, chosen_first, chosen_picks, joined_at_end}
 use Rattle.pf_necessity.specs.Bound.{first_of}

@@ -23,7 +23,7 @@ use Rattle.pf_run.proofs.Containing.{from_filter, in_filter}
 use Rattle.pf_tally.specs.declared.miss.Miss.{Miss}
 use Rattle.pf_tally.specs.Misses.{due_of, ran_in, leaves_after, is_missed, miss_of, misses_of_task, miss_cmp, misses_of}
 use Rattle.pf_tally.proofs.Windows.{deadline_late}
-use Rattle.pf_promise.proofs.Sets.{list_any-contains, contains-list_any, list_any-map}
+use Rattle.pf_tally.proofs.Contents.{list_any-contains, contains-list_any, list_any-map}
 use Rattle.pf_promise.proofs.Shifts.{no_slot}
 use Rattle.pf_promise.proofs.Joining.{all_joined, is_task}
 use Rattle.pf_promise.proofs.Choosing.{picked_next}

@@ -5,7 +5,7 @@ use Rattle.std.proofs.lemmas.List.Sums.{length-filter}
 use Rattle.pf_order.specs.declared.pick.Pick.{Pick}
 use Rattle.pf_run.proofs.Containing.{contains_head, contains_tail, in_filter, pairs_head, pairs_tail}
 use Rattle.pf_run.proofs.Counting.{count_by-cons}
-use Rattle.pf_promise.proofs.Members.{contains_counted}
+use Rattle.pf_tally.proofs.Members.{contains_counted}
 
 abbrev pub is_same : Pick → Pick → Bool
 is_same x y = x.task == y.task && x.sub == y.sub

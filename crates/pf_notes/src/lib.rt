@@ -14,5 +14,3 @@ pub mod refusal;
 pub mod subject;
 mod walk;
 pub mod words;
-
-pub use pf_desk::{reply, snapshot};

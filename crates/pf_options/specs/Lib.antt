@@ -1,3 +1,4 @@
 pub mod FailLists
+pub mod FitFormats
 pub mod Formats
 pub mod Ranges

@@ -4,5 +4,6 @@
 
 pub mod diff_options;
 pub mod fail_on;
+pub mod fit_format;
 pub mod format;
 pub mod slot_range;

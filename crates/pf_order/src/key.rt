@@ -3,7 +3,7 @@ ghost use Rattle.pf_window.specs.TheConstants.{LARGEST_TASK};
 ghost use Rattle.pf_order.specs.Priority.{IsPriority};
 ghost use Rattle.pf_order.specs.KeyOf.{key_of};
 
-use pf_window::weight::Weight;
+use pf_weight::weight::Weight;
 use pf_window::{bit, deadline, group};
 use std::marker::Model;
 

@@ -13,8 +13,8 @@ use Rattle.pf_run.specs.Computed.{course_of}
 use Rattle.pf_run.specs.RunRows.{rows_in, denials_in}
 use Rattle.pf_tally.specs.Clock.{clock_of}
 use Rattle.pf_tally.specs.Misses.{miss_cmp, misses_of}
-use Rattle.pf_chart.specs.Course.{tracks_of}
-use Rattle.pf_chart.specs.Listing.{listings_of}
+use Rattle.pf_courses.specs.Course.{tracks_of}
+use Rattle.pf_courses.specs.Listing.{listings_of}
 use Rattle.pf_picture.specs.Boxes.{quantum_words, window_words, group_words, late_words, place_colour, class_text, rect_text, box_text, number_if_room}
 use Rattle.pf_picture.specs.Brackets.{early_text, bracket_text, late_text, quantum_text, ran_text, window_at}
 use Rattle.pf_picture.specs.Drawing.{weight_text, weight_behind, drawings_of}

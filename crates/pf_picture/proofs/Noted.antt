@@ -6,12 +6,12 @@ use Rattle.pf_names.specs.declared.named.Named.{Named}
 use Rattle.pf_table.specs.Lists.{noted_of}
 use Rattle.pf_tally.specs.Own.{AreDiaries}
 use Rattle.pf_desk.specs.Desk.{Seen}
-use Rattle.pf_chart.specs.Listing.{Listing, listings_of}
+use Rattle.pf_courses.specs.Listing.{Listing, listings_of}
 use Rattle.pf_picture.specs.Drawing.{drawing_of, drawings_of}
 use Rattle.pf_picture.specs.Denials.{AreDenialsByTask, drawing_with}
 
 pub drawings_are : (seen : Seen) (names : List Named) (listed : List Listing) (own : List (List Numbered)) (denied : List (List Denied)) (n : ℕ) → AreDiaries seen.state.plan.events own →
-    AreDenialsByTask seen.state.plan.events seen.denials denied → listed ≡ listings_of seen → n ≡ seen.state.now →
+    AreDenialsByTask seen.state.plan.events seen.denials denied → listed ≡ listings_of seen.state.plan seen.state.now seen.rows seen.denials → n ≡ seen.state.now →
     map (λ l. drawing_with names (noted_of own l.task) (noted_of denied l.task) n l) listed ≡ drawings_of seen names
 unfolding drawings_of
 drawings_are seen names listed own denied n diaries denials of_listed of_now =

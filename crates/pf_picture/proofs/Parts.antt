@@ -8,7 +8,7 @@ use Rattle.std.proofs.lemmas.List.FromFn.{get_or-map-range_with_len}
 use Rattle.pf_order.specs.declared.pick.Pick.{Pick}
 use Rattle.pf_tally.proofs.Noting.{got_at}
 use Rattle.pf_desk.specs.Desk.{Seen}
-use Rattle.pf_chart.specs.Listing.{count_in, counts_of}
+use Rattle.pf_courses.specs.Listing.{count_in, counts_of}
 use Rattle.pf_picture.specs.Drawing.{Drawing}
 use Rattle.pf_picture.specs.Picture.{processors_from, rows_text, tasks_from}
 use Rattle.pf_picture.specs.Processors.{cell_text, processor_name, processor_text, slot_text}
@@ -20,11 +20,11 @@ use Rattle.pf_picture.specs.Task.{name_text, task_text_of}
 use Rattle.pf_picture.proofs.Steps.{first_and_others}
 
 -- Use: a slot of a row, by the counts and the row of the slot.
-pub slot_is : (seen : Seen) (s : Measures) (drawings : TaskDrawings) (counts : List ℕ) (p t count d : ℕ) (row : List (Option Pick)) → t < length seen.rows → counts ≡ counts_of seen
+pub slot_is : (seen : Seen) (s : Measures) (drawings : TaskDrawings) (counts : List ℕ) (p t count d : ℕ) (row : List (Option Pick)) → t < length seen.rows → counts ≡ counts_of seen.state.plan seen.state.now seen.rows
     → count ≡ get_or counts t d → Some row ≡ slice_get seen.rows t → cell_text s drawings count row p t ≡ slot_text seen s drawings p t
 slot_is seen s drawings counts p t count d row within of_counts of_count of_row =
     ap₂ (λ count row. cell_text s drawings count row p t)
-    (of_count ∙ ap (λ cs. get_or cs t d) of_counts ∙ get_or-map-range_with_len (count_in seen) 0 (length seen.rows) t t d within (omega arith))
+    (of_count ∙ ap (λ cs. get_or cs t d) of_counts ∙ get_or-map-range_with_len (count_in seen.state.plan seen.state.now) 0 (length seen.rows) t t d within (omega arith))
     (sym (get_or_default seen.rows t [] row within ∙ got_at seen.rows t row of_row))
 
 -- Use: the task of this place, and those after it.

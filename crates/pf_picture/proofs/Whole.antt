@@ -8,8 +8,8 @@ use Rattle.pf_names.specs.declared.named.Named.{Named}
 use Rattle.pf_weight.specs.declared.task.TheConstants.{LARGEST_TASK}
 use Rattle.pf_run.specs.Computed.{run_of}
 use Rattle.pf_desk.specs.Desk.{Seen}
-use Rattle.pf_chart.specs.Course.{tracks_of}
-use Rattle.pf_chart.specs.Listing.{is_listed, listing_of, listings_of}
+use Rattle.pf_courses.specs.Course.{tracks_of}
+use Rattle.pf_courses.specs.Listing.{is_listed, listing_of, listings_of}
 use Rattle.pf_picture.specs.Drawing.{Drawing, drawing_of, drawings_of}
 use Rattle.pf_picture.specs.Shown.{TaskDrawings, parted}
 use Rattle.pf_tasks.specs.Listed.{is_listed as is_in}
@@ -26,7 +26,7 @@ few_drawings seen names drawings are =
     let numbers = range_with_len 1 LARGEST_TASK in
     let tracks = tracks_of seen.state.plan (run_of seen.state.plan seen.state.now) seen.rows in
     let all : length drawings ≡ length (filter tests numbers) =
-    ap length are ∙ length-map (listings_of seen) (drawing_of names seen.state.plan.events seen.state.now seen.denials)
+    ap length are ∙ length-map (listings_of seen.state.plan seen.state.now seen.rows seen.denials) (drawing_of names seen.state.plan.events seen.state.now seen.denials)
     ∙ length-map (filter tests numbers) (listing_of seen.state.plan.events seen.denials tracks) in
     few_among tests numbers (length drawings) (all ∙ length-filter tests numbers) (length-range_with_len 1 LARGEST_TASK)
 

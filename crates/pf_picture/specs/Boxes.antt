@@ -2,7 +2,7 @@
 use Rattle.std.specs.Prelude.{ℕ, ◌+◌, ◌-◌, ◌*◌, ◌%◌, ◌==◌, Bool, false, nat_le, if◌then◌else◌, List, [], ◌++◌, codes, length}
 use Rattle.std.specs.Fmt.{decimal}
 use Rattle.std.specs.Option.{option_map_or}
-use Rattle.pf_chart.specs.declared.window.Window.{Window}
+use Rattle.pf_courses.specs.declared.window.Window.{Window}
 use Rattle.pf_picture.specs.Element.{put, put_word}
 use Rattle.pf_picture.specs.Shapes.{words_shape}
 use Rattle.pf_picture.specs.declared.turn.Turn.{Turn}

@@ -2,8 +2,8 @@
 -- slots after its deadline in which it waited, and its quantum.
 use Rattle.std.specs.Prelude.{ℕ, ◌+◌, ◌-◌, ◌*◌, ◌/◌, ◌==◌, max, min, Bool, ◌&&◌, nat_le, nat_lt, if◌then◌else◌, Some, List, [], ◌++◌, codes}
 use Rattle.std.specs.Option.{option_map_or}
-use Rattle.pf_chart.specs.declared.quantum.Quantum.{Quantum}
-use Rattle.pf_chart.specs.declared.window.Window.{Window}
+use Rattle.pf_courses.specs.declared.quantum.Quantum.{Quantum}
+use Rattle.pf_courses.specs.declared.window.Window.{Window}
 use Rattle.pf_picture.specs.Boxes.{box_text, number_if_room}
 use Rattle.pf_picture.specs.Lane.{last_shown, level_of}
 use Rattle.pf_picture.specs.Scale.{inset_of, x_of}

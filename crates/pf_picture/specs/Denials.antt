@@ -8,7 +8,7 @@ use Rattle.pf_scenario.specs.declared.event.Numbered.{Numbered}
 use Rattle.pf_run.specs.declared.denied.Denied.{Denied}
 use Rattle.pf_table.specs.Lists.{noted_of}
 use Rattle.pf_tally.specs.Own.{events_of_task}
-use Rattle.pf_chart.specs.Listing.{Listing}
+use Rattle.pf_courses.specs.Listing.{Listing}
 use Rattle.pf_picture.specs.Drawing.{Drawing, asked_of, drawing_asked, is_denial_of}
 
 -- the numbers of these events rise

@@ -13,7 +13,7 @@ use Rattle.pf_scenario.specs.declared.event.Numbered.{Numbered}
 use Rattle.pf_run.specs.declared.denied.Denied.{Denied}
 use Rattle.pf_tally.specs.Own.{events_of_task}
 use Rattle.pf_desk.specs.Desk.{Seen}
-use Rattle.pf_chart.specs.Listing.{Listing, listings_of}
+use Rattle.pf_courses.specs.Listing.{Listing, listings_of}
 use Rattle.pf_picture.specs.Element.{put}
 use Rattle.pf_picture.specs.declared.asked.Asked.{Asked}
 
@@ -77,4 +77,4 @@ drawing_of names events n denials l = drawing_by names (events_of_task l.task ev
 
 -- the listed tasks, by number
 unfoldable pub drawings_of : Seen → List Named → List Drawing
-drawings_of seen names = map (drawing_of names seen.state.plan.events seen.state.now seen.denials) (listings_of seen)
+drawings_of seen names = map (drawing_of names seen.state.plan.events seen.state.now seen.denials) (listings_of seen.state.plan seen.state.now seen.rows seen.denials)

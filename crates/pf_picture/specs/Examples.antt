@@ -1,13 +1,20 @@
 -- Worked examples of pictures.
-use Rattle.std.specs.Prelude.{◌≡◌, [], ◌∷◌, ◌++◌, codes}
+use Rattle.std.specs.Prelude.{◌≡◌, ℕ, [], ◌∷◌, ◌++◌, codes}
 use Rattle.pf_scenario.specs.declared.event.Event.TheVariants.{Join, Leave, Delay}
+use Rattle.pf_scenario.specs.Scenario.{Plan}
 use Rattle.pf_run.specs.Examples.{plan_with}
+use Rattle.pf_run.specs.RunRows.{rows_in, denials_in}
 use Rattle.pf_names.specs.Titled.{untitled}
 use Rattle.pf_look.specs.Looks.{usual_look}
 use Rattle.pf_look.specs.declared.style.Style.TheVariants.{Strips, Stairs}
-use Rattle.pf_chart.specs.Examples.{seen_after}
+use Rattle.pf_desk.specs.Desk.{Seen}
 use Rattle.pf_picture.specs.Frame.{style_text}
 use Rattle.pf_picture.specs.Picture.{picture_text_of}
+
+-- what is seen of the scenario after n slots and so many entries
+abbrev pub seen_after : ℕ → Plan → ℕ → Seen
+seen_after entries s n =
+    record { version = entries; state = record { plan = s; now = n }; rows = rows_in s n; denials = denials_in s n }
 
 pub record WorkedPictures : Type 0 where
   -- three tasks of weight 2/3 on two processors

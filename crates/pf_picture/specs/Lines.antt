@@ -4,8 +4,8 @@ use Rattle.std.specs.Fmt.{decimal}
 use Rattle.std.specs.Int.{div_ceil}
 use Rattle.std.specs.List.{flat_map, range_with_len}
 use Rattle.pf_admit.specs.Refusals.{denial_name}
-use Rattle.pf_chart.specs.Course.{Track}
-use Rattle.pf_chart.specs.declared.window.Window.{Window}
+use Rattle.pf_courses.specs.Course.{Track}
+use Rattle.pf_courses.specs.declared.window.Window.{Window}
 use Rattle.pf_run.specs.declared.denied.Denied.{Denied}
 use Rattle.pf_tally.specs.Clock.{Stop}
 use Rattle.pf_look.specs.declared.style.Style.{Style}

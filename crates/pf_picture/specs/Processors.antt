@@ -5,10 +5,10 @@ use Rattle.std.specs.Option.{option_map_or, option_and_then}
 use Rattle.pf_order.specs.declared.pick.Pick.{Pick}
 use Rattle.pf_place.specs.Occupancy.{sitter}
 use Rattle.pf_desk.specs.Desk.{Seen}
-use Rattle.pf_chart.specs.Cells.{running_in}
-use Rattle.pf_chart.specs.Listing.{count_in}
-use Rattle.pf_chart.specs.declared.quantum.Quantum.{Quantum}
-use Rattle.pf_chart.specs.declared.window.Window.{Window}
+use Rattle.pf_courses.specs.Activity.{running_in}
+use Rattle.pf_courses.specs.Listing.{count_in}
+use Rattle.pf_courses.specs.declared.quantum.Quantum.{Quantum}
+use Rattle.pf_courses.specs.declared.window.Window.{Window}
 use Rattle.pf_picture.specs.Boxes.{box_text, number_if_room}
 use Rattle.pf_picture.specs.Drawing.{Drawing}
 use Rattle.pf_picture.specs.Element.{put}
@@ -58,7 +58,7 @@ cell_text s drawings count row p t =
     else option_map_or (pick_text s drawings.shown drawings.others (record { slot = t; processor = p })) (sitter row p) []
 
 abbrev pub slot_text : Seen → Measures → TaskDrawings → ℕ → ℕ → List ℕ
-slot_text seen s drawings p t = cell_text s drawings (count_in seen t) (slice_index_or seen.rows t []) p t
+slot_text seen s drawings p t = cell_text s drawings (count_in seen.state.plan seen.state.now t) (slice_index_or seen.rows t []) p t
 
 -- the row of processor p
 unfoldable pub processor_text : Seen → Measures → TaskDrawings → ℕ → List ℕ

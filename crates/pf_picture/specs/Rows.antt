@@ -2,9 +2,9 @@
 use Rattle.std.specs.Prelude.{ℕ, ◌+◌, ◌*◌, max, min, Bool, false, ◌&&◌, ◌||◌, nat_le, nat_lt, List, length, filter}
 use Rattle.std.specs.Option.{option_map_or}
 use Rattle.std.specs.List.{fold}
-use Rattle.pf_chart.specs.Course.{Track}
-use Rattle.pf_chart.specs.declared.quantum.Quantum.{Quantum}
-use Rattle.pf_chart.specs.declared.window.Window.{Window}
+use Rattle.pf_courses.specs.Course.{Track}
+use Rattle.pf_courses.specs.declared.quantum.Quantum.{Quantum}
+use Rattle.pf_courses.specs.declared.window.Window.{Window}
 use Rattle.pf_look.specs.declared.style.Style.{Style}
 use Rattle.pf_look.specs.declared.style.Style.TheVariants.{Strips, Stairs}
 use Rattle.pf_picture.specs.Drawing.{Drawing}

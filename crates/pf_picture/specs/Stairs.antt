@@ -2,7 +2,7 @@
 use Rattle.std.specs.Prelude.{ℕ, ◌+◌, ◌-◌, ◌*◌, max, min, nat_lt, if◌then◌else◌, Option, Some, List, [], ◌∷◌, ◌++◌, codes}
 use Rattle.std.specs.Fmt.{decimal}
 use Rattle.std.specs.Option.{option_map_or}
-use Rattle.pf_chart.specs.declared.window.Window.{Window}
+use Rattle.pf_courses.specs.declared.window.Window.{Window}
 use Rattle.pf_picture.specs.Brackets.{eligible_at, window_at}
 use Rattle.pf_picture.specs.Lane.{last_shown}
 use Rattle.pf_picture.specs.Scale.{x_of}

@@ -3,7 +3,7 @@ use Rattle.std.specs.Prelude.{ℕ, ◌+◌, ◌-◌, ◌&&◌, nat_le, if◌then
 use Rattle.std.specs.Fmt.{signed_decimal}
 use Rattle.std.specs.List.{flat_map}
 use Rattle.std.specs.Option.{option_map_or}
-use Rattle.pf_chart.specs.Course.{Track}
+use Rattle.pf_courses.specs.Course.{Track}
 use Rattle.pf_look.specs.declared.style.Style.{Style}
 use Rattle.pf_look.specs.declared.style.Style.TheVariants.{Strips, Stairs}
 use Rattle.pf_picture.specs.Brackets.{window_text}

@@ -33,7 +33,7 @@ pub struct Blocks<'a> {
 
 impl<'a> Model for Blocks<'a> {
     ghost use Rattle.std.specs.Prelude.{ℕ, List, ◌≡◌, ◌≤◌, ◌*◌, ◌+◌, ◌^◌, length};
-    ghost use Rattle.pf_chart.specs.Listing.{counts_of};
+    ghost use Rattle.pf_courses.specs.Listing.{counts_of};
     ghost use Rattle.pf_picture.specs.Left.{AreBlocks, blocks_left};
 
     ghost Value = { List ℕ };
@@ -41,13 +41,13 @@ impl<'a> Model for Blocks<'a> {
     ghost view = { λ b. blocks_left b.snapshot.now b.scale b.wrap b.drawings b.block b.offset b.begun };
 
     ghost invariant = { λ b.
-        (b.counts.items ≡ counts_of b.snapshot.now) × (b.scale.to ≤ length b.snapshot.now.rows)
+        (b.counts.items ≡ counts_of b.snapshot.now.state.plan b.snapshot.now.state.now b.snapshot.now.rows) × (b.scale.to ≤ length b.snapshot.now.rows)
         × AreBlocks b.scale b.wrap b.drawings b.block b.offset b.begun };
 }
 
 impl<'a> Blocks<'a> {
     ghost use Rattle.std.specs.Prelude.{◌≡◌, ◌≤◌, length};
-    ghost use Rattle.pf_chart.specs.Listing.{counts_of};
+    ghost use Rattle.pf_courses.specs.Listing.{counts_of};
     ghost use Rattle.pf_picture.specs.Picture.{all_blocks, blocks_from};
 
     /// All of them, of so many slots at most, where so many processors are in use in each slot.
@@ -58,7 +58,7 @@ impl<'a> Blocks<'a> {
         drawings: TaskDrawings,
         counts: Vec<u64>,
     ) -> Self
-        requires counts { counts.items ≡ counts_of snapshot.now }
+        requires counts { counts.items ≡ counts_of snapshot.now.state.plan snapshot.now.state.now snapshot.now.rows }
         requires within { scale.to ≤ length snapshot.now.rows }
         requires some { 1 ≤ wrap }
         requires most { wrap ≤ 4096 }

@@ -5,7 +5,7 @@ ghost use Rattle.pf_picture.specs.Boxes.{box_text, class_text, colour_text, digi
 use crate::element::push_element;
 use crate::shapes::push_words;
 use crate::turn::Turn;
-use pf_chart::window::Window;
+use pf_courses::window::Window;
 use std::alloc::{AllocError, Global};
 
 /// The width of a digit.

@@ -7,8 +7,8 @@ use crate::boxes::{push_box, push_number_if_room};
 use crate::lane::Lane;
 use crate::shapes::{push_bracket, push_stretch};
 use crate::turn::Turn;
-use pf_chart::quantum::Quantum;
-use pf_chart::window::Window;
+use pf_courses::quantum::Quantum;
+use pf_courses::window::Window;
 use std::alloc::{AllocError, Global};
 
 /// The first slot in which the subtask of a window may run.

@@ -1,4 +1,4 @@
-use pf_chart::listed::Listed;
+use pf_courses::listed::Listed;
 use pf_run::denied::Denied;
 use std::marker::Model;
 

@@ -1,14 +1,15 @@
 ghost use Rattle.std.specs.Prelude.{◌≡◌, find, map, option_map, IfOk};
 ghost use Rattle.pf_table.specs.Lists.{noted_of};
 ghost use Rattle.std.specs.String.{string_bytes};
+ghost use Rattle.pf_courses.specs.Listing.{listings_of};
 ghost use Rattle.pf_picture.specs.Drawing.{asked_by, asked_of, drawings_of, early_of, is_join_below, weight_behind, weight_of, weight_text};
 ghost use Rattle.pf_picture.specs.Denials.{drawing_with};
 
 use crate::asked::Asked;
 use crate::denials::denials_by_task;
 use crate::drawing::Drawing;
-use pf_chart::listed::Listed;
-use pf_chart::listings::listings;
+use pf_courses::listed::Listed;
+use pf_courses::listings::listings;
 use pf_desk::snapshot::Snapshot;
 use pf_names::name::Name;
 use pf_names::names::Names;
@@ -166,6 +167,21 @@ fn held_events(alloc: Global, snapshot: &Snapshot) -> Result<Vec<Numbered>, Allo
     Ok(held)
 }
 
+/// The listed tasks that a snapshot shows, by number.
+fn listings_of(alloc: Global, snapshot: &Snapshot) -> Result<Vec<Listed>, AllocError>
+    ensures { IfOk result (λ v. v.items
+        ≡ listings_of snapshot.now.state.plan snapshot.now.state.now snapshot.now.rows snapshot.now.denials) }
+{
+    // That the rows are those of the scenario's run is known from its calls alone.
+    let _ = snapshot.now();
+    listings(
+        alloc,
+        snapshot.scenario(),
+        snapshot.rows(),
+        snapshot.denials(),
+    )
+}
+
 /// What a picture tells of the listed tasks, by number, with these names.
 ///
 /// # Errors
@@ -179,7 +195,7 @@ pub fn drawings(
     ensures { IfOk result (λ v. v.items ≡ drawings_of snapshot.now names.now) }
 {
     let now = snapshot.now();
-    let listed = listings(alloc, snapshot)?;
+    let listed = listings_of(alloc, snapshot)?;
     let held = held_events(alloc, snapshot)?;
     let own = diaries_by_task(alloc, &held)?;
     let denied = denials_by_task(alloc, &held, snapshot.denials())?;

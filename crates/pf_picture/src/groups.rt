@@ -4,7 +4,7 @@ ghost use Rattle.pf_picture.specs.Lines.{group_if, group_text, groups_text, has_
 
 use crate::lane::Lane;
 use crate::shapes::{push_drop, push_mark};
-use pf_chart::window::Window;
+use pf_courses::window::Window;
 use pf_look::style::Style;
 use std::alloc::{AllocError, Global};
 

@@ -4,8 +4,8 @@ ghost use Rattle.pf_picture.specs.Rows.{block_height, height_of, is_in_row, row_
 
 use crate::drawing::Drawing;
 use crate::scale::Scale;
-use pf_chart::course::Course;
-use pf_chart::window::Window;
+use pf_courses::course::Course;
+use pf_courses::window::Window;
 use pf_look::style::Style;
 use std::alloc::{AllocError, Global};
 

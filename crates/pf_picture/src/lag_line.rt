@@ -5,7 +5,7 @@ ghost use Rattle.pf_picture.specs.Lines.{lag_at, lag_level, lag_path, lag_start,
 use crate::element::push_element;
 use crate::lane::Lane;
 use crate::shapes::push_stretch;
-use pf_chart::course::Course;
+use pf_courses::course::Course;
 use std::alloc::{AllocError, Global};
 
 /// The lag before slot t, times the period.

@@ -7,7 +7,7 @@ ghost use Rattle.pf_picture.specs.Lines.{denial_text, denial_words, denied_at, d
 use crate::lane::{Lane, events_level};
 use crate::scale::Scale;
 use crate::shapes::{push_field, push_mark, push_words};
-use pf_chart::pause::Pause;
+use pf_courses::pause::Pause;
 use pf_run::denied::Denied;
 use std::alloc::{AllocError, Global};
 

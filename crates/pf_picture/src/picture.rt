@@ -1,5 +1,6 @@
 ghost use Rattle.std.specs.Prelude.{◌≡◌, ◌≤◌, ◌-◌, ◌^◌, length, IfOk};
 ghost use Rattle.std.specs.Fmt.{decimal};
+ghost use Rattle.pf_courses.specs.Listing.{counts_of};
 ghost use Rattle.pf_picture.specs.Picture.{measures_of, picture_text_of, summary_of, task_picture_text_of, text_of};
 ghost use Rattle.pf_picture.specs.Scale.{time_in};
 
@@ -13,7 +14,7 @@ use crate::scale::{Scale, step_with, time_in, width_with};
 use crate::strips::strips;
 use crate::summary::Summary;
 use crate::task_drawings::TaskDrawings;
-use pf_chart::chart::counts;
+use pf_courses::counts::counts;
 use pf_desk::snapshot::Snapshot;
 use pf_look::look::Look;
 use pf_names::slot_length::SlotLength;
@@ -32,6 +33,20 @@ fn digits_of(alloc: Global, slot: Option<SlotLength>, t: u64) -> Result<u64, All
     let time = time_in(slot, t);
     let digits = format!(in alloc; "{time}")?;
     Ok(digits.len() as u64)
+}
+
+/// How many processors are in use in each slot that a snapshot shows.
+fn counts_of(alloc: Global, snapshot: &Snapshot) -> Result<Vec<u64>, AllocError>
+    ensures { IfOk result (λ v. v.items ≡ counts_of snapshot.now.state.plan snapshot.now.state.now snapshot.now.rows) }
+{
+    // That the rows are those of the scenario's run is known from its calls alone.
+    let _ = snapshot.now();
+    counts(
+        alloc,
+        snapshot.scenario(),
+        snapshot.rows(),
+        snapshot.denials(),
+    )
 }
 
 /// What the picture is measured by.
@@ -114,7 +129,7 @@ fn pieces_of<'a>(
     requires few { length drawings.shown ≤ 4095 }
     ensures { IfOk result (λ pieces. pieces ≡ text_of snapshot.now slot from to look.now listed drawings) }
 {
-    let counts = counts(alloc, snapshot)?;
+    let counts = counts_of(alloc, snapshot)?;
     let shown = drawings.shown();
     let scale = scale_of(alloc, snapshot, slot, shown, from, to, look)?;
     let summary = summary_of(snapshot, shown.len() as u64, listed, from, to)?;

@@ -1,6 +1,6 @@
 ghost use Rattle.std.specs.Prelude.{◌≡◌, ◌==◌, ◌++◌, ◌+◌, ◌<◌, ◌≤◌, ◌^◌, length, slice_index_or, position, IfOk, OnOk};
 ghost use Rattle.pf_place.specs.Lent.{lent_row};
-ghost use Rattle.pf_chart.specs.Listing.{counts_of};
+ghost use Rattle.pf_courses.specs.Listing.{counts_of};
 ghost use Rattle.pf_picture.specs.Processors.{cell_text, other_text, pick_text, processor_name, processor_text, run_text, turn_text, window_in};
 ghost use Rattle.pf_picture.specs.Scale.{x_of};
 
@@ -11,8 +11,8 @@ use crate::scale::{Scale, processor_top};
 use crate::shapes::push_field;
 use crate::task_drawings::TaskDrawings;
 use crate::turn::Turn;
-use pf_chart::quantum::Quantum;
-use pf_chart::window::Window;
+use pf_courses::quantum::Quantum;
+use pf_courses::window::Window;
 use pf_desk::rows::row_at;
 use pf_desk::snapshot::Snapshot;
 use pf_order::pick::Pick;
@@ -224,7 +224,7 @@ pub(crate) fn processor_text(
 ) -> Result<Vec<u8>, AllocError>
     requires processor { p < 64 }
     requires within { scale.to ≤ length snapshot.now.rows }
-    requires counts { counts.now ≡ counts_of snapshot.now }
+    requires counts { counts.now ≡ counts_of snapshot.now.state.plan snapshot.now.state.now snapshot.now.rows }
     ensures { IfOk result (λ text. text.items ≡ processor_text snapshot.now scale drawings.now p) }
 {
     let mut text = Vec::new(alloc);

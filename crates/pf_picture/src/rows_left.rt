@@ -1,5 +1,5 @@
 ghost use Rattle.std.specs.Prelude.{◌≡◌, ◌≤◌, length, IfOk};
-ghost use Rattle.pf_chart.specs.Listing.{counts_of};
+ghost use Rattle.pf_courses.specs.Listing.{counts_of};
 ghost use Rattle.pf_picture.specs.Left.{IsLeft, IsNextRow};
 
 use crate::in_rows::height_of;
@@ -43,7 +43,7 @@ pub(crate) fn next_row(
     counts: &[u64],
     rows: RowsLeft,
 ) -> Result<Option<Row>, AllocError>
-    requires counts { counts.now ≡ counts_of snapshot.now }
+    requires counts { counts.now ≡ counts_of snapshot.now.state.plan snapshot.now.state.now snapshot.now.rows }
     requires within { scale.to ≤ length snapshot.now.rows }
     requires few { length drawings.now.shown ≤ 4095 }
     requires left { IsLeft rows }

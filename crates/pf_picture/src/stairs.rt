@@ -5,7 +5,7 @@ ghost use Rattle.pf_picture.specs.Stairs.{row_label, row_text, row_texts, shared
 use crate::brackets::{eligible_at, push_window};
 use crate::lane::Lane;
 use crate::shapes::{push_field, push_words};
-use pf_chart::window::Window;
+use pf_courses::window::Window;
 use std::alloc::{AllocError, Global};
 
 /// How far below a row the next one lies.

@@ -4,7 +4,7 @@ ghost use Rattle.std.specs.Option.{option_map_or};
 
 use crate::drawing::Drawing;
 use crate::lag_line::lag_at;
-use pf_chart::course::Course;
+use pf_courses::course::Course;
 
 /// A lag, times the period, without its sign, in quanta, rounded up.
 fn quanta_of(period: u64, lag: i64) -> u64

@@ -14,8 +14,8 @@ use crate::marks::{push_all_denied, push_join, push_leave, push_stops};
 use crate::scale::Scale;
 use crate::shapes::{push_label, push_stretch};
 use crate::stairs::{push_all_shared, push_rows};
-use pf_chart::course::Course;
-use pf_chart::window::Window;
+use pf_courses::course::Course;
+use pf_courses::window::Window;
 use pf_look::style::Style;
 use std::alloc::{AllocError, Global};
 

@@ -1,5 +1,5 @@
-use pf_chart::quantum::Quantum;
-use pf_chart::window::Window;
+use pf_courses::quantum::Quantum;
+use pf_courses::window::Window;
 
 /// The quantum of a subtask, as a picture shows it.
 #[derive(Clone, Copy)]

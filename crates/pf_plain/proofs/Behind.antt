@@ -11,7 +11,7 @@ use Rattle.pf_desk.specs.History as past
 use Rattle.pf_desk.specs.Machine.{State, reply_to, state_after}
 use Rattle.pf_carrying.specs.Carrying.{Carrying, HasAnswered, HasTaken, script_caller}
 use Rattle.pf_plan.specs.Line.{Line}
-use Rattle.pf_plan.specs.Asked.{commands_of}
+use Rattle.pf_carrying.specs.Asked.{commands_of}
 use Rattle.pf_plain.specs.Carried.{state_behind, state_to_be}
 
 pub behind-append : (st : State) (xs ys : List Command) → state_behind st (xs ++ ys) ≡ state_behind (state_behind st xs) ys

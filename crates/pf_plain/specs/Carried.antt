@@ -8,7 +8,7 @@ use Rattle.pf_desk.specs.declared.reply.Reply.TheVariants.{Edited, Stepped, Refu
 use Rattle.pf_carrying.specs.Carrying.{Carrying}
 use Rattle.pf_plan.specs.Line.{Line}
 use Rattle.pf_plan.specs.Line.TheVariants.{Edit, Steps}
-use Rattle.pf_plan.specs.Asked.{commands_of}
+use Rattle.pf_carrying.specs.Asked.{commands_of}
 
 -- the state after some commands
 abbrev pub state_behind : State → List Command → State

@@ -1,13 +1,13 @@
 ghost use Rattle.std.specs.Prelude.{◌≡◌, OnOk};
 ghost use Rattle.std.specs.List.{flat_map};
-ghost use Rattle.pf_plan.specs.Asked.{commands_of};
+ghost use Rattle.pf_carrying.specs.Asked.{commands_of};
 ghost use Rattle.pf_plain.specs.Carried.{number_in, state_behind, state_to_be};
 
 use pf_carrying::carrying_desk::CarryingDesk;
 use pf_desk::command::Command;
 use pf_desk::reply::Reply;
-use pf_plan::line::Line;
 use pf_scenario::settings::Settings;
+use pf_script::line::Line;
 use std::alloc::{AllocError, Global};
 use std::marker::Model;
 
@@ -25,7 +25,7 @@ pub(crate) struct Carried {
 impl Model for Carried {
     ghost use Rattle.std.specs.List.{flat_map};
     ghost use Rattle.pf_desk.specs.Machine.{State};
-    ghost use Rattle.pf_plan.specs.Asked.{commands_of};
+    ghost use Rattle.pf_carrying.specs.Asked.{commands_of};
     ghost use Rattle.pf_plain.specs.Carried.{state_behind, state_to_be};
 
     ghost Value = { State };

@@ -8,9 +8,9 @@ use crate::writer::PlainWriter;
 use csv::ByteRecord;
 use pf_names::titles::Titles;
 use pf_plan::fault::{BadRecord, RecordFault};
-use pf_plan::fields::Fields;
 use pf_plan::heading::{heading_fault, is_plan_heading};
 use pf_rows::rows::{NextRow, Rows};
+use pf_script::fields::Fields;
 use std::alloc::{AllocError, Global};
 
 /// The script of version 2 that belongs to a plan, and what it does not tell.

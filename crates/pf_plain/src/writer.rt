@@ -7,9 +7,9 @@ use crate::plain::PlainScript;
 use crate::writing::{push_line, push_settings};
 use pf_names::titles::Titles;
 use pf_plan::fault::BadRecord;
-use pf_plan::line::Line;
 use pf_plan::said::Said;
 use pf_plan::state::Progress;
+use pf_script::line::Line;
 use pf_text::table::Table;
 use std::alloc::{AllocError, Global};
 

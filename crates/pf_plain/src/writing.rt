@@ -3,10 +3,10 @@ ghost use Rattle.std.specs.Fmt.{decimal};
 ghost use Rattle.pf_text.specs.Page.{Page, with_record};
 ghost use Rattle.pf_plain.specs.Written.{change_fields, event_fields, line_fields, settings_fields, strict_fields};
 
-use pf_plan::line::Line;
-use pf_plan::record::ScriptSettings;
 use pf_scenario::change::Change;
 use pf_scenario::event::Event;
+use pf_script::line::Line;
+use pf_script::record::ScriptSettings;
 use pf_text::table::Table;
 use std::alloc::AllocError;
 

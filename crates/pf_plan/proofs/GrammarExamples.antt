@@ -5,7 +5,8 @@ use Rattle.pf_names.specs.Text.{is_text}
 use Rattle.pf_names.specs.declared.unit.Unit.TheVariants.{Microsecond}
 use Rattle.pf_scenario.specs.declared.change.Change.TheVariants.{Insert, Strike}
 use Rattle.pf_scenario.specs.declared.event.Event.TheVariants.{Join, Leave}
-use Rattle.pf_script.specs.Fields.{is_word, number_of}
+use Rattle.pf_script.specs.Fields.{is_word}
+use Rattle.pf_text.specs.Numbers.{number_of}
 use Rattle.pf_script.specs.declared.line.Line.TheVariants.{Edit}
 use Rattle.pf_plan.specs.declared.fault.Reason.TheVariants.{HasName, JoinFields, LabelUnknown, LateSlot, NoCap, NoEvent, NoSettings}
 use Rattle.pf_plan.specs.declared.said.Said.TheVariants.{Asks, Name, Slot}

@@ -1,6 +1,5 @@
 pub use Rattle.pf_script.specs.declared.record.ScriptSettings
 pub use Rattle.pf_script.specs.declared.line.Line
-pub use Rattle.pf_script.specs.Asked
 pub mod Heading
 pub mod Labels
 pub mod Parsing

@@ -9,7 +9,7 @@ use Rattle.pf_scenario.specs.declared.event.Event.{Event}
 use Rattle.pf_scenario.specs.declared.event.Event.TheVariants.{Join, Leave, Delay, Limit}
 use Rattle.pf_scenario.specs.declared.change.Change.{Change}
 use Rattle.pf_scenario.specs.declared.change.Change.TheVariants.{Insert, Alter, Strike}
-use Rattle.pf_timeline.specs.declared.timeline.TheConstants.{LARGEST_DISTANCE}
+use Rattle.pf_scenario.specs.declared.limits.TheConstants.{LARGEST_DISTANCE}
 use Rattle.pf_names.specs.declared.named.Named.{Named}
 use Rattle.pf_names.specs.declared.slot_length.TheConstants.{LARGEST_LENGTH}
 use Rattle.pf_names.specs.Names.{name_of, task_of}

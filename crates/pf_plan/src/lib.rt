@@ -10,5 +10,3 @@ mod parse;
 mod parse_event;
 pub mod said;
 pub mod state;
-
-pub use pf_script::{fields, line, record};

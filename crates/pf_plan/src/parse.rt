@@ -13,12 +13,12 @@ use pf_names::names::Names;
 use pf_names::slot_length::{LARGEST_LENGTH, SlotLength};
 use pf_names::unit::Unit;
 use pf_scenario::change::Change;
+use pf_scenario::limits::LARGEST_DISTANCE;
 use pf_scenario::settings::{LARGEST_CAP, MOST_PROCESSORS, Settings, WIDE_HORIZON};
 use pf_script::fields::Fields;
 use pf_script::line::Line;
 use pf_script::record::ScriptSettings;
 use pf_script::version::Version;
-use pf_timeline::timeline::LARGEST_DISTANCE;
 use pf_weight::base::LARGEST_BASE;
 use pf_weight::task::LARGEST_TASK;
 

@@ -2,7 +2,8 @@
 use Rattle.std.specs.Prelude.{ℕ, ◌-◌, ◌==◌, if◌then◌else◌, List, ◌++◌, codes}
 use Rattle.std.specs.Fmt.{decimal}
 use Rattle.pf_check.specs.Fields.{field}
-use Rattle.pf_check.specs.Reports.{field_text, quoted}
+use Rattle.pf_check.specs.Reports.{count_text, field_text, outside_text}
+use Rattle.pf_text.specs.Quoted.{quoted}
 use Rattle.pf_plan.specs.declared.fault.BadRecord.{BadRecord}
 use Rattle.pf_plan.specs.declared.fault.Reason.{Reason}
 use Rattle.pf_plan.specs.declared.fault.Reason.TheVariants.{NoRecord, NoVersion, NoChange, NoEvent, NoSettings, LateSettings, LateSlot, NoNumber, NoCap, Outside, Fields, JoinFields, StepFields, SettingsFields, NoUnit, HasName, NoName, NameOf, NoTask, NoLabel, LabelTaken, LabelUnknown}
@@ -11,6 +12,10 @@ use Rattle.pf_plan.specs.declared.fault.Reason.TheVariants.{NoRecord, NoVersion,
 abbrev pub join_fields : ℕ → List ℕ
 join_fields least =
     if least == 5 then codes "5 or 6" else if least == 6 then codes "6 or 7" else if least == 7 then codes "7 or 8" else codes "8 or 9"
+
+-- a task that has a name already
+abbrev pub named_text : ℕ → List ℕ
+named_text task = codes "task " ++ decimal task ++ codes " has a name already"
 
 -- why a record is none, of its field that is at fault
 unfoldable pub plan_reason_text : List ℕ → Reason → List ℕ
@@ -24,13 +29,13 @@ plan_reason_text at LateSettings = codes "settings come once, before all changes
 plan_reason_text at LateSlot = codes "slot comes once, before all changes and steps"
 plan_reason_text at NoNumber = quoted at ++ codes " is no number of 1 to 15 digits"
 plan_reason_text at NoCap = quoted at ++ codes " is no number of 1 to 15 digits and not full"
-plan_reason_text at (Outside number most) = decimal number ++ codes " is not within 1 to " ++ decimal most
-plan_reason_text at (Fields count) = decimal count ++ codes " fields are expected"
+plan_reason_text at (Outside number most) = outside_text number most
+plan_reason_text at (Fields count) = count_text count
 plan_reason_text at (JoinFields least) = join_fields least ++ codes " fields are expected"
 plan_reason_text at StepFields = codes "1 or 2 fields are expected"
 plan_reason_text at SettingsFields = codes "3 to 5 fields are expected"
 plan_reason_text at NoUnit = quoted at ++ codes " is no unit: ns, us, ms, s"
-plan_reason_text at (HasName task) = codes "task " ++ decimal task ++ codes " has a name already"
+plan_reason_text at (HasName task) = named_text task
 plan_reason_text at NoName = quoted at ++ codes " is no name: a letter, then up to 23 letters, digits, spaces, _ - . +"
 plan_reason_text at (NameOf task) = (quoted at ++ codes " is the name of task ") ++ (decimal task ++ codes " already")
 plan_reason_text at NoTask = quoted at ++ codes " names no task so far"

@@ -5,11 +5,11 @@ ghost use Rattle.pf_plan_check.specs.Checked.{ChecksPlan};
 use crate::plan_faults::PlanFaults;
 use crate::report::push_report;
 use csv::ByteRecord;
-use pf_check::fields::Fields;
 use pf_check::report::push_totals;
 use pf_fault::answer::Answer;
 use pf_fault::ending::Ending;
 use pf_fault::status::Status;
+use pf_script::fields::Fields;
 use std::alloc::{AllocError, Global};
 
 /// What a check of a plan finds: a line for each record that the format does not allow, taking those before it
@@ -24,7 +24,7 @@ pub fn plan_check(alloc: Global, script: &[u8]) -> Result<Answer, AllocError>
 {
     let mut row = ByteRecord::new(alloc);
     let mut faults = PlanFaults::new(alloc, script, &mut row)?;
-    let mut text = String::new(alloc);
+    let mut text = Vec::new(alloc);
     let mut count = 0;
     'faults: while let Some(bad) = faults.next(&mut row)? {
         push_report(&mut text, &Fields::new(&row), bad)?;
@@ -32,7 +32,7 @@ pub fn plan_check(alloc: Global, script: &[u8]) -> Result<Answer, AllocError>
     }
     push_totals(&mut text, faults.records(), count)?;
     Ok(Answer {
-        text: text.into_bytes(),
+        text,
         ending: Ending::quiet(alloc, status_of(count)),
     })
 }

@@ -5,11 +5,11 @@ ghost use Rattle.pf_plan.specs.Parsing.{end_fault};
 ghost use Rattle.pf_plan_check.specs.Checked.{bad_if, faults_at_end, heading_of, with_fault};
 
 use csv::ByteRecord;
-use pf_check::fields::Fields;
 use pf_plan::fault::BadRecord;
 use pf_plan::heading::heading_fault;
 use pf_plan::state::Progress;
 use pf_rows::rows::{NextRow, Rows};
+use pf_script::fields::Fields;
 use std::alloc::{AllocError, Global};
 use std::marker::Model;
 

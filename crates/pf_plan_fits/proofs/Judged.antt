@@ -28,8 +28,8 @@ use Rattle.pf_tally.specs.Lags.{by_task, task_cmp}
 use Rattle.pf_tally.specs.Misses.{in_miss_order, miss_cmp, misses_of, misses_of_task}
 use Rattle.pf_tally.specs.declared.figures.Figures.{Figures}
 use Rattle.pf_tally.specs.declared.miss.Miss.{Miss}
-use Rattle.pf_promise.specs.Load.{load_in, room_in}
-use Rattle.pf_promise.specs.Laws.{LeavesRoom}
+use Rattle.pf_tally.specs.Load.{load_in, room_in}
+use Rattle.pf_tally.specs.Room.{LeavesRoom}
 use Rattle.pf_promise.proofs.Promises.{no_window_is_missed}
 use Rattle.pf_promise.proofs.Settings.{settings_suffice}
 use Rattle.pf_desk.specs.Desk.{Seen, StandsForHistory}

@@ -12,7 +12,7 @@ use Rattle.pf_desk.specs.declared.reply.Reply.{Reply}
 use Rattle.pf_desk.specs.declared.reply.Reply.TheVariants.{Refused}
 use Rattle.pf_desk.specs.Desk.{Seen, StandsForHistory}
 use Rattle.pf_desk.specs.History.{IsLegal}
-use Rattle.pf_desk.specs.Room.{MissesNone}
+use Rattle.pf_tally.specs.Room.{MissesNone}
 use Rattle.pf_task_list.specs.declared.listed.Listed.{Listed}
 use Rattle.pf_carry.specs.Carried.{asked_in}
 use Rattle.pf_verdict.specs.Findings.{grounds_of}

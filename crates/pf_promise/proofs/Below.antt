@@ -24,7 +24,7 @@ use Rattle.pf_tally.proofs.Windows.{deadline_late}
 use Rattle.pf_promise.proofs.Shifts.{done-rises}
 use Rattle.pf_promise.proofs.Joining.{all_joined}
 use Rattle.pf_promise.proofs.Ran.{IsMiss, is_miss}
-use Rattle.pf_promise.proofs.Counted.{in_map}
+use Rattle.pf_tally.proofs.Contents.{in_map}
 use Rattle.pf_promise.specs.Stay.{IsStay, lag_after}
 use Rattle.pf_promise.specs.LagLaws.{LagsAreBelow}
 use Rattle.pf_promise.proofs.Clocks.{clock_before}

@@ -23,12 +23,13 @@ use Rattle.pf_tally.proofs.Joined.{inside_joined}
 use Rattle.pf_tally.specs.Misses.{leaves_after}
 use Rattle.pf_ideal.specs.Schedule.{Schedule, RunsInOrder}
 use Rattle.pf_reach.specs.Demand.{Service, key_in, schedule_of}
-use Rattle.pf_promise.proofs.Sets.{is_among, sum_by-among, sum_by-filter, filter_among, list_any-contains, contains-list_any, list_any-map, differ_from_pairs}
+use Rattle.pf_tally.proofs.Contents.{list_any-contains, contains-list_any, list_any-map}
+use Rattle.pf_promise.proofs.Sets.{is_among, sum_by-among, sum_by-filter, filter_among, differ_from_pairs}
 use Rattle.pf_promise.proofs.Firsts.{first_many}
-use Rattle.pf_promise.proofs.Standing.{Splits, splits, standing-take}
-use Rattle.pf_promise.proofs.Members.{joined_of}
-use Rattle.pf_promise.proofs.Shifts.{no_slot, done-runs, done-idle, done-past, shift-slots, shift-grows, standing_below, joined_grown, sub_at, shift_at, IsDue, settled}
-use Rattle.pf_promise.proofs.Slots.{key_now, IsReady, ready_is, is_ready, RunsBy, runs_by, chosen_runs}
+use Rattle.pf_tally.proofs.Fronts.{Splits, splits, standing-take, standing_below}
+use Rattle.pf_tally.proofs.Members.{joined_of}
+use Rattle.pf_promise.proofs.Shifts.{no_slot, done-runs, done-idle, done-past, shift-slots, shift-grows, joined_grown, sub_at, shift_at, IsDue, settled}
+use Rattle.pf_tally.proofs.Slots.{key_now, IsReady, ready_is, is_ready, RunsBy, runs_by, chosen_runs}
 use Rattle.pf_promise.proofs.Joining.{all_joined, task_at, demand_of, task_at-is, is_known}
 
 -- the deadline of subtask i, numbered from 0

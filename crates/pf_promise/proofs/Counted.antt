@@ -1,5 +1,5 @@
 -- Misses cost quanta: those with one deadline are overdue at it.
-use Rattle.std.proofs.Common.{◌≡◌, ℕ, zero, suc, ◌+◌, ◌*◌, ◌<◌, ◌≤◌, ◌==◌, ◌&&◌, Bool, true, false, cond, List, [], ◌∷◌, length, map, filter, sum_by, count_by, Contains, arith, refl, ap, sym, ◌∙◌, subst, ⊎_elim}
+use Rattle.std.proofs.Common.{◌≡◌, ℕ, zero, suc, ◌+◌, ◌*◌, ◌<◌, ◌≤◌, ◌==◌, ◌&&◌, Bool, true, false, cond, List, [], ◌∷◌, length, filter, sum_by, count_by, Contains, arith, refl, ap, sym, ◌∙◌, subst, ⊎_elim}
 use Rattle.std.specs.List.{flat_map, range_with_len}
 use Rattle.std.proofs.Math.Nat.{mul-le-mul_left}
 use Rattle.std.proofs.lemmas.Bool.{cases_lt, and_parts, eqb-true}
@@ -16,10 +16,11 @@ use Rattle.pf_run.specs.Inside.{Joined}
 use Rattle.pf_run.specs.Run.{events_in_force, IsRun}
 use Rattle.pf_run.proofs.Containing.{contains_none, contains_head, contains_tail, contains_cases, in_filter}
 use Rattle.pf_run.proofs.Counting.{sum_by-map}
+use Rattle.pf_tally.proofs.Contents.{in_map}
 use Rattle.pf_tally.specs.declared.miss.Miss.{Miss}
 use Rattle.pf_tally.specs.Misses.{due_of, leaves_after, is_missed, miss_of, misses_of_task, miss_cmp, misses_of}
 use Rattle.pf_ideal.proofs.Sums.{one, one-mono}
-use Rattle.pf_promise.specs.Load.{overload_of}
+use Rattle.pf_tally.specs.Load.{overload_of}
 use Rattle.pf_promise.specs.Overdue.{is_overdue, overdue_of_task, overdue_of}
 use Rattle.pf_promise.specs.Laws.{MissesCostQuanta}
 use Rattle.pf_promise.proofs.Joining.{all_joined, task_at-joined, is_known, known}
@@ -28,13 +29,6 @@ use Rattle.pf_promise.proofs.Ran.{IsMiss, miss_is}
 use Rattle.pf_promise.proofs.Overdue.{is_overdue_by, overdue_costs}
 
 -- what a list of lists has
-
-pub in_map : {X Y : Type 0} (f : X → Y) (xs : List X) (x : X) → Contains xs x → Contains (map f xs) (f x)
-in_map f [] x at = absurd (contains_none x at)
-in_map f (z ∷ zs) x at = ⊎_elim
-    (λ same. subst (λ w. Contains (map f (z ∷ zs)) (f w)) same (contains_head (f z) (map f zs)))
-    (λ later. contains_tail (f z) (map f zs) (f x) (in_map f zs x later))
-    (contains_cases z zs x at)
 
 in_flat_map : {X Y : Type 0} (f : X → List Y) (xs : List X) (x : X) (y : Y) → Contains xs x → Contains (f x) y →
     Contains (flat_map f xs) y

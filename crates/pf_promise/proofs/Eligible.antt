@@ -11,10 +11,10 @@ use Rattle.pf_run.specs.Record.{Slot, runs, done}
 use Rattle.pf_run.specs.Inside.{Joined, member_of, shift_of, count_of, eligible_from}
 use Rattle.pf_run.specs.Run.{events_in_force, IsRun}
 use Rattle.pf_tally.proofs.Joined.{inside_joined}
-use Rattle.pf_promise.proofs.Standing.{Splits, splits}
-use Rattle.pf_promise.proofs.Members.{joined_of, one_joined}
+use Rattle.pf_tally.proofs.Fronts.{Splits, splits}
+use Rattle.pf_tally.proofs.Members.{joined_of, one_joined}
 use Rattle.pf_promise.proofs.Shifts.{no_slot, sub_at, shift_at, settled}
-use Rattle.pf_promise.proofs.Slots.{RunsBy, runs_by, inside_stays}
+use Rattle.pf_tally.proofs.Slots.{RunsBy, runs_by, inside_stays}
 use Rattle.pf_promise.proofs.Joining.{all_joined, joins_at_most}
 use Rattle.pf_promise.proofs.Choosing.{chosen, chosen_first, chosen_picks, joined_at_end, eligible_is, front_length, sub_front, shift_front}
 

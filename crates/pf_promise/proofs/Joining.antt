@@ -21,9 +21,10 @@ use Rattle.pf_tally.proofs.Subs.{Giver, from_filter_map}
 use Rattle.pf_reach.specs.Demand.{Demand, IsDemand}
 use Rattle.pf_reach.proofs.Weights.{weight-share, weight-exact}
 use Rattle.pf_static.proofs.Weights.{whole_of, whole-share}
-use Rattle.pf_promise.proofs.Sets.{DifferAll, is_among, list_any-contains, contains-list_any, list_any-map, differ_from_pairs}
-use Rattle.pf_promise.proofs.Standing.{in_force_all}
-use Rattle.pf_promise.proofs.Members.{joined_of, find_joined, found_is}
+use Rattle.pf_tally.proofs.Contents.{list_any-contains, contains-list_any, list_any-map}
+use Rattle.pf_promise.proofs.Sets.{DifferAll, is_among, differ_from_pairs}
+use Rattle.pf_tally.proofs.Fronts.{in_force_all}
+use Rattle.pf_tally.proofs.Members.{joined_of, find_joined, found_is}
 
 -- a number that is no task stands for a task of weight 1
 abbrev pub absent : ℕ → ℕ → Joined

@@ -25,10 +25,10 @@ use Rattle.pf_run.proofs.Containing.{contains_none, contains_cases}
 use Rattle.pf_run.proofs.Counting.{count_by-cons}
 use Rattle.pf_run.proofs.Judged.{length_snoc}
 use Rattle.pf_run.proofs.Points.{shift_push}
-use Rattle.pf_promise.proofs.Points.{IsBetween, along_points}
-use Rattle.pf_promise.proofs.Members.{joined_of, joined_count, contains_counted, one_joined, member_found}
+use Rattle.pf_tally.proofs.Points.{IsBetween, along_points}
+use Rattle.pf_tally.proofs.Members.{joined_of, joined_count, contains_counted, one_joined, member_found}
 use Rattle.pf_promise.proofs.Shifts.{no_slot, done-most, done-front, done-idle, shift-slots, HoldsBack, held_or_not}
-use Rattle.pf_promise.proofs.Slots.{RunsBy, runs_by, inside_stays}
+use Rattle.pf_tally.proofs.Slots.{RunsBy, runs_by, inside_stays}
 
 -- where the last subtask that ran lets the task go
 abbrev pub last_due : List Slot → List Numbered → Joined → ℕ

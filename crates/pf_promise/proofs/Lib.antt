@@ -1,10 +1,5 @@
 pub mod Sets
 pub mod Firsts
-pub mod Members
-pub mod Slots
-pub mod Points
-pub mod Loads
-pub mod Standing
 pub mod Shifts
 pub mod Leaves
 pub mod Joining
@@ -28,3 +23,4 @@ pub mod Within
 pub mod Stops
 pub mod Showing
 pub mod Responses
+pub mod FitLaws

@@ -16,7 +16,7 @@ use Rattle.pf_ideal.specs.Schedule as ideal
 use Rattle.pf_ideal.proofs.Sums.{one, one-mono}
 use Rattle.pf_ideal.proofs.Overdue.{is_overdue_from}
 use Rattle.pf_ideal.proofs.Costs as costs
-use Rattle.pf_promise.specs.Load.{overload_of}
+use Rattle.pf_tally.specs.Load.{overload_of}
 use Rattle.pf_promise.specs.Overdue.{is_overdue, overdue_of_task, overdue_of}
 use Rattle.pf_promise.specs.Laws.{OverdueCostsQuanta}
 use Rattle.pf_promise.proofs.Sets.{is_among}

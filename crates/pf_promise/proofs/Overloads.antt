@@ -12,8 +12,9 @@ use Rattle.pf_run.specs.Run.{events_in_force, IsRun}
 use Rattle.pf_run.proofs.Counting.{sum_by-map}
 use Rattle.pf_tally.proofs.Joined.{inside_joined}
 use Rattle.pf_ideal.specs.Schedule.{load, overload}
-use Rattle.pf_promise.specs.Load.{load_in, overload_of}
-use Rattle.pf_promise.proofs.Sets.{is_among, sum_by-among, sum_by-filter, filter_differ, among_filter, list_any-contains, contains-list_any, list_any-map}
+use Rattle.pf_tally.specs.Load.{load_in, overload_of}
+use Rattle.pf_tally.proofs.Contents.{list_any-contains, contains-list_any, list_any-map}
+use Rattle.pf_promise.proofs.Sets.{is_among, sum_by-among, sum_by-filter, filter_differ, among_filter}
 use Rattle.pf_promise.proofs.Joining.{demand_of, task_at, task_at-joined, tasks_differ}
 use Rattle.pf_promise.proofs.Choosing.{schedule_upto, joined_at_end}
 

@@ -15,7 +15,7 @@ use Rattle.pf_tally.specs.Clock.{clock_of}
 use Rattle.pf_tally.specs.Misses.{due_of, leaves_after}
 use Rattle.pf_tally.proofs.Windows.{deadline_late}
 use Rattle.pf_ideal.proofs.Sums.{one}
-use Rattle.pf_promise.specs.Load.{overload_of}
+use Rattle.pf_tally.specs.Load.{overload_of}
 use Rattle.pf_promise.specs.Overdue.{is_overdue, overdue_of_task, overdue_of}
 use Rattle.pf_promise.proofs.Joining.{all_joined, task_at-joined, is_known, known}
 use Rattle.pf_promise.proofs.Presence.{due_rises}

@@ -28,11 +28,12 @@ use Rattle.pf_ideal.proofs.Rising.{rises}
 use Rattle.pf_reach.specs.Reach.{WindowsReach}
 use Rattle.pf_reach.proofs.Reaching.{group_deadlines_end_reach, reach_bit}
 use Rattle.pf_reach.proofs.Demands.{reach-cost, pd2_is_by_reach}
-use Rattle.pf_promise.proofs.Sets.{is_among, list_any-contains, contains-list_any}
-use Rattle.pf_promise.proofs.Standing.{Splits, splits}
-use Rattle.pf_promise.proofs.Members.{joined_of, found_is}
-use Rattle.pf_promise.proofs.Shifts.{no_slot, done-rises, standing_below, contains_grown}
-use Rattle.pf_promise.proofs.Slots.{to_filter, none_found, inside_stays}
+use Rattle.pf_tally.proofs.Contents.{list_any-contains, contains-list_any}
+use Rattle.pf_promise.proofs.Sets.{is_among}
+use Rattle.pf_tally.proofs.Fronts.{Splits, splits, standing_below}
+use Rattle.pf_tally.proofs.Members.{joined_of, found_is}
+use Rattle.pf_promise.proofs.Shifts.{no_slot, done-rises, contains_grown}
+use Rattle.pf_tally.proofs.Slots.{to_filter, none_found, inside_stays}
 use Rattle.pf_promise.proofs.Leaves.{last_due, free}
 use Rattle.pf_promise.proofs.Joining.{task_at, demand_of, IsKnown, known, is_task, is_demand, shift-rises}
 use Rattle.pf_promise.proofs.Choosing.{due_in, stays_to, service_of, schedule_upto, shift_slot, counted, IsInside, inside_is, inside_known, runs_inside, choice}

@@ -9,8 +9,8 @@ use Rattle.pf_run.proofs.Counting.{count_by-cons}
 use Rattle.pf_tally.specs.declared.miss.Miss.{Miss}
 use Rattle.pf_tally.specs.Misses.{misses_of}
 use Rattle.pf_ideal.proofs.Rising.{rises}
-use Rattle.pf_promise.specs.Load.{overload_of, IsWithinRoom}
-use Rattle.pf_promise.specs.Laws.{MissCostsQuantum, NoWindowIsMissed}
+use Rattle.pf_tally.specs.Load.{overload_of}
+use Rattle.pf_promise.specs.Laws.{MissCostsQuantum, NoWindowIsMissed, IsWithinRoom}
 use Rattle.pf_promise.proofs.Counted.{none_beyond, misses_cost_quanta}
 
 pub overload-rises : (s : Plan) (r : List Slot) (a b : ℕ) → a ≤ b → overload_of s r a ≤ overload_of s r b

@@ -21,7 +21,7 @@ use Rattle.pf_run.specs.Run.{events_in_force, IsRun}
 use Rattle.pf_tally.specs.Misses.{due_of, ran_in, leaves_after, is_missed, misses_of_task}
 use Rattle.pf_tally.proofs.Windows.{deadline_late}
 use Rattle.pf_ideal.proofs.Rising.{rises}
-use Rattle.pf_promise.proofs.Members.{found_is}
+use Rattle.pf_tally.proofs.Members.{found_is}
 use Rattle.pf_promise.proofs.Shifts.{no_slot, done-rises}
 use Rattle.pf_promise.proofs.Choosing.{shift_slot, picked_next}
 use Rattle.pf_promise.proofs.Joining.{all_joined, shift-rises}

@@ -1,11 +1,11 @@
 -- Numbers that differ, among others: they sum to no more.
-use Rattle.std.proofs.Common.{◌≡◌, ◌≢◌, ℕ, suc, ◌+◌, ◌≤◌, ◌==◌, Bool, true, false, not, cond, ◌||◌, List, [], ◌∷◌, map, filter, sum_by, AllPairs, Contains, arith, refl, ap, sym, ◌∙◌, subst, ⊎_elim}
+use Rattle.std.proofs.Common.{◌≡◌, ◌≢◌, ℕ, suc, ◌+◌, ◌≤◌, ◌==◌, Bool, true, false, not, cond, List, [], ◌∷◌, map, filter, sum_by, AllPairs, arith, refl, ap, sym, ◌∙◌, subst, ⊎_elim}
 use Rattle.std.specs.List.{list_any}
 use Rattle.std.proofs.lemmas.Bool.{or_cases, or_left, or_right, eqb-true, eq-eqb, both_ways, false≢true}
 use Rattle.std.proofs.lemmas.List.Sums.{sum_by-cons}
-use Rattle.std.proofs.lemmas.List.Folds.{list_any_at}
 use Rattle.std.proofs.lemmas.List.{get_or_default}
-use Rattle.pf_run.proofs.Containing.{contains_head, contains_tail, pairs_tail}
+use Rattle.pf_run.proofs.Containing.{pairs_tail}
+use Rattle.pf_tally.proofs.Contents.{list_any-contains, list_any-map}
 
 -- the number is among these
 abbrev pub is_among : List ℕ → ℕ → Bool
@@ -106,22 +106,7 @@ filter_differ p (x ∷ xs) differ = by (p x) (filter_differ p xs differ.1) where
     new false not_among = not_among
   by false rest = rest
 
--- what a list has, by its places and by a test
 module _ {X : Type 0} where
-  pub list_any-contains : (p : X → Bool) (xs : List X) → list_any p xs ≡ true → (x : X) × Contains xs x × (p x ≡ true)
-  list_any-contains p [] h = absurd (false≢true h)
-  list_any-contains p (x ∷ xs) h = ⊎_elim
-      (λ here. (x, contains_head x xs, here))
-      (λ later. let it = list_any-contains p xs later in (it.0, contains_tail x xs it.0 it.1, it.2))
-      (or_cases (p x) (list_any p xs) h)
-
-  pub contains-list_any : (p : X → Bool) (xs : List X) (x : X) → Contains xs x → p x ≡ true → list_any p xs ≡ true
-  contains-list_any p xs x at passes = list_any_at p xs at.0 x at.1 (subst (λ y. p y ≡ true) (sym at.2) passes)
-
-  pub list_any-map : {Y : Type 0} (p : Y → Bool) (f : X → Y) (xs : List X) → list_any p (map f xs) ≡ list_any (λ x. p (f x)) xs
-  list_any-map p f [] = refl
-  list_any-map p f (x ∷ xs) = ap (λ b. p (f x) || b) (list_any-map p f xs)
-
   -- elements of which no two have one number
   pub differ_from_pairs : (f : X → ℕ) (xs : List X) → AllPairs (λ a b. f a ≢ f b) xs → DifferAll (map f xs)
   unfolding DifferAll

@@ -11,10 +11,10 @@ use Rattle.pf_run.specs.Record.{denials_of}
 use Rattle.pf_run.specs.Inside.{load_of, count_of, count_after}
 use Rattle.pf_run.specs.Run.{events_in_force}
 use Rattle.pf_run.proofs.Joins.{contains_past}
-use Rattle.pf_promise.specs.Load.{IsWithinRoom}
-use Rattle.pf_promise.specs.Laws.{LeavesRoom, SettingsSuffice}
-use Rattle.pf_promise.proofs.Standing.{Splits, splits, in_force_all}
-use Rattle.pf_promise.proofs.Loads.{load_is_within_cap}
+use Rattle.pf_tally.specs.Room.{LeavesRoom}
+use Rattle.pf_promise.specs.Laws.{SettingsSuffice, IsWithinRoom}
+use Rattle.pf_tally.proofs.Fronts.{Splits, splits, in_force_all}
+use Rattle.pf_tally.proofs.Loads.{load_is_within_cap}
 use Rattle.pf_promise.proofs.Promises.{no_window_is_missed}
 
 limited_room : (settings : System) (count : ℕ) (event : Event) → settings.cap ≤ settings.base * count →

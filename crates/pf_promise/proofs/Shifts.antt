@@ -4,12 +4,12 @@ use Rattle.std.proofs.Common.{◌≡◌, ℕ, suc, ◌+◌, ◌<◌, ◌≤◌, 
 use Rattle.std.proofs.lemmas.Bool.{cases_lt, cases_Bool, eqb-true, leb-true}
 use Rattle.std.proofs.lemmas.Bool.Decides.{nat_tests}
 use Rattle.std.proofs.lemmas.List.{take_all, take-append-le, take-take, get_or_append_left}
-use Rattle.std.proofs.lemmas.List.Elements.{All-head, All-weaker, Contains-get_or, filter_map-append}
+use Rattle.std.proofs.lemmas.List.Elements.{All-head, All-weaker, filter_map-append}
 use Rattle.std.proofs.lemmas.List.Sums.{sum_by-append, count_by_more_yes, count_by_more_no, sum_by-take-le}
 use Rattle.pf_facts.proofs.Sums.{sum_by-agree}
 use Rattle.pf_window.specs.Window.{release_of}
 use Rattle.pf_scenario.specs.Event.{slot_of}
-use Rattle.pf_scenario.specs.Scenario.{Plan, past}
+use Rattle.pf_scenario.specs.Scenario.{Plan}
 use Rattle.pf_scenario.specs.Edit.{IsScenario}
 use Rattle.pf_scenario.specs.declared.event.Event.{Event}
 use Rattle.pf_scenario.specs.declared.event.Event.TheVariants.{Join, Leave, Delay, Limit}
@@ -17,16 +17,15 @@ use Rattle.pf_scenario.specs.declared.event.Numbered.{Numbered}
 use Rattle.pf_admit.specs.declared.member.Member.{Member}
 use Rattle.pf_admit.specs.Member.{next_release}
 use Rattle.pf_admit.specs.Admission.{delay_denial}
-use Rattle.pf_run.specs.Record.{Slot, denials_of, runs, done, next_sub}
+use Rattle.pf_run.specs.Record.{Slot, runs, done, next_sub}
 use Rattle.pf_run.specs.Inside.{Joined, join_of, hold_back_of, shift_of, member_of, member_at}
 use Rattle.pf_run.specs.Denials.{denial_of}
 use Rattle.pf_run.specs.Run.{events_in_force, IsNextSlot, IsRun}
 use Rattle.pf_run.proofs.Points.{shift_push}
-use Rattle.pf_run.proofs.Joins.{past_below}
 use Rattle.pf_run.proofs.Judged.{length_snoc}
-use Rattle.pf_promise.proofs.Points.{IsBetween, along_points}
-use Rattle.pf_promise.proofs.Standing.{Splits, splits, in_force_all, standing-more}
-use Rattle.pf_promise.proofs.Members.{joined_of, one_joined, IsMemberAt, member_found}
+use Rattle.pf_tally.proofs.Points.{IsBetween, along_points}
+use Rattle.pf_tally.proofs.Fronts.{Splits, splits, standing_below, standing-more}
+use Rattle.pf_tally.proofs.Members.{joined_of, one_joined, IsMemberAt, member_found}
 
 abbrev pub no_slot : Slot
 no_slot = record { picks = []; denials = [] }
@@ -144,11 +143,6 @@ pub joined_grown : (base : ℕ) (xs more : List Numbered) (j : Joined) → Conta
 joined_grown base xs more j at =
     subst (λ js. Contains js j) (sym (filter_map-append (join_of base) xs more))
     (contains_grown (joined_of base xs) (joined_of base more) j at)
-
-pub standing_below : (s : Plan) (q : List Slot) (t : ℕ) → All (λ x. slot_of x.event < t) (events_in_force s q t)
-standing_below s q t =
-    in_force_all (λ x. slot_of x.event < t) (denials_of q) (past s t)
-    (λ k d lt. past_below s t (get_or (past s t) k d) (Contains-get_or (past s t) k d lt))
 
 pub done-front : (q more : List Slot) (task t : ℕ) → t ≤ length q → done (q ++ more) task t ≡ done q task t
 unfolding done

@@ -16,7 +16,7 @@ use Rattle.pf_tally.specs.Log.{RiseFrom}
 use Rattle.pf_tally.specs.Misses.{leaves_after}
 use Rattle.pf_tally.proofs.InForce.{in_force_rises}
 use Rattle.pf_tally.proofs.Subs.{Giver, from_filter_map}
-use Rattle.pf_promise.proofs.Shifts.{standing_below}
+use Rattle.pf_tally.proofs.Fronts.{standing_below}
 use Rattle.pf_promise.proofs.Presence.{join_slot}
 use Rattle.pf_promise.proofs.Joining.{all_joined, is_task}
 

@@ -30,8 +30,8 @@ use Rattle.pf_tally.proofs.Delays.{found_shift, next_rises}
 use Rattle.pf_tally.proofs.Holding.{held_push}
 use Rattle.pf_tally.proofs.Chains.{clock_is}
 use Rattle.pf_promise.proofs.Joining.{all_joined}
-use Rattle.pf_promise.proofs.Points.{IsBetween, along_points}
-use Rattle.pf_promise.proofs.Members.{joined_of, joined_count, contains_counted, one_joined, IsMemberAt, member_found}
+use Rattle.pf_tally.proofs.Points.{IsBetween, along_points}
+use Rattle.pf_tally.proofs.Members.{joined_of, joined_count, contains_counted, one_joined, IsMemberAt, member_found}
 use Rattle.pf_promise.proofs.Shifts.{done-most, done-front, done-rises, next_release_of}
 use Rattle.pf_promise.proofs.Clocks.{shift_held}
 use Rattle.pf_promise.proofs.Stays.{events_rise, share_of_joined}

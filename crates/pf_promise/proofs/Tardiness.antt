@@ -21,7 +21,7 @@ use Rattle.pf_tally.specs.declared.miss.Miss.{Miss}
 use Rattle.pf_tally.specs.Figures.{tardiness_of, processors_in, figures_of_task, figures_of}
 use Rattle.pf_tally.specs.Lags.{by_task, task_cmp}
 use Rattle.pf_tally.specs.Misses.{due_of, ran_in, leaves_after, is_missed, miss_of, misses_of_task, miss_cmp, misses_of}
-use Rattle.pf_promise.specs.Load.{overload_of}
+use Rattle.pf_tally.specs.Load.{overload_of}
 use Rattle.pf_promise.specs.Laws.{TardinessCostsQuanta, TardinessIsBounded}
 use Rattle.pf_promise.proofs.Shifts.{no_slot}
 use Rattle.pf_promise.proofs.Joining.{all_joined, task_at-joined, is_known, known}

@@ -26,7 +26,7 @@ use Rattle.pf_ideal.specs.Schedule.{IsByReach}
 use Rattle.pf_ideal.proofs.Sums.{one, one-mono, sum_by-mono, count_by-mono, count_by-found}
 use Rattle.pf_ideal.proofs.Windows.{window-some, deadline-climbs, release-rises}
 use Rattle.pf_ideal.proofs.Overdue.{overdue_is, is_overdue_from}
-use Rattle.pf_promise.specs.Load.{overload_of}
+use Rattle.pf_tally.specs.Load.{overload_of}
 use Rattle.pf_promise.specs.Overdue.{is_overdue}
 use Rattle.pf_promise.specs.Laws.{LatenessCostsQuanta}
 use Rattle.pf_promise.proofs.Sets.{is_among}

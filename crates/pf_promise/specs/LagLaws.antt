@@ -11,7 +11,8 @@ use Rattle.pf_tally.specs.Clock.{clock_of}
 use Rattle.pf_tally.specs.Misses.{misses_of_task}
 use Rattle.pf_tally.specs.declared.miss.Miss.{Miss}
 use Rattle.pf_tally.specs.Figures.{figures_of}
-use Rattle.pf_promise.specs.Load.{overload_of, IsWithinRoom}
+use Rattle.pf_tally.specs.Load.{overload_of}
+use Rattle.pf_promise.specs.Laws.{IsWithinRoom}
 use Rattle.pf_promise.specs.Stay.{IsAdmitted, IsStay, lag_after}
 
 -- Lags are above: no task is ever ahead of its fair share by a quantum and what its early slots are worth.

@@ -1,17 +1,15 @@
 -- The laws of a run's load and of its windows, each the contract of a public function.
-use Rattle.std.specs.Prelude.{◌≡◌, ℕ, ◌+◌, ◌-◌, ◌*◌, ◌<◌, ◌≤◌, ◌==◌, true, Option, List, [], All, Contains, count_by, filter_map, take}
+use Rattle.std.specs.Prelude.{◌≡◌, ℕ, ◌+◌, ◌-◌, ◌*◌, ◌<◌, ◌≤◌, ◌==◌, true, Option, List, [], length, All, Contains, count_by, filter_map, take}
 use Rattle.pf_order.specs.declared.pick.Pick.{Pick}
-use Rattle.pf_scenario.specs.System.{System}
 use Rattle.pf_scenario.specs.Scenario.{Plan}
 use Rattle.pf_scenario.specs.Edit.{IsScenario}
-use Rattle.pf_scenario.specs.declared.event.Event.{Event}
-use Rattle.pf_scenario.specs.declared.event.Event.TheVariants.{Limit}
 use Rattle.pf_run.specs.Record.{Slot}
 use Rattle.pf_run.specs.Inside.{Joined, join_of, load_of}
 use Rattle.pf_run.specs.Run.{events_in_force, IsRun}
 use Rattle.pf_tally.specs.Figures.{tardiness_of, figures_of}
 use Rattle.pf_tally.specs.Misses.{due_of, misses_of}
-use Rattle.pf_promise.specs.Load.{overload_of, IsWithinRoom}
+use Rattle.pf_tally.specs.Load.{load_in, room_in, overload_of}
+use Rattle.pf_tally.specs.Room.{LeavesRoom}
 use Rattle.pf_promise.specs.Overdue.{is_overdue, overdue_of}
 
 -- The load never passes the cap, at any point of a run: the events in force before a point are the first so many of
@@ -56,15 +54,14 @@ abbrev pub TardinessIsBounded : Type 0
 TardinessIsBounded = (s : Plan) (n : ℕ) (r : List Slot) (rows : List (List (Option Pick))) → IsScenario s → IsRun s n r →
     All (λ f. s.settings.base * f.tardiness ≤ overload_of s r n) (figures_of s r rows)
 
+-- no slot has a load above its room
+abbrev pub IsWithinRoom : Plan → List Slot → Type 0
+IsWithinRoom s r = (t : ℕ) → t < length r → load_in s r t ≤ room_in s r t
+
 -- No window is missed: a run whose load is within the processors in use, in each slot, misses none.
 abbrev pub NoWindowIsMissed : Type 0
 NoWindowIsMissed = (s : Plan) (n : ℕ) (r : List Slot) → IsScenario s → IsRun s n r → IsWithinRoom s r →
     misses_of s r ≡ []
-
--- where an event is a limit, the processors that it leaves in use carry the cap
-abbrev pub LeavesRoom : System → Event → Type 0
-LeavesRoom settings (Limit slot count) = settings.cap ≤ settings.base * count
-LeavesRoom settings event = Unit {0}
 
 -- The settings are enough: where the processors carry the cap, with each limit, no window of any run is missed, whatever
 -- joins, leaves and is delayed.

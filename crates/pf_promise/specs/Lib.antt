@@ -6,10 +6,10 @@ pub use Rattle.pf_run.specs.Inside
 pub use Rattle.pf_run.specs.Run
 pub use Rattle.pf_tally.specs.Figures
 pub use Rattle.pf_tally.specs.Misses
-pub mod Load
 pub mod Overdue
 pub mod Laws
 pub mod Stay
 pub mod LagLaws
 pub mod Job
 pub mod JobLaws
+pub mod FitLaws

@@ -1,15 +1,15 @@
 //! What is promised of every run of a scenario: its load never passes the cap, and where the processors in use carry
 //! the load, no window is missed, whatever joins, leaves and is delayed. And what follows for lags and jobs: how far a task may be
-//! ahead of its fair share and behind it, that a missed window shows in its lags, and how soon and how late a job is done.
+//! ahead of its fair share and behind it, that a missed window shows in its lags, and how soon and how late a job is done. And what
+//! the fit that `fits` of pf_tally tells says of all that.
 //!
 //! A scaled lag is `cost * clock - period * received`: one quantum is `period`. A job is `cost` subtasks, the first 1 to `cost`.
 #![tactic(auto)]
 
+ghost use Rattle.pf_promise.specs.FitLaws.{FitsKeepLags, FitsMissNone, OverloadBoundsLateness, OverloadBoundsTardiness};
 ghost use Rattle.pf_promise.specs.JobLaws.{DueJobsAreDone, JobsAreInTime, JobsAreNotSooner};
 ghost use Rattle.pf_promise.specs.LagLaws.{LagsAreAbove, LagsAreBelow, LagsAreWithin, LagsCostQuanta, MissesShowInLags};
 ghost use Rattle.pf_promise.specs.Laws.{LatenessCostsQuanta, LoadIsWithinCap, MissCostsQuantum, MissesCostQuanta, NoWindowIsMissed, OverdueCostsQuanta, SettingsSuffice, TardinessCostsQuanta, TardinessIsBounded};
-
-pub use pf_admit::denial;
 
 /// The load never passes the cap, at every point of every run.
 pub fn the_load_never_passes_the_cap()
@@ -110,4 +110,26 @@ pub fn jobs_are_not_sooner()
 /// Where a task missed no window, each job whose last subtask is due by some point of its stay is done by then.
 pub fn due_jobs_are_done()
     ensures { DueJobsAreDone }
+{}
+
+/// A run whose fit tells of no slot with a load above the processors in use missed no window.
+pub fn fits_miss_none()
+    ensures { FitsMissNone }
+{}
+
+/// In a run whose fit tells of no such slot the lag of a task that never runs early stays within a quantum, at each point of
+/// its stay.
+pub fn fits_keep_lags()
+    ensures { FitsKeepLags }
+{}
+
+/// The greatest tardiness of each task of a run, times the base, is at most the overload that its fit tells.
+pub fn overload_bounds_tardiness()
+    ensures { OverloadBoundsTardiness }
+{}
+
+/// No window of a run comes later than by as many slots as the overload that its fit tells has quanta, whether it was served
+/// at the end or not.
+pub fn overload_bounds_lateness()
+    ensures { OverloadBoundsLateness }
 {}

@@ -6,9 +6,11 @@ ghost use Rattle.pf_journal.specs.Texts.{whole_lines};
 ghost use Rattle.pf_recorder.specs.Recording.{BeginsWith, added_to, records_in};
 
 use crate::recorder::Recorder;
+use pf_journal::batch::Batch;
 use pf_journal::failed::Failed;
 use pf_journal::found::Found;
 use pf_journal::journal::Journal;
+use pf_journal::journal_error::JournalError;
 use pf_sitting::scripted::Scripted;
 use sqlite_disk::Disk;
 use std::alloc::Global;
@@ -19,7 +21,7 @@ impl<S: Scripted + Drop, D: Disk + Drop> Recorder<S, D> {
     ///
     /// # Errors
     ///
-    /// Those of `Found::open` and `Journal::put_whole`, with the file. A crash leaves the records that it had, or where it had none all of
+    /// Those of `Found::open` and `Journal::put_whole`, and `OutOfMemory` where memory is refused, with the file. A crash leaves the records that it had, or where it had none all of
     /// those of the script or none.
     pub fn open(alloc: Global, found: Found<D>, machine: S) -> Result<Self, Failed<D>>
         requires { IsFound D.Disk.seen D.Disk.may_leave D.Disk.is_usable D.Disk.is_clean found }
@@ -30,8 +32,16 @@ impl<S: Scripted + Drop, D: Disk + Drop> Recorder<S, D> {
         ensures opens { IfErr result (λ failed. IsMixing D.Disk.is_mixing → IsOpenable (found_bytes found) → IsTrue (D.Disk.is_clean (found_disk found))
             → (c : List ℕ) → D.Disk.may_leave failed.disk c → IsOpenable c) }
     {
+        let batch = match Batch::new(alloc) {
+            Ok(batch) => batch,
+            Err(_) => {
+                let error = JournalError::OutOfMemory;
+                let disk = found.into_disk();
+                return Err(Failed { error, disk });
+            }
+        };
         match open_with(alloc, found, machine.script()) {
-            Ok(journal) => Ok(Recorder::over(alloc, machine, journal)),
+            Ok(journal) => Ok(Recorder::over(alloc, machine, journal, batch)),
             Err(failed) => Err(failed),
         }
     }

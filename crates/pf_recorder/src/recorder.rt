@@ -1,3 +1,4 @@
+use pf_journal::batch::Batch;
 use pf_journal::journal::Journal;
 use pf_journal::journal_error::JournalError;
 use pf_sitting::answers::{Answers, Going, Stopped, Unkept};
@@ -10,11 +11,12 @@ use std::marker::Model;
 /// its round are told. Contracts see what answers, the file, the lines that wait for it, and whether it takes no more.
 #[derive(Drop)]
 pub struct Recorder<S: Scripted, D: Disk> {
-    alloc: Global,
     machine: S,
     journal: Journal<D>,
     /// The lines that were answered and are not in the journal yet.
     waiting: Vec<u8>,
+    /// The room in which they are put there.
+    batch: Batch,
     /// Why the journal takes no more.
     fault: Option<JournalError>,
 }
@@ -36,15 +38,15 @@ impl<S: Scripted, D: Disk> Recorder<S, D> {
     ghost use Rattle.pf_journal.specs.Kept.{IsKept, disk_of};
 
     /// What answers, over a journal that takes more.
-    pub(crate) fn over(alloc: Global, machine: S, journal: Journal<D>) -> Self
+    pub(crate) fn over(alloc: Global, machine: S, journal: Journal<D>, batch: Batch) -> Self
         requires { IsKept D.seen D.may_leave D.is_usable D.is_clean journal }
         ensures { result ≡ record { machine = machine; file = disk_of journal; waiting = []; lost = None } }
     {
         Recorder {
-            alloc,
             machine,
             journal,
             waiting: Vec::new(alloc),
+            batch,
             fault: None,
         }
     }
@@ -91,7 +93,7 @@ impl<S: Scripted, D: Disk> Answers for Recorder<S, D> {
         if self.fault.is_some() {
             return Err(Unkept);
         }
-        match self.journal.put_lines(self.alloc, &self.waiting) {
+        match self.journal.put_lines(&mut self.batch, &self.waiting) {
             Ok(()) => {
                 self.waiting.clear();
                 Ok(())

@@ -9,7 +9,7 @@ use Rattle.pf_names.specs.declared.named.Named.{Named}
 use Rattle.pf_plain.specs.declared.origin.Origin.{Origin}
 use Rattle.pf_scenario.specs.Scenario.{opening_plan}
 use Rattle.pf_scenario.specs.System.{System}
-use Rattle.pf_script.specs.Asked.{commands_in}
+use Rattle.pf_carrying.specs.Asked.{commands_in}
 use Rattle.pf_script.specs.Told.{LinesTold, Told, told}
 use Rattle.pf_script.specs.declared.record.ScriptSettings.{ScriptSettings}
 use Rattle.pf_recount.specs.Places.{ArePlaces, place_of}

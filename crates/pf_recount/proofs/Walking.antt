@@ -21,7 +21,7 @@ use Rattle.pf_plain.specs.Carried.{state_behind, state_behind_line}
 use Rattle.pf_plain.specs.declared.origin.Origin.{Origin}
 use Rattle.pf_run_notes.specs.declared.place.Place.{Place}
 use Rattle.pf_scenario.specs.Scenario.{Plan, plan_after}
-use Rattle.pf_script.specs.Asked.{commands_in, commands_of}
+use Rattle.pf_carrying.specs.Asked.{commands_in, commands_of}
 use Rattle.pf_script.specs.declared.line.Line.TheVariants as line
 use Rattle.pf_script.specs.declared.record.LineTold.{LineTold}
 use Rattle.pf_recount.specs.Places.{ArePlaces, place_of}

@@ -7,7 +7,7 @@ use Rattle.pf_desk.specs.declared.command.Command.{Command}
 use Rattle.pf_names.specs.declared.named.Named.{Named}
 use Rattle.pf_plain.specs.Carried.{state_behind_line}
 use Rattle.pf_plain.specs.declared.origin.Origin.{Origin}
-use Rattle.pf_script.specs.Asked.{commands_in, commands_of}
+use Rattle.pf_carrying.specs.Asked.{commands_in, commands_of}
 use Rattle.pf_script.specs.declared.line.Line.{Line}
 use Rattle.pf_script.specs.declared.record.LineTold.{LineTold}
 use Rattle.pf_recount.specs.declared.course.Course.{Course}

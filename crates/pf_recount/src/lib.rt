@@ -12,6 +12,3 @@ pub mod refused_record;
 mod replies;
 mod stop;
 mod telling;
-
-pub use pf_carry::carry;
-pub use pf_plain::origin;

@@ -5,7 +5,7 @@ ghost use Rattle.pf_desk.specs.Machine.{State};
 ghost use Rattle.pf_plain.specs.declared.origin.Origin.{Origin};
 ghost use Rattle.pf_scenario.specs.Edit.{edit_fault};
 ghost use Rattle.pf_scenario.specs.Scenario.{plan_after};
-ghost use Rattle.pf_script.specs.Asked.{commands_in};
+ghost use Rattle.pf_carrying.specs.Asked.{commands_in};
 ghost use Rattle.pf_script.specs.Told.{told};
 ghost use Rattle.pf_script.specs.declared.line.Line.TheVariants as line;
 ghost use Rattle.pf_recount.specs.Places.{place_of};

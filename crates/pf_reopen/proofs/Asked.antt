@@ -11,7 +11,7 @@ use Rattle.pf_desk.specs.declared.command.Command.{Command}
 use Rattle.pf_desk.specs.declared.command.Command.TheVariants as command
 use Rattle.pf_desk.specs.Desk.{Seen}
 use Rattle.pf_script.specs.declared.line.Line.{Line}
-use Rattle.pf_script.specs.Asked.{Whole, asked_by, commands_in, commands_of, script_asked}
+use Rattle.pf_carrying.specs.Asked.{Whole, asked_by, commands_in, commands_of, script_asked}
 use Rattle.pf_names.specs.Titled.{untitled}
 use Rattle.pf_report.specs.Script.{script_text_of}
 use Rattle.pf_reopen.specs.Reopen.{CanBeWritten, first_number, insert_lines, lines_told, step_lines}

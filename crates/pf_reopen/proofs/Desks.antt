@@ -1,7 +1,7 @@
 -- A desk has a script, and its script opens it again.
 use Rattle.std.proofs.Common.{◌≡◌, map, sym, ◌∙◌}
 use Rattle.pf_desk.specs.Desk.{seen_of}
-use Rattle.pf_script.specs.Asked.{Whole}
+use Rattle.pf_carrying.specs.Asked.{Whole}
 use Rattle.pf_reopen.specs.Whole.{script_commands}
 use Rattle.pf_reopen.specs.Asked.{DesksHaveScripts, ScriptsReopenDesks}
 use Rattle.pf_reopen.proofs.Asked.{asked_whole}

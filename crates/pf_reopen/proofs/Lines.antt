@@ -9,7 +9,7 @@ use Rattle.pf_scenario.specs.System.{System, IsInLimits}
 use Rattle.pf_scenario.specs.Edit.{IsEvent}
 use Rattle.pf_scenario.specs.declared.limits.TheConstants.{MOST_EARLY}
 use Rattle.pf_scenario.specs.declared.settings.TheConstants.{MOST_PROCESSORS, LARGEST_CAP}
-use Rattle.pf_timeline.specs.declared.timeline.TheConstants.{LARGEST_DISTANCE}
+use Rattle.pf_scenario.specs.declared.limits.TheConstants.{LARGEST_DISTANCE}
 use Rattle.pf_weight.specs.declared.base.TheConstants.{LARGEST_BASE}
 use Rattle.pf_scenario.specs.declared.event.Event.{Event}
 use Rattle.pf_scenario.specs.declared.event.Event.TheVariants.{Join, Leave, Delay, Limit}

@@ -9,7 +9,7 @@ use Rattle.pf_plain.specs.Carried.{state_behind, state_behind_line}
 use Rattle.pf_recount.specs.Recount.{Recounted, behind_change, behind_line, behind_lines, behind_steps_if}
 use Rattle.pf_recount.specs.Replies.{one_if_refused, outcome_of, refused_in}
 use Rattle.pf_run_notes.specs.declared.place.Place.{Place}
-use Rattle.pf_script.specs.Asked.{commands_in, commands_of}
+use Rattle.pf_carrying.specs.Asked.{commands_in, commands_of}
 use Rattle.pf_script.specs.declared.line.Line.{Line}
 use Rattle.pf_script.specs.declared.line.Line.TheVariants.{Edit, Steps}
 use Rattle.pf_script.specs.declared.record.LineTold.{LineTold}

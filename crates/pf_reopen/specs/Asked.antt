@@ -4,7 +4,7 @@ use Rattle.pf_desk.specs.Desk.{Seen, Shown, IsDesk, seen_of}
 use Rattle.pf_names.specs.Titled.{untitled}
 use Rattle.pf_report.specs.Script.{script_text_of}
 use Rattle.pf_stream.specs.Reading.{longest_script}
-use Rattle.pf_script.specs.Asked.{Whole, script_asked}
+use Rattle.pf_carrying.specs.Asked.{Whole, script_asked}
 use Rattle.pf_reopen.specs.Reopen.{CanBeWritten}
 use Rattle.pf_reopen.specs.Whole.{script_commands, IsReopened}
 

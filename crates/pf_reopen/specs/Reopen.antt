@@ -6,7 +6,7 @@ use Rattle.pf_scenario.specs.declared.event.Event.{Event}
 use Rattle.pf_scenario.specs.declared.event.Event.TheVariants.{Limit}
 use Rattle.pf_scenario.specs.declared.event.Numbered.{Numbered}
 use Rattle.pf_scenario.specs.declared.change.Change.TheVariants.{Insert}
-use Rattle.pf_timeline.specs.Checkpoints.{largest_distance}
+use Rattle.pf_scenario.specs.Limits.{largest_distance}
 use Rattle.pf_desk.specs.Desk.{Seen}
 use Rattle.pf_names.specs.Titled.{untitled}
 use Rattle.pf_report.specs.Script.{script_text_of}

@@ -36,7 +36,7 @@ use Rattle.pf_run.proofs.Judged.{denials_of_snoc, denied_past}
 use Rattle.pf_run.proofs.Limits.{passes_tests}
 use Rattle.pf_run.proofs.Numbers.{apart_events_of, held_filter, held_past}
 use Rattle.pf_run.proofs.Runs.{computed_begins, computed_length, course_is_run, run_is_computed}
-use Rattle.pf_promise.proofs.Standing.{in_force_all, standing-take}
+use Rattle.pf_tally.proofs.Fronts.{in_force_all, standing-take}
 use Rattle.pf_repairs.specs.Repairs.{denial_up_to, leaving_in}
 use Rattle.pf_repairs.proofs.Bare.{course_kept, course_without, denied_out, member_at_kept}
 use Rattle.pf_repairs.proofs.Judging.{AreOfSlot, denial_by, judged}

@@ -20,7 +20,7 @@ use Rattle.pf_run.proofs.Joins.{ready_differ, joins_once_in_force}
 use Rattle.pf_run.proofs.Firsts.{TasksDiffer, first_is_first, first_few}
 use Rattle.pf_run.proofs.Runs.{first_are_computed}
 use Rattle.pf_tally.proofs.Subs.{Giver, from_filter_map}
-use Rattle.pf_promise.proofs.Sets.{list_any-contains, list_any-map}
+use Rattle.pf_tally.proofs.Contents.{list_any-contains, list_any-map}
 use Rattle.pf_promise.proofs.Shifts.{no_slot}
 use Rattle.pf_promise.proofs.Joining.{task_at, task_at-joined}
 use Rattle.pf_promise.proofs.Choosing.{chosen, chosen_first, chosen_picks}

@@ -18,9 +18,9 @@ use Rattle.pf_run.specs.Record.{Slot, runs, done}
 use Rattle.pf_run.specs.Inside.{Joined}
 use Rattle.pf_run.specs.Run.{events_in_force, pick_of_key, IsRun}
 use Rattle.pf_run.proofs.Counting.{map_map}
-use Rattle.pf_promise.proofs.Sets.{list_any-map}
+use Rattle.pf_tally.proofs.Contents.{list_any-map}
 use Rattle.pf_promise.proofs.Shifts.{no_slot}
-use Rattle.pf_promise.proofs.Members.{found_is, find_joined}
+use Rattle.pf_tally.proofs.Members.{found_is, find_joined}
 use Rattle.pf_promise.proofs.Joining.{joins_at_most, is_task}
 use Rattle.pf_promise.proofs.Choosing.{counted}
 use Rattle.pf_repeat.specs.Synchronous.{IsSynchronous, tasks_in, IsSpan, owed_in, owed_to, later_pick}

@@ -25,9 +25,11 @@ use Rattle.pf_run.proofs.Runs.{runs_begin}
 use Rattle.pf_tally.specs.Misses.{due_of, is_missed, miss_of, misses_of_task, miss_cmp, in_miss_order, misses_of}
 use Rattle.pf_tally.proofs.Windows.{releases_rise}
 use Rattle.pf_ideal.proofs.Sums.{one, sum_by-plus}
-use Rattle.pf_promise.specs.Load.{load_in, IsWithinRoom}
-use Rattle.pf_promise.proofs.Sets.{is_among, sum_by-among, sum_by-filter, filter_differ, among_filter, list_any-contains, contains-list_any, list_any-map}
-use Rattle.pf_promise.proofs.Standing.{standing-take}
+use Rattle.pf_tally.specs.Load.{load_in}
+use Rattle.pf_promise.specs.Laws.{IsWithinRoom}
+use Rattle.pf_tally.proofs.Contents.{list_any-contains, contains-list_any, list_any-map}
+use Rattle.pf_promise.proofs.Sets.{is_among, sum_by-among, sum_by-filter, filter_differ, among_filter}
+use Rattle.pf_tally.proofs.Fronts.{standing-take}
 use Rattle.pf_promise.proofs.Shifts.{no_slot, done-runs, done-idle}
 use Rattle.pf_promise.proofs.Joining.{IsTask, is_task, tasks_differ}
 use Rattle.pf_promise.proofs.Choosing.{counted}

@@ -17,7 +17,7 @@ use Rattle.pf_run.specs.Run.{events_in_force}
 use Rattle.pf_run.proofs.Joins.{contains_past}
 use Rattle.pf_tally.specs.Misses.{leaves_after}
 use Rattle.pf_tally.proofs.Subs.{Giver, from_filter_map}
-use Rattle.pf_promise.proofs.Standing.{in_force_all}
+use Rattle.pf_tally.proofs.Fronts.{in_force_all}
 use Rattle.pf_repeat.specs.Synchronous.{JoinsAtStart, IsSynchronous}
 
 -- what holds of a join of slot 0

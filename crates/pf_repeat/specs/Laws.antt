@@ -5,7 +5,7 @@ use Rattle.pf_scenario.specs.Edit.{IsScenario}
 use Rattle.pf_run.specs.Record.{Slot}
 use Rattle.pf_run.specs.Run.{IsRun}
 use Rattle.pf_tally.specs.Misses.{misses_of}
-use Rattle.pf_promise.specs.Load.{load_in}
+use Rattle.pf_tally.specs.Load.{load_in}
 use Rattle.pf_repeat.specs.Synchronous.{IsSynchronous, tasks_in, IsSpan, later_pick, AreEven}
 
 -- the load is within the processors

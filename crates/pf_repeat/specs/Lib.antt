@@ -3,6 +3,6 @@ pub use Rattle.pf_scenario.specs.Edit
 pub use Rattle.pf_run.specs.Record
 pub use Rattle.pf_run.specs.Run
 pub use Rattle.pf_tally.specs.Misses
-pub use Rattle.pf_promise.specs.Load
+pub use Rattle.pf_tally.specs.Load
 pub mod Synchronous
 pub mod Laws

@@ -16,5 +16,3 @@ pub mod schedule;
 pub mod schedule_part;
 pub mod script;
 mod tail_text;
-
-pub use pf_desk::{rows, snapshot};

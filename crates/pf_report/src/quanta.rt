@@ -3,7 +3,7 @@ ghost use Rattle.pf_place.specs.Lent.{lent_row};
 ghost use Rattle.pf_report.specs.Quanta.{quanta_text, quantum_records, row_records};
 ghost use Rattle.pf_text.specs.Page.{table_text};
 
-use crate::rows::row_at;
+use pf_desk::rows::row_at;
 use pf_desk::snapshot::Snapshot;
 use pf_order::pick::Pick;
 use pf_place::row_view::RowView;

@@ -4,7 +4,7 @@ ghost use Rattle.pf_place.specs.Lent.{lent_row};
 ghost use Rattle.pf_text.specs.Page.{with_record};
 ghost use Rattle.pf_report.specs.Tables.{schedule_heading, schedule_text, sitter_field};
 
-use crate::rows::{row_at, row_count};
+use pf_desk::rows::{row_at, row_count};
 use pf_desk::snapshot::Snapshot;
 use pf_order::pick::Pick;
 use pf_place::row_view::RowView;

@@ -1,8 +1,8 @@
 ghost use Rattle.std.specs.Prelude.{◌≡◌, ◌≤◌, IfOk};
 ghost use Rattle.pf_report.specs.Part.{schedule_part_text};
 
-use crate::rows::row_at;
 use crate::schedule::{push_heading, push_row};
+use pf_desk::rows::row_at;
 use pf_desk::snapshot::Snapshot;
 use pf_text::pieces::{Chain, Whole};
 use pf_text::records::{RecordPieces, Records};

@@ -15,7 +15,8 @@ use Rattle.pf_converted.proofs.Plain.{name_plain, plain_digits}
 use Rattle.pf_names.specs.Names.{task_of}
 use Rattle.pf_names.specs.Text.{is_letter_first, is_text}
 use Rattle.pf_names.specs.declared.named.Named.{Named}
-use Rattle.pf_script.specs.Fields.{field, is_word, number, number_of}
+use Rattle.pf_script.specs.Fields.{field, is_word, number}
+use Rattle.pf_text.specs.Numbers.{number_of}
 use Rattle.pf_plan.specs.Labels.{number_of_label}
 use Rattle.pf_plan.specs.Parsing.{◌>>=◌, early_at, fault_at, id_at, number_or, number_within, of_length, task_at, within}
 use Rattle.pf_plan.specs.declared.fault.Reason.{Reason}

@@ -25,7 +25,7 @@ use Rattle.pf_scenario.specs.declared.change.Change.TheVariants.{Insert, Alter, 
 use Rattle.pf_scenario.specs.declared.event.Event.{Event}
 use Rattle.pf_scenario.specs.declared.event.Numbered.{Numbered}
 use Rattle.pf_scenario.specs.declared.fault.EditFault.{EditFault}
-use Rattle.pf_script.specs.Asked.{commands_of}
+use Rattle.pf_carrying.specs.Asked.{commands_of}
 use Rattle.pf_script.specs.declared.line.Line.{Line}
 use Rattle.pf_script.specs.declared.line.Line.TheVariants.{Edit, Steps}
 use Rattle.pf_session.specs.Made.{event_before, left_behind, made_behind_undo, made_of, new_number, number_made, renumbered, taking_back}

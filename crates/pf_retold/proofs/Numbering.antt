@@ -15,7 +15,7 @@ use Rattle.pf_scenario.specs.declared.fault.EditFault.{EditFault}
 use Rattle.pf_scenario.specs.declared.fault.EditFault.TheVariants.{NumbersSpent, TooManyEvents}
 use Rattle.pf_scenario.specs.declared.scenario.TheConstants.{LAST_NUMBER, MOST_EVENTS}
 use Rattle.std.specs.List.{slice_get}
-use Rattle.pf_script.specs.Asked.{commands_of}
+use Rattle.pf_carrying.specs.Asked.{commands_of}
 use Rattle.pf_script.specs.declared.line.Line.{Line}
 use Rattle.pf_script.specs.declared.line.Line.TheVariants.{Edit, Steps}
 use Rattle.pf_plain.specs.Carried.{number_given, number_in, state_behind, state_behind_line}

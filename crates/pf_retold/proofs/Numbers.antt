@@ -7,7 +7,8 @@ use Rattle.std.specs.Str.Parse.{digits_value}
 use Rattle.std.proofs.lemmas.Bool.Decides.{nat_tests}
 use Rattle.std.proofs.lemmas.Fmt.{digits_decimal, digits_value-decimal, length-decimal-le, decimal_nonempty}
 use Rattle.std.proofs.lemmas.Str.Parse.{digits_value_short, numerals_by_value, tells_all_ascii_digits}
-use Rattle.pf_script.specs.Fields.{field, number, number_of}
+use Rattle.pf_script.specs.Fields.{field, number}
+use Rattle.pf_text.specs.Numbers.{number_of}
 use Rattle.pf_plan.specs.declared.fault.Reason.{Reason}
 use Rattle.pf_plan.specs.declared.fault.Reason.TheVariants.{Outside}
 use Rattle.pf_plan.specs.declared.fault.RecordFault.{RecordFault}

@@ -7,7 +7,8 @@ use Rattle.pf_scenario.specs.System.{wide_horizon}
 use Rattle.pf_scenario.specs.declared.event.Event.{Event}
 use Rattle.pf_scenario.specs.declared.event.Event.TheVariants.{Join, Leave, Delay, Limit}
 use Rattle.pf_scenario.specs.declared.change.Change.TheVariants.{Insert, Alter, Strike}
-use Rattle.pf_script.specs.Fields.{field, is_word, number_of}
+use Rattle.pf_script.specs.Fields.{field, is_word}
+use Rattle.pf_text.specs.Numbers.{number_of}
 use Rattle.pf_script.specs.Parsing.{alter_at, change_at, delay_at, edit_at, event_at, fault_at, join_at, leave_at, limit_at, line_at, names_line, number_at, number_within, opening_at, record_at, settings_at, steps_at, strike_at}
 use Rattle.pf_script.specs.declared.fault.Reason.TheVariants.{NoRecord}
 use Rattle.pf_script.specs.declared.line.Line.{Line}

@@ -5,5 +5,3 @@
 
 pub mod denied;
 pub mod laws;
-
-pub use pf_place::rows;

@@ -1,6 +1,6 @@
 pub use Rattle.pf_notes.specs.declared.grounds.Grounds
 pub use Rattle.pf_notes.specs.Refusal
-pub mod File
+pub mod Places
 pub mod Late
 pub mod Lines
 pub mod Made

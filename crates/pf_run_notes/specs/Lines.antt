@@ -7,7 +7,8 @@ use Rattle.pf_scenario.specs.declared.event.Numbered.{Numbered}
 use Rattle.pf_tally.specs.declared.miss.Miss.{Miss}
 use Rattle.pf_notes.specs.Subject.{task_text, subtask_text}
 use Rattle.pf_notes.specs.Refusal.{record_text}
-use Rattle.pf_run_notes.specs.File.{file_text, place_text}
+use Rattle.pf_text.specs.FileName.{file_text}
+use Rattle.pf_run_notes.specs.Places.{place_text}
 use Rattle.pf_run_notes.specs.declared.place.Place.{Place}
 
 -- a word, the number and the name of a rule, and the sentence

@@ -3,13 +3,9 @@
 #![tactic(auto)]
 
 pub mod behind_run;
-pub mod character;
-pub mod file;
 pub mod late;
 pub mod lines;
 pub mod made;
 pub mod notes;
 pub mod place;
 pub mod refusals;
-
-pub use pf_notes::{grounds, refusal};

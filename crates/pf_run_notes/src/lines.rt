@@ -3,14 +3,14 @@ ghost use Rattle.std.specs.Fmt.{decimal};
 ghost use Rattle.std.specs.Option.{option_map};
 ghost use Rattle.pf_run_notes.specs.Lines.{count_line, denied_line, event_text, missed_line, more_line, not_run_text, ran_in_text, ran_text, refused_line, ruled_text, window_text};
 
-use crate::file::{push_file, push_place};
-use crate::place::Place;
+use crate::place::{Place, push_place};
 use pf_admit::denial::Denial;
 use pf_notes::refusal::push_record;
 use pf_notes::subject::{push_subtask, push_task};
 use pf_notes::words::push_between;
 use pf_scenario::event::Numbered;
 use pf_tally::miss::Miss;
+use pf_text::file_name::push_file;
 use pf_text::numbers::push_number;
 use std::alloc::AllocError;
 

@@ -4,8 +4,8 @@ ghost use Rattle.pf_run_notes.specs.Refusals.{change_line, fault_code, fault_nam
 
 use crate::lines::push_refused;
 use crate::place::Place;
+use pf_desk::reply::Fault;
 use pf_notes::refusal::{push_horizon, push_refusal};
-use pf_notes::reply::Fault;
 use pf_scenario::change::Change;
 use pf_scenario::scenario::Scenario;
 use std::alloc::{AllocError, Global};

@@ -5,6 +5,7 @@ pub use Rattle.pf_weight.specs.Share
 pub mod System
 pub mod Sorted
 pub mod Event
+pub mod Limits
 pub mod Scenario
 pub mod Edit
 pub mod Checked

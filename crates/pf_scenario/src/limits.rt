@@ -14,6 +14,9 @@ pub const MOST_EARLY: u64 = 1 << 20;
 /// The most slots of a delay.
 pub const LONGEST_DELAY: u64 = 1 << 20;
 
+/// The greatest distance of two checkpoints of a run, in slots.
+pub const LARGEST_DISTANCE: u64 = 4096;
+
 /// `TaskOutOfRange` where the task is not 1 to 4,095.
 fn check_task(task: u64) -> Result<(), EditFault>
     ensures { result_err result ≡ unless (is_within LARGEST_TASK task) EditFault.TaskOutOfRange }

@@ -1,6 +1,7 @@
 -- Corners of fields, computed from the definitions.
 use Rattle.std.proofs.Common.{◌≡◌, [], ◌∷◌, Some, None, true, false, refl, codes}
-use Rattle.pf_script.specs.Fields.{number_of, is_word, is_record_of}
+use Rattle.pf_script.specs.Fields.{is_word, is_record_of}
+use Rattle.pf_text.specs.Numbers.{number_of}
 
 -- leading zeros are allowed
 pub leading-zeros : number_of (codes "007") ≡ Some 7

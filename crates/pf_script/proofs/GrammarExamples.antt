@@ -9,7 +9,8 @@ use Rattle.pf_script.specs.declared.version.Version.TheVariants.{First, Second}
 use Rattle.pf_script.specs.declared.line.Line.{Line}
 use Rattle.pf_script.specs.declared.line.Line.TheVariants.{Edit, Steps}
 use Rattle.pf_script.specs.declared.line.Opening.{Opening}
-use Rattle.pf_script.specs.Fields.{number_of, is_word}
+use Rattle.pf_script.specs.Fields.{is_word}
+use Rattle.pf_text.specs.Numbers.{number_of}
 use Rattle.pf_script.specs.Grammar.{is_heading, settings_of, opening_of, join_of_fields, leave_of, delay_of, limit_of, event_of, strike_of, alter_of, change_of, steps_of, edit_of, line_of}
 use Rattle.pf_script.specs.Script.{script_records}
 

@@ -1,5 +1,4 @@
 pub mod Counting
-pub mod Digits
 pub mod FieldExamples
 pub mod Lined
 pub mod GrammarExamples

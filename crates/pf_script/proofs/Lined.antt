@@ -17,7 +17,8 @@ use Rattle.pf_script.specs.declared.line.Line.{Line}
 use Rattle.pf_script.specs.declared.line.Line.TheVariants.{Edit, Steps}
 use Rattle.pf_script.specs.declared.version.Version.{Version}
 use Rattle.pf_script.specs.declared.version.Version.TheVariants.{First, Second}
-use Rattle.pf_script.specs.Fields.{field, number_of, number, is_word, is_record_of}
+use Rattle.pf_script.specs.Fields.{field, number, is_word, is_record_of}
+use Rattle.pf_text.specs.Numbers.{number_of}
 use Rattle.pf_script.specs.Grammar.{has_limits, horizon_of, join_of_fields, leave_of, delay_of, limit_of, event_of, strike_of, alter_of, change_of, steps_of, edit_of, line_of}
 use Rattle.pf_script.specs.Parsing.{◌>>=◌, fault_at, number_at, number_within, join_at, leave_at, delay_at, limit_at, event_at, strike_at, alter_at, change_at, edit_at, steps_at, line_at}
 

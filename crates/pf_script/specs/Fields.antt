@@ -1,18 +1,11 @@
 -- The fields of a record, counted from 0: numbers and words.
-use Rattle.std.specs.Prelude.{ℕ, Bool, ◌==◌, ◌&&◌, ◌||◌, nat_lt, if◌then◌else◌, List, [], length, slice_index_or, Option, Some, None}
-use Rattle.std.specs.Str.{all_ascii_digits, bytes_eq}
-use Rattle.std.specs.Str.Parse.{digits_value}
+use Rattle.std.specs.Prelude.{ℕ, Bool, ◌==◌, ◌&&◌, List, [], length, slice_index_or, Option}
+use Rattle.std.specs.Str.{bytes_eq}
+use Rattle.pf_text.specs.Numbers.{number_of}
 
 -- the field at a place, with no byte past the last one
 abbrev pub field : List (List ℕ) → ℕ → List ℕ
 field fields place = slice_index_or fields place []
-
--- the number that a field is: 1 to 15 ASCII digits and nothing else
-unfoldable pub number_of : List ℕ → Option ℕ
-number_of bytes =
-    if (length bytes == 0) || nat_lt 15 (length bytes) then None
-    else if all_ascii_digits bytes then Some (digits_value 10 bytes)
-    else None
 
 -- the number of the field at a place
 abbrev pub number : List (List ℕ) → ℕ → Option ℕ

@@ -1,7 +1,6 @@
 pub use Rattle.csv.specs.Records
 pub use Rattle.pf_scenario.specs.System
 pub mod Answers
-pub mod Asked
 pub mod Faults
 pub mod Fields
 pub mod Grammar

@@ -1,6 +1,6 @@
 -- Scripts that were read up to their settings.
 use Rattle.std.specs.Prelude.{⊤, ℕ, ◌≡◌, ◌≤◌, None, Some, Result, Ok, Err, List}
-use Rattle.pf_desk.specs.Checkpoints.{largest_distance}
+use Rattle.pf_scenario.specs.Limits.{largest_distance}
 use Rattle.pf_script.specs.declared.fault.ScriptFault.{ScriptFault}
 use Rattle.pf_script.specs.declared.fault.ScriptFault.TheVariants as fault
 use Rattle.pf_script.specs.declared.opened.OpenedScript.{OpenedScript}

@@ -7,7 +7,7 @@ use Rattle.pf_scenario.specs.declared.event.Event.{Event}
 use Rattle.pf_scenario.specs.declared.event.Event.TheVariants.{Join, Leave, Delay, Limit}
 use Rattle.pf_scenario.specs.declared.change.Change.{Change}
 use Rattle.pf_scenario.specs.declared.change.Change.TheVariants.{Insert, Alter, Strike}
-use Rattle.pf_desk.specs.TheConstants.{LARGEST_DISTANCE}
+use Rattle.pf_scenario.specs.declared.limits.TheConstants.{LARGEST_DISTANCE}
 use Rattle.pf_script.specs.declared.fault.Reason.{Reason}
 use Rattle.pf_script.specs.declared.fault.Reason.TheVariants.{NoRecord, NoChange, NoEvent, NoSettings, LateSettings, NoVersion, NoNumber, Outside, Fields, StepFields}
 use Rattle.pf_script.specs.declared.fault.RecordFault.{RecordFault}

@@ -1,31 +1,9 @@
-ghost use Rattle.std.specs.Prelude.{◌≡◌, ◌<◌, ◌^◌, IfSome};
+ghost use Rattle.std.specs.Prelude.{◌≡◌};
 ghost use Rattle.std.specs.Str.{bytes_eq};
-ghost use Rattle.pf_script.specs.Fields.{number_of};
 
 use csv::ByteRecord;
+use pf_text::numbers::parse_number;
 use std::marker::Model;
-
-// The most digits that a number field has.
-const MOST_DIGITS: usize = 15;
-
-/// The number that a field is, where it is 1 to 15 ASCII digits and nothing else. Leading zeros are allowed.
-#[tactic(auto, unfolding(crate::specs::Fields::number_of))]
-pub fn parse_number(field: &[u8]) -> Option<u64>
-    ensures value { result ≡ number_of field.now }
-    ensures small { IfSome result (λ number. number < 10 ^ 15) }
-{
-    if field.is_empty() || field.len() > MOST_DIGITS {
-        return None;
-    }
-    let mut value = 0;
-    for byte in field {
-        if !byte.is_ascii_digit() {
-            return None;
-        }
-        value = value * 10 + u64::from(*byte - b'0');
-    }
-    Some(value)
-}
 
 /// Whether a field is this word, byte for byte. Most that are not differ in their length or their first byte.
 pub(crate) fn is_same(field: &[u8], word: &[u8]) -> bool

@@ -9,9 +9,9 @@ use crate::line::Line;
 use crate::record::{Record, ScriptSettings};
 use crate::stage::Stage;
 use crate::version::Version;
-use pf_desk::timeline::LARGEST_DISTANCE;
 use pf_scenario::change::Change;
 use pf_scenario::event::Event;
+use pf_scenario::limits::LARGEST_DISTANCE;
 use pf_scenario::settings::{LARGEST_CAP, MOST_PROCESSORS, Settings};
 use pf_weight::base::LARGEST_BASE;
 

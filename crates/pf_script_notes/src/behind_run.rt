@@ -10,11 +10,11 @@ use pf_carry::carry::carry;
 use pf_desk::desk::Desk;
 use pf_desk::snapshot::Snapshot;
 use pf_fault::fault::Fault;
-use pf_fit_command::recount::Recount;
-use pf_fit_command::recounting::recount;
 use pf_names::names::Names;
 use pf_plain::origin::Origin;
 use pf_plain::plain::{PlainScript, plain_script};
+use pf_recount::recount::Recount;
+use pf_recount::recounting::recount;
 use pf_run_notes::behind_run::notes;
 use std::alloc::{AllocError, Global};
 

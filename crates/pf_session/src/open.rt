@@ -3,8 +3,8 @@ ghost use Rattle.pf_desk.specs.Machine.{opening_state};
 
 use pf_desk::desk::Desk;
 use pf_desk::fault::OpenFault;
+use pf_scenario::limits::LARGEST_DISTANCE;
 use pf_script::record::ScriptSettings;
-use pf_timeline::timeline::LARGEST_DISTANCE;
 use std::alloc::{AllocError, Global};
 
 /// A desk with these settings.

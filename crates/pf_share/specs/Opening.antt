@@ -2,7 +2,7 @@
 use Rattle.std.specs.Prelude.{ℕ, zero, suc, ◌≡◌, ◌⊎◌, ◌<◌, List, [], ◌∷◌, ◌++◌}
 use Rattle.logbook.specs.Pages.{Book}
 use Rattle.pf_scenario.specs.System.{System}
-use Rattle.pf_timeline.specs.Checkpoints.{largest_distance}
+use Rattle.pf_scenario.specs.Limits.{largest_distance}
 use Rattle.pf_desk.specs.declared.entry.Entry.{Entry}
 use Rattle.pf_desk.specs.Desk.{Shown}
 use Rattle.pf_desk.specs.declared.fault.OpenFault.{OpenFault as DeskFault}

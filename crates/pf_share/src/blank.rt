@@ -56,7 +56,7 @@ impl<H: Wait + Drop> Model for Blank<H> {
 
 impl<H: Wait + Drop> Blank<H> {
     /// A desk with these settings, no event, no slot stepped and no history, which is shown. `every` is the distance of
-    /// its checkpoints in slots, 1 to `LARGEST_DISTANCE` of pf_timeline; it has 1 to `MOST_PASSES` passes, numbered
+    /// its checkpoints in slots, 1 to `LARGEST_DISTANCE` of pf_scenario; it has 1 to `MOST_PASSES` passes, numbered
     /// from 0, and 1 to `MOST_READERS` viewers.
     ///
     /// # Errors

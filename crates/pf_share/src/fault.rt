@@ -9,7 +9,7 @@ use std::fmt;
 /// Why a shared desk is not opened.
 #[derive(Clone, Copy, Debug, PartialEq, Eq)]
 pub enum OpenFault {
-    /// The distance of the checkpoints is not 1 to `LARGEST_DISTANCE` of pf_timeline, or there are not 1 to
+    /// The distance of the checkpoints is not 1 to `LARGEST_DISTANCE` of pf_scenario, or there are not 1 to
     /// `MOST_PASSES` passes, or not 1 to `MOST_READERS` readers.
     BadSettings,
     /// The readers' table gives no reader's place.

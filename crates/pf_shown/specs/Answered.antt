@@ -9,7 +9,7 @@ use Rattle.pf_fault.specs.declared.ending.Ending.{Ending}
 use Rattle.pf_fault.specs.declared.fault.Fault.{Fault}
 use Rattle.pf_fault.specs.declared.status.Status.TheVariants as status
 use Rattle.pf_fit_command.specs.Fit.{FitMade}
-use Rattle.pf_fit_command.specs.FitFormat.TheVariants as fit
+use Rattle.pf_options.specs.declared.fit_format.FitFormat.TheVariants as fit
 use Rattle.pf_names.specs.declared.titles.Titles.{Titles}
 use Rattle.pf_plain.specs.declared.origin.Origin.{Origin}
 use Rattle.pf_script.specs.Told.{told}

@@ -8,7 +8,7 @@ use Rattle.pf_heard.specs.Words.{help_text}
 use Rattle.pf_heard.specs.declared.heard.Heard.{Heard}
 use Rattle.pf_heard.specs.declared.heard.Heard.TheVariants.{Nothing, Heading, Record, Shown, Undo, Save, Help, Quit, Bad}
 use Rattle.pf_options.specs.declared.format.Format.TheVariants.{Script}
-use Rattle.pf_run_notes.specs.File.{file_text}
+use Rattle.pf_text.specs.FileName.{file_text}
 use Rattle.pf_session.specs.Answers.{said_answer, undo_answer}
 use Rattle.pf_session.specs.Session.{SessionState, behind_bad, behind_record, behind_undo, newest_of}
 use Rattle.pf_heard.specs.Values.{is_value}

@@ -48,8 +48,10 @@ impl<'a, H: AllocGlobal + Locks> FileSaver<'a, H> {
 }
 
 impl<H: AllocGlobal + Locks> Saver for FileSaver<'_, H> {
-    // no contract can say what a file has
-    ghost saves = { λ _ _ _ _ _. Unit {0} };
+    ghost use Rattle.std.specs.Prelude.{◌≡◌, true, IsUtf8};
+
+    // no contract can say what a file has; it stays as it was, and saves under no name that is no text
+    ghost saves = { λ s file _ saved t. (t ≡ s) × (saved ≡ true → IsUtf8 file) };
 
     fn save(&mut self, file: &[u8], bytes: &[u8]) -> bool {
         match str::from_utf8(file) {

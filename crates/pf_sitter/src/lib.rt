@@ -14,5 +14,3 @@ pub mod sitter;
 mod turn;
 
 // For whoever holds a session.
-pub use pf_answers::manner;
-pub use pf_session::session;

@@ -10,10 +10,10 @@ use crate::saver::Saver;
 use pf_answers::telling::{push_told, taken};
 use pf_heard::wanted::Wanted;
 use pf_options::format::Format;
-use pf_run_notes::file::push_file;
 use pf_session::session::Session;
 use pf_shown::show::show;
 use pf_shown::showing::Showing;
+use pf_text::file_name::push_file;
 use std::alloc::{AllocError, Global};
 
 /// Writes what the script shows as a script to the file of this name, and tells whether it was written.

@@ -4,9 +4,9 @@ ghost use Rattle.pf_place.specs.Lent.{lent_row};
 ghost use Rattle.pf_text.specs.Page.{with_record};
 ghost use Rattle.pf_stats.specs.Processors.{changes_on, processor_record, processors_text, quanta_on, task_on};
 
+use pf_desk::rows::{row_at, row_count};
 use pf_desk::snapshot::Snapshot;
 use pf_place::row_view::RowView;
-use pf_report::rows::{row_at, row_count};
 use pf_text::table::Table;
 use std::alloc::{AllocError, Global};
 

@@ -1,5 +1,6 @@
 -- What a counted reader or writer holds.
 use Rattle.std.specs.Prelude.{ℕ}
+use Rattle.pf_stream.specs.declared.patient.Patient.{Patient}
 use Rattle.pf_stream.specs.declared.source.CountedReader.{CountedReader}
 use Rattle.pf_stream.specs.declared.sink.CountedWriter.{CountedWriter}
 
@@ -16,3 +17,7 @@ writer_under w = w.writer
 
 abbrev pub write_failures : {W : Type 0} → CountedWriter W → ℕ
 write_failures w = w.failures
+
+-- the stream underneath one that waits
+abbrev pub stream_under : {S C : Type 0} → Patient S C → S
+stream_under p = p.stream

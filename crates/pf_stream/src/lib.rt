@@ -4,8 +4,10 @@
 #![tactic(auto)]
 
 pub mod output_fault;
+pub mod patient;
 pub mod reading;
 pub mod sink;
 pub mod source;
 pub mod text_buffer;
+pub mod tries;
 pub mod writing;

@@ -15,7 +15,7 @@ const PIECE: usize = 8192;
 /// Why no script was read.
 #[derive(Clone, Copy)]
 pub enum ReadingFault {
-    /// The reader failed. An interruption is a failure too.
+    /// The reader failed.
     Read,
     /// The input is longer than `LONGEST_SCRIPT`.
     TooLong,

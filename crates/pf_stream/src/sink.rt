@@ -1,10 +1,12 @@
-ghost use Rattle.std.specs.Prelude.{◌≡◌, ℕ, ◌+◌, ◌-◌, ◌^◌, ◌<◌, if◌then◌else◌};
+ghost use Rattle.std.specs.Prelude.{◌≡◌, ◌≢◌, ℕ, ◌+◌, ◌-◌, ◌^◌, ◌<◌, IfErr, if◌then◌else◌};
 ghost use Rattle.std.specs.Io.{WritesAtMost};
 ghost use Rattle.std.specs.Io.KnownBytes.{WriteAppends};
+ghost use Rattle.std.specs.IoError.{error_kind};
 ghost use Rattle.pf_stream.specs.Failing.{is_failed_write};
 
+use crate::tries::write_on;
 use std::io;
-use std::io::Write;
+use std::io::{ErrorKind, Write};
 
 /// A writer that knows how many of its writes failed. A write that took none of the bytes offered failed too.
 pub trait Sink: Write {
@@ -15,16 +17,18 @@ pub trait Sink: Write {
     fn failures(&self) -> u64
         ensures { result ≡ failed self.now };
 
-    /// One write, which counts itself where it fails. The count must be below `u64::MAX` before the call.
+    /// One write, which counts itself where it fails. One that a signal interrupted is made again, and is no failure. The count
+    /// must be below `u64::MAX` before the call.
     fn write_counted(&mut self, buf: &[u8]) -> io::Result<usize>
         requires { failed self.old < 2 ^ 64 - 1 }
         ensures bound { WritesAtMost result buf.now }
         ensures bytes { WriteAppends (Self.contents self.old) (Self.contents self.new) result buf.now }
-        ensures count { failed self.new ≡ failed self.old + (if is_failed_write result buf.now then 1 else 0) };
+        ensures count { failed self.new ≡ failed self.old + (if is_failed_write result buf.now then 1 else 0) }
+        ensures retried { IfErr result (λ e. error_kind e ≢ ErrorKind.Interrupted) };
 }
 
-/// Any writer, with a count of the writes that failed. A plain `write` counts too; there the count stays at
-/// `u64::MAX`.
+/// Any writer, with a count of the writes that failed. A plain `write` counts too, and is made again where a signal interrupted it;
+/// there the count stays at `u64::MAX`.
 #[derive(Drop)]
 pub struct CountedWriter<W> {
     writer: W,
@@ -69,9 +73,10 @@ fn has_failed(outcome: &io::Result<usize>, buf: &[u8]) -> bool
 }
 
 impl<W: Write> Write for CountedWriter<W> {
-    ghost use Rattle.std.specs.Prelude.{◌≡◌, ◌+◌, ◌-◌, ◌^◌, min, if◌then◌else◌};
+    ghost use Rattle.std.specs.Prelude.{◌≡◌, ◌≢◌, ◌+◌, ◌-◌, ◌^◌, min, IfErr, if◌then◌else◌};
     ghost use Rattle.std.specs.Io.{WritesAtMost};
     ghost use Rattle.std.specs.Io.KnownBytes.{WriteAppends, Keeps};
+    ghost use Rattle.std.specs.IoError.{error_kind};
     ghost use Rattle.pf_stream.specs.Counted.{writer_under, write_failures};
     ghost use Rattle.pf_stream.specs.Failing.{is_failed_write};
 
@@ -82,8 +87,9 @@ impl<W: Write> Write for CountedWriter<W> {
         ensures bytes { WriteAppends (W.contents (writer_under self.old)) (W.contents (writer_under self.new)) result buf.now }
         ensures count { write_failures self.new ≡ (if is_failed_write result buf.now
             then min (write_failures self.old + 1) (2 ^ 64 - 1) else write_failures self.old) }
+        ensures retried { IfErr result (λ e. error_kind e ≢ ErrorKind.Interrupted) }
     {
-        let outcome = self.writer.write(buf);
+        let outcome = write_on(&mut self.writer, buf);
         if has_failed(&outcome, buf) {
             self.failures = self.failures.saturating_add(1);
         }
@@ -106,7 +112,7 @@ impl<W: Write> Sink for CountedWriter<W> {
     }
 
     fn write_counted(&mut self, buf: &[u8]) -> io::Result<usize> {
-        let outcome = self.writer.write(buf);
+        let outcome = write_on(&mut self.writer, buf);
         if has_failed(&outcome, buf) {
             self.failures += 1;
         }

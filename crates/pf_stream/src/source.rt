@@ -1,29 +1,34 @@
-ghost use Rattle.std.specs.Prelude.{◌≡◌, ℕ, ◌+◌, ◌-◌, ◌^◌, ◌<◌, MatchResult};
+ghost use Rattle.std.specs.Prelude.{◌≡◌, ◌≢◌, ℕ, ◌+◌, ◌-◌, ◌^◌, ◌<◌, IfErr, MatchResult};
 ghost use Rattle.std.specs.Io.{ReadsAtMost};
 ghost use Rattle.std.specs.Io.KnownBytes.{ReadConsumes};
+ghost use Rattle.std.specs.IoError.{error_kind};
 
+use crate::tries::read_on;
 use std::io;
-use std::io::Read;
+use std::io::{ErrorKind, Read};
 
 /// A reader that knows how many of its reads failed.
 pub trait Source: Read {
     // how many of its reads failed
     ghost failed: { Self → ℕ };
 
-    /// How many of its reads failed. An interruption is a failure too.
+    /// How many of its reads failed.
     fn failures(&self) -> u64
         ensures { result ≡ failed self.now };
 
-    /// One read, which counts itself where it fails. The count must be below `u64::MAX` before the call.
+    /// One read, which counts itself where it fails. One that a signal interrupted is made again, and is no failure. The count must
+    /// be below `u64::MAX` before the call.
     fn read_counted(&mut self, buf: &mut [u8]) -> io::Result<usize>
         requires { failed self.old < 2 ^ 64 - 1 }
         ensures bound { ReadsAtMost result buf.new }
         ensures bytes { ReadConsumes (Self.remaining self.old) (Self.remaining self.new) result buf.new }
         ensures count { MatchResult result (λ _. failed self.new ≡ failed self.old)
-            (λ _. failed self.new ≡ failed self.old + 1) };
+            (λ _. failed self.new ≡ failed self.old + 1) }
+        ensures retried { IfErr result (λ e. error_kind e ≢ ErrorKind.Interrupted) };
 }
 
-/// Any reader, with a count of the reads that failed. A plain `read` counts too; there the count stays at `u64::MAX`.
+/// Any reader, with a count of the reads that failed. A plain `read` counts too, and is made again where a signal interrupted it;
+/// there the count stays at `u64::MAX`.
 #[derive(Drop)]
 pub struct CountedReader<R> {
     reader: R,
@@ -58,9 +63,10 @@ impl<R: Read> CountedReader<R> {
 }
 
 impl<R: Read> Read for CountedReader<R> {
-    ghost use Rattle.std.specs.Prelude.{◌≡◌, ◌+◌, ◌-◌, ◌^◌, min, MatchResult};
+    ghost use Rattle.std.specs.Prelude.{◌≡◌, ◌≢◌, ◌+◌, ◌-◌, ◌^◌, min, IfErr, MatchResult};
     ghost use Rattle.std.specs.Io.{ReadsAtMost};
     ghost use Rattle.std.specs.Io.KnownBytes.{ReadConsumes};
+    ghost use Rattle.std.specs.IoError.{error_kind};
     ghost use Rattle.pf_stream.specs.Counted.{reader_under, read_failures};
 
     ghost remaining = { λ r. R.remaining r.reader };
@@ -70,8 +76,9 @@ impl<R: Read> Read for CountedReader<R> {
         ensures bytes { ReadConsumes (R.remaining (reader_under self.old)) (R.remaining (reader_under self.new)) result buf.new }
         ensures count { MatchResult result (λ _. read_failures self.new ≡ read_failures self.old)
             (λ _. read_failures self.new ≡ min (read_failures self.old + 1) (2 ^ 64 - 1)) }
+        ensures retried { IfErr result (λ e. error_kind e ≢ ErrorKind.Interrupted) }
     {
-        let outcome = self.reader.read(buf);
+        let outcome = read_on(&mut self.reader, buf);
         if outcome.is_err() {
             self.failures = self.failures.saturating_add(1);
         }
@@ -87,7 +94,7 @@ impl<R: Read> Source for CountedReader<R> {
     }
 
     fn read_counted(&mut self, buf: &mut [u8]) -> io::Result<usize> {
-        let outcome = self.reader.read(buf);
+        let outcome = read_on(&mut self.reader, buf);
         if outcome.is_err() {
             self.failures += 1;
         }

@@ -20,3 +20,14 @@ pub mod Jobs
 pub mod Figured
 pub mod Walks
 pub mod Journals
+pub mod Contents
+pub mod Members
+pub mod Slots
+pub mod Points
+pub mod Fronts
+pub mod Loads
+pub mod Entrants
+pub mod Steady
+pub mod FitSteps
+pub mod LedgerFits
+pub mod LevelSteps

@@ -11,6 +11,11 @@ pub use Rattle.pf_run.specs.RunRows
 pub mod Clock
 pub mod Lags
 pub mod Misses
+pub mod Load
+pub mod Fit
+pub mod Levels
+pub mod Asking
+pub mod Room
 pub mod Examples
 pub mod Quanta
 pub mod Held

@@ -2,7 +2,7 @@
 use Rattle.std.specs.Prelude.{ℕ, Bool, true, ◌==◌, if◌then◌else◌, Option, List, [], ◌∷◌, ◌++◌, slice_index_or}
 use Rattle.std.specs.List.{flat_map}
 use Rattle.std.specs.Option.{option_map_or}
-use Rattle.pf_script.specs.Fields.{number_of}
+use Rattle.pf_text.specs.Numbers.{number_of}
 use Rattle.pf_tasks.specs.Listed.{is_listed}
 use Rattle.pf_tasks.specs.declared.task_range.TaskRange.{TaskRange}
 

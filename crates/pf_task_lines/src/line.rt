@@ -1,8 +1,8 @@
 ghost use Rattle.std.specs.Prelude.{◌≡◌, slice_index_or, []};
 ghost use Rattle.pf_task_lines.specs.Lines.{fields_from, is_shown};
 
-use pf_script::fields::parse_number;
 use pf_tasks::task_list::TaskList;
+use pf_text::numbers::parse_number;
 
 /// Whether a line is shown: its field in the column is a task of the list, or no number.
 pub(crate) fn is_shown(tasks: &TaskList, column: usize, line: &[u8]) -> bool

@@ -14,7 +14,7 @@ use Rattle.pf_task_list.specs.declared.lines.TheConstants.{MOST_LINES}
 use Rattle.pf_task_list.specs.declared.time.TimeFault.{TimeFault}
 use Rattle.pf_task_list.specs.declared.time.TimeFault.TheVariants.{NoTime, TooFine, Zero}
 use Rattle.pf_task_list.specs.Heading.{column_word}
-use Rattle.pf_task_list.specs.Quoted.{quoted}
+use Rattle.pf_text.specs.Quoted.{quoted}
 
 -- why a row is no heading, of its field that is at fault
 unfoldable pub heading_reason : List ℕ → HeadingFault → List ℕ

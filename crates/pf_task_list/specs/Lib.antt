@@ -4,6 +4,5 @@ pub mod Faults
 pub mod Heading
 pub mod List
 pub mod Parts
-pub mod Quoted
 pub mod Reading
 pub mod Times

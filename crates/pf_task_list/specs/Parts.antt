@@ -5,7 +5,7 @@ use Rattle.std.specs.Fmt.{decimal}
 use Rattle.pf_columns.specs.Decimals.{with_fewest_places}
 use Rattle.pf_task_list.specs.declared.parts.Part.{Part}
 use Rattle.pf_task_list.specs.declared.parts.Part.TheVariants.{Words, Bytes, Quoted, Number, Wide, Decimal, Time}
-use Rattle.pf_task_list.specs.Quoted.{quoted}
+use Rattle.pf_text.specs.Quoted.{quoted}
 use Rattle.pf_task_list.specs.Times.{places_of, time_text}
 
 abbrev pub part_text : Part → List ℕ

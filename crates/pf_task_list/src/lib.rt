@@ -9,7 +9,6 @@ pub mod lines;
 pub mod list;
 pub mod listed;
 pub mod parts;
-mod quoted;
 pub mod read;
 pub mod report;
 pub mod time;

@@ -2,11 +2,11 @@ ghost use Rattle.std.specs.Prelude.{◌≡◌, ◌++◌, OnOk};
 ghost use Rattle.std.specs.List.{flat_map};
 ghost use Rattle.pf_task_list.specs.Parts.{part_text};
 
-use crate::quoted::push_quoted;
 use crate::time::{places_of, push_time};
 use pf_columns::decimals::{push_fewest_places, push_wide};
 use pf_names::unit::Unit;
 use pf_text::numbers::push_number;
+use pf_text::quoted::push_quoted;
 use std::alloc::AllocError;
 
 /// A part of a line.

@@ -1,3 +1,3 @@
-pub use Rattle.pf_script.specs.Fields
+pub use Rattle.pf_text.specs.Numbers
 pub mod Finding
 pub mod Reading

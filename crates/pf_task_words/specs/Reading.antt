@@ -3,7 +3,7 @@ use Rattle.std.specs.Prelude.{ℕ, ◌+◌, ◌==◌, ◌&&◌, nat_le, if◌the
 use Rattle.std.specs.List.{position}
 use Rattle.std.specs.Option.{option_and_then, option_map}
 use Rattle.pf_names.specs.Text.{is_letter_first, name_in}
-use Rattle.pf_script.specs.Fields.{number_of}
+use Rattle.pf_text.specs.Numbers.{number_of}
 use Rattle.pf_tasks.specs.declared.task_range.TaskRange.{TaskRange}
 use Rattle.pf_weight.specs.declared.task.TheConstants.{LARGEST_TASK}
 use Rattle.pf_task_words.specs.declared.task_word.TaskWord.{TaskWord}

@@ -3,8 +3,8 @@ ghost use Rattle.std.specs.Prelude.{◌≡◌, ◌==◌, ◌<◌, length, IfSome
 ghost use Rattle.pf_task_words.specs.Reading.{range_between, range_in, task_in, word_in};
 
 use pf_names::name::{Name, is_letter_first};
-use pf_script::fields::parse_number;
 use pf_tasks::task_range::TaskRange;
+use pf_text::numbers::parse_number;
 use pf_weight::task::LARGEST_TASK;
 
 /// An item of a list of tasks.

@@ -1,3 +1,4 @@
+pub mod Digits
 pub mod Recorded
 pub mod Filled
 mod Flexible

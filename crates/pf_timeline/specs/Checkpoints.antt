@@ -1,9 +1,5 @@
--- How far checkpoints may lie apart.
+-- How far near checkpoints lie apart, and where they are.
 use Rattle.std.specs.Prelude.{ℕ}
-
--- the greatest distance of two checkpoints, in slots
-abbrev pub largest_distance : ℕ
-largest_distance = 4096
 
 -- the distance of two near checkpoints, which are those of the last slots
 abbrev pub near_distance : ℕ

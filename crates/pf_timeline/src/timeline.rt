@@ -3,7 +3,8 @@ ghost use Rattle.pf_order.specs.Counts.{one_more};
 ghost use Rattle.pf_order.specs.Counted.{CountsAtMost};
 ghost use Rattle.pf_scenario.specs.Scenario.{Plan};
 ghost use Rattle.pf_scenario.specs.Edit.{IsScenario};
-ghost use Rattle.pf_timeline.specs.Checkpoints.{largest_distance, near_distance, near_slots};
+ghost use Rattle.pf_scenario.specs.Limits.{largest_distance};
+ghost use Rattle.pf_timeline.specs.Checkpoints.{near_distance, near_slots};
 ghost use Rattle.pf_timeline.specs.Comparisons.{most_comparisons_at};
 ghost use Rattle.pf_timeline.specs.Timeline.{StandsFor, AgreesBelow};
 ghost use Rattle.pf_timeline.specs.declared.fault.StepFault.TheVariants.{AtHorizon};
@@ -17,14 +18,12 @@ use pf_engine::engine::Engine;
 use pf_list::shared_vec::SharedVec;
 use pf_order::meter::Meter;
 use pf_place::rows::Rows;
+use pf_scenario::limits::LARGEST_DISTANCE;
 use pf_scenario::scenario::Scenario;
 use pf_scenario::settings::Settings;
 use std::alloc::{AllocError, Global};
 use std::marker::Model;
 use std::snapshot::Snapshot;
-
-/// The greatest distance of two checkpoints, in slots.
-pub const LARGEST_DISTANCE: u64 = 4096;
 
 /// The kept run of a scenario: the rows and the denials of its first slots.
 pub struct Timeline {

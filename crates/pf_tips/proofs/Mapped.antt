@@ -5,7 +5,7 @@ use Rattle.std.specs.List.{flat_map, list_all, list_any}
 use Rattle.std.proofs.Math.ListN.{get_or}
 use Rattle.std.proofs.lemmas.List.{length-drop, take_all}
 use Rattle.std.proofs.lemmas.List.Folds.{flat_map-map}
-use Rattle.pf_run_notes.specs.File.{is_plain}
+use Rattle.pf_text.specs.FileName.{is_plain}
 use Rattle.pf_tips.specs.Tips.{is_script, spaced_word}
 
 pub spaced_texts : {A : Type 0} (text : A → List ℕ) (words : List A) → flat_map spaced_word (map text words) ≡ flat_map (λ w. spaced_word (text w)) words

@@ -3,7 +3,7 @@ use Rattle.std.specs.Prelude.{ℕ, Bool, ◌||◌, ◌&&◌, ◌==◌, nat_eq, n
 use Rattle.std.specs.List.{ends_with, flat_map, list_all, list_any, starts_with}
 use Rattle.std.specs.Str.{bytes_eq}
 use Rattle.pf_options.specs.Formats.{format_named}
-use Rattle.pf_run_notes.specs.File.{is_plain}
+use Rattle.pf_text.specs.FileName.{is_plain}
 
 -- a byte that needs no quotes
 abbrev pub is_safe_byte : ℕ → Bool

@@ -1,10 +1,10 @@
 ghost use Rattle.std.specs.Prelude.{◌≡◌, ◌++◌, OnOk};
 ghost use Rattle.std.specs.List.{flat_map, list_all, list_any};
 ghost use Rattle.std.specs.Str.{bytes_eq};
-ghost use Rattle.pf_run_notes.specs.File.{is_plain};
+ghost use Rattle.pf_text.specs.FileName.{is_plain};
 ghost use Rattle.pf_tips.specs.Tips.{before_equals, is_of_run, is_safe, is_safe_byte, is_script, quoted_byte, run_words, shown_word, spaced_word};
 
-use pf_run_notes::character::is_plain;
+use pf_text::character::is_plain;
 use std::alloc::AllocError;
 use std::convert::AsStr;
 

@@ -2,7 +2,7 @@
 use Rattle.std.specs.Prelude.{ℕ, ◌≡◌, ◌≤◌, None, Some}
 use Rattle.pf_scenario.specs.System.{wide_horizon}
 use Rattle.pf_scenario.specs.Edit.{IsScenario}
-use Rattle.pf_timeline.specs.Checkpoints.{largest_distance}
+use Rattle.pf_scenario.specs.Limits.{largest_distance}
 use Rattle.pf_desk.specs.Desk.{Seen}
 use Rattle.pf_names.specs.Titled.{untitled}
 use Rattle.pf_names.specs.declared.titles.Titles.{Titles}

@@ -10,8 +10,8 @@ use Rattle.std.proofs.lemmas.List.FromFn.{get_or-map-range_with_len, length-rang
 use Rattle.std.proofs.lemmas.List.Kept.{IsNonDecreasingBy-filter}
 use Rattle.pf_scenario.specs.Scenario.{Plan}
 use Rattle.pf_run.specs.Record.{Slot}
-use Rattle.pf_fit.specs.declared.level.Level.{Level}
-use Rattle.pf_fit.specs.Levels.{is_as_before, level_in, levels_of}
+use Rattle.pf_tally.specs.declared.level.Level.{Level}
+use Rattle.pf_tally.specs.Levels.{is_as_before, level_in, levels_of}
 use Rattle.pf_trace.specs.Runs.{level_when}
 
 -- Use: the levels of a run rise by slot.

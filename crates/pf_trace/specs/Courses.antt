@@ -7,10 +7,9 @@ use Rattle.pf_run.specs.Inside.{Joined}
 use Rattle.pf_tally.specs.Held.{next_in, held_from}
 use Rattle.pf_tally.specs.Ranges.{lag_by}
 use Rattle.pf_tally.specs.declared.held.Held.{Held}
-use Rattle.pf_chart.specs.Built.{window_by}
-use Rattle.pf_chart.specs.Course.{end_of}
-use Rattle.pf_chart.specs.declared.window.Window.{Window}
-use Rattle.pf_windows.specs.Windows.{leave_slot}
+use Rattle.pf_courses.specs.Built.{window_by}
+use Rattle.pf_courses.specs.Course.{end_of, leave_slot}
+use Rattle.pf_courses.specs.declared.window.Window.{Window}
 
 pub record Course : Type 0 where
   pub task : Joined

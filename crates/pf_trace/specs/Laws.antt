@@ -11,7 +11,7 @@ use Rattle.pf_tally.specs.Figures.{processors_in, scaled_at}
 use Rattle.pf_tally.specs.Held.{CanTally}
 use Rattle.pf_tally.specs.Own.{events_of_task}
 use Rattle.pf_tally.specs.Quanta.{slots_of}
-use Rattle.pf_chart.specs.Course.{window_of}
+use Rattle.pf_courses.specs.Course.{window_of}
 use Rattle.pf_trace.specs.Courses.{course_lag, course_window}
 use Rattle.pf_trace.specs.Trace.{course_in}
 

@@ -1,4 +1,3 @@
-pub use Rattle.pf_windows.specs.Windows
 pub mod Titles
 pub mod Times
 pub mod Forms

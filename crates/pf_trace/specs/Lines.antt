@@ -3,15 +3,15 @@ use Rattle.std.specs.Prelude.{ℕ, ◌+◌, ◌-◌, ◌*◌, ◌%◌, Bool, if�
 use Rattle.std.specs.Option.{option_map_or}
 use Rattle.pf_admit.specs.Refusals.{denial_code, denial_name}
 use Rattle.pf_admit.specs.declared.denial.Denial.{Denial}
-use Rattle.pf_chart.specs.Course.{is_drawn}
-use Rattle.pf_chart.specs.declared.quantum.Quantum.{Quantum}
-use Rattle.pf_chart.specs.declared.window.Window.{Window}
-use Rattle.pf_fit.specs.declared.level.Level.{Level}
+use Rattle.pf_courses.specs.Course.{is_drawn}
+use Rattle.pf_courses.specs.declared.quantum.Quantum.{Quantum}
+use Rattle.pf_courses.specs.declared.window.Window.{Window}
+use Rattle.pf_tally.specs.declared.level.Level.{Level}
 use Rattle.pf_run.specs.Inside.{Joined}
 use Rattle.pf_scenario.specs.Event.{slot_of}
 use Rattle.pf_scenario.specs.declared.event.Event.{Event}
 use Rattle.pf_scenario.specs.declared.event.Event.TheVariants.{Join, Leave, Delay, Limit}
-use Rattle.pf_windows.specs.Windows.{eligible_from, window_end}
+use Rattle.pf_courses.specs.Windows.{eligible_from, window_end}
 use Rattle.pf_trace.specs.Forms.{filled}
 use Rattle.pf_trace.specs.Titles.{Called}
 use Rattle.pf_trace.specs.declared.moment.Moment.{Moment}

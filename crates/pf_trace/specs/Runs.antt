@@ -4,8 +4,8 @@ use Rattle.std.specs.Prelude.{ℕ, suc, zero, ◌+◌, ◌==◌, if◌then◌els
 use Rattle.std.specs.List.{flat_map, range_with_len}
 use Rattle.std.specs.Option.{option_map_or}
 use Rattle.pf_weight.specs.declared.task.TheConstants.{LARGEST_TASK}
-use Rattle.pf_chart.specs.declared.window.Window.{Window}
-use Rattle.pf_fit.specs.declared.level.Level.{Level}
+use Rattle.pf_courses.specs.declared.window.Window.{Window}
+use Rattle.pf_tally.specs.declared.level.Level.{Level}
 use Rattle.pf_order.specs.declared.pick.Pick.{Pick}
 use Rattle.pf_place.specs.Occupancy.{sitter}
 use Rattle.pf_table.specs.Lists.{noted_of}

@@ -4,7 +4,7 @@ use Rattle.std.specs.List.{flat_map, range_with_len}
 use Rattle.std.specs.Option.{option_map}
 use Rattle.pf_weight.specs.declared.task.TheConstants.{LARGEST_TASK}
 use Rattle.pf_admit.specs.declared.denial.Denial.{Denial}
-use Rattle.pf_fit.specs.Levels.{levels_of}
+use Rattle.pf_tally.specs.Levels.{levels_of}
 use Rattle.pf_names.specs.declared.titles.Titles.{Titles}
 use Rattle.pf_order.specs.declared.pick.Pick.{Pick}
 use Rattle.pf_run.specs.Computed.{run_of}

@@ -3,15 +3,13 @@ ghost use Rattle.pf_weight.specs.Share.{IsShare};
 ghost use Rattle.pf_tally.specs.Held.{AreSuccessive, IsSmall, part_of, stop_of, stopped_below};
 ghost use Rattle.pf_scenario.specs.declared.settings.TheConstants.{WIDE_HORIZON};
 ghost use Rattle.pf_tally.specs.Ranges.{lag_with};
-ghost use Rattle.pf_windows.specs.Windows.{leave_slot};
 
-use pf_chart::end::end_of;
-use pf_chart::window::Window;
-use pf_chart::windows::window_of;
+use pf_courses::end::{end_of, leave_slot};
+use pf_courses::window::Window;
+use pf_courses::windows::window_of;
 use pf_scenario::event::Numbered;
 use pf_tally::admitted::Admitted;
 use pf_tally::held::{Held, held_delays, slots_below};
-use pf_tally::late::leave_of;
 use pf_tally::standing::is_among;
 use pf_weight::weight::Weight;
 use pf_window::release;
@@ -55,14 +53,6 @@ impl Model for Course {
     } };
 
     ghost invariant = { λ c. CanMiss c.task c.delays.items c.slot_count × (c.end ≤ c.slot_count) × (length c.ran.items ≤ c.slot_count) × IsNonDecreasing c.ran.items };
-}
-
-/// The slot of the task's leave, if it left.
-fn leave_slot(events: &[Numbered], task: Admitted) -> Option<u64>
-    ensures { result ≡ leave_slot events.now task }
-{
-    let left = leave_of(events, task.task)?;
-    Some(left.event.slot())
 }
 
 /// How many slots below t the delay stops the clock of a task of this weight.

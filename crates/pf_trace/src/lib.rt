@@ -19,5 +19,3 @@ pub mod title;
 pub mod trace;
 pub mod track_names;
 pub mod window_lines;
-
-pub use pf_windows::windows;

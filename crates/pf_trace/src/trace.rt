@@ -5,7 +5,7 @@ ghost use Rattle.pf_scenario.specs.declared.settings.TheConstants.{WIDE_HORIZON}
 ghost use Rattle.pf_table.specs.Lists.{noted_of};
 ghost use Rattle.pf_trace.specs.Runs.{trace_at};
 ghost use Rattle.pf_trace.specs.Titles.{title_of};
-ghost use Rattle.pf_fit.specs.Levels.{levels_of};
+ghost use Rattle.pf_tally.specs.Levels.{levels_of};
 ghost use Rattle.pf_trace.specs.Trace.{CanTrace, denial_of, moments_of, told_of, trace_text, traces_by};
 
 use crate::book::BookPieces;
@@ -17,13 +17,13 @@ use crate::task_trace::TaskTrace;
 use crate::title::Title;
 use pf_admit::denial::Denial;
 use pf_desk::snapshot::Snapshot;
-use pf_fit::level::Level;
-use pf_fit::levels::levels;
 use pf_names::titles::Titles;
 use pf_run::denied::Denied;
 use pf_scenario::event::Numbered;
 use pf_table::lists::Lists;
 use pf_tally::diary::diaries_by_task;
+use pf_tally::level::Level;
+use pf_tally::levels::levels;
 use pf_text::pieces::{Chain, Whole};
 use pf_weight::task::LARGEST_TASK;
 use std::alloc::{AllocError, Global};

@@ -1,39 +1,14 @@
 ghost use Rattle.std.specs.Prelude.{◌≡◌, ◌++◌, ◌≤◌, OnOk};
 ghost use Rattle.pf_weight.specs.declared.task.TheConstants.{LARGEST_TASK};
-ghost use Rattle.pf_chart.specs.Course.{is_drawn};
-ghost use Rattle.pf_windows.specs.Windows.{eligible_from, window_end};
 ghost use Rattle.pf_trace.specs.Lines.{missed_line, quantum_lines, window_line, window_lines};
 
 use crate::form::push_filled;
 use crate::title::Title;
 use crate::track_names::window_track;
-use pf_chart::window::Window;
+use pf_courses::window::Window;
+use pf_courses::windows::{eligible_from, is_drawn, window_end};
 use pf_tally::admitted::Admitted;
 use std::alloc::AllocError;
-
-/// The first slot in which a subtask released in slot r may run, once the one before it has run.
-fn eligible_from(task: Admitted, release: u64) -> u64
-    ensures { result ≡ eligible_from task release }
-{
-    task.slot.max(release.saturating_sub(task.early))
-}
-
-/// Where the window of a task that left then ends.
-fn window_end(window: Window, leave: Option<u64>) -> u64
-    ensures { result ≡ window_end leave window }
-{
-    match leave {
-        Some(slot) => window.deadline.min(slot),
-        None => window.deadline,
-    }
-}
-
-/// Whether the subtask is drawn: it ran, or was released before the task's end.
-fn is_drawn(window: Window, end: u64) -> bool
-    ensures { result ≡ is_drawn end window }
-{
-    window.ran.is_some() || window.release < end
-}
 
 /// Adds a window, up to its deadline, or to the slot of the task's leave, where that is before.
 fn push_window(

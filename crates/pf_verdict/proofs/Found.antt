@@ -15,12 +15,11 @@ use Rattle.pf_run.specs.RunRows.{AreOfRun}
 use Rattle.pf_run.specs.Run.{IsRun}
 use Rattle.pf_run.proofs.Runs.{run_is_computed}
 use Rattle.pf_tally.specs.Misses.{misses_of}
-use Rattle.pf_promise.specs.Load.{load_in, room_in}
-use Rattle.pf_promise.specs.Laws.{LeavesRoom}
+use Rattle.pf_tally.specs.Load.{load_in, room_in}
+use Rattle.pf_tally.specs.Room.{LeavesRoom, MissesNone}
 use Rattle.pf_promise.proofs.Promises.{no_window_is_missed}
 use Rattle.pf_promise.proofs.Settings.{settings_suffice}
 use Rattle.pf_desk.specs.Desk.{Seen}
-use Rattle.pf_desk.specs.Room.{MissesNone}
 use Rattle.pf_verdict.specs.declared.verdict.Grounds.{Grounds}
 use Rattle.pf_verdict.specs.declared.verdict.Verdict.TheVariants.{Fits, FitsSoFar, DoesNotFit}
 use Rattle.pf_verdict.specs.Carries.{carries_cap, carries_with}

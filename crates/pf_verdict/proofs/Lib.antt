@@ -5,5 +5,6 @@ pub mod Least
 pub mod Greatest
 pub mod Grown
 pub mod Found
+pub mod Rooms
 pub mod Tightest
 pub mod Periods

@@ -4,9 +4,9 @@ use Rattle.std.proofs.lemmas.Bool.{ltb-true}
 use Rattle.std.proofs.lemmas.List.{at_drop_more, at_drop_all}
 use Rattle.pf_scenario.specs.Scenario.{Plan}
 use Rattle.pf_run.specs.Record.{Slot}
-use Rattle.pf_promise.specs.Load.{load_in, room_in}
-use Rattle.pf_fit.specs.declared.level.Level.{Level}
-use Rattle.pf_fit.specs.Fit.{or_slot}
+use Rattle.pf_tally.specs.Load.{load_in, room_in}
+use Rattle.pf_tally.specs.declared.level.Level.{Level}
+use Rattle.pf_tally.specs.Fit.{or_slot}
 use Rattle.pf_verdict.specs.declared.strain.Strain.{Strain}
 use Rattle.pf_verdict.specs.declared.stretch.Stretch.{Stretch}
 use Rattle.pf_verdict.specs.Strain.{above_of, first_above, has_fewer_free, strain_of, strain_with, tighter, tightest_of}

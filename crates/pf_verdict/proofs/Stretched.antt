@@ -7,9 +7,9 @@ use Rattle.std.proofs.lemmas.List.Elements.{All-push}
 use Rattle.std.proofs.lemmas.List.FromFn.{filter_of_map_range_with_len_more}
 use Rattle.pf_scenario.specs.Scenario.{Plan}
 use Rattle.pf_run.specs.Record.{Slot}
-use Rattle.pf_promise.specs.Load.{load_in, room_in}
-use Rattle.pf_fit.specs.declared.level.Level.{Level}
-use Rattle.pf_fit.specs.Levels.{is_as_before, level_in, levels_of}
+use Rattle.pf_tally.specs.Load.{load_in, room_in}
+use Rattle.pf_tally.specs.declared.level.Level.{Level}
+use Rattle.pf_tally.specs.Levels.{is_as_before, level_in, levels_of}
 use Rattle.pf_verdict.specs.declared.stretch.Stretch.{Stretch}
 use Rattle.pf_verdict.specs.Stretches.{AreStretches, Cover, IsEven, next_slot, stretches_of}
 

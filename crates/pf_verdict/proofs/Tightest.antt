@@ -3,9 +3,9 @@ use Rattle.std.proofs.Common.{◌≡◌, ℕ, zero, suc, ◌+◌, ◌<◌, ◌�
 use Rattle.std.proofs.lemmas.Bool.{cases_lt, ltb-true, ltb-false}
 use Rattle.pf_scenario.specs.Scenario.{Plan}
 use Rattle.pf_run.specs.Record.{Slot}
-use Rattle.pf_promise.specs.Load.{load_in, room_in}
-use Rattle.pf_fit.specs.declared.level.Level.{Level}
-use Rattle.pf_fit.specs.Levels.{level_in}
+use Rattle.pf_tally.specs.Load.{load_in, room_in}
+use Rattle.pf_tally.specs.declared.level.Level.{Level}
+use Rattle.pf_tally.specs.Levels.{level_in}
 use Rattle.pf_verdict.specs.Strain.{FirstTightestIsTold, IsTightest, has_fewer_free, IsTightestOrNone, tighter, tightest_of}
 
 module _ (s : Plan) (r : List Slot) (n : ℕ) where

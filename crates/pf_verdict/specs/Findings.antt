@@ -3,7 +3,7 @@ use Rattle.std.specs.Prelude.{ℕ, Bool, Option, List, length, sum_by}
 use Rattle.pf_run.specs.Computed.{run_of}
 use Rattle.pf_tally.specs.Figures.{figures_of}
 use Rattle.pf_tally.specs.declared.figures.Figures.{Figures}
-use Rattle.pf_promise.specs.Load.{overload_of}
+use Rattle.pf_tally.specs.Load.{overload_of}
 use Rattle.pf_desk.specs.Desk.{Seen}
 use Rattle.pf_verdict.specs.declared.strain.Strain.{Strain}
 use Rattle.pf_verdict.specs.declared.verdict.Verdict.{Verdict}

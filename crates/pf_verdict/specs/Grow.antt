@@ -7,7 +7,7 @@ use Rattle.pf_run.specs.Inside.{Joined, join_of}
 use Rattle.pf_run.specs.Run.{events_in_force}
 use Rattle.pf_tally.specs.Figures.{last_slot}
 use Rattle.pf_tally.specs.Lags.{by_task}
-use Rattle.pf_promise.specs.Load.{load_in, room_in}
+use Rattle.pf_tally.specs.Load.{load_in, room_in}
 
 -- what the task may ask for in slot t: what room and cap leave of the others; 0 where they leave less than nothing
 abbrev pub left_in : Plan → List Slot → Joined → ℕ → ℕ

@@ -1,6 +1,7 @@
 pub use Rattle.pf_desk.specs.declared.reply.Fault
 pub use Rattle.pf_desk.specs.Desk
 pub mod Carries
+pub mod Room
 pub mod Findings
 pub mod Grow
 pub mod Strain

@@ -2,10 +2,10 @@
 use Rattle.std.specs.Prelude.{◌≡◌, ℕ, zero, suc, ◌+◌, ◌-◌, ◌<◌, ◌≤◌, Bool, nat_lt, if◌then◌else◌, Option, None, Some, List}
 use Rattle.pf_scenario.specs.Scenario.{Plan}
 use Rattle.pf_run.specs.Record.{Slot}
-use Rattle.pf_promise.specs.Load.{load_in, room_in}
-use Rattle.pf_fit.specs.declared.level.Level.{Level}
-use Rattle.pf_fit.specs.Fit.{or_slot}
-use Rattle.pf_fit.specs.Levels.{level_in}
+use Rattle.pf_tally.specs.Load.{load_in, room_in}
+use Rattle.pf_tally.specs.declared.level.Level.{Level}
+use Rattle.pf_tally.specs.Fit.{or_slot}
+use Rattle.pf_tally.specs.Levels.{level_in}
 use Rattle.pf_verdict.specs.declared.strain.Strain.{Strain}
 use Rattle.pf_verdict.specs.declared.stretch.Stretch.{Stretch}
 

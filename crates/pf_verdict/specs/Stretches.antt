@@ -2,8 +2,8 @@
 use Rattle.std.specs.Prelude.{◌≡◌, ℕ, ◌<◌, ◌≤◌, List, [], ◌∷◌, All}
 use Rattle.pf_scenario.specs.Scenario.{Plan}
 use Rattle.pf_run.specs.Record.{Slot}
-use Rattle.pf_promise.specs.Load.{load_in, room_in}
-use Rattle.pf_fit.specs.declared.level.Level.{Level}
+use Rattle.pf_tally.specs.Load.{load_in, room_in}
+use Rattle.pf_tally.specs.declared.level.Level.{Level}
 use Rattle.pf_verdict.specs.declared.stretch.Stretch.{Stretch}
 
 -- one after another they are the slots from `from` on and below `to`, and none is empty

@@ -1,7 +1,7 @@
 ghost use Rattle.std.specs.Prelude.{◌≡◌, ◌*◌, nat_le, true};
 ghost use Rattle.std.specs.List.{list_all};
 ghost use Rattle.pf_scenario.specs.Edit.{IsScenario};
-ghost use Rattle.pf_desk.specs.Room.{MissesNone};
+ghost use Rattle.pf_tally.specs.Room.{MissesNone};
 ghost use Rattle.pf_verdict.specs.Carries.{carries_cap, carries_with};
 
 use pf_scenario::event::Event;

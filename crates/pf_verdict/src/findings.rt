@@ -1,8 +1,8 @@
 ghost use Rattle.std.specs.Prelude.{◌≡◌, ◌≤◌, ◌*◌, true, [], All, IfOk};
 ghost use Rattle.pf_run.specs.Computed.{run_of};
 ghost use Rattle.pf_tally.specs.Misses.{misses_of};
-ghost use Rattle.pf_fit.specs.Fit.{NoneIsLater};
-ghost use Rattle.pf_desk.specs.Room.{MissesNone};
+ghost use Rattle.pf_tally.specs.Room.{MissesNone};
+ghost use Rattle.pf_promise.specs.FitLaws.{NoneIsLater};
 ghost use Rattle.pf_verdict.specs.Findings.{findings_of};
 
 use crate::carries::carries_cap;
@@ -78,7 +78,7 @@ pub fn find(alloc: Global, snapshot: &Snapshot, refused: u64) -> Result<Findings
     let denied = snapshot.denials().len() as u64;
     let unreached = unreached(scenario, now);
     let carries = carries_cap(scenario);
-    let units = snapshot.fits()?.overload;
+    let fit = snapshot.fits()?;
     let stretches = stretches(alloc, snapshot)?;
     let strain = strain_of(&stretches, now);
     let grows = grows(alloc, snapshot, &stretches)?;
@@ -96,7 +96,7 @@ pub fn find(alloc: Global, snapshot: &Snapshot, refused: u64) -> Result<Findings
         denied,
         unreached,
         strain,
-        units,
+        units: fit.overload,
         carries,
         figures,
         grows,

@@ -13,5 +13,3 @@ pub mod stretches;
 pub mod totals;
 pub mod verdict;
 pub mod worst;
-
-pub use pf_desk::reply;

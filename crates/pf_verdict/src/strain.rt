@@ -5,7 +5,7 @@ ghost use Rattle.pf_verdict.specs.Strain.{has_fewer_free, strain_of, strain_with
 ghost use Rattle.pf_verdict.specs.Stretches.{Cover, IsEven};
 
 use crate::stretch::Stretch;
-use pf_fit::level::Level;
+use pf_tally::level::Level;
 
 /// How tight the slots of a run were. The free units of a slot are its room less its load, and may be below 0.
 #[derive(Clone, Copy)]

@@ -4,8 +4,8 @@ ghost use Rattle.pf_verdict.specs.Stretches.{AreStretches, stretches_of};
 
 use crate::stretch::Stretch;
 use pf_desk::snapshot::Snapshot;
-use pf_fit::level::Level;
-use pf_fit::levels::levels;
+use pf_tally::level::Level;
+use pf_tally::levels::levels;
 use std::alloc::{AllocError, Global};
 
 /// The stretches of these levels, the last of which holds up to slot `now`.

@@ -28,8 +28,7 @@ use Rattle.pf_tally.proofs.Holding.{next_is}
 use Rattle.pf_tally.proofs.InForce.{standing_is_log}
 use Rattle.pf_tally.proofs.Joined.{can_tally}
 use Rattle.pf_tally.proofs.Own.{can_own, find_own, shift_own}
-use Rattle.pf_promise.proofs.Shifts.{standing_below}
-use Rattle.pf_promise.proofs.Standing.{Splits, splits}
+use Rattle.pf_tally.proofs.Fronts.{Splits, splits, standing_below}
 use Rattle.pf_why.specs.declared.subtask.Subtask.{Subtask}
 use Rattle.pf_why.specs.Ranking.{candidate_by, candidates_in, is_until, may_run, next_by, next_of, standing_in, subtask_of}
 use Rattle.pf_why.specs.Upcoming.{halt_from, upcoming_by, upcoming_of}

@@ -3,7 +3,7 @@ use Rattle.std.specs.Prelude.{ℕ}
 use Rattle.pf_scenario.specs.Scenario.{Plan}
 use Rattle.pf_run.specs.Computed.{run_of}
 use Rattle.pf_run.specs.Inside.{count_of}
-use Rattle.pf_promise.specs.Load.{load_in, room_in}
+use Rattle.pf_tally.specs.Load.{load_in, room_in}
 use Rattle.pf_why.specs.Ranking.{standing_in}
 use Rattle.pf_why.specs.declared.point.Point.{Point}
 

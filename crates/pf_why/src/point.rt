@@ -1,14 +1,14 @@
 ghost use Rattle.std.specs.Prelude.{◌≡◌, ◌<◌, length, IfOk};
 ghost use Rattle.pf_run.specs.Computed.{run_of};
 ghost use Rattle.pf_run.specs.RunRows.{AreOfRun};
-ghost use Rattle.pf_fit.specs.Levels.{level_in};
+ghost use Rattle.pf_tally.specs.Levels.{level_in};
 ghost use Rattle.pf_why.specs.Point.{point_of};
 
-use pf_fit::level::Level;
-use pf_fit::levels::levels;
 use pf_place::rows::Rows;
 use pf_run::denied::Denied;
 use pf_scenario::scenario::Scenario;
+use pf_tally::level::Level;
+use pf_tally::levels::levels;
 use std::alloc::{AllocError, Global};
 
 /// A slot at its choice.

@@ -1,2 +1,2 @@
-pub use Rattle.pf_script.specs.Fields
+pub use Rattle.pf_text.specs.Numbers
 pub mod Reading

@@ -3,7 +3,7 @@ use Rattle.std.specs.Prelude.{ℕ, ◌&&◌, nat_le, if◌then◌else◌, Option
 use Rattle.std.specs.Option.{option_map}
 use Rattle.std.specs.Str.{bytes_eq}
 use Rattle.pf_names.specs.Text.{is_letter_first, name_in}
-use Rattle.pf_script.specs.Fields.{number_of}
+use Rattle.pf_text.specs.Numbers.{number_of}
 use Rattle.pf_weight.specs.declared.task.TheConstants.{LARGEST_TASK}
 use Rattle.pf_why_words.specs.declared.mistake.WhyMistake.{WhyMistake}
 use Rattle.pf_why_words.specs.declared.mistake.WhyMistake.TheVariants as mistake

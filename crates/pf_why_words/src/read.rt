@@ -6,7 +6,7 @@ use crate::mistake::WhyMistake;
 use crate::question::{Question, WhyFormat};
 use crate::task_asked::TaskAsked;
 use pf_names::name::{Name, is_letter_first};
-use pf_script::fields::parse_number;
+use pf_text::numbers::parse_number;
 use pf_weight::task::LARGEST_TASK;
 
 /// The slot of a text.

@@ -10,7 +10,6 @@ ghost use Rattle.std.specs.Prelude.{◌≡◌, ◌^◌, ◌≤◌};
 ghost use Rattle.pf_window.specs.Window.{release_of, deadline_of, bit_of};
 ghost use Rattle.pf_window.specs.Group.{IsGroupOf, group_of};
 
-pub use pf_weight::weight;
 use pf_weight::weight::Weight;
 
 /// The release of subtask i, 1 to 2^24: the first slot of its window, floor((i - 1) * period / cost), at most 2^54.

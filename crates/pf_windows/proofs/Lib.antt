@@ -1,2 +1,1 @@
-pub use Rattle.pf_jobs.proofs.Shown
 pub mod Told

@@ -35,10 +35,10 @@ use Rattle.pf_tally.specs.Quanta.{slots_of}
 use Rattle.pf_tally.proofs.Figured.{figures_can, sorted_at}
 use Rattle.pf_tally.proofs.Ledgers.{task_diary, task_ran}
 use Rattle.pf_tally.proofs.Own.{find_own, leaves_own, shift_own}
-use Rattle.pf_chart.specs.Built.{quantum_with, window_by}
-use Rattle.pf_chart.specs.Course.{end_of, is_drawn, leave_in, quantum_of, window_of}
-use Rattle.pf_chart.specs.declared.window.Window.{Window}
-use Rattle.pf_chart.proofs.Tracks.{window_is}
+use Rattle.pf_courses.specs.Built.{quantum_with, window_by}
+use Rattle.pf_courses.specs.Course.{end_of, is_drawn, leave_in, leave_slot, quantum_of, window_of}
+use Rattle.pf_courses.specs.declared.window.Window.{Window}
+use Rattle.pf_courses.proofs.Tracks.{window_is}
 use Rattle.pf_tasks.specs.Listed.{is_listed}
 use Rattle.pf_tasks.specs.declared.task_range.TaskRange.{TaskRange}
 use Rattle.pf_tasks.proofs.Taken.{one_taken, one_left}
@@ -47,7 +47,7 @@ use Rattle.pf_name_column.specs.Column.{name_fields, with_name}
 use Rattle.pf_text.specs.Page.{Page, with_record}
 use Rattle.pf_text.specs.Sheets.{AddsAtMostOne}
 use Rattle.pf_windows.specs.Told.{NamedTold, Told, named_behind_sub, told_by, told_window, is_shown, sub_count, records_behind_sub}
-use Rattle.pf_windows.specs.Windows.{leave_slot, lies_within, window_record, window_records, records_of_task, windows_records}
+use Rattle.pf_windows.specs.Windows.{lies_within, window_record, window_records, records_of_task, windows_records}
 use Rattle.pf_windows.specs.declared.slots.Slots.{Slots}
 
 enough : {X : Type 0} (f : ℕ → List X) (a m n : ℕ) → m ≤ n → ((i : ℕ) → a + m ≤ i → i < a + n → f i ≡ []) →

@@ -8,10 +8,10 @@ use Rattle.pf_name_column.specs.Column.{with_name}
 use Rattle.pf_run.specs.Inside.{Joined}
 use Rattle.pf_tally.specs.Held.{next_in, held_from}
 use Rattle.pf_tally.specs.declared.held.Held.{Held}
-use Rattle.pf_chart.specs.Built.{window_by}
-use Rattle.pf_chart.specs.Course.{end_of}
-use Rattle.pf_chart.specs.declared.window.Window.{Window}
-use Rattle.pf_windows.specs.Windows.{is_shown_of, leave_slot, window_records}
+use Rattle.pf_courses.specs.Built.{window_by}
+use Rattle.pf_courses.specs.Course.{end_of, leave_slot}
+use Rattle.pf_courses.specs.declared.window.Window.{Window}
+use Rattle.pf_windows.specs.Windows.{is_shown_of, window_records}
 use Rattle.pf_windows.specs.declared.slots.Slots.{Slots}
 
 pub record Told : Type 0 where

@@ -2,9 +2,8 @@
 use Rattle.std.specs.Prelude.{ℕ, ◌+◌, ◌-◌, ◌/◌, min, max, Bool, false, ◌&&◌, ◌||◌, nat_le, nat_lt, if◌then◌else◌, Option, None, Some, List, [], ◌∷◌, ◌++◌, codes, length}
 use Rattle.std.specs.Fmt.{decimal}
 use Rattle.std.specs.List.{flat_map, range_with_len}
-use Rattle.std.specs.Option.{option_map, option_map_or}
+use Rattle.std.specs.Option.{option_map_or}
 use Rattle.pf_order.specs.declared.pick.Pick.{Pick}
-use Rattle.pf_scenario.specs.Event.{slot_of}
 use Rattle.pf_scenario.specs.Scenario.{Plan}
 use Rattle.pf_scenario.specs.declared.event.Numbered.{Numbered}
 use Rattle.pf_run.specs.Record.{Slot}
@@ -12,24 +11,21 @@ use Rattle.pf_run.specs.Inside.{Joined}
 use Rattle.pf_run.specs.Run.{events_in_force}
 use Rattle.pf_run.specs.Computed.{run_of}
 use Rattle.pf_tally.specs.Figures.{processors_in}
-use Rattle.pf_chart.specs.Course.{end_of, is_drawn, leave_in, window_of}
-use Rattle.pf_chart.specs.declared.quantum.Quantum.{Quantum}
-use Rattle.pf_chart.specs.declared.window.Window.{Window}
-use Rattle.pf_jobs.specs.Desk.{Seen}
+use Rattle.pf_courses.specs.Course.{end_of, is_drawn, leave_slot, window_of}
+use Rattle.pf_courses.specs.Windows.{eligible_from, window_end}
+use Rattle.pf_courses.specs.declared.quantum.Quantum.{Quantum}
+use Rattle.pf_courses.specs.declared.window.Window.{Window}
+use Rattle.pf_desk.specs.Desk.{Seen}
 use Rattle.pf_names.specs.declared.titles.Titles.{Titles}
 use Rattle.pf_name_column.specs.Column.{name_heading, with_name}
 use Rattle.pf_tasks.specs.declared.task_range.TaskRange.{TaskRange}
-use Rattle.pf_jobs.specs.Jobs.{admitted_of}
+use Rattle.pf_courses.specs.Admitted.{admitted_of}
 use Rattle.pf_text.specs.Page.{table_text}
 use Rattle.pf_windows.specs.declared.slots.Slots.{Slots}
 
 -- the job that subtask i is of, where a job has so many subtasks
 abbrev pub job_of : ℕ → ℕ → ℕ
 job_of cost i = (i - 1) / cost + 1
-
--- the first slot in which a subtask released in slot r may run, once the one before it has run
-abbrev pub eligible_from : Joined → ℕ → ℕ
-eligible_from j r = max j.slot (r - j.early)
 
 abbrev pub quantum_fields : Option Quantum → List (List ℕ)
 quantum_fields None = [] ∷ [] ∷ []
@@ -39,10 +35,6 @@ abbrev pub window_record : Joined → Window → List (List ℕ)
 window_record j w =
     decimal j.task ∷ decimal w.sub ∷ decimal (job_of j.weight.cost w.sub) ∷ decimal (eligible_from j w.release) ∷ decimal w.release
     ∷ decimal w.deadline ∷ decimal w.bit ∷ decimal w.group ∷ quantum_fields w.ran
-
--- where the window ends: at its deadline, or at the task's leave, if it left before
-abbrev pub window_end : Option ℕ → Window → ℕ
-window_end leave w = option_map_or (λ t. min w.deadline t) leave w.deadline
 
 -- a slot of the window, or its quantum, is one of the slots from `from` on and below `to`
 abbrev pub lies_within : ℕ → ℕ → Option ℕ → Window → Bool
@@ -57,10 +49,6 @@ is_shown_of slots end leave w = is_drawn end w && lies_within slots.from slots.t
 -- its line
 abbrev pub window_records : Slots → Joined → ℕ → Option ℕ → Window → List (List (List ℕ))
 window_records slots j end leave w = if is_shown_of slots end leave w then window_record j w ∷ [] else []
-
--- the slot of the task's leave, if it left
-abbrev pub leave_slot : List Numbered → Joined → Option ℕ
-leave_slot xs j = option_map (λ x. slot_of x.event) (leave_in xs j)
 
 -- those of a task that ran on these processors: no subtask is released before its number less one, so those up to the length
 -- are enough

@@ -3,8 +3,9 @@ ghost use Rattle.pf_text.specs.Page.{with_record};
 ghost use Rattle.pf_name_column.specs.Column.{name_fields};
 ghost use Rattle.pf_windows.specs.Windows.{quantum_fields, window_record};
 
-use pf_chart::quantum::Quantum;
-use pf_chart::window::Window;
+use pf_courses::quantum::Quantum;
+use pf_courses::window::Window;
+use pf_courses::windows::eligible_from;
 use pf_name_column::column::show_name;
 use pf_names::titles::Titles;
 use pf_tally::admitted::Admitted;
@@ -39,7 +40,7 @@ pub(crate) fn push_window(
     ensures { OnOk result (table.new ≡ with_record table.old (window_record task window ++ name_fields titles.now task.task)) }
 {
     let job = (window.sub - 1) / task.weight.cost() + 1;
-    let eligible = task.slot.max(window.release.saturating_sub(task.early));
+    let eligible = eligible_from(task, window.release);
     table.show_number(task.task)?;
     table.show_number(window.sub)?;
     table.show_number(job)?;

@@ -1,26 +1,15 @@
 ghost use Rattle.std.specs.Prelude.{◌≡◌};
-ghost use Rattle.pf_windows.specs.Windows.{leave_slot, lies_within, window_end};
+ghost use Rattle.pf_windows.specs.Windows.{lies_within};
 
 use crate::slots::Slots;
-use pf_chart::end::end_of;
-use pf_chart::window::Window;
-use pf_chart::windows::window_of;
+use pf_courses::end::{end_of, leave_slot};
+use pf_courses::window::Window;
+use pf_courses::windows::{is_drawn, window_end, window_of};
 use pf_scenario::event::Numbered;
 use pf_tally::admitted::Admitted;
 use pf_tally::held::{Held, held_delays};
-use pf_tally::late::leave_of;
 use std::alloc::{AllocError, Global};
 use std::marker::Model;
-
-/// Where the window of a task that left then ends.
-fn window_end(window: Window, leave: Option<u64>) -> u64
-    ensures { result ≡ window_end leave window }
-{
-    match leave {
-        Some(slot) => window.deadline.min(slot),
-        None => window.deadline,
-    }
-}
 
 /// Whether a slot of the window, or its quantum, is one of the slots from `from` on and below `to`.
 fn lies_within(window: Window, leave: Option<u64>, from: u64, to: u64) -> bool
@@ -31,14 +20,6 @@ fn lies_within(window: Window, leave: Option<u64>, from: u64, to: u64) -> bool
         Some(quantum) => lies || (from <= quantum.slot && quantum.slot < to),
         None => lies,
     }
-}
-
-/// The slot of the task's leave, if it left.
-fn leave_slot(events: &[Numbered], task: Admitted) -> Option<u64>
-    ensures { result ≡ leave_slot events.now task }
-{
-    let left = leave_of(events, task.task)?;
-    Some(left.event.slot())
 }
 
 /// What a run tells of the windows of an admitted task in some slots.
@@ -82,7 +63,7 @@ impl Model for TaskWindows {
 impl TaskWindows {
     ghost use Rattle.std.specs.Prelude.{◌≡◌, ◌≤◌, ◌&&◌, ◌^◌, IfOk};
     ghost use Rattle.pf_tally.specs.Held.{CanTally};
-    ghost use Rattle.pf_chart.specs.Course.{is_drawn};
+    ghost use Rattle.pf_courses.specs.Course.{is_drawn};
     ghost use Rattle.pf_windows.specs.Told.{is_shown, sub_count, told_by, told_window};
 
     /// Those of a task which ran in the slots `ran`, on these processors, and whose own events these are.
@@ -150,7 +131,7 @@ impl TaskWindows {
     pub(crate) fn shows(&self, window: Window) -> bool
         ensures { result ≡ is_shown self.now window }
     {
-        let is_drawn = window.ran.is_some() || window.release < self.end;
-        is_drawn && lies_within(window, self.leave, self.slots.from, self.slots.to)
+        is_drawn(window, self.end)
+            && lies_within(window, self.leave, self.slots.from, self.slots.to)
     }
 }

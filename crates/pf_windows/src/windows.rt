@@ -7,7 +7,7 @@ ghost use Rattle.pf_windows.specs.Windows.{windows_records, windows_text};
 use crate::slots::Slots;
 use crate::task_windows::TaskWindows;
 use crate::window_sheet::WindowSheet;
-use pf_jobs::snapshot::Snapshot;
+use pf_desk::snapshot::Snapshot;
 use pf_name_column::column::push_heading;
 use pf_names::titles::Titles;
 use pf_tally::admitted::admitted_by_number;

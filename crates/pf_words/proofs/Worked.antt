@@ -5,7 +5,7 @@ use Rattle.clap.specs.declared.error.kind.ErrorKind.TheVariants as kind
 use Rattle.pf_words.specs.CommandLine.{kinds_of}
 use Rattle.pf_words.specs.Asked.{IsShown, task_asked, pair_asked, desk_asked, file_asked, telling_asked}
 use Rattle.pf_names.specs.Text.{is_text}
-use Rattle.pf_script.specs.Fields.{number_of}
+use Rattle.pf_text.specs.Numbers.{number_of}
 use Rattle.pf_names.specs.Slots.{unit_named}
 use Rattle.pf_task_list.specs.Times.{few_digits, time_in}
 use Rattle.pf_convert_words.specs.Reading.{conversion_of, first_not_above, format_named, has_quantum, quanta_from, words_from}
@@ -235,6 +235,7 @@ told = record {
   quiet = refl;
   second = refl;
   list = refl;
+  either = refl;
   fits = refl;
   of_a_fit = (kind.UnknownArgument, unknown_is_not_shown, inl refl);
   of_a_check = (kind.UnknownArgument, unknown_is_not_shown, inl refl);

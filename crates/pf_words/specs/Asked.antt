@@ -27,9 +27,9 @@ use Rattle.pf_task_words.specs.Reading.{words_in}
 use Rattle.pf_task_words.specs.declared.task_word.TaskWord.{TaskWord}
 use Rattle.pf_words.specs.declared.task.Task.{Task}
 use Rattle.pf_words.specs.declared.task.Task.TheVariants.{Run, RunTasks, Check, CheckRun, Drill, Convert, Fit, Why}
-use Rattle.pf_fit_text.specs.FitFormats.{fit_format_named}
-use Rattle.pf_fit_text.specs.declared.fit_format.FitFormat.{FitFormat}
-use Rattle.pf_fit_text.specs.declared.fit_format.FitFormat.TheVariants.{Text as FitText}
+use Rattle.pf_options.specs.FitFormats.{fit_format_named}
+use Rattle.pf_options.specs.declared.fit_format.FitFormat.{FitFormat}
+use Rattle.pf_options.specs.declared.fit_format.FitFormat.TheVariants.{Text as FitText}
 use Rattle.pf_look.specs.Looks.{style_named}
 use Rattle.pf_look.specs.Sizes.{cell_of, wrap_of}
 use Rattle.pf_look.specs.declared.style.Style.{Style}
@@ -39,7 +39,7 @@ use Rattle.pf_options.specs.FailLists.{fail_on_named, on_nothing}
 use Rattle.pf_options.specs.Formats.{format_named, format_with_cell, format_with_style, format_with_wrap, format_within}
 use Rattle.pf_words.specs.Texts.{EndsWithLesson, IsRefusal, mistake_line, version_line}
 use Rattle.pf_words.specs.CommandLine.{any_flag, file_behind, has_flag, is_check, is_convert, is_desk, is_diff, is_drill, is_fit, is_why, kinds_of, program, text_behind, text_behind_run}
-use Rattle.pf_script.specs.Fields.{number_of}
+use Rattle.pf_text.specs.Numbers.{number_of}
 use Rattle.pf_why_words.specs.Reading.{question_of}
 use Rattle.pf_why_words.specs.declared.mistake.WhyMistake.{WhyMistake}
 use Rattle.pf_why_words.specs.declared.mistake.WhyMistake.TheVariants as asking
@@ -294,11 +294,11 @@ is_file name = is_some (file_of name)
 abbrev pub names_file : Option (Text × List Row) → Bool
 names_file found = is_file (file_behind found) || is_file (second_behind found)
 
--- what is to be told: notes of a file, and where `--notes` is there; how a script ends where it has no word; nothing where `--quiet` is
+-- what is to be told: notes of a file, and where `--notes` is there; how a script or a list ends where it has no word; nothing where `--quiet` is
 abbrev pub telling_of : Option (Text × List Row) → Telling
 telling_of found = record {
   notes = not (any_flag (codes "quiet") found) && (any_flag (codes "notes") found || names_file found);
-  prompt = not (any_flag (codes "quiet") found) && not (is_some (file_behind found)) && not (is_convert found) && not (is_fit found) && not (is_desk found);
+  prompt = not (any_flag (codes "quiet") found) && not (is_some (file_behind found)) && not (is_desk found);
 }
 
 -- the names that the text of `--format` is none of, where that is the mistake

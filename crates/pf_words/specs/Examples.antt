@@ -29,7 +29,7 @@ use Rattle.pf_task_words.specs.declared.task_word.TaskWord.{TaskWord}
 use Rattle.pf_task_words.specs.declared.task_word.TaskWord.TheVariants as listed
 use Rattle.pf_words.specs.declared.telling.Telling.{Telling}
 use Rattle.pf_words.specs.declared.task.Task.TheVariants.{Run, RunTasks, Check, CheckRun, Diff, Drill, Convert, Fit, Why}
-use Rattle.pf_fit_text.specs.declared.fit_format.FitFormat.TheVariants.{Text as FitText, Json as FitJson}
+use Rattle.pf_options.specs.declared.fit_format.FitFormat.TheVariants.{Text as FitText, Json as FitJson}
 use Rattle.pf_options.specs.declared.diff_options.DiffOptions.{DiffOptions}
 use Rattle.pf_words.specs.Asked.{task_asked, pair_asked, desk_asked, file_asked, telling_asked, reads_input, AsksHelp, AsksVersion, IsRefused, AreMistaken}
 
@@ -288,7 +288,8 @@ pub record Told : Type 0 where
   pub checked : telling_asked (codes "check" ∷ codes "plan.csv" ∷ codes "-q" ∷ []) ≡ tells false false
   pub quiet : telling_asked (codes "why" ∷ codes "3" ∷ codes "--quiet" ∷ codes "--notes" ∷ codes "plan.csv" ∷ []) ≡ tells false false
   pub second : telling_asked (codes "diff" ∷ codes "-" ∷ codes "b.csv" ∷ []) ≡ tells true false
-  pub list : telling_asked (codes "convert" ∷ codes "--quantum" ∷ codes "1" ∷ []) ≡ tells false false
+  pub list : telling_asked (codes "convert" ∷ codes "--quantum" ∷ codes "1" ∷ []) ≡ tells false true
+  pub either : telling_asked (codes "fit" ∷ []) ≡ tells false true
   pub fits : telling_asked (codes "fit" ∷ codes "plan.csv" ∷ []) ≡ tells true false
   -- two commands without these flags
   pub of_a_fit : IsRefused (codes "fit" ∷ codes "--notes" ∷ [])

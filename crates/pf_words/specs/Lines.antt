@@ -1,7 +1,7 @@
 -- A text of lines, as it is shown.
 use Rattle.std.specs.Prelude.{ℕ, ◌==◌, if◌then◌else◌, List, chars, codes, encode_utf8}
 use Rattle.std.specs.List.{flat_map}
-use Rattle.pf_run_notes.specs.File.{file_text}
+use Rattle.pf_text.specs.FileName.{file_text}
 
 -- a character of it: a line feed as it is, any other as in a file's name
 abbrev pub shown_character : ℕ → List ℕ

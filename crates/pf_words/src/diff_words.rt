@@ -11,7 +11,7 @@ use crate::task::Task;
 use crate::words::{has_flag, option_text, owned_name, read_file};
 use clap::ArgMatches;
 use pf_options::diff_options::DiffOptions;
-use pf_script::fields::parse_number;
+use pf_text::numbers::parse_number;
 use std::alloc::{AllocError, Global};
 
 /// What a diff of one script is to tell.

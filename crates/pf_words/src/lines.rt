@@ -1,7 +1,7 @@
 ghost use Rattle.std.specs.Prelude.{◌≡◌, ◌++◌, OnOk};
 ghost use Rattle.pf_words.specs.Lines.{shown_character, shown_lines};
 
-use pf_run_notes::file::push_file;
+use pf_text::file_name::push_file;
 use std::alloc::AllocError;
 
 /// Appends a character of a text of lines.

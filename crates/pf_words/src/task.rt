@@ -1,7 +1,7 @@
 use pf_convert_words::conversion::Conversion;
-use pf_fit_text::fit_format::FitFormat;
 use pf_options::diff_options::DiffOptions;
 use pf_options::fail_on::FailOn;
+use pf_options::fit_format::FitFormat;
 use pf_options::format::Format;
 use pf_task_words::task_words::TaskWords;
 use pf_why_words::question::Question;

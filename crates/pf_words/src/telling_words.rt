@@ -19,10 +19,7 @@ pub(crate) fn read_telling(matches: &ArgMatches<'_>) -> Telling
     }
     Telling {
         notes: any_flag(matches, "notes") || names_file(matches),
-        prompt: any_text(matches, "file").is_none()
-            && !is_asked(matches, "convert")
-            && !is_asked(matches, "fit")
-            && !is_asked(matches, "desk"),
+        prompt: any_text(matches, "file").is_none() && !is_asked(matches, "desk"),
     }
 }
 

@@ -17,14 +17,14 @@ use crate::texts::{help_text, refusal_text, version_text};
 use crate::why_question::read_why;
 use clap::ArgMatches;
 use clap::error::ErrorKind;
-use pf_fit_text::fit_format::FitFormat;
 use pf_look::cell::Cell;
 use pf_look::style::Style;
 use pf_look::wrap::Wrap;
 use pf_options::fail_on::FailOn;
+use pf_options::fit_format::FitFormat;
 use pf_options::format::Format;
 use pf_options::slot_range::SlotRange;
-use pf_script::fields::parse_number;
+use pf_text::numbers::parse_number;
 use std::alloc::{AllocError, Global};
 use std::convert::AsStr;
 

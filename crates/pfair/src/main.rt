@@ -1,9 +1,10 @@
-//! The program `pfair`: hands its words and streams to `main_words`, and exits with the status that this answers. Where standard
-//! input is a terminal, `prompt_words` may tell how a script ends there.
+//! The program `pfair`: hands its words and streams to `main_words`, and exits with the status that this answers. The streams wait,
+//! though they were set not to. Where standard input is a terminal, `prompt_words` may tell how a script or a list ends there.
 #![tactic(auto)]
 
 use pf_cli::host_journals::HostJournals;
 use pf_cli::kept_writer::KeptWriter;
+use pf_cli::patient::Patient;
 use pf_cli::program::{main_words, prompt_words, tell_unread};
 use pf_cli::sink::CountedWriter;
 use pf_cli::source::CountedReader;
@@ -12,7 +13,7 @@ use std::process::ExitCode;
 use std::{env, io};
 
 fn main(rt: HostRuntime) -> ExitCode {
-    let mut faults = CountedWriter::new(rt.stderr());
+    let mut faults = CountedWriter::new(Patient::new(rt.stderr(), &rt));
     let words = match read_words(&rt) {
         Ok(words) => words,
         Err(fault) => return ExitCode::from(tell_unread(&fault, &mut faults)),
@@ -22,8 +23,8 @@ fn main(rt: HostRuntime) -> ExitCode {
     if is_terminal {
         prompt_words(&rt, &words, &mut faults);
     }
-    let mut reader = CountedReader::new(input);
-    let mut writer = KeptWriter::new(rt.stdout());
+    let mut reader = CountedReader::new(Patient::new(input, &rt));
+    let mut writer = KeptWriter::new(Patient::new(rt.stdout(), &rt));
     let status = main_words(
         &rt,
         &words,

@@ -1,6 +1,6 @@
 use Rattle.std.proofs.Common.{◌≡◌, ◌++◌, length}
 use Rattle.pf_desk.specs.Desk.{Shown, AnswersAll}
-use Rattle.pf_script.specs.Asked.{commands_in}
+use Rattle.pf_carrying.specs.Asked.{commands_in}
 use Rattle.pf_carrying.specs.Carrying.{script_caller}
 use Rattle.pf_carry.proofs.carry.carry_lines.Given as goal
 

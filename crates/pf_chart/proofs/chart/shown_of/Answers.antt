@@ -1,7 +1,7 @@
 use Rattle.std.proofs.Common.{rules}
 use Rattle.std.proofs.lemmas.Fn.{filter_same}
 use Rattle.pf_tasks.specs.Listed.{is_listed}
-use Rattle.pf_chart.specs.Listing.{Listing}
+use Rattle.pf_courses.specs.Listing.{Listing}
 use Rattle.pf_chart.proofs.chart.shown_of.Goals as goal
 
 pub returns : goal.returns

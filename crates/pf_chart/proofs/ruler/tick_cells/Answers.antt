@@ -1,7 +1,7 @@
 use Rattle.std.proofs.Common.{◌≡◌, ◌∙◌, ◌-◌, ◌++◌, ◌∷◌, [], map, ap, ap₂, sym, arith}
 use Rattle.std.specs.List.{range_with_len}
 use Rattle.pf_chart.specs.Chart.{tick_cell}
-use Rattle.pf_chart.proofs.Built.{cells_more}
+use Rattle.pf_courses.proofs.Built.{cells_more}
 use Rattle.pf_chart.proofs.ruler.tick_cells.Goals as goal
 
 pub loop-t-preserved : goal.loop-t-preserved

@@ -1,5 +1,4 @@
 use Rattle.std.proofs.Common.{◌≡◌, ◌++◌, length}
-use Rattle.std.specs.String.{string_bytes}
 use Rattle.pf_script.specs.Told.{faults_in}
 use Rattle.pf_face.specs.Faults.{fault_lines}
 use Rattle.pf_face.proofs.faults.fault_lines.Given as goal
@@ -7,7 +6,7 @@ use Rattle.pf_face.proofs.faults.fault_lines.Given as goal
 -- the lines to come are those of the faults left
 abbrev pub invariant-records : goal.invariant-records
 invariant-records l = record {
-  text : string_bytes l.text ++ fault_lines (faults_in l.reader) ≡ fault_lines (faults_in l.fn.reader);
+  text : l.text.items ++ fault_lines (faults_in l.reader) ≡ fault_lines (faults_in l.fn.reader);
 }
 
 abbrev pub decreases-records : goal.decreases-records

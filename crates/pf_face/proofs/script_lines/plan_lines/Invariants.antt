@@ -1,11 +1,10 @@
 use Rattle.std.proofs.Common.{◌≡◌, ◌++◌, length}
-use Rattle.std.specs.String.{string_bytes}
 use Rattle.pf_face.specs.Faults.{plan_lines}
 use Rattle.pf_face.proofs.script_lines.plan_lines.Given as goal
 
 -- what was added, and the lines of the faults that are left, are all
 abbrev pub invariant-faults : goal.invariant-faults
-invariant-faults l = record { lines : string_bytes l.text ++ plan_lines l.faults.faults ≡ plan_lines l.fn.faults.faults }
+invariant-faults l = record { lines : l.text.items ++ plan_lines l.faults.faults ≡ plan_lines l.fn.faults.faults }
 
 abbrev pub decreases-faults : goal.decreases-faults
 decreases-faults l = length l.faults.faults

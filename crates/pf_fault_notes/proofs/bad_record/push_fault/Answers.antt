@@ -7,5 +7,5 @@ use Rattle.pf_fault_notes.proofs.bad_record.push_fault.Goals as goal
 pub returns : goal.returns
 returns c =
     let fault = fault_shown c.args.bad c.args.fields.now in
-    let why = c.behind_place.ensures (why_text fault) (c.as_bytes.ensures.value ∙ c.in_ok-push_report.ensures ∙ ap (λ t. t ++ report_text fault) c.new-report.ensures.bytes ∙ report_is fault) in
+    let why = c.behind_place.ensures (why_text fault) (c.deref.ensures.value ∙ c.in_ok-push_report.ensures ∙ ap (λ t. t ++ report_text fault) c.new-report.ensures.items ∙ report_is fault) in
     added_behind c.extend_from_slice.result _ _ _ _ _ _ c.in_ok-push_place.ensures why c.extend_from_slice.ensures.items

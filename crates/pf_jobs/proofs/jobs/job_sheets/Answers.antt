@@ -1,14 +1,14 @@
 use Rattle.std.proofs.Common.{◌≡◌, ◌∙◌, ap, sym, subst, filter_map, get_or, arith}
 use Rattle.pf_run.specs.Inside.{Joined, join_of}
 use Rattle.pf_tally.specs.Lags.{by_task}
-use Rattle.pf_jobs.proofs.Shown.{ledger_of, of_run}
+use Rattle.pf_courses.proofs.OfRun.{ledger_of, of_run}
 use Rattle.pf_jobs.proofs.Told.{can_tally, sheet_added, sheet_left, sheets_all, slots_low}
 use Rattle.pf_jobs.proofs.jobs.job_sheets.Goals as goal
 use Rattle.pf_jobs.proofs.jobs.job_sheets.Goals.{then-has+in_ok-run+in_ok-push, else-has}
 
 pub make_ledger-requires : goal.make_ledger-requires
 make_ledger-requires c =
-    of_run c.args.snapshot.now c.scenario.result.now c.rows.result.now c.denials.result.now c.now.ensures.of_run c.scenario.ensures c.rows.ensures c.denials.ensures
+    of_run c.now.ensures.of_run c.scenario.ensures c.rows.ensures c.denials.ensures
 
 pub of-requires-clause-can : goal.of-requires-clause-can
 of-requires-clause-can c =
@@ -36,7 +36,7 @@ pub loop-task-preserved : goal.loop-task-preserved
 loop-task-preserved c =
     let seen = c.args.snapshot.now in
     let ledger = c.in_ok-ledger.ledger in
-    let known = ledger_of seen c.scenario.result.now c.rows.result.now ledger c.now.ensures.of_run c.scenario.ensures c.rows.ensures c.in_ok-ledger.ensures in
+    let known = ledger_of c.now.ensures.of_run c.scenario.ensures c.rows.ensures c.denials.ensures ledger c.in_ok-ledger.ensures in
     let inside = c.task.inside in
     let j : Joined = record { task = inside.task; slot = inside.slot; weight = inside.weight; early = inside.early } in
     let items = c.deref-task-items.result.now in
@@ -58,7 +58,7 @@ pub returns : goal.returns
 returns c =
     let seen = c.args.snapshot.now in
     let ledger = c.in_ok-ledger.ledger in
-    let known = ledger_of seen c.scenario.result.now c.rows.result.now ledger c.now.ensures.of_run c.scenario.ensures c.rows.ensures c.in_ok-ledger.ensures in
+    let known = ledger_of c.now.ensures.of_run c.scenario.ensures c.rows.ensures c.denials.ensures ledger c.in_ok-ledger.ensures in
     let tasks = c.deref-task-items.ensures.value ∙ c.in_ok-admitted.ensures
     ∙ ap (λ xs. by_task (filter_map (join_of ledger.settings.base) xs)) c.deref.ensures.value in
     sheets_all seen.state.plan seen.state.now ledger known _ tasks c.args.tasks.now c.args.titles.now c.loop-task.task-index c.loop-task.sheets.items (omega arith)

@@ -1,7 +1,7 @@
 use Rattle.std.proofs.Common.{◌∙◌, ◌<◌, ◌++◌, length, ap, arith}
 use Rattle.std.proofs.lemmas.List.FromFn.{length-map-range_with_len}
 use Rattle.pf_place.specs.Lent.{lent_row}
-use Rattle.pf_chart.specs.Listing.{count_in}
+use Rattle.pf_courses.specs.Listing.{count_in}
 use Rattle.pf_picture.specs.Processors.{processor_name, slot_text}
 use Rattle.pf_picture.specs.Scale.{processor_top}
 use Rattle.pf_picture.proofs.Parts.{slot_is}
@@ -11,7 +11,7 @@ use Rattle.pf_picture.proofs.processors.processor_text.Goals as goal
 pub count_at-count-requires : goal.count_at-count-requires
 count_at-count-requires c =
     let seen = c.args.snapshot.now in
-    omega (arith, ap length c.requires.counts, length-map-range_with_len (count_in seen) 0 (length seen.rows), c.requires.within, c.to-t-end.ensures.value, c.loop-t-test.true)
+    omega (arith, ap length c.requires.counts, length-map-range_with_len (count_in seen.state.plan seen.state.now) 0 (length seen.rows), c.requires.within, c.to-t-end.ensures.value, c.loop-t-test.true)
 
 pub loop-t-preserved : goal.loop-t-preserved
 loop-t-preserved c =

@@ -1,7 +1,7 @@
 use Rattle.std.proofs.Common.{sym, ◌∙◌, arith}
 use Rattle.std.specs.List.{flat_map}
 use Rattle.std.proofs.lemmas.List.{at_drop_all}
-use Rattle.pf_plan.specs.Asked.{commands_of}
+use Rattle.pf_carrying.specs.Asked.{commands_of}
 use Rattle.pf_plain.specs.Carried.{state_behind, state_to_be}
 use Rattle.pf_plain.proofs.Behind.{next_line, taken_behind}
 use Rattle.pf_plain.proofs.carried.take_lines.Goals as goal

@@ -1,6 +1,6 @@
 use Rattle.std.proofs.Common.{◌≡◌, drop}
 use Rattle.std.specs.List.{flat_map}
-use Rattle.pf_plan.specs.Asked.{commands_of}
+use Rattle.pf_carrying.specs.Asked.{commands_of}
 use Rattle.pf_plain.specs.Carried.{state_behind, state_to_be}
 use Rattle.pf_plain.proofs.carried.take_lines.Given as goal
 

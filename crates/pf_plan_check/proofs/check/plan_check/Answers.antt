@@ -11,5 +11,5 @@ returns c =
     let inv = c.faults.invariant in
     let none = rw c.in_default.is at c.in_ok-bad.ensures in
     let records = c.records.ensures ∙ ap (λ (u : Unread). u.read) none.1 ∙ inv.records in
-    let told = told_all t _ _ _ c.faults.count _ none.0 inv.text inv.count records (ap (λ v. v.items) c.into_bytes.ensures.value ∙ c.in_ok-push_totals.ensures) in
+    let told = told_all t _ _ _ c.faults.count _ none.0 inv.text inv.count records c.in_ok-push_totals.ensures in
     record { text = told.0; ending = ending_is (faults t) c.faults.count _ _ told.1 c.status_of.ensures c.quiet.ensures }

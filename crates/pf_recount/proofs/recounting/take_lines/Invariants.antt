@@ -2,7 +2,7 @@ use Rattle.std.proofs.Common.{◌≡◌, ℕ, List, Option, length}
 use Rattle.pf_carry.specs.Carried.{asked_in}
 use Rattle.pf_desk.specs.Machine.{State}
 use Rattle.pf_plain.specs.declared.origin.Origin.{Origin}
-use Rattle.pf_script.specs.Asked.{commands_in}
+use Rattle.pf_carrying.specs.Asked.{commands_in}
 use Rattle.pf_recount.specs.Places.{place_of}
 use Rattle.pf_recount.specs.Recount.{behind_lines}
 use Rattle.pf_recount.specs.Walk.{IsAt, RiseAbove, Stands}

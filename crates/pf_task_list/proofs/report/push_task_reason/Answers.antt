@@ -1,7 +1,7 @@
 use Rattle.std.proofs.Common.{◌≡◌, ◌∙◌, ◌++◌, OnOk, codes, decimal, sym, ap, subst, append_assoc, append-nil}
 use Rattle.std.proofs.lemmas.Result.{on_ok_weaker}
 use Rattle.pf_task_list.specs.Faults.{task_reason}
-use Rattle.pf_task_list.specs.Quoted.{quoted}
+use Rattle.pf_text.specs.Quoted.{quoted}
 use Rattle.pf_task_list.proofs.report.push_task_reason.Goals as goal
 
 pub returns-in-NameTaken : goal.returns-in-NameTaken

@@ -1,6 +1,6 @@
 use Rattle.std.proofs.Common.{◌≡◌, drop}
 use Rattle.std.specs.List.{list_all}
-use Rattle.pf_run_notes.specs.File.{is_plain}
+use Rattle.pf_text.specs.FileName.{is_plain}
 use Rattle.pf_tips.proofs.words.are_plain.Given as goal
 
 -- those so far are shown as they are

@@ -4,9 +4,9 @@ use Rattle.pf_tally.specs.Figures.{processors_in}
 use Rattle.pf_tally.specs.Held.{next_in, held_from}
 use Rattle.pf_tally.specs.Quanta.{slots_of}
 use Rattle.pf_tally.proofs.Figured.{lag_at}
-use Rattle.pf_chart.specs.Built.{window_by}
-use Rattle.pf_chart.specs.Course.{end_of}
-use Rattle.pf_chart.proofs.Tracks.{window_is}
+use Rattle.pf_courses.specs.Built.{window_by}
+use Rattle.pf_courses.specs.Course.{end_of}
+use Rattle.pf_courses.proofs.Tracks.{window_is}
 use Rattle.pf_trace.specs.Courses.{course_lag}
 use Rattle.pf_trace.specs.Laws.{own_in_force}
 use Rattle.pf_trace.proofs.laws.courses_are_of_the_run.Goals as goal

@@ -1,6 +1,6 @@
 use Rattle.std.proofs.Common.{◌∙◌, nat_lt, rules, sym, ap, arith}
 use Rattle.std.proofs.lemmas.List.Sorted.{IsPartitionPoint-from_clause, IsPartitionedBy-ltb}
-use Rattle.pf_fit.specs.declared.level.Level.{Level}
+use Rattle.pf_tally.specs.declared.level.Level.{Level}
 use Rattle.pf_trace.specs.Runs.{level_when}
 use Rattle.pf_trace.proofs.Levels.{level_found}
 use Rattle.pf_trace.proofs.run_book.level_at.Goals as goal

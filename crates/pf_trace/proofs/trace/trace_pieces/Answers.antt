@@ -1,6 +1,6 @@
 use Rattle.std.proofs.Common.{◌∙◌, ◌++◌, ap, ap₂, sym, subst}
 use Rattle.std.specs.List.Sorted.{IsNonDecreasingBy}
-use Rattle.pf_fit.specs.declared.level.Level.{Level}
+use Rattle.pf_tally.specs.declared.level.Level.{Level}
 use Rattle.pf_run.specs.Computed.{run_of}
 use Rattle.pf_trace.proofs.Levels.{levels_rise}
 use Rattle.pf_trace.specs.Runs.{run_by, run_text}

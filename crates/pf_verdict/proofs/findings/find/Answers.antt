@@ -1,6 +1,8 @@
-use Rattle.std.proofs.Common.{◌≡◌, ◌∙◌, ◌≤◌, ap, ap₂, sym, subst, length, sum_by, List, All}
+use Rattle.std.proofs.Common.{◌≡◌, ◌∙◌, ◌*◌, ◌≤◌, ap, ap₂, sym, subst, length, sum_by, List, All}
 use Rattle.pf_run.specs.Computed.{run_of}
 use Rattle.pf_tally.specs.declared.figures.Figures.{Figures}
+use Rattle.pf_promise.specs.FitLaws.{IsFitOf}
+use Rattle.pf_promise.proofs.FitLaws.{fit_of_run, overload_bounds_tardiness, overload_bounds_lateness}
 use Rattle.pf_verdict.specs.Carries.{carries_cap}
 use Rattle.pf_verdict.specs.Findings.{Found, grounds_of}
 use Rattle.pf_verdict.specs.Strain.{strain_of}
@@ -35,7 +37,7 @@ returns-clause-found c =
     let unreached = c.unreached-unreached.ensures ∙ ap₂ unreached_of c.scenario-scenario.ensures c.now-now.ensures.value in
     let strain = strain_is c in
     let missed = missed_is c in
-    let units = c.in_ok-units.ensures.overload in
+    let units = c.in_ok-fit.ensures.overload in
     let carries = c.carries_cap-carries.ensures.value ∙ ap carries_cap c.scenario-scenario.ensures in
     let figures = c.in_ok-figures.ensures in
     let grows = c.in_ok-grows.ensures in
@@ -76,6 +78,25 @@ pub returns-clause-later : goal.returns-clause-later
 returns-clause-later c =
     λ carries. none_later c.args.snapshot.now.state.plan (let are = c.now-now.ensures.of_run in are.scenario)
     (sym (c.carries_cap-carries.ensures.value ∙ ap carries_cap c.scenario-scenario.ensures) ∙ carries)
+
+fit_is : (c : goal.After-drop-stretches-2) → IsFitOf c.args.snapshot.now.state.plan c.args.snapshot.now.state.now
+    (run_of c.args.snapshot.now.state.plan c.args.snapshot.now.state.now) c.in_ok-fit.fit
+fit_is c =
+    let are = c.now-now.ensures.of_run in
+    fit_of_run c.args.snapshot.now.state.plan c.args.snapshot.now.state.now c.in_ok-fit.fit are.scenario
+    c.in_ok-fit.ensures.first c.in_ok-fit.ensures.overload
+
+pub returns-clause-late : goal.returns-clause-late
+returns-clause-late c =
+    let seen = c.args.snapshot.now in
+    subst (λ (fs : List Figures). All (λ (g : Figures). seen.state.plan.settings.base * g.tardiness ≤ c.in_ok-fit.fit.overload) fs)
+    (sym c.in_ok-figures.ensures)
+    (overload_bounds_tardiness seen.state.plan seen.state.now (run_of seen.state.plan seen.state.now) seen.rows c.in_ok-fit.fit (fit_is c))
+
+pub returns-clause-overdue : goal.returns-clause-overdue
+returns-clause-overdue c =
+    let seen = c.args.snapshot.now in
+    overload_bounds_lateness seen.state.plan seen.state.now (run_of seen.state.plan seen.state.now) c.in_ok-fit.fit (fit_is c)
 
 pub returns-clause-periods : goal.returns-clause-periods
 returns-clause-periods c =

@@ -1,7 +1,7 @@
 use Rattle.std.proofs.Common.{◌∙◌, ap, ap₂, sym, length, arith, subst}
 use Rattle.std.proofs.lemmas.Result.{IfOk-weaker}
 use Rattle.pf_run.specs.Computed.{run_of}
-use Rattle.pf_fit.specs.Levels.{levels_of}
+use Rattle.pf_tally.specs.Levels.{levels_of}
 use Rattle.pf_verdict.specs.Stretches.{AreStretches, stretches_of}
 use Rattle.pf_verdict.proofs.Shown.{length-rows, of_run}
 use Rattle.pf_verdict.proofs.Stretched.{stretched}

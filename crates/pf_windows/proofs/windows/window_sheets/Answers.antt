@@ -3,20 +3,18 @@ use Rattle.pf_run.specs.Inside.{Joined, join_of}
 use Rattle.pf_tally.specs.Figures.{processors_in}
 use Rattle.pf_tally.specs.Lags.{by_task}
 use Rattle.pf_tally.proofs.Ledgers.{rows_known}
-use Rattle.pf_jobs.proofs.Shown.{ledger_of, of_run}
+use Rattle.pf_courses.proofs.OfRun.{ledger_of, of_run}
 use Rattle.pf_windows.proofs.Told.{can_tally, sheet_added, sheet_left, sheets_all}
 use Rattle.pf_windows.proofs.windows.window_sheets.Goals as goal
 use Rattle.pf_windows.proofs.windows.window_sheets.Goals.{then-has+in_ok-told+in_ok-push, else-has}
 
 pub make_ledger-requires : goal.make_ledger-requires
 make_ledger-requires c =
-    of_run c.args.snapshot.now c.scenario.result.now c.rows-rows.result.now c.denials.result.now c.now.ensures.of_run c.scenario.ensures c.rows-rows.ensures
-    c.denials.ensures
+    of_run c.now.ensures.of_run c.scenario.ensures c.rows-rows.ensures c.denials.ensures
 
 pub processors_by_task-requires : goal.processors_by_task-requires
 processors_by_task-requires c =
-    let of = of_run c.args.snapshot.now c.scenario.result.now c.rows-rows.result.now c.denials.result.now c.now.ensures.of_run c.scenario.ensures
-    c.rows-rows.ensures c.denials.ensures in
+    let of = of_run c.now.ensures.of_run c.scenario.ensures c.rows-rows.ensures c.denials.ensures in
     let settings = c.in_ok-ledger.ensures.settings in
     rows_known c.scenario.result.now _ c.rows-rows.result.now c.denials.result.now of
     (c.processors.ensures.value ∙ ap (λ settings. settings.processors) settings)
@@ -25,7 +23,7 @@ pub of-requires : goal.of-requires
 of-requires c =
     let seen = c.args.snapshot.now in
     let ledger = c.in_ok-ledger.ledger in
-    let known = ledger_of seen c.scenario.result.now c.rows-rows.result.now ledger c.now.ensures.of_run c.scenario.ensures c.rows-rows.ensures c.in_ok-ledger.ensures in
+    let known = ledger_of c.now.ensures.of_run c.scenario.ensures c.rows-rows.ensures c.denials.ensures ledger c.in_ok-ledger.ensures in
     let inside = c.task.inside in
     let j : Joined = record { task = inside.task; slot = inside.slot; weight = inside.weight; early = inside.early } in
     let items = c.deref-task-items.result.now in
@@ -41,7 +39,7 @@ pub loop-task-preserved : goal.loop-task-preserved
 loop-task-preserved c =
     let seen = c.args.snapshot.now in
     let ledger = c.in_ok-ledger.ledger in
-    let known = ledger_of seen c.scenario.result.now c.rows-rows.result.now ledger c.now.ensures.of_run c.scenario.ensures c.rows-rows.ensures c.in_ok-ledger.ensures in
+    let known = ledger_of c.now.ensures.of_run c.scenario.ensures c.rows-rows.ensures c.denials.ensures ledger c.in_ok-ledger.ensures in
     let inside = c.task.inside in
     let j : Joined = record { task = inside.task; slot = inside.slot; weight = inside.weight; early = inside.early } in
     let items = c.deref-task-items.result.now in
@@ -65,7 +63,7 @@ pub returns : goal.returns
 returns c =
     let seen = c.args.snapshot.now in
     let ledger = c.in_ok-ledger.ledger in
-    let known = ledger_of seen c.scenario.result.now c.rows-rows.result.now ledger c.now.ensures.of_run c.scenario.ensures c.rows-rows.ensures c.in_ok-ledger.ensures in
+    let known = ledger_of c.now.ensures.of_run c.scenario.ensures c.rows-rows.ensures c.denials.ensures ledger c.in_ok-ledger.ensures in
     let tasks = c.deref-task-items.ensures.value ∙ c.in_ok-admitted.ensures
     ∙ ap (λ xs. by_task (filter_map (join_of ledger.settings.base) xs)) c.deref.ensures.value in
     sheets_all seen.state.plan seen.state.now ledger known _ tasks seen.rows c.args.tasks.now c.args.titles.now c.args.slots c.requires c.loop-task.task-index c.loop-task.sheets.items

@@ -1,7 +1,6 @@
-use Rattle.std.proofs.Common.{◌≡◌, ◌++◌, ap, ◌∙◌, refl}
+use Rattle.std.proofs.Common.{◌++◌, ap, ◌∙◌, refl}
 use Rattle.pf_facts.proofs.Options.{anyway}
 use Rattle.pf_stream.proofs.Sending.{none_written, so-far-unfinished}
-use Rattle.pf_check.specs.Reports.{totals_text}
 use Rattle.pf_check.proofs.Written.{front_of}
 use Rattle.pf_check.proofs.checker.Checker.write_totals.Goals as goal
 
@@ -10,15 +9,13 @@ returns-in_err-push_totals-clause-front g c = anyway c.from_residual.result _ (n
 
 pub returns-in_err-put-clause-front : goal.returns-in_err-put-clause-front
 returns-in_err-put-clause-front g c =
-    let line : c.as_bytes.result.now ≡ totals_text c.args.self.records c.args.self.faults =
-    c.as_bytes.ensures.value ∙ c.in_ok-push_totals.ensures ∙ (rw c.clear.ensures.bytes refl) in
+    let line = c.deref.ensures.value ∙ c.in_ok-push_totals.ensures ∙ (rw c.clear.ensures.items refl) in
     anyway c.from_residual-in_err-put.result _
     (front_of _ _ _ _ (ap (λ t. c.args.self.lines ++ t) line) c.in_err-put.ensures.err)
 
 pub returns-in_err-finish-clause-front : goal.returns-in_err-finish-clause-front
 returns-in_err-finish-clause-front g c =
-    let line : c.as_bytes.result.now ≡ totals_text c.args.self.records c.args.self.faults =
-    c.as_bytes.ensures.value ∙ c.in_ok-push_totals.ensures ∙ (rw c.clear.ensures.bytes refl) in
+    let line = c.deref.ensures.value ∙ c.in_ok-push_totals.ensures ∙ (rw c.clear.ensures.items refl) in
     anyway c.from_residual-in_err-finish.result _
     (front_of _ _ _ _ (ap (λ t. c.args.self.lines ++ t) line)
     (so-far-unfinished _ _ _ _ _ c.in_ok-put.ensures.ok c.in_err-finish.ensures.err))

@@ -1,21 +1,23 @@
-use Rattle.std.proofs.Common.{rules, ◌≡◌, ◌+◌, ◌≤◌, ◌-◌, ℕ, List, [], ◌∷◌, ◌++◌, length, slice_set, sym, ◌∙◌, ap, arith, length-append}
+use Rattle.std.proofs.Common.{append_assoc, ◌≡◌, ◌+◌, ◌≤◌, ◌-◌, ℕ, List, [], ◌∷◌, ◌++◌, length, slice_set, sym, ◌∙◌, ap, arith, length-append}
 use Rattle.pf_journal.specs.Batches.{has_room}
 use Rattle.pf_journal.specs.Lines.{line_of, lines_of, journal_of, texts_of}
 use Rattle.pf_journal.proofs.Reading.{texts_of-all}
 use Rattle.pf_journal.proofs.Pushing.{pushed, pushed_lines, pushed_room, pushed_texts}
 use Rattle.pf_journal.proofs.batch.Batch.push.Goals as goal
 
-pub invariant_of-self-2 : goal.invariant_of-self-2
-invariant_of-self-2 c =
+pub invariant_of-self : goal.invariant_of-self
+invariant_of-self c =
     let had = c.self.inside.bytes.items in
     let texts = texts_of had in
     let text = c.args.text.now in
     let bytes = c.extend_from_slice-2.new.self.items in
     let gate = c.len-gate.result - 1 in
-    let copied : c.in_ok-added.added.items ≡ text = search rules in
+    let first : c.extend_from_slice.new.self.items ≡ had ++ text = rw c.unwrap.ensures at c.extend_from_slice.ensures.items in
+    let second : bytes ≡ c.extend_from_slice.new.self.items ++ 10 ∷ 35 ∷ [] = rw c.unwrap-2.ensures at c.extend_from_slice-2.ensures.items in
     let bytes_are : bytes ≡ journal_of texts ++ (text ++ 10 ∷ 35 ∷ []) =
-    c.in_ok-extend_from_slice-2.ensures.items
-    ∙ ap (λ (l : List ℕ). had ++ l) (c.deref.ensures.value ∙ c.in_ok-extend_from_slice.ensures.items ∙ ap (λ (l : List ℕ). l ++ 10 ∷ 35 ∷ []) copied)
+    second
+    ∙ ap (λ (l : List ℕ). l ++ 10 ∷ 35 ∷ []) first
+    ∙ append_assoc had text (10 ∷ 35 ∷ [])
     ∙ ap (λ (l : List ℕ). l ++ (text ++ 10 ∷ 35 ∷ [])) c.self.invariant.0 in
     let gate_is : gate ≡ length (lines_of texts) = omega (arith, c.len-gate.ensures, ap length c.self.invariant.0, length-append (lines_of texts) (35 ∷ [])) in
     let whole : slice_set bytes gate 32 ≡ journal_of (texts ++ text ∷ []) = pushed texts text bytes gate bytes_are gate_is in
@@ -33,21 +35,26 @@ invariant_of-self-2 c =
         length-append text (10 ∷ []),
         length-append (lines_of (texts ++ text ∷ [])) (35 ∷ []),
       ),
+      omega (arith, c.self.invariant.3, c.extend_from_slice.ensures.capacity, c.extend_from_slice-2.ensures.capacity),
     )
 
-pub returns-clause-ok : goal.returns-clause-ok
-returns-clause-ok c =
+pub returns : goal.returns
+returns c =
     let had = c.self.inside.bytes.items in
     let texts = texts_of had in
     let text = c.args.text.now in
     let bytes = c.extend_from_slice-2.new.self.items in
     let gate = c.len-gate.result - 1 in
-    let copied : c.in_ok-added.added.items ≡ text = search rules in
+    let first : c.extend_from_slice.new.self.items ≡ had ++ text = rw c.unwrap.ensures at c.extend_from_slice.ensures.items in
+    let second : bytes ≡ c.extend_from_slice.new.self.items ++ 10 ∷ 35 ∷ [] = rw c.unwrap-2.ensures at c.extend_from_slice-2.ensures.items in
     let bytes_are : bytes ≡ journal_of texts ++ (text ++ 10 ∷ 35 ∷ []) =
-    c.in_ok-extend_from_slice-2.ensures.items
-    ∙ ap (λ (l : List ℕ). had ++ l) (c.deref.ensures.value ∙ c.in_ok-extend_from_slice.ensures.items ∙ ap (λ (l : List ℕ). l ++ 10 ∷ 35 ∷ []) copied)
+    second
+    ∙ ap (λ (l : List ℕ). l ++ 10 ∷ 35 ∷ []) first
+    ∙ append_assoc had text (10 ∷ 35 ∷ [])
     ∙ ap (λ (l : List ℕ). l ++ (text ++ 10 ∷ 35 ∷ [])) c.self.invariant.0 in
     let gate_is : gate ≡ length (lines_of texts) = omega (arith, c.len-gate.ensures, ap length c.self.invariant.0, length-append (lines_of texts) (35 ∷ [])) in
     let whole : slice_set bytes gate 32 ≡ journal_of (texts ++ text ∷ []) = pushed texts text bytes gate bytes_are gate_is in
     let view : texts ≡ c.args.self.now = c.self.view_is in
-    pushed_texts texts text (texts_of-all had) c.requires.text (slice_set bytes gate 32) whole ∙ ap (λ (ts : List (List ℕ)). ts ++ text ∷ []) view
+    record {
+      ok = pushed_texts texts text (texts_of-all had) c.requires.text (slice_set bytes gate 32) whole ∙ ap (λ (ts : List (List ℕ)). ts ++ text ∷ []) view;
+    }

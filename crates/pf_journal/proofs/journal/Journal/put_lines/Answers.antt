@@ -5,11 +5,7 @@ use Rattle.pf_journal.specs.Batches.{has_room}
 use Rattle.pf_journal.specs.Kept.{disk_of}
 use Rattle.pf_journal.specs.Texts.{whole_lines}
 use Rattle.pf_journal.proofs.Adding.{added_so, cause_of, midway_end, midway_leaves, midway_line, midway_long}
-use Rattle.pf_journal.proofs.Resting.{kept_opens}
 use Rattle.pf_journal.proofs.journal.Journal.put_lines.Goals as goal
-
-pub returns-in_err-batch-clause-opens : goal.returns-in_err-batch-clause-opens
-returns-in_err-batch-clause-opens g c mixing clean left may = kept_opens _ _ _ _ c.args.self.now c.requires clean left may
 
 pub returns-in-Err-clause-crash : goal.returns-in-Err-clause-crash
 returns-in-Err-clause-crash g c clean left may =

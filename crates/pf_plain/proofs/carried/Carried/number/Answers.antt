@@ -2,7 +2,7 @@ use Rattle.std.proofs.Common.{◌≡◌, [], ◌∷◌, sym, ap, ◌∙◌}
 use Rattle.std.specs.List.{flat_map}
 use Rattle.pf_desk.specs.declared.command.Command.TheVariants as command
 use Rattle.pf_desk.specs.Machine.{reply_to}
-use Rattle.pf_plan.specs.Asked.{commands_of}
+use Rattle.pf_carrying.specs.Asked.{commands_of}
 use Rattle.pf_plain.specs.Carried.{number_given, number_in, state_behind, state_behind_line, state_to_be}
 use Rattle.pf_plain.proofs.Behind.{answered_behind, answered_reply}
 use Rattle.pf_plain.proofs.carried.Carried.number.Goals as goal

@@ -1,5 +1,0 @@
-use Rattle.pf_chart.proofs.Drawn.{behind_between}
-use Rattle.pf_chart.proofs.course.Course.is_behind.Goals as goal
-
-pub returns : goal.returns
-returns c = behind_between c.args.self.now c.args.t c.due.result c.done.result c.due.ensures c.done.ensures

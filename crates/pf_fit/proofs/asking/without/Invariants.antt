@@ -1,6 +1,0 @@
-use Rattle.std.proofs.Common.{◌≡◌, ◌==◌, not, take, filter}
-use Rattle.pf_fit.specs.declared.asking.Asking.{Asking}
-use Rattle.pf_fit.proofs.asking.without.Given as goal
-
-abbrev pub invariant-loop-one : goal.invariant-loop-one
-invariant-loop-one l = l.others.items ≡ filter (λ (a : Asking). not (a.task == l.task)) (take l.one-index l.asking)
