@@ -1,5 +1,8 @@
 ghost use Rattle.std.specs.Prelude.{◌≡◌, ◌+◌, ◌-◌, ◌≤◌, All};
-ghost use Rattle.pf_tally.specs.Held.{IsSmall, part_of, stop_of, stopped_below};
+ghost use Rattle.pf_weight.specs.Share.{IsShare};
+ghost use Rattle.pf_scenario.specs.declared.settings.TheConstants.{WIDE_HORIZON};
+ghost use Rattle.pf_tally.specs.Held.{AreSuccessive, IsSmall, part_of, stop_of, stopped_below};
+ghost use Rattle.pf_tally.specs.Ranges.{lag_with};
 
 use crate::admitted::Admitted;
 use crate::held::Held;
@@ -28,4 +31,19 @@ pub(crate) fn clock_at(task: Admitted, delays: &[Held], now: u64) -> u64
         clock -= stopped(task.weight, *held, now);
     }
     clock
+}
+
+/// The lag of the task after the first t slots, times its period. It received so many quanta in them.
+pub fn lag_after(task: Admitted, received: u64, delays: &[Held], t: u64) -> i64
+    requires share { IsShare task.weight }
+    requires chain { AreSuccessive 0 task.slot delays.now }
+    requires small { All IsSmall delays.now }
+    requires joined { task.slot ≤ t }
+    requires within { t ≤ WIDE_HORIZON }
+    requires few { received ≤ WIDE_HORIZON }
+    ensures { result ≡ lag_with task delays.now received t }
+{
+    let owed = task.weight.cost() * clock_at(task, delays, t);
+    let had = task.weight.period() * received;
+    owed as i64 - had as i64
 }

@@ -9,7 +9,7 @@
 
 pub mod admitted;
 mod asking;
-mod clock;
+pub mod clock;
 pub mod diary;
 pub mod extremes;
 pub mod figures;

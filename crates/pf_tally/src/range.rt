@@ -4,10 +4,10 @@ ghost use Rattle.pf_weight.specs.Share.{IsShare};
 ghost use Rattle.pf_scenario.specs.declared.settings.TheConstants.{WIDE_HORIZON};
 ghost use Rattle.pf_tally.specs.Held.{AreSuccessive, IsSmall};
 ghost use Rattle.pf_tally.specs.Figures.{extremes_upto, last_slot};
-ghost use Rattle.pf_tally.specs.Ranges.{lag_by, lag_with};
+ghost use Rattle.pf_tally.specs.Ranges.{lag_by};
 
 use crate::admitted::Admitted;
-use crate::clock::clock_at;
+use crate::clock::lag_after;
 use crate::extremes::Extremes;
 use crate::held::{Held, slots_below};
 use crate::late::leave_of;
@@ -22,21 +22,6 @@ pub(crate) fn last_slot(events: &[Numbered], task: Admitted, now: u64) -> u64
         None => now,
     };
     task.slot.max(left)
-}
-
-/// The lag of the task after the first t slots, times its period. It received so many quanta in them.
-fn lag_after(task: Admitted, received: u64, delays: &[Held], t: u64) -> i64
-    requires share { IsShare task.weight }
-    requires chain { AreSuccessive 0 task.slot delays.now }
-    requires small { All IsSmall delays.now }
-    requires joined { task.slot ≤ t }
-    requires within { t ≤ WIDE_HORIZON }
-    requires few { received ≤ WIDE_HORIZON }
-    ensures { result ≡ lag_with task delays.now received t }
-{
-    let owed = task.weight.cost() * clock_at(task, delays, t);
-    let had = task.weight.period() * received;
-    owed as i64 - had as i64
 }
 
 /// The least and the greatest lag of the task after its join slot, and so on to slot `last`, times its period. The lag

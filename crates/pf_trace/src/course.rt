@@ -1,18 +1,11 @@
-ghost use Rattle.std.specs.Prelude.{◌≡◌, ◌+◌, ◌-◌, ◌≤◌, All};
-ghost use Rattle.pf_weight.specs.Share.{IsShare};
-ghost use Rattle.pf_tally.specs.Held.{AreSuccessive, IsSmall, part_of, stop_of, stopped_below};
-ghost use Rattle.pf_scenario.specs.declared.settings.TheConstants.{WIDE_HORIZON};
-ghost use Rattle.pf_tally.specs.Ranges.{lag_with};
-
 use pf_courses::end::{end_of, leave_slot};
 use pf_courses::window::Window;
 use pf_courses::windows::window_of;
 use pf_scenario::event::Numbered;
 use pf_tally::admitted::Admitted;
+use pf_tally::clock::lag_after;
 use pf_tally::held::{Held, held_delays, slots_below};
 use pf_tally::standing::is_among;
-use pf_weight::weight::Weight;
-use pf_window::release;
 use std::alloc::{AllocError, Global};
 use std::marker::Model;
 
@@ -53,45 +46,6 @@ impl Model for Course {
     } };
 
     ghost invariant = { λ c. CanMiss c.task c.delays.items c.slot_count × (c.end ≤ c.slot_count) × (length c.ran.items ≤ c.slot_count) × IsNonDecreasing c.ran.items };
-}
-
-/// How many slots below t the delay stops the clock of a task of this weight.
-fn stopped(weight: Weight, held: Held, t: u64) -> u64
-    requires { IsSmall held }
-    ensures { result ≡ part_of t (stop_of weight held) }
-{
-    let start = release(weight, held.sub as u32) + held.shift;
-    let end = start + held.by;
-    end.min(t) - start.min(t)
-}
-
-/// The task's clock at slot t: the slots since its join in which no delay stops it.
-fn clock_at(task: Admitted, delays: &[Held], t: u64) -> u64
-    requires joined { task.slot ≤ t }
-    requires small { All IsSmall delays.now }
-    requires apart { stopped_below t task.weight delays.now ≤ t - task.slot }
-    ensures { result + stopped_below t task.weight delays.now ≡ t - task.slot }
-{
-    let mut clock = t - task.slot;
-    for held in delays {
-        clock -= stopped(task.weight, *held, t);
-    }
-    clock
-}
-
-/// The lag of a task after the first t slots, times its period. It received so many quanta in them.
-fn lag_after(task: Admitted, received: u64, delays: &[Held], t: u64) -> i64
-    requires share { IsShare task.weight }
-    requires chain { AreSuccessive 0 task.slot delays.now }
-    requires small { All IsSmall delays.now }
-    requires joined { task.slot ≤ t }
-    requires within { t ≤ WIDE_HORIZON }
-    requires few { received ≤ WIDE_HORIZON }
-    ensures { result ≡ lag_with task delays.now received t }
-{
-    let owed = task.weight.cost() * clock_at(task, delays, t);
-    let had = task.weight.period() * received;
-    owed as i64 - had as i64
 }
 
 impl Course {
